@@ -1,0 +1,21 @@
+-- What a node of the kept tree is seen as, and what holds of it.
+use Rattle.std.specs.Prelude.{◌≡◌, ◌^◌, ◌<◌, max}
+use Rattle.event_tree.specs.EventTree.{EventTree, Node, maximum, IsNormal}
+use Rattle.event_tree.specs.EventTree as plain
+use Rattle.event_tree.specs.declared.ev_tree.Node as kept
+use Rattle.event_tree.specs.declared.ev_tree.Node.TheVariants.{Leaf, Fork}
+
+-- the plain tree
+abbrev pub tree_of : kept.Node → EventTree
+tree_of (Leaf n) = plain.Leaf n
+tree_of (Fork base spread left right) = Node base left.value right.value
+
+-- a fork keeps how far the greatest value of its children lies above their least, which is 0
+abbrev pub KeepsSpread : kept.Node → Type 0
+KeepsSpread (Leaf n) = Unit {0}
+KeepsSpread (Fork base spread left right) = spread ≡ max (maximum left.value) (maximum right.value)
+
+pub record IsKept (node : kept.Node) : Type 0 where
+  pub normal : IsNormal (tree_of node)
+  pub spread : KeepsSpread node
+  pub fits : maximum (tree_of node) < 2 ^ 64

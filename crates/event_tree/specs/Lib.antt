@@ -1,0 +1,10 @@
+pub mod EventTree
+pub mod EventTreeCode
+pub mod Comparison
+pub mod Height
+pub mod Kept
+pub mod KeptFalls
+pub mod Lifted
+pub mod Norm
+pub mod Ranges
+pub mod Laws

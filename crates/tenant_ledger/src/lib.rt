@@ -1,0 +1,9 @@
+//! One tenant by itself: it takes reports, keeps their rows, and answers.
+//!
+//! Contracts see a [`Ledger`] as the tenant's limits and accepted rows. Its one contract: the reply and the rows
+//! afterwards are one step of the tenant alone (`Steps` of `trace_types`), or want of memory where that may be.
+#![tactic(auto)]
+
+mod ledger;
+
+pub use ledger::Ledger;

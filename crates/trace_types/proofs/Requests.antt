@@ -1,0 +1,140 @@
+-- What is read is what is spelled.
+use Rattle.std.proofs.Common.{◌≡◌, ◌↔◌, ◌⊎◌, ℕ, true, false, List, [], ◌∷◌, ◌++◌, length, Option, Some, None, IsTrue, option_map, codes, decimal, cond, refl, sym, ap, ap₂, subst, ◌∙◌, inl, inr, append_assoc}
+use Rattle.std.specs.List.{list_all}
+use Rattle.std.proofs.lemmas.Bool.{cases_Bool, and_parts, cond-true, cond-false}
+use Rattle.std.proofs.lemmas.Option.{none-some, same_Some, cond_some}
+use Rattle.trace_types.specs.Name.{Text, is_same, is_name, is_name_byte, is_between}
+use Rattle.trace_types.specs.Text.{request_text, IsNumber, CanBeWritten, Spells}
+use Rattle.trace_types.specs.Reading.{is_digit, words, number_of, name_of, both, with_name, with_numbers, with_nothing, request_of_words, request_of, addressed_by_words, addressed_by}
+use Rattle.trace_types.proofs.Names.{is_same_iff}
+use Rattle.trace_types.proofs.NumberTexts.{number_of_iff, list_all-decimal}
+use Rattle.trace_types.proofs.Words.{IsOneWord, IsOneWord-from_test, words-append, words_one, joined, joined-words}
+use Rattle.trace_types.specs.declared.request.Request.{Request}
+use Rattle.trace_types.specs.declared.request.Request.TheVariants.{Local, Order, Count}
+
+option_map_some : {A B : Type 0} (f : A → B) (o : Option A) (y : B) → option_map f o ≡ Some y → (x : A) × (o ≡ Some x) × (f x ≡ y)
+option_map_some f None y is = absurd (none-some y is)
+option_map_some f (Some x) y is = (x, refl, same_Some (f x) y is)
+
+both_some : {A B C : Type 0} (make : A → B → C) (o : Option A) (p : Option B) (z : C) → both make o p ≡ Some z → (x : A) × (y : B) × (o ≡ Some x) × (p ≡ Some y) × (make x y ≡ z)
+both_some make None p z is = absurd (none-some z is)
+both_some make (Some x) p z is = let found = option_map_some (make x) p z is in (x, found.0, refl, found.1, found.2)
+
+-- ---- the arguments that are read
+
+with_name_some : (make : Text → Request) (arguments : List Text) (request : Request) → with_name make arguments ≡ Some request → (name : Text) × (arguments ≡ name ∷ []) × IsTrue (is_name name) × (make name ≡ request)
+with_name_some make [] request reads = absurd (none-some request reads)
+with_name_some make (name ∷ []) request reads =
+    let found = option_map_some make (name_of name) request reads in
+    let named = cond_some (is_name name) name found.0 found.1 in
+    (name, refl, named.0, ap make named.1 ∙ found.2)
+with_name_some make (name ∷ next ∷ arguments) request reads = absurd (none-some request reads)
+
+with_numbers_some : (make : ℕ → ℕ → Request) (arguments : List Text) (request : Request) → with_numbers make arguments ≡ Some request → (a b : ℕ) × (arguments ≡ decimal a ∷ decimal b ∷ []) × IsNumber a × IsNumber b × (make a b ≡ request)
+with_numbers_some make [] request reads = absurd (none-some request reads)
+with_numbers_some make (a ∷ []) request reads = absurd (none-some request reads)
+with_numbers_some make (a ∷ b ∷ []) request reads =
+    let found = both_some make (number_of a) (number_of b) request reads in
+    let first = (number_of_iff a found.0).0 found.2 in
+    let second = (number_of_iff b found.1).0 found.3 in
+    (found.0, found.1, ap₂ (λ x y. x ∷ y ∷ []) first.1 second.1, first.0, second.0, found.4)
+with_numbers_some make (a ∷ b ∷ next ∷ arguments) request reads = absurd (none-some request reads)
+
+with_nothing_some : (made : Request) (arguments : List Text) (request : Request) → with_nothing made arguments ≡ Some request → (arguments ≡ []) × (made ≡ request)
+with_nothing_some made [] request reads = (refl, same_Some made request reads)
+with_nothing_some made (next ∷ arguments) request reads = absurd (none-some request reads)
+
+-- ---- what is read is spelled
+
+-- the line of these words spells the request
+abbrev IsSpelledBy : List Text → Request → Type 0
+IsSpelledBy words request = CanBeWritten request × (joined words ≡ request_text request)
+
+IsSpelledBy-local : (keyword : Text) (arguments : List Text) (request : Request) → keyword ≡ codes "local" → with_name Local arguments ≡ Some request → IsSpelledBy (keyword ∷ arguments) request
+IsSpelledBy-local keyword arguments request is reads =
+    let found = with_name_some Local arguments request reads in
+    (subst CanBeWritten found.3 found.2, ap₂ (λ k more. joined (k ∷ more)) is found.1 ∙ ap request_text found.3)
+
+IsSpelledBy-order : (keyword : Text) (arguments : List Text) (request : Request) → keyword ≡ codes "order" → with_numbers Order arguments ≡ Some request → IsSpelledBy (keyword ∷ arguments) request
+IsSpelledBy-order keyword arguments request is reads =
+    let found = with_numbers_some Order arguments request reads in (
+      subst CanBeWritten found.5 (found.3, found.4),
+      ap₂ (λ k more. joined (k ∷ more)) is found.2
+          ∙ sym (append_assoc (codes "order " ++ decimal found.0) (codes " ") (decimal found.1))
+          ∙ ap request_text found.5,
+    )
+
+IsSpelledBy-count : (keyword : Text) (arguments : List Text) (request : Request) → keyword ≡ codes "count" → with_nothing Count arguments ≡ Some request → IsSpelledBy (keyword ∷ arguments) request
+IsSpelledBy-count keyword arguments request is reads =
+    let found = with_nothing_some Count arguments request reads in
+    (subst CanBeWritten found.1 tt, ap₂ (λ k more. joined (k ∷ more)) is found.0 ∙ ap request_text found.1)
+
+-- one keyword more: its own arguments, or what the others read
+IsSpelledBy-at_keyword : (key keyword : Text) (arguments : List Text) (request : Request) (own others : Option Request) → (keyword ≡ key → own ≡ Some request → IsSpelledBy (keyword ∷ arguments) request) → (others ≡ Some request → IsSpelledBy (keyword ∷ arguments) request) → cond (is_same keyword key) own others ≡ Some request → IsSpelledBy (keyword ∷ arguments) request
+IsSpelledBy-at_keyword key keyword arguments request own others at_own at_others reads = at (cases_Bool (is_same keyword key))
+  where
+    at : (is_same keyword key ≡ true) ⊎ (is_same keyword key ≡ false) → IsSpelledBy (keyword ∷ arguments) request
+    at (inl is) = at_own ((is_same_iff keyword key).0 is) (sym (cond-true (is_same keyword key) own others is) ∙ reads)
+    at (inr differs) = at_others (sym (cond-false (is_same keyword key) own others differs) ∙ reads)
+
+IsSpelledBy-from_reading : (words : List Text) (request : Request) → request_of_words words ≡ Some request → IsSpelledBy words request
+IsSpelledBy-from_reading [] request reads = absurd (none-some request reads)
+IsSpelledBy-from_reading (keyword ∷ arguments) request reads =
+    IsSpelledBy-at_keyword (codes "local") keyword arguments request _ _ (IsSpelledBy-local keyword arguments request)
+    (IsSpelledBy-at_keyword (codes "order") keyword arguments request _ _ (IsSpelledBy-order keyword arguments request)
+    (IsSpelledBy-at_keyword (codes "count") keyword arguments request _ _ (IsSpelledBy-count keyword arguments request)
+    (λ none. absurd (none-some request none))))
+    reads
+
+-- ---- what is spelled is read
+
+pub IsOneWord-from_name : (name : Text) → IsTrue (is_name name) → IsOneWord name
+IsOneWord-from_name name named = IsOneWord-from_test is_name_byte refl name (and_parts (is_between 1 24 (length name)) (list_all is_name_byte name) named).1
+
+IsOneWord-decimal : (n : ℕ) → IsNumber n → IsOneWord (decimal n)
+IsOneWord-decimal n small = IsOneWord-from_test is_digit refl (decimal n) (list_all-decimal n small)
+
+request_of-request_text : (request : Request) → CanBeWritten request → request_of (request_text request) ≡ Some request
+request_of-request_text (Local task) named =
+    ap (λ arguments. request_of_words (codes "local" ∷ arguments)) (words_one task (IsOneWord-from_name task named))
+    ∙ ap (option_map Local) (cond-true (is_name task) (Some task) None named)
+request_of-request_text (Order a b) small =
+    ap request_of (append_assoc (codes "order " ++ decimal a) (codes " ") (decimal b))
+    ∙ ap (λ arguments. request_of_words (codes "order" ∷ arguments))
+    (words-append (decimal a) (decimal b) (IsOneWord-decimal a small.0) ∙ ap (λ more. decimal a ∷ more) (words_one (decimal b) (IsOneWord-decimal b small.1)))
+    ∙ ap₂ (both Order) ((number_of_iff (decimal a) a).1 (small.0, refl)) ((number_of_iff (decimal b) b).1 (small.1, refl))
+request_of-request_text Count can = refl
+
+pub request_of_iff : (line : List ℕ) (request : Request) → (request_of line ≡ Some request) ↔ Spells line request
+request_of_iff line request = (
+  λ reads. let spelled = IsSpelledBy-from_reading (words line) request reads in (spelled.0, sym (joined-words line) ∙ spelled.1),
+  λ spells. ap request_of spells.1 ∙ request_of-request_text request spells.0,
+)
+
+-- ---- the lines of several tenants
+
+addressed_by_append : (tenant line : Text) → IsTrue (is_name tenant) → addressed_by (tenant ++ 32 ∷ line) ≡ Some (tenant, request_of line)
+addressed_by_append tenant line named =
+    ap addressed_by_words (words-append tenant line (IsOneWord-from_name tenant named))
+    ∙ cond-true (is_name tenant) (Some (tenant, request_of line)) None named
+
+addressed_by_words_some : (words : List Text) (tenant : Text) (request : Request) → addressed_by_words words ≡ Some (tenant, Some request) → IsTrue (is_name tenant) × CanBeWritten request × (joined words ≡ tenant ++ 32 ∷ request_text request)
+addressed_by_words_some [] tenant request reads = absurd (none-some {A = Text × Option Request} (tenant, Some request) reads)
+addressed_by_words_some (first ∷ []) tenant request reads =
+    let found = cond_some {A = Text × Option Request} (is_name first) (first, None) (tenant, Some request) reads in
+    absurd (none-some request (ap (λ (addressed : Text × Option Request). addressed.1) found.1))
+addressed_by_words_some (first ∷ next ∷ words) tenant request reads =
+    let found = cond_some {A = Text × Option Request} (is_name first) (first, request_of_words (next ∷ words)) (tenant, Some request) reads in
+    let same : first ≡ tenant = ap (λ (addressed : Text × Option Request). addressed.0) found.1 in
+    let spelled = IsSpelledBy-from_reading (next ∷ words) request (ap (λ (addressed : Text × Option Request). addressed.1) found.1) in
+    (subst (λ name. IsTrue (is_name name)) same found.0, spelled.0, ap₂ (λ name rest. name ++ 32 ∷ rest) same spelled.1)
+
+-- A line asks a request of a tenant exactly where it is the tenant's name, one blank and what spells the request.
+pub addressed_by_iff : (line tenant : List ℕ) (request : Request) → (addressed_by line ≡ Some (tenant, Some request)) ↔ (IsTrue (is_name tenant) × CanBeWritten request × (line ≡ tenant ++ 32 ∷ request_text request))
+addressed_by_iff line tenant request = (
+  λ reads. let found = addressed_by_words_some (words line) tenant request reads in (found.0, found.1, sym (joined-words line) ∙ found.2),
+  λ spells.
+      ap addressed_by spells.2
+      ∙ addressed_by_append tenant (request_text request) spells.0
+      ∙ ap (λ (read : Option Request). Some (tenant, read)) (request_of-request_text request spells.1),
+)

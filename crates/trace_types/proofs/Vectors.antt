@@ -1,0 +1,105 @@
+-- What the definitions give at inputs that are written out.
+use Rattle.std.proofs.Common.{◌≡◌, ℕ, List, [], ◌∷◌, ◌++◌, replicate, refl, codes}
+use Rattle.std.specs.Fmt.{digits}
+use Rattle.trace_types.specs.Name.{Text}
+use Rattle.trace_types.specs.Limits.{Limits}
+use Rattle.trace_types.specs.Tenant.{fresh, replies}
+use Rattle.trace_types.specs.Lines.{lines}
+use Rattle.trace_types.specs.Replay.{NoRequest, asked, entries, output}
+use Rattle.trace_types.specs.declared.order.Order.TheVariants as order
+use Rattle.trace_types.specs.declared.request.Request.TheVariants as request
+use Rattle.trace_types.specs.declared.reply.Reply.TheVariants.{Accepted, Ordering, Count}
+
+-- the limits that a tenant has if nothing else is said
+abbrev default_limits : Limits
+default_limits = record { events = 4096; tasks = 512; messages = 2048 }
+
+-- what is written for the bytes, where the one tenant is x and nothing lacked memory
+abbrev written_for : Limits → List ℕ → Text
+written_for limits bytes = output (codes "x" ∷ []) limits [] (entries (codes "x" ∷ []) (lines bytes) [])
+
+pub replies-one_event : replies (fresh default_limits) (request.Local (codes "root") ∷ request.Order 1 1 ∷ request.Count ∷ []) ≡ Accepted 1 ∷ Ordering order.Same ∷ Count 1 1 0 ∷ []
+replies-one_event = refl
+
+pub output-one_event :
+    written_for default_limits
+    (codes "x local root" ++ 10 ∷ []
+    ++ codes "x order 1 1" ++ 10 ∷ []
+    ++ codes "x count" ++ 10 ∷ [])
+    ≡ codes "x 201 1" ++ 10 ∷ []
+    ++ codes "x 200 same" ++ 10 ∷ []
+    ++ codes "x 200 1 1 0" ++ 10 ∷ []
+unfolding digits
+output-one_event = refl
+
+pub output-nothing : written_for default_limits [] ≡ []
+output-nothing = refl
+
+pub output-orders_and_refusals :
+    written_for default_limits
+    (codes "x local root" ++ 10 ∷ []
+    ++ codes "x local root" ++ 10 ∷ []
+    ++ codes "x order 1 2" ++ 10 ∷ []
+    ++ codes "x order 2 1" ++ 10 ∷ []
+    ++ codes "x order 3 1" ++ 10 ∷ []
+    ++ codes "x local q" ++ 10 ∷ []
+    ++ codes "x spawn root a" ++ 10 ∷ [])
+    ≡ codes "x 201 1" ++ 10 ∷ []
+    ++ codes "x 201 2" ++ 10 ∷ []
+    ++ codes "x 200 before" ++ 10 ∷ []
+    ++ codes "x 200 after" ++ 10 ∷ []
+    ++ codes "x 404 no event" ++ 10 ∷ []
+    ++ codes "x 401 no task" ++ 10 ∷ []
+    ++ codes "x 400 line" ++ 10 ∷ []
+unfolding digits
+output-orders_and_refusals = refl
+
+pub output-lines_of_no_request :
+    written_for default_limits
+    (replicate 200 97 ++ 10 ∷ []
+    ++ replicate 201 97 ++ 10 ∷ []
+    ++ 10 ∷ []
+    ++ codes "q count" ++ 10 ∷ []
+    ++ codes "x  count" ++ 10 ∷ []
+    ++ codes "x" ++ 10 ∷ []
+    ++ codes "x count")
+    ≡ codes "? 400 line" ++ 10 ∷ []
+    ++ codes "? 400 line" ++ 10 ∷ []
+    ++ codes "? 400 line" ++ 10 ∷ []
+    ++ codes "? 420 no tenant" ++ 10 ∷ []
+    ++ codes "x 400 line" ++ 10 ∷ []
+    ++ codes "x 400 line" ++ 10 ∷ []
+    ++ codes "x 200 0 1 0" ++ 10 ∷ []
+unfolding digits
+output-lines_of_no_request = refl
+
+pub output-events_full :
+    written_for (record { events = 1; tasks = 512; messages = 2048 })
+    (codes "x local root" ++ 10 ∷ []
+    ++ codes "x local root" ++ 10 ∷ [])
+    ≡ codes "x 201 1" ++ 10 ∷ []
+    ++ codes "x 413 events full" ++ 10 ∷ []
+unfolding digits
+output-events_full = refl
+
+pub lines-nothing : lines [] ≡ []
+lines-nothing = refl
+
+pub lines-one_end : lines (10 ∷ []) ≡ [] ∷ []
+lines-one_end = refl
+
+pub lines-return_and_end : lines (codes "x count" ++ 13 ∷ 10 ∷ []) ≡ codes "x count" ∷ []
+lines-return_and_end = refl
+
+-- a return that no end of line follows stays, and so does the first of two
+pub lines-return : lines (codes "x count" ++ 13 ∷ []) ≡ (codes "x count" ++ 13 ∷ []) ∷ []
+lines-return = refl
+
+pub lines-two_returns_and_end : lines (codes "x count" ++ 13 ∷ 13 ∷ 10 ∷ []) ≡ (codes "x count" ++ 13 ∷ []) ∷ []
+lines-two_returns_and_end = refl
+
+pub asked-return : asked (codes "x" ∷ []) (codes "x count" ++ 13 ∷ []) ≡ NoRequest 0
+asked-return = refl
+
+pub lines-blank_between : lines (codes "x count" ++ 10 ∷ 10 ∷ codes "x count") ≡ codes "x count" ∷ [] ∷ codes "x count" ∷ []
+lines-blank_between = refl

@@ -1,0 +1,15 @@
+pub mod Points
+pub mod Name
+pub mod NamePadding
+pub mod Limits
+pub mod Code
+pub mod Rows
+pub mod Reachability
+pub mod Refusal
+pub mod Tenant
+pub mod Text
+pub mod Reading
+pub mod Lines
+pub mod Interleaving
+pub mod Replay
+pub mod World

@@ -1,0 +1,59 @@
+-- Happened-before (Lamport 1978) in the graph of one tenant's events: reachability along predecessors.
+use Rattle.std.specs.Prelude.{◌≡◌, ℕ, suc, Bool, ◌||◌, List, [], ◌∷◌, length, if◌then◌else◌, ◌==◌, nat_lt, Option, Contains}
+use Rattle.std.specs.List.{list_any}
+use Rattle.trace_types.specs.Name.{Text}
+use Rattle.trace_types.specs.Rows.{History, last_event}
+use Rattle.trace_types.specs.declared.row.Kind.{Kind}
+use Rattle.trace_types.specs.declared.row.Kind.TheVariants.{Local}
+use Rattle.trace_types.specs.declared.order.Order.{Order}
+use Rattle.trace_types.specs.declared.order.Order.TheVariants.{Same, Before, After, Concurrent}
+
+-- the event, where there is one
+abbrev pub event_or_none : ℕ → List ℕ
+event_or_none event = if event == 0 then [] else event ∷ []
+
+-- the events among two numbers, increasing and each once; 0 is no event
+abbrev pub increasing : ℕ → ℕ → List ℕ
+increasing a b =
+    if a == 0 then event_or_none b
+    else if b == 0 then event_or_none a
+    else if a == b then a ∷ []
+    else if nat_lt a b then a ∷ b ∷ [] else b ∷ a ∷ []
+
+-- the event beside the acting task's last one that a report of this kind follows, or 0
+abbrev pub second_event : History → Kind → Option Text → ℕ
+second_event history Local name = 0
+
+-- what a report follows: the acting task's last event and the second one
+abbrev pub predecessors : History → Text → Kind → Option Text → List ℕ
+predecessors history task kind name = increasing (last_event history task) (second_event history kind name)
+
+-- the predecessors of an event, from its row and the rows before it
+abbrev pub predecessors_of : History → ℕ → List ℕ
+predecessors_of [] event = []
+predecessors_of (row ∷ earlier) event =
+    if event == suc (length earlier) then predecessors earlier row.task row.kind row.name else predecessors_of earlier event
+
+-- These events lead back from b to a: each is a predecessor of the one before it, the first of b, and the last is a.
+abbrev pub LeadsBack : History → ℕ → List ℕ → ℕ → Type 0
+LeadsBack history b [] a = b ≡ a
+LeadsBack history b (event ∷ path) a = Contains (predecessors_of history b) event × LeadsBack history event path a
+
+-- a reaches b: some path leads from b back to a, the empty one where they are the same
+abbrev pub Reaches : History → ℕ → ℕ → Type 0
+Reaches history a b = (path : List ℕ) × LeadsBack history b path a
+
+-- whether a reaches b, found by walking back from b
+abbrev pub reaches : History → ℕ → ℕ → Bool
+reaches [] a b = b == a
+reaches (row ∷ earlier) a b =
+    if b == suc (length earlier)
+    then (b == a) || list_any (λ event. reaches earlier a event) (predecessors earlier row.task row.kind row.name)
+    else reaches earlier a b
+
+-- how event a stands to event b
+abbrev pub order_of : History → ℕ → ℕ → Order
+order_of history a b =
+    if a == b then Same
+    else if reaches history a b then Before
+    else if reaches history b a then After else Concurrent

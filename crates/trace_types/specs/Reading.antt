@@ -1,0 +1,74 @@
+-- Which request a line spells, found from the line.
+use Rattle.std.specs.Prelude.{ℕ, ◌+◌, ◌-◌, ◌*◌, Bool, ◌&&◌, ◌||◌, not, List, [], ◌∷◌, length, Option, Some, None, if◌then◌else◌, ◌==◌, codes, option_map, slice_index}
+use Rattle.std.specs.List.{list_all}
+use Rattle.trace_types.specs.Name.{Text, is_same, is_name, is_between}
+use Rattle.trace_types.specs.declared.request.Request.{Request}
+use Rattle.trace_types.specs.declared.request.Request.TheVariants.{Local, Order, Count}
+
+-- the byte at the front of the first word
+abbrev pub onto : ℕ → List Text → List Text
+onto byte [] = (byte ∷ []) ∷ []
+onto byte (word ∷ words) = (byte ∷ word) ∷ words
+
+-- the words that single blanks divide: one more than there are blanks, some of them perhaps empty
+abbrev pub words : Text → List Text
+words [] = [] ∷ []
+words (byte ∷ bytes) = if byte == 32 then [] ∷ words bytes else onto byte (words bytes)
+
+abbrev pub is_digit : ℕ → Bool
+is_digit byte = is_between 48 57 byte
+
+-- the number whose digits follow those of n
+abbrev pub number_onto : ℕ → Text → ℕ
+number_onto n [] = n
+number_onto n (digit ∷ digits) = number_onto (10 * n + (digit - 48)) digits
+
+-- one to nine digits, of which the first is 0 only where it is the only one
+abbrev pub is_number : Text → Bool
+is_number text = is_between 1 9 (length text) && list_all is_digit text && ((length text == 1) || not (slice_index text 0 == 48))
+
+abbrev pub number_of : Text → Option ℕ
+number_of text = if is_number text then Some (number_onto 0 text) else None
+
+abbrev pub name_of : Text → Option Text
+name_of text = if is_name text then Some text else None
+
+-- a value of two, where there are both
+abbrev pub both : {A B C : Type 0} → (A → B → C) → Option A → Option B → Option C
+both make None b = None
+both make (Some a) b = option_map (make a) b
+
+-- one argument and no more; two arguments and no more; none
+abbrev pub with_name : (Text → Request) → List Text → Option Request
+with_name make (name ∷ []) = option_map make (name_of name)
+with_name make arguments = None
+
+abbrev pub with_numbers : (ℕ → ℕ → Request) → List Text → Option Request
+with_numbers make (a ∷ b ∷ []) = both make (number_of a) (number_of b)
+with_numbers make arguments = None
+
+abbrev pub with_nothing : Request → List Text → Option Request
+with_nothing request [] = Some request
+with_nothing request arguments = None
+
+-- the request of a keyword and its arguments
+abbrev pub request_of_words : List Text → Option Request
+request_of_words [] = None
+request_of_words (keyword ∷ arguments) =
+    if is_same keyword (codes "local") then with_name Local arguments
+    else if is_same keyword (codes "order") then with_numbers Order arguments
+    else if is_same keyword (codes "count") then with_nothing Count arguments
+    else None
+
+-- the request that the line spells
+abbrev pub request_of : Text → Option Request
+request_of line = request_of_words (words line)
+
+-- The tenant that the line names first, and the request that the rest of it spells after one blank;
+-- none where the first word is no name.
+abbrev pub addressed_by_words : List Text → Option (Text × Option Request)
+addressed_by_words [] = None
+addressed_by_words (tenant ∷ rest) = if is_name tenant then Some (tenant, request_of_words rest) else None
+
+abbrev pub addressed_by : Text → Option (Text × Option Request)
+addressed_by line = addressed_by_words (words line)

@@ -1,0 +1,64 @@
+-- What the accepted rows of one tenant say, found by search. A history is the rows, the newest first:
+-- the event of its first row is as great as the history is long.
+use Rattle.std.specs.Prelude.{ℕ, suc, ◌+◌, Bool, false, ◌||◌, ◌&&◌, List, [], ◌∷◌, length, reverse, Option, Some, None, if◌then◌else◌, ◌==◌, nat_lt, count_by}
+use Rattle.std.specs.List.{list_any}
+use Rattle.trace_types.specs.Name.{Text, is_same, root}
+use Rattle.trace_types.specs.declared.row.Row.{Row}
+use Rattle.trace_types.specs.declared.row.Kind.{Kind}
+use Rattle.trace_types.specs.declared.row.Kind.TheVariants.{Local}
+
+abbrev pub History : Type 0
+History = List Row
+
+-- the rows, the newest first
+abbrev pub history_of : List Row → History
+history_of rows = reverse rows
+
+-- whether a report of this kind starts the task that it names
+abbrev pub starts_task : Kind → Bool
+starts_task Local = false
+
+-- whether a report of this kind sends the message that it names
+abbrev pub sends_message : Kind → Bool
+sends_message Local = false
+
+-- whether the row names the task or message beside its acting task
+abbrev pub names : Row → Text → Bool
+names row name = names_in row.name name
+  where
+    names_in : Option Text → Text → Bool
+    names_in None name = false
+    names_in (Some other) name = is_same other name
+
+-- whether the row is the report that started the task
+abbrev pub starts : Text → Row → Bool
+starts task row = starts_task row.kind && names row task
+
+-- whether the row is an event of the task
+abbrev pub is_of : Text → Row → Bool
+is_of task row = is_same row.task task
+
+-- `root`, and each task that some row started
+abbrev pub is_known : History → Text → Bool
+is_known history task = is_same task root || list_any (starts task) history
+
+-- the newest event whose row passes the test, or 0
+abbrev pub newest : (Row → Bool) → History → ℕ
+newest test [] = 0
+newest test (row ∷ earlier) = if test row then suc (length earlier) else newest test earlier
+
+-- the newest event of the task, else the event that started it, else 0
+abbrev pub last_event : History → Text → ℕ
+last_event history task = if newest (is_of task) history == 0 then newest (starts task) history else newest (is_of task) history
+
+-- whether there is an event of this number
+abbrev pub is_event : History → ℕ → Bool
+is_event history event = nat_lt 0 event && nat_lt event (suc (length history))
+
+-- how many tasks there ever were
+abbrev pub task_count : History → ℕ
+task_count history = 1 + count_by (λ row. starts_task row.kind) history
+
+-- how many messages there are
+abbrev pub message_count : History → ℕ
+message_count history = count_by (λ row. sends_message row.kind) history

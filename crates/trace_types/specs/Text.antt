@@ -1,0 +1,45 @@
+-- How requests and replies are written.
+use Rattle.std.specs.Prelude.{◌≡◌, ℕ, ◌^◌, ◌<◌, IsTrue, ◌++◌, codes}
+use Rattle.std.specs.Fmt.{decimal}
+use Rattle.trace_types.specs.Name.{Text, is_name}
+use Rattle.trace_types.specs.Code.{code_number, code_text}
+use Rattle.trace_types.specs.declared.order.Order.{Order}
+use Rattle.trace_types.specs.declared.order.Order.TheVariants.{Same, Before, After, Concurrent}
+use Rattle.trace_types.specs.declared.request.Request.{Request}
+use Rattle.trace_types.specs.declared.request.Request.TheVariants as request
+use Rattle.trace_types.specs.declared.reply.Reply.{Reply}
+use Rattle.trace_types.specs.declared.reply.Reply.TheVariants as reply
+
+-- how one event stands to another, in words
+abbrev pub order_text : Order → Text
+order_text Same = codes "same"
+order_text Before = codes "before"
+order_text After = codes "after"
+order_text Concurrent = codes "concurrent"
+
+-- a reply without its end of line
+abbrev pub reply_text : Reply → Text
+reply_text (reply.Accepted event) = codes "201 " ++ decimal event
+reply_text (reply.Ordering order) = codes "200 " ++ order_text order
+reply_text (reply.Count events tasks messages) = codes "200 " ++ decimal events ++ codes " " ++ decimal tasks ++ codes " " ++ decimal messages
+reply_text (reply.Refused code) = decimal (code_number code) ++ codes " " ++ code_text code
+
+-- a request without its end of line
+abbrev pub request_text : Request → Text
+request_text (request.Local task) = codes "local " ++ task
+request_text (request.Order a b) = codes "order " ++ decimal a ++ codes " " ++ decimal b
+request_text request.Count = codes "count"
+
+-- what a number in a request may be: one to nine digits
+abbrev pub IsNumber : ℕ → Type 0
+IsNumber n = n < 10 ^ 9
+
+-- whether each part of the request can be written in a request
+abbrev pub CanBeWritten : Request → Type 0
+CanBeWritten (request.Local task) = IsTrue (is_name task)
+CanBeWritten (request.Order a b) = IsNumber a × IsNumber b
+CanBeWritten request.Count = Unit {0}
+
+-- the line spells the request
+abbrev pub Spells : Text → Request → Type 0
+Spells line request = CanBeWritten request × (line ≡ request_text request)

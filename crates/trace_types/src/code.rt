@@ -1,0 +1,102 @@
+//! Why a request is refused.
+ghost use Rattle.std.specs.Prelude.{◌≡◌};
+ghost use Rattle.trace_types.specs.Code.{code_number, code_text};
+
+/// Why a request is refused. A refusal changes nothing of the tenant.
+#[derive(Clone, Copy, Debug, PartialEq, Eq)]
+pub enum Code {
+    /// 400: the line is no request.
+    Line,
+    /// 401: no such task.
+    NoTask,
+    /// 402: the task to be started exists.
+    TaskExists,
+    /// 403: the acting task has ended.
+    TaskEnded,
+    /// 404: no such event.
+    NoEvent,
+    /// 405: no such message.
+    NoMessage,
+    /// 406: the message to be sent exists.
+    MessageExists,
+    /// 407: the message was received.
+    AlreadyReceived,
+    /// 408: the task to be joined has not ended.
+    NotEnded,
+    /// 409: the task to be joined was joined.
+    AlreadyJoined,
+    /// 410: a view takes no report.
+    ViewOnly,
+    /// 413: the tenant has all the events that it may have.
+    EventsFull,
+    /// 414: the tenant has all the tasks that it may have.
+    TasksFull,
+    /// 415: the tenant has all the messages that it may have.
+    MessagesFull,
+    /// 420: no such tenant.
+    NoTenant,
+    /// 421: another session reports for the tenant.
+    DeskTaken,
+    /// 422: no place to read from.
+    NoPlace,
+    /// 423: the session had all the requests that it may have.
+    SessionOver,
+    /// 507: a request for memory was refused.
+    NoMemory,
+}
+
+impl Code {
+    /// The number that stands in a reply.
+    pub fn number(self) -> u64
+        ensures { result ≡ code_number self }
+    {
+        match self {
+            Code::Line => 400,
+            Code::NoTask => 401,
+            Code::TaskExists => 402,
+            Code::TaskEnded => 403,
+            Code::NoEvent => 404,
+            Code::NoMessage => 405,
+            Code::MessageExists => 406,
+            Code::AlreadyReceived => 407,
+            Code::NotEnded => 408,
+            Code::AlreadyJoined => 409,
+            Code::ViewOnly => 410,
+            Code::EventsFull => 413,
+            Code::TasksFull => 414,
+            Code::MessagesFull => 415,
+            Code::NoTenant => 420,
+            Code::DeskTaken => 421,
+            Code::NoPlace => 422,
+            Code::SessionOver => 423,
+            Code::NoMemory => 507,
+        }
+    }
+
+    /// The words that stand in a reply after the number.
+    pub fn text(self) -> &'static str
+        ensures { result.now ≡ code_text self }
+    {
+        match self {
+            Code::Line => "line",
+            Code::NoTask => "no task",
+            Code::TaskExists => "task exists",
+            Code::TaskEnded => "task ended",
+            Code::NoEvent => "no event",
+            Code::NoMessage => "no message",
+            Code::MessageExists => "message exists",
+            Code::AlreadyReceived => "already received",
+            Code::NotEnded => "not ended",
+            Code::AlreadyJoined => "already joined",
+            Code::ViewOnly => "view only",
+            Code::EventsFull => "events full",
+            Code::TasksFull => "tasks full",
+            Code::MessagesFull => "messages full",
+            Code::NoTenant => "no tenant",
+            Code::DeskTaken => "desk taken",
+            Code::NoPlace => "no place",
+            Code::SessionOver => "session over",
+            Code::NoMemory => "no memory",
+        }
+    }
+}

@@ -1,0 +1,38 @@
+//! Laws of the definitions that the contracts cite. Each is the contract of a function that does nothing.
+ghost use Rattle.std.specs.Prelude.{◌≡◌, ◌≢◌, ◌↔◌, ℕ, IsTrue, List, [], ◌∷◌, ◌++◌, Option, Some, All};
+ghost use Rattle.trace_types.specs.Lines.{lines, without_return};
+ghost use Rattle.trace_types.specs.Name.{is_name, is_same};
+ghost use Rattle.trace_types.specs.Reachability.{Reaches, reaches};
+ghost use Rattle.trace_types.specs.Reading.{request_of, addressed_by};
+ghost use Rattle.trace_types.specs.Text.{Spells, CanBeWritten, request_text};
+ghost use Rattle.trace_types.specs.declared.request.Request.{Request};
+ghost use Rattle.trace_types.specs.declared.row.Row.{Row};
+
+/// Two texts are the same by the test exactly where they are equal.
+pub fn names()
+    ensures { (a b : List ℕ) → IsTrue (is_same a b) ↔ (a ≡ b) }
+{}
+
+/// Walking back from one event finds another exactly where a path of predecessors leads there.
+pub fn reachability()
+    ensures { (history : List Row) (a b : ℕ) → IsTrue (reaches history a b) ↔ Reaches history a b }
+{}
+
+/// The request that is read from a line is the one that the line spells, and each spelled request is read.
+pub fn requests()
+    ensures { (line : List ℕ) (request : Request) → (request_of line ≡ Some request) ↔ Spells line request }
+{}
+
+/// The tenant and the request that are read from a line are those that the line spells, and each spelled pair is read.
+pub fn addressed()
+    ensures { (line tenant : List ℕ) (request : Request) → (addressed_by line ≡ Some (tenant, Some request))
+        ↔ (IsTrue (is_name tenant) × CanBeWritten request × (line ≡ tenant ++ 32 ∷ request_text request)) }
+{}
+
+/// A text without an end of line is the first line where an end of line follows it, less one carriage return at
+/// its end. What follows the last end of line is a line as it stands, unless it is empty.
+pub fn lines()
+    ensures ended { (text rest : List ℕ) → All (λ byte. byte ≢ 10) text → lines (text ++ 10 ∷ rest) ≡ without_return text ∷ lines rest }
+    ensures rest { (text : List ℕ) → All (λ byte. byte ≢ 10) text → text ≢ [] → lines text ≡ text ∷ [] }
+    ensures none { lines [] ≡ [] }
+{}

@@ -1,0 +1,33 @@
+//! The words of the trace collector: names, requests, rows and replies of a tenant.
+//!
+//! Its one contract is a set of definitions, in specs/: what a tenant alone is due (`Rows`, `Reachability`, `Refusal`,
+//! `Tenant`), how lines are read and written (`Lines`, `Reading`, `Text`), and what many tenants together are due
+//! (`Interleaving`, `World`, `Replay`). The laws in [`laws`] say that they mean what they should.
+#![tactic(auto)]
+
+mod code;
+pub mod laws;
+mod limits;
+mod memory;
+mod name;
+mod numbers;
+mod order;
+mod preds;
+mod reply;
+mod request;
+mod row;
+mod task_state;
+mod world_fault;
+
+pub use code::Code;
+pub use limits::Limits;
+pub use memory::Memory;
+pub use name::Name;
+pub use numbers::Numbers;
+pub use order::Order;
+pub use preds::Preds;
+pub use reply::Reply;
+pub use request::Request;
+pub use row::{Kind, Row};
+pub use task_state::TaskState;
+pub use world_fault::WorldFault;

@@ -1,0 +1,130 @@
+//! Names of tenants, tasks and messages.
+ghost use Rattle.std.specs.Prelude.{◌≡◌, ◌≤◌, ◌↔◌, IsTrue, IfSome, IsSome, length, nat_eq};
+ghost use Rattle.std.specs.Cmp.{on_equiv, on_per, partial_equiv_from_equiv};
+ghost use Rattle.std.specs.Cmp.Lexicographic.{pointwise, nat_list_eq_equiv};
+ghost use Rattle.std.specs.Cmp.Rules.{hashing};
+ghost use Rattle.std.specs.Hash as fed;
+ghost use Rattle.std.proofs.Common.{rules};
+ghost use Rattle.std.specs.List.{list_all};
+ghost use Rattle.trace_types.specs.Name.{is_name, is_name_byte, root};
+ghost use Rattle.trace_types.specs.NamePadding.{padded};
+
+use std::hash::{Hash, Hasher};
+use std::marker::Model;
+
+/// A name of a tenant, a task or a message: 1 to 24 letters, digits or `_`.
+///
+/// It lies in the value itself and is copied without memory. A contract sees it as its text.
+#[derive(Clone, Copy, Debug)]
+pub struct Name {
+    /// The text, and then zeros.
+    bytes: [u8; Name::MOST],
+    len: usize,
+}
+
+impl Model for Name {
+    ghost use Rattle.std.specs.Prelude.{◌≡◌, ℕ, List, length, take, IsTrue};
+    ghost use Rattle.std.specs.List.{list_all};
+    ghost use Rattle.trace_types.specs.Name.{Text, is_name};
+    ghost use Rattle.trace_types.specs.NamePadding.{padded};
+
+    ghost Value = { Text };
+
+    ghost view = { λ n. take n.len n.bytes };
+
+    ghost invariant = { λ n. (length (take n.len n.bytes) ≡ n.len) × (padded (take n.len n.bytes) ≡ n.bytes) × IsTrue (is_name (take n.len n.bytes)) };
+
+    ghost inverse = { λ text. record { bytes = padded text; len = length text } };
+
+    ghost inverse_ok = { λ n h i. record { bytes = h.1 i; len = h.0 i } };
+}
+
+impl Name {
+    /// The most bytes that a name has.
+    pub const MOST: usize = 24;
+
+    /// The name that the bytes spell; `None` exactly where they are no name.
+    pub fn read(text: &[u8]) -> Option<Name>
+        ensures read { IsSome result ↔ IsTrue (is_name text.now) }
+        ensures name { IfSome result (λ name. name ≡ text.now) }
+    {
+        if is_name(text) {
+            Some(Name {
+                bytes: padded(text),
+                len: text.len(),
+            })
+        } else {
+            None
+        }
+    }
+
+    /// The task with which each tenant starts.
+    pub fn root() -> Name
+        ensures { result ≡ root }
+    {
+        Name {
+            bytes: padded(b"root"),
+            len: 4,
+        }
+    }
+
+    /// The text.
+    pub fn as_bytes(&self) -> &[u8]
+        ensures text { result.now ≡ self.now }
+        ensures name { IsTrue (is_name self.now) }
+    {
+        &self.bytes[..self.len]
+    }
+}
+
+fn is_name(text: &[u8]) -> bool
+    ensures { result ≡ is_name text.now }
+{
+    1 <= text.len() && text.len() <= Name::MOST && has_only_name_bytes(text)
+}
+
+fn has_only_name_bytes(text: &[u8]) -> bool
+    ensures { result ≡ list_all is_name_byte text.now }
+{
+    text.iter().all(|byte| is_name_byte(*byte))
+}
+
+fn is_name_byte(byte: u8) -> bool
+    ensures { result ≡ is_name_byte byte }
+{
+    matches!(byte, b'A'..=b'Z' | b'a'..=b'z' | b'0'..=b'9' | b'_')
+}
+
+/// The text, and zeros after it.
+fn padded(text: &[u8]) -> [u8; Name::MOST]
+    requires { length text.now ≤ 24 }
+    ensures { result ≡ padded text.now }
+{
+    let mut bytes = [0; Name::MOST];
+    bytes[..text.len()].copy_from_slice(text);
+    bytes
+}
+
+impl PartialEq for Name {
+    ghost eq = { pointwise nat_eq };
+
+    ghost laws = { partial_equiv_from_equiv nat_list_eq_equiv };
+
+    fn eq(&self, other: &Name) -> bool {
+        self.as_bytes() == other.as_bytes()
+    }
+}
+
+impl Eq for Name {
+    ghost laws = { nat_list_eq_equiv };
+}
+
+impl Hash for Name {
+    ghost hash_input = { λ text. fed.slice fed.u8 text };
+
+    ghost respects_eq = { Prim.search (hashing, rules) };
+
+    fn hash<H: Hasher>(&self, state: &mut H) {
+        self.as_bytes().hash(state);
+    }
+}

@@ -1,0 +1,42 @@
+//! A list of numbers.
+ghost use Rattle.std.specs.Prelude.{◌≡◌};
+
+use std::marker::Model;
+
+/// A list of event numbers. A contract sees the list.
+#[derive(Drop)]
+pub struct Numbers {
+    items: Vec<u64>,
+}
+
+impl Model for Numbers {
+    ghost use Rattle.std.specs.Prelude.{ℕ, List};
+
+    ghost Value = { List ℕ };
+
+    ghost view = { λ n. n.items.items };
+}
+
+impl Numbers {
+    /// The numbers, as a slice.
+    pub fn as_slice(&self) -> &[u64]
+        ensures { result.now ≡ self.now }
+    {
+        &self.items
+    }
+
+    /// The numbers, given back without memory.
+    pub fn into_vec(self) -> Vec<u64>
+        ensures { result.items ≡ self }
+    {
+        self.items
+    }
+}
+
+impl From<Vec<u64>> for Numbers {
+    ghost from_gives = { λ items numbers. numbers ≡ items.items };
+
+    fn from(items: Vec<u64>) -> Numbers {
+        Numbers { items }
+    }
+}

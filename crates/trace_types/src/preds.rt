@@ -1,0 +1,50 @@
+//! The predecessors of an event.
+ghost use Rattle.std.specs.Prelude.{◌≡◌, ◌≤◌, length};
+
+use smallvec::SmallVec;
+use std::alloc::Global;
+use std::marker::Model;
+
+/// The predecessors of an event: at most two event numbers, which lie in the value itself.
+///
+/// A contract sees the list of them.
+#[derive(Drop)]
+pub struct Preds {
+    events: SmallVec<u64, 2>,
+}
+
+impl Model for Preds {
+    ghost use Rattle.std.specs.Prelude.{◌≡◌, ℕ, ◌≤◌, List, length};
+
+    ghost Value = { List ℕ };
+
+    ghost view = { λ p. p.events.items };
+
+    ghost invariant = { λ p. length p.events.items ≤ 2 };
+}
+
+impl Preds {
+    /// These events. It takes no memory.
+    pub fn of(alloc: Global, events: &[u64]) -> Preds
+        requires { length events.now ≤ 2 }
+        ensures { result ≡ events.now }
+    {
+        let events = SmallVec::from_slice(alloc, events).unwrap();
+        Preds { events }
+    }
+
+    /// The events, as a slice.
+    pub fn as_slice(&self) -> &[u64]
+        ensures events { result.now ≡ self.now }
+        ensures few { length result.now ≤ 2 }
+    {
+        self.events.as_slice()
+    }
+
+    /// Equal predecessors. It takes no memory.
+    pub fn share(&self) -> Preds
+        ensures { result ≡ self.now }
+    {
+        Preds::of(*self.events.allocator(), self.as_slice())
+    }
+}

@@ -1,0 +1,16 @@
+//! What a tenant is answered.
+
+use crate::{Code, Order};
+
+/// The reply to one request.
+#[derive(Debug, Drop, PartialEq, Eq)]
+pub enum Reply {
+    /// 201: the report is the event of this number.
+    Accepted(u64),
+    /// 200: how the first event stands to the second.
+    Ordering(Order),
+    /// 200: the numbers of events, of tasks ever and of messages.
+    Count(u64, u64, u64),
+    /// The request is refused, and changed nothing.
+    Refused(Code),
+}

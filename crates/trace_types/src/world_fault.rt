@@ -1,0 +1,25 @@
+//! Why a world is not made.
+ghost use Rattle.std.specs.Prelude.{◌≡◌};
+ghost use Rattle.trace_types.specs.declared.world_fault.WorldFault.TheVariants.{Memory as OutOfMemory};
+
+use crate::Memory;
+use thiserror::Error;
+
+/// Why a world of tenants is not made.
+#[derive(Clone, Copy, Debug, PartialEq, Eq, Error)]
+pub enum WorldFault {
+    /// There are too few names or too many.
+    #[error("bad tenants")]
+    Names,
+    /// A request for memory was refused.
+    #[error("no memory")]
+    Memory,
+}
+
+impl From<Memory> for WorldFault {
+    ghost from_gives = { λ _ fault. fault ≡ OutOfMemory };
+
+    fn from(_refused: Memory) -> WorldFault {
+        WorldFault::Memory
+    }
+}
