@@ -1,0 +1,38 @@
+-- How the program's faults are told.
+use Rattle.std.specs.Prelude.{ℕ, List, ◌++◌, codes}
+use Rattle.trace_types.specs.declared.world_fault.WorldFault.{WorldFault}
+use Rattle.trace_types.specs.declared.world_fault.WorldFault.TheVariants as world
+use Rattle.trace_world.specs.declared.replay_fault.ReplayFault.{ReplayFault}
+use Rattle.trace_world.specs.declared.replay_fault.ReplayFault.TheVariants as replay
+use Rattle.itc_trace.specs.declared.fault.Fault.{Fault}
+use Rattle.itc_trace.specs.declared.fault.Fault.TheVariants.{Words, Tenants, Read, Write, TooLong, Memory}
+
+-- the status with which the program ends
+abbrev pub status_of : Fault → ℕ
+status_of Words = 2
+status_of Tenants = 2
+status_of Read = 3
+status_of Write = 3
+status_of TooLong = 3
+status_of Memory = 4
+
+-- the line on standard error
+abbrev pub line_of : Fault → List ℕ
+line_of Words = codes "itc_trace: words\n"
+line_of Tenants = codes "itc_trace: tenants\n"
+line_of Read = codes "itc_trace: read fault\n"
+line_of Write = codes "itc_trace: write fault\n"
+line_of TooLong = codes "itc_trace: input too long\n"
+line_of Memory = codes "itc_trace: no memory\n"
+
+-- the program's fault where no world is made
+abbrev pub fault_of_world : WorldFault → Fault
+fault_of_world world.Names = Tenants
+fault_of_world world.Memory = Memory
+
+-- the program's fault where a replay stops
+abbrev pub fault_of_replay : ReplayFault → Fault
+fault_of_replay replay.Read = Read
+fault_of_replay replay.Write = Write
+fault_of_replay replay.TooLong = TooLong
+fault_of_replay replay.Memory = Memory

@@ -1,0 +1,81 @@
+//! Why the program does not do what it was asked.
+ghost use Rattle.std.specs.Prelude.{◌≡◌, ◌++◌, OnOk};
+ghost use Rattle.itc_trace.specs.Fault.{status_of, line_of, fault_of_world, fault_of_replay};
+
+use line_protocol::{Sink, flush, write_bytes};
+use trace_types::WorldFault;
+use trace_world::ReplayFault;
+
+/// Why the program does not do what it was asked.
+#[derive(Clone, Copy, Debug, PartialEq, Eq)]
+pub(crate) enum Fault {
+    /// The words are no text.
+    Words,
+    /// A tenant's name is no name, or there is more than one tenant.
+    Tenants,
+    Read,
+    Write,
+    TooLong,
+    Memory,
+}
+
+impl Fault {
+    /// The status with which the program ends.
+    pub(crate) fn status(self) -> u8
+        ensures { result ≡ status_of self }
+    {
+        match self {
+            Fault::Words | Fault::Tenants => 2,
+            Fault::Read | Fault::Write | Fault::TooLong => 3,
+            Fault::Memory => 4,
+        }
+    }
+
+    /// The line on standard error.
+    fn line(self) -> &'static str
+        ensures { result.now ≡ line_of self }
+    {
+        match self {
+            Fault::Words => "itc_trace: words\n",
+            Fault::Tenants => "itc_trace: tenants\n",
+            Fault::Read => "itc_trace: read fault\n",
+            Fault::Write => "itc_trace: write fault\n",
+            Fault::TooLong => "itc_trace: input too long\n",
+            Fault::Memory => "itc_trace: no memory\n",
+        }
+    }
+
+    /// Writes the fault's line, and answers its status. Where that line cannot be written the status tells alone.
+    pub(crate) fn tell<E: Sink>(self, errors: &mut E) -> u8
+        ensures { result ≡ status_of self }
+    {
+        if write_bytes(errors, self.line().as_bytes()).is_ok() {
+            let _ = flush(errors);
+        }
+        self.status()
+    }
+}
+
+impl From<WorldFault> for Fault {
+    ghost from_gives = { λ fault gives. gives ≡ fault_of_world fault };
+
+    fn from(fault: WorldFault) -> Fault {
+        match fault {
+            WorldFault::Names => Fault::Tenants,
+            WorldFault::Memory => Fault::Memory,
+        }
+    }
+}
+
+impl From<ReplayFault> for Fault {
+    ghost from_gives = { λ fault gives. gives ≡ fault_of_replay fault };
+
+    fn from(fault: ReplayFault) -> Fault {
+        match fault {
+            ReplayFault::Read => Fault::Read,
+            ReplayFault::Write => Fault::Write,
+            ReplayFault::TooLong => Fault::TooLong,
+            ReplayFault::Memory => Fault::Memory,
+        }
+    }
+}

@@ -1,0 +1,39 @@
+//! The trace collector's program: it replays lines of requests and writes the replies.
+//!
+//! `main` hands the words, standard input and standard output to [`program::run`], whose one contract is that of
+//! `replay` of `trace_world`, and which says how the program ends.
+#![tactic(auto)]
+
+mod fault;
+mod program;
+#[cfg(test)]
+mod tests;
+mod words;
+
+use fault::Fault;
+use line_protocol::{FromReader, IntoWriter};
+use std::io::{BufWriter, ErrorKind};
+use std::process::ExitCode;
+use std::{env, io};
+
+/// How many bytes of output are gathered before they are written.
+const OUTPUT_ROOM: usize = 65536;
+
+fn main(rt: HostRuntime) -> ExitCode {
+    let mut errors = IntoWriter::new(rt.stderr());
+    let status = match start(&rt, &mut errors) {
+        Ok(status) => status,
+        Err(error) if error.kind() == ErrorKind::OutOfMemory => Fault::Memory.tell(&mut errors),
+        Err(_) => Fault::Words.tell(&mut errors),
+    };
+    ExitCode::from(status)
+}
+
+/// Runs the program. An error comes where the words are no text, or for want of memory.
+fn start(rt: &HostRuntime, errors: &mut IntoWriter<io::Stderr>) -> io::Result<u8> {
+    let words: Vec<String> = env::args(rt)?.skip(1).collect(rt.alloc())?;
+    let output = BufWriter::with_capacity(rt.alloc(), OUTPUT_ROOM, rt.stdout())?;
+    let mut reader = FromReader::new(rt.stdin());
+    let mut writer = IntoWriter::new(output);
+    Ok(program::run(rt, &words, &mut reader, &mut writer, errors))
+}

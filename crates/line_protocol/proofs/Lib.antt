@@ -1,0 +1,7 @@
+pub mod Ranges
+pub mod RefillLemmas
+pub mod EndsLemmas
+pub mod SkipLemmas
+pub mod LineReadingLemmas
+pub mod WordsLemmas
+pub mod WritingLemmas

@@ -1,0 +1,140 @@
+-- The lines that a line reader finds, and for callers what they are together.
+use Rattle.std.proofs.Common.{◌≡◌, ◌≤◌, ◌<◌, ◌+◌, ◌-◌, ℕ, suc, Bool, IsTrue, true, false, cond, List, [], ◌∷◌, ◌++◌, ◌⊎◌, inl, inr, length, take, drop, refl, sym, ap, ◌∙◌, append_assoc, arith, add-one, length-append, subst, ◌==◌, lt-ltb}
+use Rattle.std.specs.Prelude.{nat_lt, Option, None, Some}
+use Rattle.std.proofs.lemmas.List.{append-nil, append_cancel_left}
+use Rattle.std.proofs.Math.Seq.{take-append_seam, drop-append-add}
+use Rattle.trace_types.specs.Name.{Text}
+use Rattle.trace_types.specs.Lines.{lines, without_return, is_too_long}
+use Rattle.line_protocol.specs.Held.{Held}
+use Rattle.line_protocol.specs.declared.line.Line.{Line}
+use Rattle.line_protocol.specs.declared.line.Line.TheVariants.{Whole, TooLong, End}
+use Rattle.line_protocol.specs.LineReading.{GivesLine, Finds, Extends, HasRead, work_left, LeavesLess}
+use Rattle.line_protocol.specs.Ends.{HasNoEnd, EndsAt, Comes, Skips, kind_of, kind_of_length, last_line}
+use Rattle.line_protocol.proofs.EndsLemmas.{lines-ended, lines-last, HasNoEnd-append}
+use Rattle.line_protocol.proofs.SkipLemmas.{EndsAt-after}
+
+-- the line before an end of line
+pub GivesLine-ended : {given given' left after : List ℕ} (gave before : List ℕ) (is_ended : Bool) → given' ≡ given ++ gave → left ++ gave ≡ before ++ 10 ∷ after → HasNoEnd before
+    → GivesLine given given' left after is_ended (without_return before)
+GivesLine-ended {after = after} gave before is_ended grows splits no_end = record {
+  gave = gave;
+  grows = grows;
+  first = λ rest _.
+      ap lines (ap (λ bytes. bytes ++ rest) splits ∙ append_assoc before (10 ∷ after) rest) ∙ lines-ended before (after ++ rest) no_end }
+
+-- the line after the last end of line
+pub GivesLine-last : {given given' left : List ℕ} (gave : List ℕ) (x : ℕ) (xs : List ℕ) (is_ended : Bool) → IsTrue is_ended → given' ≡ given ++ gave → left ++ gave ≡ x ∷ xs → HasNoEnd (x ∷ xs)
+    → GivesLine given given' left [] is_ended (x ∷ xs)
+GivesLine-last gave x xs is_ended ended grows splits no_end = record {
+  gave = gave;
+  grows = grows;
+  first = λ rest none.
+      ap lines (ap (λ bytes. bytes ++ rest) splits ∙ ap (λ more. (x ∷ xs) ++ more) (none ended) ∙ append-nil (x ∷ xs))
+      ∙ lines-last x xs no_end ∙ ap (λ more. (x ∷ xs) ∷ lines more) (sym (none ended)) }
+
+-- a line that is held is found as what it is
+found_as : {given given' : List ℕ} (old new : Held) (b : Bool) → is_too_long new.line ≡ b → GivesLine given given' old.left new.left new.is_ended new.line
+    → Finds given given' old new (cond b TooLong Whole)
+found_as old new true is gives = (new.line, gives, is)
+found_as old new false is gives = (gives, is)
+
+pub Finds-line : {given given' : List ℕ} (old new : Held) → GivesLine given given' old.left new.left new.is_ended new.line → Finds given given' old new (kind_of new.line)
+Finds-line old new gives = found_as old new (is_too_long new.line) refl gives
+
+-- what is found at an end of line
+pub Finds-at : {given given' mid : List ℕ} {at : ℕ} (old new : Held) → Comes given given' old.left mid → EndsAt mid at
+    → new.line ≡ without_return (take at mid) → new.left ≡ drop (at + 1) mid → Finds given given' old new (kind_of new.line)
+Finds-at {mid = mid} {at = at} old new comes ends line left =
+    let before : take at mid ≡ ends.before =
+        ap (λ n. take n mid) (sym ends.place) ∙ ap (take (length ends.before)) ends.splits ∙ take-append_seam ends.before (10 ∷ ends.after) in
+    let is : new.line ≡ without_return ends.before = line ∙ ap without_return before in
+    let after : new.left ≡ ends.after = left ∙ EndsAt-after mid at ends in
+    Finds-line old new (rw (is, after) (GivesLine-ended comes.gave ends.before new.is_ended comes.grows (sym comes.adds ∙ ends.splits) ends.no_end))
+
+none_of : (xs ys : List ℕ) → [] ≡ xs ++ ys → (xs ≡ []) × (ys ≡ [])
+none_of [] ys e = (refl, sym e)
+none_of (x ∷ xs) ys e = cc
+
+-- what is found at the end of the input
+pub Finds-rest : {given given' : List ℕ} (old new : Held) (mid : List ℕ) → Comes given given' old.left mid → HasNoEnd mid → IsTrue new.is_ended
+    → new.line ≡ mid → new.left ≡ [] → Finds given given' old new (last_line mid)
+Finds-rest {given = given} old new [] comes no_end ended line left =
+    let none = none_of old.left comes.gave comes.adds in
+    (comes.grows ∙ ap (λ more. given ++ more) none.1 ∙ append-nil given, none.0, left, ended)
+Finds-rest {given = given} {given' = given'} old new (x ∷ xs) comes no_end ended line left =
+    subst (λ (found : Text). Finds given given' old new (kind_of found)) line
+    (Finds-line old new (rw (line, left) (GivesLine-last comes.gave x xs new.is_ended ended comes.grows (sym comes.adds) no_end)))
+
+-- no line loses more than one byte
+length-without_return : (xs : List ℕ) → length xs ≤ length (without_return xs) + 1
+length-without_return [] = omega arith
+length-without_return (x ∷ []) = one (x == 13) refl
+  where
+    one : (b : Bool) → (x == 13) ≡ b → length (x ∷ []) ≤ length (without_return (x ∷ [])) + 1
+    one true e = rw e (omega arith)
+    one false e = rw e (omega arith)
+length-without_return (x ∷ y ∷ xs) = let rest = length-without_return (y ∷ xs) in omega arith
+
+too_long : (line : List ℕ) → 201 ≤ length line → is_too_long line ≡ true
+too_long line long = lt-ltb _ _ long
+
+-- a line that was skipped
+skipped_line : {given given' given'' left mid left' : List ℕ} (is_ended : Bool) (skipped : List ℕ) → Comes given given' left mid → HasNoEnd mid → 202 ≤ length mid → HasNoEnd skipped
+    → (given'' ≡ given' ++ (skipped ++ 10 ∷ left')) ⊎ ((given'' ≡ given' ++ skipped) × (left' ≡ []) × IsTrue is_ended)
+    → (line : Text) × GivesLine given given'' left left' is_ended line × (is_too_long line ≡ true)
+skipped_line {given = given} {left = left} {mid = mid} {left' = left'} is_ended skipped comes no_end long none (inl grows) =
+    let more : List ℕ = skipped ++ 10 ∷ left' in
+    ( without_return (mid ++ skipped),
+      GivesLine-ended (comes.gave ++ more) (mid ++ skipped) is_ended
+      (grows ∙ ap (λ bytes. bytes ++ more) comes.grows ∙ append_assoc given comes.gave more)
+      (sym (append_assoc left comes.gave more) ∙ ap (λ bytes. bytes ++ more) (sym comes.adds) ∙ sym (append_assoc mid skipped (10 ∷ left')))
+      (HasNoEnd-append mid skipped no_end none),
+      too_long (without_return (mid ++ skipped)) (omega (arith, length-without_return (mid ++ skipped), length-append mid skipped)) )
+skipped_line {mid = []} is_ended skipped comes no_end long none (inr ends) = absurd (omega arith)
+skipped_line {given = given} {left = left} {mid = x ∷ xs} {left' = left'} is_ended skipped comes no_end long none (inr ends) =
+    ( x ∷ (xs ++ skipped),
+      rw ends.1
+      (GivesLine-last (comes.gave ++ skipped) x (xs ++ skipped) is_ended ends.2
+       (ends.0 ∙ ap (λ bytes. bytes ++ skipped) comes.grows ∙ append_assoc given comes.gave skipped)
+       (sym (append_assoc left comes.gave skipped) ∙ ap (λ bytes. bytes ++ skipped) (sym comes.adds))
+       (HasNoEnd-append (x ∷ xs) skipped no_end none)),
+      too_long (x ∷ (xs ++ skipped)) (omega (arith, length-append xs skipped)) )
+
+pub Finds-skipped : {given given' given'' left mid left' : List ℕ} {is_ended : Bool} → Comes given given' left mid → HasNoEnd mid → 202 ≤ length mid → Skips given' given'' left' is_ended
+    → (line : Text) × GivesLine given given'' left left' is_ended line × (is_too_long line ≡ true)
+Finds-skipped {is_ended = is_ended} comes no_end long skips = skipped_line is_ended skips.skipped comes no_end long skips.no_end skips.grows
+
+-- For callers: nothing is read yet.
+pub HasRead-start : (start : List ℕ) (held : Held) → held.left ≡ [] → HasRead start start held []
+HasRead-start start held none = record { came = []; grows = sym (append-nil start); so_far = λ rest _. rw none refl }
+
+gave_none : (given given' gave : List ℕ) → given' ≡ given ++ gave → given' ≡ given → gave ≡ []
+gave_none given given' gave grows same = append_cancel_left given gave [] (sym grows ∙ same ∙ sym (append-nil given))
+
+-- For callers: a line more was found. Once the source has told the end, it gives nothing more.
+pub HasRead-line : {start given given' : List ℕ} {held held' : Held} {found : List Text} {line : Text} → HasRead start given held found
+    → GivesLine given given' held.left held'.left held'.is_ended line → (IsTrue held.is_ended → (given' ≡ given) × IsTrue held'.is_ended)
+    → HasRead start given' held' (found ++ line ∷ [])
+HasRead-line {start = start} {given = given} {given' = given'} {held = held} {held' = held'} {found = found} {line = line} before gives at_end = record {
+  came = before.came ++ gives.gave;
+  grows = gives.grows ∙ ap (λ bytes. bytes ++ gives.gave) before.grows ∙ append_assoc start before.came gives.gave;
+  so_far = λ rest none.
+      ap lines (append_assoc before.came gives.gave rest)
+      ∙ before.so_far (gives.gave ++ rest) (λ ended.
+          ap (λ bytes. bytes ++ rest) (gave_none given given' gives.gave gives.grows (at_end ended).0) ∙ none (at_end ended).1)
+      ∙ ap (λ bytes. found ++ lines bytes) (sym (append_assoc held.left gives.gave rest))
+      ∙ ap (λ more. found ++ more) (gives.first rest none)
+      ∙ sym (append_assoc found (line ∷ []) (lines (held'.left ++ rest))) }
+
+-- For callers: at the end of the input these are all the lines of what came.
+pub HasRead-end : {start given : List ℕ} {held : Held} {found : List Text} (read : HasRead start given held found) → held.left ≡ [] → lines read.came ≡ found
+HasRead-end {found = found} read none =
+    ap lines (sym (append-nil read.came)) ∙ read.so_far [] (λ _. refl) ∙ ap (λ bytes. found ++ lines (bytes ++ [])) none ∙ append-nil found
+
+-- For callers: what a line reader knows of the end, its source has told.
+pub is_ended-next : {S : Type 0} (has_ended : S → Bool) (source source' : S) {old new : Bool} → (IsTrue old → IsTrue (has_ended source))
+    → (IsTrue new → IsTrue old ⊎ IsTrue (has_ended source')) → (IsTrue old → (source' ≡ source) × IsTrue new) → IsTrue new → IsTrue (has_ended source')
+is_ended-next {S = S} has_ended source source' before ended at_end now =
+    elim (ended now) [
+      inl was ↦ let P : S → Type 0 = λ s. IsTrue (has_ended s) in subst P (sym (at_end was).0) (before was)
+    | inr told ↦ told ]

@@ -1,0 +1,30 @@
+-- The calls that were made of a reader or a writer, the last first.
+use Rattle.std.specs.Prelude.{ℕ, suc, ◌+◌, Bool, false, List, [], ◌∷◌, ◌++◌, slice_index, ◌==◌, if◌then◌else◌}
+
+-- how a call ended: 0 it moved bytes, 1 it moved none of some, 2 it failed, 3 it was interrupted
+pub record Call : Type 0 where
+  pub ending : ℕ
+  pub bytes : List ℕ
+
+abbrev pub call_of : List ℕ → List ℕ → Call
+call_of ending bytes = record { ending = slice_index ending 0; bytes = bytes }
+
+-- all bytes that were moved
+abbrev pub bytes_moved : List Call → List ℕ
+bytes_moved [] = []
+bytes_moved (call ∷ earlier) = bytes_moved earlier ++ call.bytes
+
+-- whether the last call moved none of some bytes
+abbrev pub is_last_empty : List Call → Bool
+is_last_empty [] = false
+is_last_empty (call ∷ earlier) = call.ending == 1
+
+-- how many calls ended so
+abbrev pub endings : ℕ → List Call → ℕ
+endings ending [] = 0
+endings ending (call ∷ earlier) = endings ending earlier + (if call.ending == ending then 1 else 0)
+
+-- how many calls there were
+abbrev pub call_count : List Call → ℕ
+call_count [] = 0
+call_count (call ∷ earlier) = call_count earlier + 1

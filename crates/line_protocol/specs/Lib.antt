@@ -1,0 +1,10 @@
+pub mod Calls
+pub mod Endings
+pub mod Stopped
+pub mod Source
+pub mod Sink
+pub mod Held
+pub mod LineReading
+pub mod Ends
+pub mod Words
+pub mod Writing

@@ -1,0 +1,301 @@
+//! The bytes that a line reader has read.
+ghost use Rattle.std.specs.Prelude.{◌≡◌, ℕ, ◌+◌, ◌-◌, ◌≤◌, ◌<◌, ◌^◌, Bool, IsTrue, List, [], ◌++◌, ◌⊎◌, false, IfOk, OnOk, OnErr, IfNone, MatchOption, length, take, drop, slice_range, position, ◌==◌};
+ghost use Rattle.trace_types.specs.Lines.{without_return, is_too_long};
+ghost use Rattle.line_protocol.specs.LineReading.{Extends, Finds, LeavesLess, work_left, failed_reads, IfTooLong};
+ghost use Rattle.line_protocol.specs.Ends.{HasNoEnd, IsEnd, Comes, Skips, kind_of, kind_of_length, last_line};
+ghost use Rattle.line_protocol.specs.Source.{failure_count, bytes_read};
+
+use crate::{Line, ReadFault, Source, Stop};
+use std::alloc::Global;
+use std::marker::Model;
+use trace_types::Memory;
+
+/// The bytes that were read. A contract sees what a line reader holds.
+#[derive(Drop)]
+pub struct Buffer {
+    bytes: Vec<u8>,
+    /// The line that was found last is `bytes[line_start..line_end]`.
+    line_start: usize,
+    line_end: usize,
+    /// The bytes that belong to no line yet are `bytes[start..end]`.
+    start: usize,
+    end: usize,
+    is_ended: bool,
+    reads: u64,
+}
+
+impl Model for Buffer {
+    ghost use Rattle.std.specs.Prelude.{◌≡◌, ◌≤◌, ◌^◌, slice_range, vec_len};
+    ghost use Rattle.line_protocol.specs.Held.{Held};
+
+    ghost Value = { Held };
+
+    ghost view = { λ b. record {
+        line = slice_range b.bytes.items b.line_start b.line_end;
+        left = slice_range b.bytes.items b.start b.end;
+        is_ended = b.is_ended;
+        reads = b.reads } };
+
+    ghost invariant = { λ b. record {
+        line_from : b.line_start ≤ b.line_end;
+        line_to : b.line_end ≤ 65536;
+        left_from : b.start ≤ b.end;
+        left_to : b.end ≤ 65536;
+        room : vec_len b.bytes ≡ 65536;
+        reads : b.reads ≤ 2 ^ 30 } };
+}
+
+impl Buffer {
+    /// How many bytes there is room for.
+    const ROOM: usize = 65536;
+
+    /// How many reads are made at most.
+    const MOST_READS: u64 = 1 << 30;
+
+    /// How many bytes a line has at most.
+    const MOST_BYTES: usize = 200;
+
+    /// Nothing that was read yet.
+    pub fn new(alloc: Global) -> Result<Buffer, Memory>
+        ensures { IfOk result (λ buffer. buffer ≡ record { line = []; left = []; is_ended = false; reads = 0 }) }
+    {
+        let bytes = vec![in alloc; 0; Buffer::ROOM]?;
+        Ok(Buffer {
+            bytes,
+            line_start: 0,
+            line_end: 0,
+            start: 0,
+            end: 0,
+            is_ended: false,
+            reads: 0,
+        })
+    }
+
+    /// The line that was found last.
+    pub fn line(&self) -> &[u8]
+        ensures { result.now ≡ self.now.line }
+    {
+        &self.bytes[self.line_start..self.line_end]
+    }
+
+    /// Finds the next line.
+    pub fn next_line<R: Source>(&mut self, source: &mut R) -> Result<Line, ReadFault>
+        ensures ok { IfOk result (λ line. Finds (R.given source.old) (R.given source.new) self.old self.new line) }
+        ensures work { IfOk result (λ line. LeavesLess self.old self.new line) }
+        ensures given { Extends (R.given source.old) (R.given source.new) }
+        ensures failures { R.failures source.new ≡ R.failures source.old + failed_reads result }
+        ensures too_long { IfTooLong result self.new.reads }
+        ensures reads { self.new.reads + R.reads source.old ≡ self.old.reads + R.reads source.new }
+        ensures ended { IsTrue self.new.is_ended → IsTrue self.old.is_ended ⊎ IsTrue (R.has_ended source.new) }
+        ensures at_end { IsTrue self.old.is_ended → (source.new ≡ source.old) × IsTrue self.new.is_ended }
+    {
+        match self.find_end(source)? {
+            Some(at) => Ok(self.take_line(at)),
+            None if self.is_ended => Ok(self.take_rest()),
+            None => {
+                self.skip_line(source)?;
+                Ok(Line::TooLong)
+            }
+        }
+    }
+
+    /// Reads until the line has its end, or is seen to be too long or to be the last.
+    fn find_end<R: Source>(&mut self, source: &mut R) -> Result<Option<usize>, ReadFault>
+        ensures comes { Comes (R.given source.old) (R.given source.new) self.old.left self.new.left }
+        ensures found { IfOk result (λ end. IsEnd self.new.left end) }
+        ensures none { IfOk result (λ end. IfNone end (IsTrue self.new.is_ended ⊎ (202 ≤ length self.new.left))) }
+        ensures work { work_left self.new ≤ work_left self.old }
+        ensures failures { R.failures source.new ≡ R.failures source.old + failed_reads result }
+        ensures too_long { IfTooLong result self.new.reads }
+        ensures reads { self.new.reads + R.reads source.old ≡ self.old.reads + R.reads source.new }
+        ensures ended { IsTrue self.new.is_ended → IsTrue self.old.is_ended ⊎ IsTrue (R.has_ended source.new) }
+        ensures at_end { IsTrue self.old.is_ended → (source.new ≡ source.old) × (self.new ≡ self.old) }
+    {
+        loop {
+            let end = self.end_of_line();
+            if end.is_some() || self.is_ended || self.left_len() > Buffer::MOST_BYTES + 1 {
+                return Ok(end);
+            }
+            self.read_more(source)?;
+        }
+    }
+
+    /// Where the bytes that are left have their first end of line.
+    fn end_of_line(&self) -> Option<usize>
+        ensures { IsEnd self.now.left result }
+    {
+        first_end(&self.bytes[self.start..self.end])
+    }
+
+    /// Takes the first `at` bytes that are left as a line, and the end of line after them.
+    fn take_line(&mut self, at: usize) -> Line
+        requires { at < length self.old.left }
+        ensures line { self.new.line ≡ without_return (take at self.old.left) }
+        ensures left { self.new.left ≡ drop (at + 1) self.old.left }
+        ensures same { (self.new.is_ended ≡ self.old.is_ended) × (self.new.reads ≡ self.old.reads) }
+        ensures kind { result ≡ kind_of self.new.line }
+    {
+        let piece = &self.bytes[self.start..self.start + at];
+        let len = length_without_return(piece);
+        self.line_start = self.start;
+        self.line_end = self.start + len;
+        self.start += at + 1;
+        kind_of(len)
+    }
+
+    /// Takes all that is left as the last line, if there is any.
+    fn take_rest(&mut self) -> Line
+        ensures line { self.new.line ≡ self.old.left }
+        ensures left { self.new.left ≡ [] }
+        ensures same { (self.new.is_ended ≡ self.old.is_ended) × (self.new.reads ≡ self.old.reads) }
+        ensures kind { result ≡ last_line self.old.left }
+    {
+        let len = self.end - self.start;
+        self.line_start = self.start;
+        self.line_end = self.end;
+        self.start = self.end;
+        if len == 0 { Line::End } else { kind_of(len) }
+    }
+
+    /// Reads on until the line that is left has its end, and keeps nothing of it.
+    fn skip_line<R: Source>(&mut self, source: &mut R) -> Result<(), ReadFault>
+        requires { self.old.is_ended ≡ false }
+        ensures given { Extends (R.given source.old) (R.given source.new) }
+        ensures ok { OnOk result (Skips (R.given source.old) (R.given source.new) self.new.left self.new.is_ended) }
+        ensures work { work_left self.new + length self.old.left ≤ work_left self.old }
+        ensures failures { R.failures source.new ≡ R.failures source.old + failed_reads result }
+        ensures too_long { IfTooLong result self.new.reads }
+        ensures reads { self.new.reads + R.reads source.old ≡ self.old.reads + R.reads source.new }
+        ensures ended { IsTrue self.new.is_ended → IsTrue (R.has_ended source.new) }
+    {
+        while !self.is_ended {
+            self.drop_left();
+            self.read_more(source)?;
+            if let Some(at) = self.end_of_line() {
+                self.drop_front(at + 1);
+                return Ok(());
+            }
+        }
+        self.drop_left();
+        Ok(())
+    }
+
+    /// How many bytes are left.
+    fn left_len(&self) -> usize
+        ensures { result ≡ length self.now.left }
+    {
+        self.end - self.start
+    }
+
+    /// Throws the first bytes away that are left.
+    fn drop_front(&mut self, count: usize)
+        requires { count ≤ length self.old.left }
+        ensures { self.new ≡ record self.old { left = drop count self.old.left } }
+    {
+        self.start += count;
+    }
+
+    /// Throws the bytes away that are left.
+    fn drop_left(&mut self)
+        ensures { self.new ≡ record self.old { left = [] } }
+    {
+        self.start = self.end;
+    }
+
+    /// Reads once; an interrupted read is tried again.
+    fn read_more<R: Source>(&mut self, source: &mut R) -> Result<(), ReadFault>
+        requires room { length self.old.left < 65536 }
+        requires open { self.old.is_ended ≡ false }
+        ensures comes { Comes (R.given source.old) (R.given source.new) self.old.left self.new.left }
+        ensures progress { OnOk result (self.old.reads < self.new.reads) }
+        ensures most { self.new.reads ≤ 2 ^ 30 }
+        ensures work { work_left self.new ≤ work_left self.old }
+        ensures failures { R.failures source.new ≡ R.failures source.old + failed_reads result }
+        ensures too_long { IfTooLong result self.new.reads }
+        ensures reads { self.new.reads + R.reads source.old ≡ self.old.reads + R.reads source.new }
+        ensures ended { IsTrue self.new.is_ended → IsTrue (R.has_ended source.new) }
+    {
+        while self.reads < Buffer::MOST_READS {
+            match self.fill(source) {
+                Ok(()) => return Ok(()),
+                Err(Stop::Interrupted) => {}
+                Err(Stop::Failed) => return Err(ReadFault::Read),
+            }
+        }
+        Err(ReadFault::TooLong)
+    }
+
+    /// Makes one read into all the room that is free, with what is left moved to the front.
+    fn fill<R: Source>(&mut self, source: &mut R) -> Result<(), Stop>
+        requires room { length self.old.left < 65536 }
+        requires open { self.old.is_ended ≡ false }
+        requires reads { self.old.reads < 2 ^ 30 }
+        ensures comes { Comes (R.given source.old) (R.given source.new) self.old.left self.new.left }
+        ensures reads { self.new.reads ≡ self.old.reads + 1 }
+        ensures counted { R.reads source.new ≡ R.reads source.old + 1 }
+        ensures length { length self.new.left ≤ length self.old.left + 65536 }
+        ensures room { OnErr result (self.new.left ≡ self.old.left) }
+        ensures failures { R.failures source.new ≡ R.failures source.old + failure_count result }
+        ensures open { OnErr result (self.new.is_ended ≡ false) }
+        ensures ended { IsTrue self.new.is_ended → IsTrue (R.has_ended source.new) }
+    {
+        let kept = self.end - self.start;
+        let count = refill(&mut self.bytes, self.start, self.end, source);
+        self.start = 0;
+        self.end = kept;
+        self.line_start = 0;
+        self.line_end = 0;
+        self.reads += 1;
+        let count = count?;
+        self.end += count;
+        self.is_ended = count == 0;
+        Ok(())
+    }
+}
+
+/// Moves the bytes from `start` to `end` to the front, and makes one read into all the room after them.
+fn refill<R: Source>(bytes: &mut [u8], start: usize, end: usize, source: &mut R) -> Result<usize, Stop>
+    requires from { start ≤ end }
+    requires to { end ≤ length bytes.old }
+    requires room { end - start < length bytes.old }
+    ensures bound { IfOk result (λ n. end - start + n ≤ length bytes.old) }
+    ensures comes { Comes (R.given source.old) (R.given source.new) (slice_range bytes.old start end)
+        (take (end - start + bytes_read result) bytes.new) }
+    ensures counted { R.reads source.new ≡ R.reads source.old + 1 }
+    ensures failures { R.failures source.new ≡ R.failures source.old + failure_count result }
+    ensures ended { IfOk result (λ n. n ≡ 0 → IsTrue (R.has_ended source.new)) }
+{
+    bytes.copy_within(start..end, 0);
+    source.read_some(&mut bytes[end - start..])
+}
+
+/// Where the bytes have their first end of line.
+fn first_end(bytes: &[u8]) -> Option<usize>
+    ensures { result ≡ position (λ byte. byte == 10) bytes.now }
+{
+    bytes.iter().position(|byte| *byte == b'\n')
+}
+
+/// How many bytes the piece has without one carriage return at its end.
+fn length_without_return(piece: &[u8]) -> usize
+    ensures taken { take result piece.now ≡ without_return piece.now }
+    ensures within { result ≤ length piece.now }
+{
+    let len = piece.len();
+    if len > 0 && piece[len - 1] == b'\r' {
+        len - 1
+    } else {
+        len
+    }
+}
+
+/// What a line of this length is.
+fn kind_of(len: usize) -> Line
+    ensures { result ≡ kind_of_length len }
+{
+    if len > Buffer::MOST_BYTES {
+        Line::TooLong
+    } else {
+        Line::Whole
+    }
+}

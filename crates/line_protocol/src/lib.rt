@@ -1,0 +1,33 @@
+//! Lines in, requests read from them, and replies out.
+//!
+//! The one contract: the lines that a `LineReader` gives are the `lines` of what its source gives, a line spells
+//! the request that `read_request` finds in it, and `write_reply` writes the reply's text. The words are defined in
+//! `Lines`, `Reading` and `Text` of trace_types; those on sources, sinks and line readers in this crate's specs/.
+#![tactic(auto)]
+
+mod buffer;
+mod from_reader;
+mod into_writer;
+mod line;
+mod line_reader;
+mod log;
+mod read_fault;
+mod reply;
+mod request;
+mod sink;
+mod source;
+mod stop;
+mod write_fault;
+
+pub use buffer::Buffer;
+pub use from_reader::FromReader;
+pub use into_writer::IntoWriter;
+pub use line::Line;
+pub use line_reader::LineReader;
+pub use read_fault::ReadFault;
+pub use reply::{flush, write_bytes, write_reply};
+pub use request::{read_addressed, read_request};
+pub use sink::Sink;
+pub use source::Source;
+pub use stop::Stop;
+pub use write_fault::WriteFault;

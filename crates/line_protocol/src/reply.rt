@@ -1,0 +1,180 @@
+//! Replies, written without memory.
+ghost use Rattle.std.specs.Prelude.{◌≡◌, ℕ, ◌+◌, ◌≤◌, ◌<◌, ◌++◌, ◌⊎◌, OnOk, OnErr, length, decimal, codes};
+ghost use Rattle.trace_types.specs.Text.{reply_text, order_text};
+ghost use Rattle.trace_types.specs.Code.{code_number, code_text};
+ghost use Rattle.line_protocol.specs.Writing.{WritesFront, IsWriteFault, Writes, Spends};
+
+use crate::{Sink, Stop, WriteFault};
+use itoa::Buffer;
+use trace_types::{Code, Order, Reply};
+
+/// How many interruptions end one call.
+const MOST_INTERRUPTIONS: u64 = 1048576;
+
+/// Writes these bytes.
+pub fn write_bytes<W: Sink>(writer: &mut W, bytes: &[u8]) -> Result<(), WriteFault>
+    ensures ok { OnOk result (W.taken writer.new ≡ W.taken writer.old ++ bytes.now) }
+    ensures err { OnErr result (WritesFront (W.taken writer.old) (W.taken writer.new) bytes.now) }
+    ensures fault { OnErr result (IsWriteFault (W.failures writer.old) (W.failures writer.new)
+        (W.interruptions writer.old) (W.interruptions writer.new)) }
+    ensures no_failure { OnOk result (W.failures writer.new ≡ W.failures writer.old) }
+    ensures failures { W.failures writer.old ≤ W.failures writer.new }
+    ensures interruptions { W.interruptions writer.old ≤ W.interruptions writer.new }
+{
+    let mut patience = MOST_INTERRUPTIONS;
+    write_piece(writer, &mut patience, bytes)
+}
+
+/// Writes the reply, without its end of line.
+pub fn write_reply<W: Sink>(writer: &mut W, reply: &Reply) -> Result<(), WriteFault>
+    ensures ok { OnOk result (W.taken writer.new ≡ W.taken writer.old ++ reply_text reply.now) }
+    ensures err { OnErr result (WritesFront (W.taken writer.old) (W.taken writer.new) (reply_text reply.now)) }
+    ensures fault { OnErr result (IsWriteFault (W.failures writer.old) (W.failures writer.new)
+        (W.interruptions writer.old) (W.interruptions writer.new)) }
+    ensures no_failure { OnOk result (W.failures writer.new ≡ W.failures writer.old) }
+    ensures failures { W.failures writer.old ≤ W.failures writer.new }
+    ensures interruptions { W.interruptions writer.old ≤ W.interruptions writer.new }
+{
+    let mut patience = MOST_INTERRUPTIONS;
+    match reply {
+        Reply::Accepted(event) => write_number(writer, &mut patience, b"201 ", *event),
+        Reply::Ordering(order) => write_pieces(writer, &mut patience, b"200 ", order_text(*order)),
+        Reply::Count(events, tasks, messages) => {
+            write_count(writer, &mut patience, *events, *tasks, *messages)
+        }
+        Reply::Refused(code) => write_refusal(writer, &mut patience, *code),
+    }
+}
+
+/// Flushes what was written.
+pub fn flush<W: Sink>(writer: &mut W) -> Result<(), WriteFault>
+    ensures taken { W.taken writer.new ≡ W.taken writer.old }
+    ensures fault { OnErr result (IsWriteFault (W.failures writer.old) (W.failures writer.new)
+        (W.interruptions writer.old) (W.interruptions writer.new)) }
+    ensures no_failure { OnOk result (W.failures writer.new ≡ W.failures writer.old) }
+    ensures failures { W.failures writer.old ≤ W.failures writer.new }
+    ensures interruptions { W.interruptions writer.old ≤ W.interruptions writer.new }
+{
+    for _ in 0..MOST_INTERRUPTIONS {
+        match writer.flush() {
+            Ok(()) => return Ok(()),
+            Err(Stop::Interrupted) => {}
+            Err(Stop::Failed) => return Err(WriteFault),
+        }
+    }
+    Err(WriteFault)
+}
+
+/// The words for an order.
+fn order_text(order: Order) -> &'static [u8]
+    ensures { result.now ≡ order_text order }
+{
+    match order {
+        Order::Same => b"same",
+        Order::Before => b"before",
+        Order::After => b"after",
+        Order::Concurrent => b"concurrent",
+    }
+}
+
+/// Writes the three numbers of a count.
+fn write_count<W: Sink>(
+    writer: &mut W,
+    patience: &mut u64,
+    events: u64,
+    tasks: u64,
+    messages: u64,
+) -> Result<(), WriteFault>
+    requires { 0 < patience.old }
+    ensures written { Writes (W.taken writer.old) (W.taken writer.new) result
+        ((codes "200 " ++ decimal events) ++ ((codes " " ++ decimal tasks) ++ (codes " " ++ decimal messages))) }
+    ensures spent { Spends (W.failures writer.old) (W.failures writer.new)
+        (W.interruptions writer.old) (W.interruptions writer.new) patience.old patience.new result }
+{
+    write_number(writer, patience, b"200 ", events)?;
+    write_two_numbers(writer, patience, tasks, messages)
+}
+
+/// Writes two numbers, each after a blank.
+fn write_two_numbers<W: Sink>(
+    writer: &mut W,
+    patience: &mut u64,
+    first: u64,
+    second: u64,
+) -> Result<(), WriteFault>
+    requires { 0 < patience.old }
+    ensures written { Writes (W.taken writer.old) (W.taken writer.new) result
+        ((codes " " ++ decimal first) ++ (codes " " ++ decimal second)) }
+    ensures spent { Spends (W.failures writer.old) (W.failures writer.new)
+        (W.interruptions writer.old) (W.interruptions writer.new) patience.old patience.new result }
+{
+    write_number(writer, patience, b" ", first)?;
+    write_number(writer, patience, b" ", second)
+}
+
+/// Writes a code's number and its words.
+fn write_refusal<W: Sink>(writer: &mut W, patience: &mut u64, code: Code) -> Result<(), WriteFault>
+    requires { 0 < patience.old }
+    ensures written { Writes (W.taken writer.old) (W.taken writer.new) result
+        (decimal (code_number code) ++ codes " " ++ code_text code) }
+    ensures spent { Spends (W.failures writer.old) (W.failures writer.new)
+        (W.interruptions writer.old) (W.interruptions writer.new) patience.old patience.new result }
+{
+    write_number(writer, patience, b"", code.number())?;
+    write_pieces(writer, patience, b" ", code.text().as_bytes())
+}
+
+/// Writes a text and a number after it.
+fn write_number<W: Sink>(
+    writer: &mut W,
+    patience: &mut u64,
+    text: &[u8],
+    number: u64,
+) -> Result<(), WriteFault>
+    requires { 0 < patience.old }
+    ensures written { Writes (W.taken writer.old) (W.taken writer.new) result (text.now ++ decimal number) }
+    ensures spent { Spends (W.failures writer.old) (W.failures writer.new)
+        (W.interruptions writer.old) (W.interruptions writer.new) patience.old patience.new result }
+{
+    let mut digits = Buffer::new();
+    write_pieces(writer, patience, text, digits.format(number).as_bytes())
+}
+
+/// Writes two texts.
+fn write_pieces<W: Sink>(
+    writer: &mut W,
+    patience: &mut u64,
+    first: &[u8],
+    second: &[u8],
+) -> Result<(), WriteFault>
+    requires { 0 < patience.old }
+    ensures written { Writes (W.taken writer.old) (W.taken writer.new) result (first.now ++ second.now) }
+    ensures spent { Spends (W.failures writer.old) (W.failures writer.new)
+        (W.interruptions writer.old) (W.interruptions writer.new) patience.old patience.new result }
+{
+    write_piece(writer, patience, first)?;
+    write_piece(writer, patience, second)
+}
+
+/// Writes a text; an interrupted write is tried again as long as there is patience.
+fn write_piece<W: Sink>(writer: &mut W, patience: &mut u64, piece: &[u8]) -> Result<(), WriteFault>
+    requires { 0 < patience.old }
+    ensures written { Writes (W.taken writer.old) (W.taken writer.new) result piece.now }
+    ensures spent { Spends (W.failures writer.old) (W.failures writer.new)
+        (W.interruptions writer.old) (W.interruptions writer.new) patience.old patience.new result }
+{
+    let mut rest = piece;
+    while !rest.is_empty() {
+        match writer.write_some(rest) {
+            Ok(0) | Err(Stop::Failed) => return Err(WriteFault),
+            Ok(count) => rest = &rest[count..],
+            Err(Stop::Interrupted) => {
+                *patience -= 1;
+                if *patience == 0 {
+                    return Err(WriteFault);
+                }
+            }
+        }
+    }
+    Ok(())
+}

@@ -1,0 +1,137 @@
+//! Requests, read in place.
+ghost use Rattle.std.specs.Prelude.{◌≡◌, ℕ, ◌≤◌, ◌∷◌, true, length, position, ◌==◌};
+ghost use Rattle.std.specs.Option.{option_copied};
+ghost use Rattle.std.specs.List.{list_all};
+ghost use Rattle.trace_types.specs.Name.{is_same};
+ghost use Rattle.trace_types.specs.Reading.{request_of, addressed_by, words, number_of, is_digit, is_number, number_onto, request_of_words, with_name, with_numbers, with_nothing};
+ghost use Rattle.trace_types.specs.declared.request.Request.TheVariants.{Local, Order, Count};
+ghost use Rattle.line_protocol.specs.Words.{words_after};
+
+use trace_types::{Name, Request};
+
+/// The request that the line spells, if it spells one.
+pub fn read_request(line: &[u8]) -> Option<Request>
+    ensures { result ≡ request_of line.now }
+{
+    let (keyword, arguments) = split_first(line);
+    if is_word(keyword, b"local") {
+        read_local(arguments?)
+    } else if is_word(keyword, b"order") {
+        read_order(arguments?)
+    } else if is_word(keyword, b"count") {
+        read_count(arguments)
+    } else {
+        None
+    }
+}
+
+/// The tenant that the line names first, and the request that the rest of it spells; `None` where the first word is
+/// no name.
+pub fn read_addressed(line: &[u8]) -> Option<(Name, Option<Request>)>
+    ensures { result ≡ addressed_by line.now }
+{
+    let (tenant, rest) = split_first(line);
+    let name = Name::read(tenant)?;
+    match rest {
+        Some(rest) => Some((name, read_request(rest))),
+        None => Some((name, None)),
+    }
+}
+
+/// The arguments of `local`.
+fn read_local(arguments: &[u8]) -> Option<Request>
+    ensures { result ≡ with_name Local (words arguments.now) }
+{
+    match split_first(arguments) {
+        (name, None) => Some(Request::Local(Name::read(name)?)),
+        (_, Some(_)) => None,
+    }
+}
+
+/// The arguments of `order`.
+fn read_order(arguments: &[u8]) -> Option<Request>
+    ensures { result ≡ with_numbers Order (words arguments.now) }
+{
+    let (first, rest) = split_first(arguments);
+    match split_first(rest?) {
+        (second, None) => Some(Request::Order(read_number(first)?, read_number(second)?)),
+        (_, Some(_)) => None,
+    }
+}
+
+/// The arguments of `count`, of which there are none.
+fn read_count(arguments: Option<&[u8]>) -> Option<Request>
+    ensures { result ≡ with_nothing Count (words_after (option_copied arguments.entry)) }
+{
+    match arguments {
+        None => Some(Request::Count),
+        Some(_) => None,
+    }
+}
+
+/// The bytes before the first blank, and the bytes after it, if there is one.
+fn split_first(bytes: &[u8]) -> (&[u8], Option<&[u8]>)
+    ensures { words bytes.now ≡ result.0.now ∷ words_after (option_copied result.1) }
+{
+    match first_blank(bytes) {
+        Some(at) => (&bytes[..at], Some(&bytes[at + 1..])),
+        None => (bytes, None),
+    }
+}
+
+/// Where the bytes have their first blank.
+fn first_blank(bytes: &[u8]) -> Option<usize>
+    ensures { result ≡ position (λ byte. byte == 32) bytes.now }
+{
+    bytes.iter().position(|byte| *byte == b' ')
+}
+
+fn is_word(word: &[u8], other: &[u8]) -> bool
+    ensures { result ≡ is_same word.now other.now }
+{
+    word == other
+}
+
+fn read_number(word: &[u8]) -> Option<u64>
+    ensures { result ≡ number_of word.now }
+{
+    if is_number(word) {
+        Some(value_of(word))
+    } else {
+        None
+    }
+}
+
+fn is_number(word: &[u8]) -> bool
+    ensures { result ≡ is_number word.now }
+{
+    1 <= word.len()
+        && word.len() <= 9
+        && has_only_digits(word)
+        && (word.len() == 1 || word[0] != b'0')
+}
+
+fn has_only_digits(word: &[u8]) -> bool
+    ensures { result ≡ list_all is_digit word.now }
+{
+    word.iter().all(|byte| is_digit(*byte))
+}
+
+fn is_digit(byte: u8) -> bool
+    ensures { result ≡ is_digit byte }
+{
+    matches!(byte, b'0'..=b'9')
+}
+
+/// The number whose digits these are.
+fn value_of(word: &[u8]) -> u64
+    requires digits { list_all is_digit word.now ≡ true }
+    requires few { length word.now ≤ 9 }
+    ensures { result ≡ number_onto 0 word.now }
+{
+    let mut number = 0;
+    for byte in word {
+        number = 10 * number + u64::from(*byte - b'0');
+    }
+    number
+}

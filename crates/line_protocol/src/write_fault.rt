@@ -1,0 +1,8 @@
+//! Why something is not written.
+
+use thiserror::Error;
+
+/// A write or a flush failed, a write took no byte, or one call was interrupted 1048576 times.
+#[derive(Clone, Copy, Debug, PartialEq, Eq, Error)]
+#[error("write")]
+pub struct WriteFault;

@@ -1,0 +1,110 @@
+-- Line after line of a replay.
+use Rattle.std.proofs.Common.{◌≡◌, ℕ, suc, ◌+◌, ◌-◌, ◌<◌, ◌≤◌, Bool, true, false, IsTrue, List, [], ◌∷◌, ◌++◌, length, take, Option, refl, sym, ap, ◌∙◌, subst, append_assoc, cond, zero-add, arith, codes}
+use Rattle.std.proofs.lemmas.List.{append-nil, length-append}
+use Rattle.std.specs.Prelude.{count_by}
+use Rattle.std.proofs.lemmas.List.Sums.{sum_by-append}
+use Rattle.line_protocol.proofs.LineReadingLemmas.{HasRead-start, HasRead-line, HasRead-end}
+use Rattle.trace_types.specs.Name.{Text}
+use Rattle.trace_types.specs.Text.{reply_text}
+use Rattle.trace_types.specs.Interleaving.{Call}
+use Rattle.trace_types.specs.Replay.{Asked, asked, call_of, reply_to, addressee, written, Entry, entries, calls_by, replies_to, output, MarkMayStand, MarksMayStand, is_accepted, is_answered, is_refused}
+use Rattle.trace_types.specs.World.{World, IsAfter}
+use Rattle.trace_types.specs.declared.reply.Reply.{Reply}
+use Rattle.trace_types.proofs.Replay.{entries-push, calls_by-push, replies_to-push, output-push, MarksMayStand-push}
+use Rattle.line_protocol.specs.Held.{Held}
+use Rattle.line_protocol.specs.LineReading.{HasRead, GivesLine}
+use Rattle.trace_world.specs.declared.counts.Counts.{Counts}
+use Rattle.trace_world.specs.Answer.{addressee_text, answer_text}
+use Rattle.trace_world.specs.Counted.{counted_with, one_if}
+use Rattle.trace_world.specs.Replayed.{counts_of, LeadsTo, Answers}
+
+-- The lines that were found were replayed.
+pub record Follows (start given taken taken' : List ℕ) (old : World) (held : Held) (counts : Counts) (new : World) : Type 0 where
+  pub found : List Text
+  pub marks : List Bool
+  pub text : Text
+  pub read : HasRead start given held found
+  pub writes : taken' ≡ taken ++ text
+  pub leads : LeadsTo old found marks text counts new
+
+-- nothing is counted yet
+abbrev pub no_counts : Counts
+no_counts = record { lines = 0; accepted = 0; answered = 0; refused = 0 }
+
+-- no line leads nowhere
+pub LeadsTo-none : (world : World) → LeadsTo world [] [] [] no_counts world
+LeadsTo-none world = record {
+  one_each = refl;
+  names = refl;
+  limits = refl;
+  places = refl;
+  marked = λ calls after. tt;
+  text_is = λ calls after. refl;
+  counted = λ calls after. refl;
+  leads = λ calls after. rw (append-nil calls) after;
+}
+
+count_by-push : (test : Reply → Bool) (replies : List Reply) (reply : Reply) → count_by test (replies ++ reply ∷ []) ≡ count_by test replies + one_if (test reply)
+count_by-push test replies reply = sum_by-append (λ r. cond (test r) 1 0) replies (reply ∷ []) ∙ ap (λ n. count_by test replies + n) (zero-add (one_if (test reply)))
+
+-- one reply more is counted
+counts_of-push : (replies : List Reply) (reply : Reply) → counts_of (replies ++ reply ∷ []) ≡ counted_with (counts_of replies) reply
+counts_of-push replies reply = λ i. record {
+  lines = length-append replies (reply ∷ []) i;
+  accepted = count_by-push is_accepted replies reply i;
+  answered = count_by-push is_answered replies reply i;
+  refused = count_by-push is_refused replies reply i;
+}
+
+-- one line more
+pub LeadsTo-line : (old mid new : World) (found : List Text) (marks : List Bool) (text : Text) (counts : Counts) (line to : Text) (reply : Reply)
+    → LeadsTo old found marks text counts mid → (answers : Answers mid line to reply new)
+    → LeadsTo old (found ++ line ∷ []) (marks ++ answers.mark ∷ []) (text ++ (to ++ codes " " ++ reply_text reply ++ 10 ∷ [])) (counted_with counts reply) new
+LeadsTo-line old mid new found marks text counts line to reply before answers =
+    let es : List Entry = entries old.names found marks in
+    let entry : Entry = (asked old.names line, answers.mark) in
+    let pushed : entries old.names (found ++ line ∷ []) (marks ++ answers.mark ∷ []) ≡ es ++ entry ∷ [] = entries-push old.names found marks line answers.mark before.one_each in
+    let due : (calls : List Call) → IsAfter old calls → reply ≡ reply_to old.limits (calls ++ calls_by es) entry.0 entry.1 =
+      λ calls after. rw (before.names, before.limits) at (answers.due (calls ++ calls_by es) (before.leads calls after)) in
+    let to_is : to ≡ addressee old.names entry.0 = rw before.names at answers.addressed in
+    record {
+      one_each = rw (length-append marks (answers.mark ∷ []), length-append found (line ∷ []), before.one_each) refl;
+      names = answers.names ∙ before.names;
+      limits = answers.limits ∙ before.limits;
+      places = answers.places ∙ before.places;
+      marked = λ calls after. rw pushed (MarksMayStand-push old.limits calls es entry (before.marked calls after)
+        (rw (before.names, before.limits) at (answers.marked (calls ++ calls_by es) (before.leads calls after))));
+      text_is = λ calls after.
+          ap (λ name. text ++ (name ++ codes " " ++ reply_text reply ++ 10 ∷ [])) to_is
+          ∙ ap (λ r. text ++ written old.names entry.0 r) (due calls after)
+          ∙ ap (λ bytes. bytes ++ written old.names entry.0 (reply_to old.limits (calls ++ calls_by es) entry.0 entry.1)) (before.text_is calls after)
+          ∙ sym (output-push old.names old.limits calls es entry)
+          ∙ ap (output old.names old.limits calls) (sym pushed);
+      counted = λ calls after.
+          ap (λ c. counted_with c reply) (before.counted calls after)
+          ∙ sym (counts_of-push (replies_to old.limits calls es) reply)
+          ∙ ap (λ r. counts_of (replies_to old.limits calls es ++ r ∷ [])) (due calls after)
+          ∙ ap counts_of (sym (replies_to-push old.limits calls es entry))
+          ∙ ap (λ all. counts_of (replies_to old.limits calls all)) (sym pushed);
+      leads = λ calls after.
+          let next : IsAfter new ((calls ++ calls_by es) ++ call_of entry.0 entry.1) = rw before.names at (answers.leads (calls ++ calls_by es) (before.leads calls after)) in
+          let same : (calls ++ calls_by es) ++ call_of entry.0 entry.1 ≡ calls ++ calls_by (entries old.names (found ++ line ∷ []) (marks ++ answers.mark ∷ [])) =
+            append_assoc calls (calls_by es) (call_of entry.0 entry.1)
+            ∙ ap (λ more. calls ++ more) (sym (calls_by-push es entry) ∙ ap calls_by (sym pushed)) in
+          subst (IsAfter new) same next;
+    }
+
+-- one line more is followed
+pub Follows-line : {start given given' taken taken' taken'' : List ℕ} {old mid new : World} {held held' : Held} {counts : Counts} (line to : Text) (reply : Reply)
+    → Follows start given taken taken' old held counts mid
+    → GivesLine given given' held.left held'.left held'.is_ended line → (IsTrue held.is_ended → (given' ≡ given) × IsTrue held'.is_ended)
+    → Answers mid line to reply new → taken'' ≡ taken' ++ (to ++ codes " " ++ reply_text reply ++ 10 ∷ [])
+    → Follows start given' taken taken'' old held' (counted_with counts reply) new
+Follows-line {taken = taken} {old = old} {mid = mid} {new = new} {counts = counts} line to reply before gives at_end answers writes = record {
+  found = before.found ++ line ∷ [];
+  marks = before.marks ++ answers.mark ∷ [];
+  text = before.text ++ (to ++ codes " " ++ reply_text reply ++ 10 ∷ []);
+  read = HasRead-line before.read gives at_end;
+  writes = writes ∙ ap (λ bytes. bytes ++ (to ++ codes " " ++ reply_text reply ++ 10 ∷ [])) before.writes ∙ append_assoc taken before.text (to ++ codes " " ++ reply_text reply ++ 10 ∷ []);
+  leads = LeadsTo-line old mid new before.found before.marks before.text counts line to reply before.leads answers;
+}

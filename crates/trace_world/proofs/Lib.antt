@@ -1,0 +1,5 @@
+mod Places
+mod Fronts
+mod Answering
+mod Following
+mod Parts

@@ -1,0 +1,186 @@
+-- Replays that a fault cuts short.
+use Rattle.std.proofs.Common.{◌≡◌, ℕ, zero, suc, ◌+◌, ◌-◌, ◌<◌, ◌≤◌, Bool, true, false, IsTrue, List, [], ◌∷◌, ◌++◌, length, take, drop, refl, sym, ap, ◌∙◌, subst, append_assoc, arith, codes, None}
+use Rattle.std.proofs.lemmas.List.{append-nil, length-append}
+use Rattle.std.proofs.Math.Seq.{take-append_seam}
+use Rattle.trace_types.specs.Name.{Text}
+use Rattle.trace_types.specs.Limits.{Limits}
+use Rattle.trace_types.specs.Lines.{lines, is_too_long}
+use Rattle.trace_types.specs.Text.{reply_text}
+use Rattle.trace_types.specs.Interleaving.{Call}
+use Rattle.trace_types.specs.Replay.{asked, call_of, entries, output, NoTenants, first_mark}
+use Rattle.trace_types.specs.World.{World, IsAfter}
+use Rattle.trace_types.specs.declared.code.Code.TheVariants as code
+use Rattle.trace_types.specs.declared.reply.Reply.{Reply}
+use Rattle.trace_types.specs.declared.reply.Reply.TheVariants.{Refused}
+use Rattle.line_protocol.specs.Held.{Held}
+use Rattle.line_protocol.specs.LineReading.{HasRead, GivesLine, Finds}
+use Rattle.line_protocol.specs.declared.line.Line.{Line}
+use Rattle.line_protocol.specs.declared.line.Line.TheVariants.{Whole, TooLong, End}
+use Rattle.trace_world.specs.declared.answer.Answer.{Answer}
+use Rattle.trace_world.specs.Answer.{addressee_text}
+use Rattle.line_protocol.specs.Writing.{WritesFront}
+use Rattle.line_protocol.proofs.LineReadingLemmas.{HasRead-start, HasRead-line, HasRead-end}
+use Rattle.trace_world.specs.declared.counts.Counts.{Counts}
+use Rattle.trace_world.specs.Counted.{counted_with, one_if}
+use Rattle.trace_world.specs.Replayed.{LeadsTo, Answers, AreFirstLines, ReplaysInPart, Replays}
+use Rattle.trace_world.proofs.Answering.{answers_nobody}
+use Rattle.trace_world.proofs.Following.{Follows, no_counts, LeadsTo-none, LeadsTo-line, Follows-line}
+
+-- a line was found, and this is its answer
+pub record Answered (given given' : List ℕ) (held held' : Held) (old : World) (to : Text) (reply : Reply) (new : World) : Type 0 where
+  pub line : Text
+  pub gives : GivesLine given given' held.left held'.left held'.is_ended line
+  pub answers : Answers old line to reply new
+
+pub answered_too_long : (given given' : List ℕ) (held held' : Held) (world : World) → Finds given given' held held' TooLong
+    → Answered given given' held held' world (codes "?") (Refused code.Line) world
+answered_too_long given given' held held' world (line, gives, long) = record {
+  line = line;
+  gives = gives;
+  answers = answers_nobody world line code.Line (rw long refl);
+}
+
+pub answered_whole : (given given' : List ℕ) (held held' : Held) (old : World) (to : Text) (reply : Reply) (new : World) → Finds given given' held held' Whole
+    → Answers old held'.line to reply new → Answered given given' held held' old to reply new
+answered_whole given given' held held' old to reply new finds answers = record { line = held'.line; gives = finds.0; answers = answers }
+
+-- the lines that were found are first, however the input goes on
+pub AreFirstLines-from : {start given given' : List ℕ} {held : Held} {found : List Text} (has_ended : Bool) (gave : List ℕ) → HasRead start given held found
+    → given' ≡ given ++ gave → (IsTrue held.is_ended → (gave ≡ []) × IsTrue has_ended) → AreFirstLines start given' has_ended found
+AreFirstLines-from {start = start} {held = held} {found = found} has_ended gave read grows at_end = record {
+  came = read.came ++ gave;
+  left = held.left ++ gave;
+  reads = grows ∙ ap (λ bytes. bytes ++ gave) read.grows ∙ append_assoc start read.came gave;
+  first = λ rest none.
+      ap lines (append_assoc read.came gave rest)
+      ∙ read.so_far (gave ++ rest) (λ ended. ap (λ bytes. bytes ++ rest) (at_end ended).0 ∙ none (at_end ended).1)
+      ∙ ap (λ bytes. found ++ lines bytes) (sym (append_assoc held.left gave rest));
+}
+
+take-nil : (n : ℕ) → take {A = Bool} n [] ≡ []
+take-nil zero = refl
+take-nil (suc n) = refl
+
+-- a longer rest makes a longer text
+append-le : (front a b : List ℕ) → length a ≤ length b → length (front ++ a) ≤ length (front ++ b)
+append-le front a b le = omega (arith, length-append front a, length-append front b)
+
+-- all but the last
+take-push : {A : Type 0} (n : ℕ) (xs : List A) (x : A) → n ≡ length xs → take n (xs ++ x ∷ []) ≡ xs
+take-push n xs x is = ap (λ k. take k (xs ++ x ∷ [])) is ∙ take-append_seam xs (x ∷ [])
+
+-- fewer lines have no longer output
+output-take-le : (names : List Text) (limits : Limits) (before : List Call) (found : List Text) (marks : List Bool) (n : ℕ)
+    → length (output names limits before (entries names (take n found) (take n marks))) ≤ length (output names limits before (entries names found marks))
+output-take-le names limits before found marks zero = omega arith
+output-take-le names limits before [] marks (suc n) = omega arith
+output-take-le names limits before (line ∷ found) [] (suc n) =
+    append-le _ _ _ (rw (take-nil n) at (output-take-le names limits (before ++ call_of (asked names line) false) found [] n))
+output-take-le names limits before (line ∷ found) (mark ∷ marks) (suc n) =
+    append-le _ _ _ (output-take-le names limits (before ++ call_of (asked names line) mark) found marks n)
+
+-- all that was found was written
+pub in_part_whole : {start given given' taken taken' : List ℕ} {old new : World} {held : Held} {counts : Counts} (has_ended : Bool) (gave : List ℕ)
+    → Follows start given taken taken' old held counts new
+    → given' ≡ given ++ gave → (IsTrue held.is_ended → (gave ≡ []) × IsTrue has_ended) → ReplaysInPart start given' has_ended taken taken' old new
+in_part_whole {old = old} {counts = counts} has_ended gave follows grows at_end = record {
+  found = follows.found;
+  marks = follows.marks;
+  text = follows.text;
+  counts = counts;
+  written = follows.text;
+  unwritten = [];
+  first = AreFirstLines-from has_ended gave follows.read grows at_end;
+  writes = follows.writes;
+  front = sym (append-nil follows.text);
+  leads = follows.leads;
+  whole = λ calls after.
+      let less = output-take-le old.names old.limits calls follows.found follows.marks (length follows.found - 1) in
+      let all = ap length (follows.leads.text_is calls after) in
+      omega (arith, less, all);
+}
+
+-- the last line was written in part
+pub in_part_last : {start given given' taken taken' taken'' : List ℕ} {old mid new : World} {held held' : Held} {counts : Counts} {to : Text} {reply : Reply} (has_ended : Bool)
+    → Follows start given taken taken' old held counts mid
+    → Answered given given' held held' mid to reply new
+    → (IsTrue held.is_ended → (given' ≡ given) × IsTrue held'.is_ended) → (IsTrue held'.is_ended → IsTrue has_ended)
+    → WritesFront taken' taken'' (to ++ codes " " ++ reply_text reply ++ 10 ∷ []) → ReplaysInPart start given' has_ended taken taken'' old new
+in_part_last {start = start} {given' = given'} {taken = taken} {old = old} {mid = mid} {new = new} {held' = held'} {counts = counts} {to = to} {reply = reply} has_ended follows answered at_end ended front =
+    let read : HasRead start given' held' (follows.found ++ answered.line ∷ []) = HasRead-line follows.read answered.gives at_end in
+    record {
+      found = follows.found ++ answered.line ∷ [];
+      marks = follows.marks ++ answered.answers.mark ∷ [];
+      text = follows.text ++ (to ++ codes " " ++ reply_text reply ++ 10 ∷ []);
+      counts = counted_with counts reply;
+      written = follows.text ++ front.written;
+      unwritten = front.rest;
+      first = AreFirstLines-from has_ended [] read (sym (append-nil given')) (λ e. (refl, ended e));
+      writes = front.grows ∙ ap (λ bytes. bytes ++ front.written) follows.writes ∙ append_assoc taken follows.text front.written;
+      front = ap (λ bytes. follows.text ++ bytes) front.front ∙ sym (append_assoc follows.text front.written front.rest);
+      leads = LeadsTo-line old mid new follows.found follows.marks follows.text counts answered.line to reply follows.leads answered.answers;
+      whole = λ calls after.
+          let count : length (follows.found ++ answered.line ∷ []) - 1 ≡ length follows.found = omega (arith, length-append follows.found (answered.line ∷ [])) in
+          let all = ap length (follows.leads.text_is calls after) in
+          rw (count, take-push (length follows.found) follows.found answered.line refl, take-push (length follows.found) follows.marks answered.answers.mark (sym follows.leads.one_each))
+          (omega (arith, all, length-append follows.text front.written));
+    }
+
+-- nothing was read or written
+pub in_part_none : (given taken : List ℕ) (has_ended : Bool) (world : World) → ReplaysInPart given given has_ended taken taken world world
+in_part_none given taken has_ended world = record {
+  found = [];
+  marks = [];
+  text = [];
+  counts = no_counts;
+  written = [];
+  unwritten = [];
+  first = record { came = []; left = []; reads = sym (append-nil given); first = λ rest none. refl };
+  writes = sym (append-nil taken);
+  front = refl;
+  leads = LeadsTo-none world;
+  whole = λ calls after. omega arith;
+}
+
+-- all was replayed
+pub replays_all : {start given given' taken taken' : List ℕ} {old new : World} {held : Held} {counts : Counts} (held' : Held) (has_ended : Bool)
+    → Follows start given taken taken' old held counts new → Finds given given' held held' End → IsTrue has_ended → Replays start given' has_ended taken taken' old counts new
+replays_all {old = old} {new = new} {counts = counts} held' has_ended follows finds ended = record {
+  came = follows.read.came;
+  marks = follows.marks;
+  text = follows.text;
+  reads = finds.0 ∙ follows.read.grows;
+  ends = ended;
+  writes = follows.writes;
+  leads = rw (HasRead-end follows.read finds.1) follows.leads;
+}
+
+-- the answer to a line that was found, as the loop knows it
+pub answered_where_too_long : (given given' : List ℕ) (held held' : Held) (world world' : World) (found : Line) (answer result : Answer)
+    → found ≡ TooLong → Finds given given' held held' found → answer ≡ result → result ≡ record { tenant = None; reply = Refused code.Line } → world' ≡ world
+    → Answered given given' held held' world (addressee_text answer.tenant) answer.reply world'
+answered_where_too_long given given' held held' world world' found answer result is finds same result_is world_is =
+    rw (same ∙ result_is, world_is) (answered_too_long given given' held held' world (subst (Finds given given' held held') is finds))
+
+pub answered_where_whole : (given given' : List ℕ) (held held' : Held) (old new world' : World) (found : Line) (answer result : Answer) (line : Text)
+    → found ≡ Whole → Finds given given' held held' found → answer ≡ result → line ≡ held'.line → world' ≡ new → Answers old line (addressee_text result.tenant) result.reply new
+    → Answered given given' held held' old (addressee_text answer.tenant) answer.reply world'
+answered_where_whole given given' held held' old new world' found answer result line is finds same line_is world_is answers =
+    rw (same, world_is) (answered_whole given given' held held' old (addressee_text result.tenant) result.reply new (subst (Finds given given' held held') is finds)
+    (subst (λ (l : Text). Answers old l (addressee_text result.tenant) result.reply new) line_is answers))
+
+-- what is flushed is as it was
+pub Follows-flushed : {start given taken taken' taken'' : List ℕ} {old new : World} {held : Held} {counts : Counts} → taken'' ≡ taken' → Follows start given taken taken' old held counts new → Follows start given taken taken'' old held counts new
+Follows-flushed same follows = record {
+  found = follows.found;
+  marks = follows.marks;
+  text = follows.text;
+  read = follows.read;
+  writes = same ∙ follows.writes;
+  leads = follows.leads;
+}
+
+-- a reply counts once at most
+pub one_if-le : (b : Bool) → one_if b ≤ 1
+one_if-le true = omega arith
+one_if-le false = omega arith

@@ -1,0 +1,4 @@
+pub mod Replayed
+pub mod Faults
+pub mod Answer
+pub mod Counted

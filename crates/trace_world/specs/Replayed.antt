@@ -1,0 +1,77 @@
+-- What a replay did.
+use Rattle.std.specs.Prelude.{◌≡◌, ℕ, ◌+◌, ◌-◌, ◌≤◌, Bool, IsTrue, List, ◌∷◌, [], ◌++◌, length, take, count_by, ◌⊎◌}
+use Rattle.trace_types.specs.Name.{Text}
+use Rattle.trace_types.specs.Limits.{Limits}
+use Rattle.trace_types.specs.Lines.{lines}
+use Rattle.trace_types.specs.Interleaving.{Call}
+use Rattle.trace_types.specs.World.{World, IsAfter}
+use Rattle.trace_types.specs.Replay.{asked, call_of, reply_to, addressee, Entry, entries, calls_by, replies_to, output, MarkMayStand, MarksMayStand, is_accepted, is_answered, is_refused}
+use Rattle.trace_types.specs.declared.reply.Reply.{Reply}
+use Rattle.trace_world.specs.declared.counts.Counts.{Counts}
+
+-- how many replies there are, and how many of each sort
+abbrev pub counts_of : List Reply → Counts
+counts_of replies = record {
+  lines = length replies;
+  accepted = count_by is_accepted replies;
+  answered = count_by is_answered replies;
+  refused = count_by is_refused replies;
+}
+
+-- These lines of all tenants, with these marks, lead from the old world to the new one, have this output and these
+-- counts, whatever calls led to the old world.
+pub record LeadsTo (old : World) (found : List Text) (marks : List Bool) (text : Text) (counts : Counts) (new : World) : Type 0 where
+  pub one_each : length marks ≡ length found
+  pub names : new.names ≡ old.names
+  pub limits : new.limits ≡ old.limits
+  pub places : length new.tenants ≡ length old.tenants
+  pub marked : (calls : List Call) → IsAfter old calls → MarksMayStand old.limits calls (entries old.names found marks)
+  pub text_is : (calls : List Call) → IsAfter old calls → text ≡ output old.names old.limits calls (entries old.names found marks)
+  pub counted : (calls : List Call) → IsAfter old calls → counts ≡ counts_of (replies_to old.limits calls (entries old.names found marks))
+  pub leads : (calls : List Call) → IsAfter old calls → IsAfter new (calls ++ calls_by (entries old.names found marks))
+
+-- All that the reader gave until it told the end was replayed: for some marks that may stand, what was written is
+-- the output for all the lines, and the counts are those of its replies.
+pub record Replays (given given' : List ℕ) (has_ended : Bool) (taken taken' : List ℕ) (old : World) (counts : Counts) (new : World) : Type 0 where
+  pub came : List ℕ
+  pub marks : List Bool
+  pub text : Text
+  pub reads : given' ≡ given ++ came
+  pub ends : IsTrue has_ended
+  pub writes : taken' ≡ taken ++ text
+  pub leads : LeadsTo old (lines came) marks text counts new
+
+-- These are the first lines of what the reader gave, however its input goes on; it does not go on once the reader told
+-- the end.
+pub record AreFirstLines (given given' : List ℕ) (has_ended : Bool) (found : List Text) : Type 0 where
+  pub came : List ℕ
+  pub left : List ℕ
+  pub reads : given' ≡ given ++ came
+  pub first : (rest : List ℕ) → (IsTrue has_ended → rest ≡ []) → lines (came ++ rest) ≡ found ++ lines (left ++ rest)
+
+-- A fault came in between: the first lines were replayed, a front of their output was written, and at most the last
+-- of them lacks its whole reply.
+pub record ReplaysInPart (given given' : List ℕ) (has_ended : Bool) (taken taken' : List ℕ) (old new : World) : Type 0 where
+  pub found : List Text
+  pub marks : List Bool
+  pub text : Text
+  pub counts : Counts
+  pub written : List ℕ
+  pub unwritten : List ℕ
+  pub first : AreFirstLines given given' has_ended found
+  pub writes : taken' ≡ taken ++ written
+  pub front : text ≡ written ++ unwritten
+  pub leads : LeadsTo old found marks text counts new
+  pub whole : (calls : List Call) → IsAfter old calls →
+      length (output old.names old.limits calls (entries old.names (take (length found - 1) found) (take (length found - 1) marks))) ≤ length written
+
+-- One line leads from the old world to the new one, and this reply is due to this addressee.
+pub record Answers (old : World) (line : Text) (to : Text) (reply : Reply) (new : World) : Type 0 where
+  pub mark : Bool
+  pub names : new.names ≡ old.names
+  pub limits : new.limits ≡ old.limits
+  pub places : length new.tenants ≡ length old.tenants
+  pub addressed : to ≡ addressee old.names (asked old.names line)
+  pub marked : (calls : List Call) → IsAfter old calls → MarkMayStand old.limits calls (asked old.names line, mark)
+  pub due : (calls : List Call) → IsAfter old calls → reply ≡ reply_to old.limits calls (asked old.names line) mark
+  pub leads : (calls : List Call) → IsAfter old calls → IsAfter new (calls ++ call_of (asked old.names line) mark)

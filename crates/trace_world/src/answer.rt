@@ -1,0 +1,78 @@
+//! The answer to one line.
+ghost use Rattle.std.specs.Prelude.{◌≡◌, ◌+◌, ◌++◌, ◌≤◌, false, None, OnOk, OnErr};
+ghost use Rattle.trace_types.specs.Lines.{is_too_long};
+ghost use Rattle.line_protocol.specs.Writing.{WritesFront, IsWriteFault};
+ghost use Rattle.trace_world.specs.Replayed.{Answers};
+ghost use Rattle.trace_world.specs.Answer.{addressee_text, answer_text};
+
+use crate::World;
+use line_protocol::{Sink, WriteFault, read_addressed, write_bytes, write_reply};
+use trace_types::{Code, Name, Reply};
+
+/// A reply, and the tenant that it names.
+#[derive(Drop)]
+pub(crate) struct Answer {
+    /// `None` where the line belongs to no tenant.
+    pub(crate) tenant: Option<Name>,
+    pub(crate) reply: Reply,
+}
+
+impl Answer {
+    /// Does what the line asks of the tenants.
+    pub(crate) fn to_line<R>(rt: &R, world: &mut World, line: &[u8]) -> Answer
+        requires { is_too_long line.now ≡ false }
+        ensures { Answers world.old line.now (addressee_text result.tenant) result.reply world.new }
+    {
+        let Some((name, request)) = read_addressed(line) else {
+            return Answer::to_nobody(Code::Line);
+        };
+        let Some(tenant) = world.find(&name) else {
+            return Answer::to_nobody(Code::NoTenant);
+        };
+        match request {
+            Some(request) => Answer {
+                tenant: Some(name),
+                reply: world.step(rt, tenant, &request),
+            },
+            None => Answer {
+                tenant: Some(name),
+                reply: Reply::Refused(Code::Line),
+            },
+        }
+    }
+
+    /// A refusal to a line that belongs to no tenant.
+    pub(crate) fn to_nobody(code: Code) -> Answer
+        ensures { result ≡ record { tenant = None; reply = Reply.Refused code } }
+    {
+        Answer {
+            tenant: None,
+            reply: Reply::Refused(code),
+        }
+    }
+
+    /// Writes the answer as a line.
+    pub(crate) fn write<W: Sink>(&self, writer: &mut W) -> Result<(), WriteFault>
+        ensures ok { OnOk result (W.taken writer.new ≡ W.taken writer.old ++ answer_text self.now.tenant self.now.reply) }
+        ensures err { OnErr result (WritesFront (W.taken writer.old) (W.taken writer.new) (answer_text self.now.tenant self.now.reply)) }
+        ensures fault { OnErr result (IsWriteFault (W.failures writer.old) (W.failures writer.new)
+            (W.interruptions writer.old) (W.interruptions writer.new)) }
+        ensures failures { W.failures writer.old ≤ W.failures writer.new }
+        ensures interruptions { W.interruptions writer.old ≤ W.interruptions writer.new }
+    {
+        write_bytes(writer, self.addressee())?;
+        write_bytes(writer, b" ")?;
+        write_reply(writer, &self.reply)?;
+        write_bytes(writer, b"\n")
+    }
+
+    /// Whom the answer names.
+    fn addressee(&self) -> &[u8]
+        ensures { result.now ≡ addressee_text self.now.tenant }
+    {
+        match &self.tenant {
+            Some(name) => name.as_bytes(),
+            None => b"?",
+        }
+    }
+}

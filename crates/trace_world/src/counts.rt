@@ -1,0 +1,48 @@
+//! What a replay counts.
+ghost use Rattle.std.specs.Prelude.{◌≡◌, ◌+◌, ◌<◌, ◌≤◌, ◌^◌};
+
+use trace_types::Reply;
+
+/// How many lines were replayed, and how they were answered.
+#[derive(Clone, Copy, Debug, PartialEq, Eq)]
+pub struct Counts {
+    pub lines: u64,
+    /// Replies with 201.
+    pub accepted: u64,
+    /// Replies with 200.
+    pub answered: u64,
+    /// All other replies.
+    pub refused: u64,
+}
+
+impl Counts {
+    ghost use Rattle.trace_world.specs.Counted.{counted_with};
+
+    /// Nothing counted yet.
+    pub(crate) fn none() -> Counts
+        ensures { result ≡ record { lines = 0; accepted = 0; answered = 0; refused = 0 } }
+    {
+        Counts {
+            lines: 0,
+            accepted: 0,
+            answered: 0,
+            refused: 0,
+        }
+    }
+
+    /// Counts one more line, which got this reply.
+    pub(crate) fn count(&mut self, reply: &Reply)
+        requires lines { self.old.lines < 2 ^ 60 }
+        requires accepted { self.old.accepted ≤ self.old.lines }
+        requires answered { self.old.answered ≤ self.old.lines }
+        requires refused { self.old.refused ≤ self.old.lines }
+        ensures { self.new ≡ counted_with self.old reply.now }
+    {
+        self.lines += 1;
+        match reply {
+            Reply::Accepted(_) => self.accepted += 1,
+            Reply::Refused(_) => self.refused += 1,
+            Reply::Ordering(_) | Reply::Count(..) => self.answered += 1,
+        }
+    }
+}

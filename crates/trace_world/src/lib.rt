@@ -1,0 +1,17 @@
+//! All tenants on one thread, and the replay of their lines.
+//!
+//! Its one contract is tenant isolation: whatever the tenants ask in whatever interleaving, each reply is the one that
+//! the tenant's own requests alone give, on steps (`World::step`) and on bytes (`replay`). The words are defined in
+//! `Interleaving`, `Replay` and `World` of `trace_types`, and in `Replayed` here.
+#![tactic(auto)]
+
+mod answer;
+mod counts;
+mod replaying;
+mod replay_fault;
+mod world;
+
+pub use counts::Counts;
+pub use replaying::replay;
+pub use replay_fault::ReplayFault;
+pub use world::World;

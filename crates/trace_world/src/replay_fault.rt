@@ -1,0 +1,53 @@
+//! Why a replay stops.
+ghost use Rattle.std.specs.Prelude.{◌≡◌};
+ghost use Rattle.trace_world.specs.declared.replay_fault.ReplayFault.{ReplayFault};
+ghost use Rattle.trace_world.specs.declared.replay_fault.ReplayFault.TheVariants as variants;
+ghost use Rattle.trace_world.specs.Faults.{replay_fault_of};
+
+use line_protocol::{ReadFault, WriteFault};
+use thiserror::Error;
+use trace_types::Memory;
+
+/// Why a replay stops before the end of its input.
+#[derive(Clone, Copy, Debug, PartialEq, Eq, Error)]
+pub enum ReplayFault {
+    /// A read failed.
+    #[error("read fault")]
+    Read,
+    /// A write or a flush failed.
+    #[error("write fault")]
+    Write,
+    /// All the reads that one replay may make were made.
+    #[error("input too long")]
+    TooLong,
+    /// A request for memory was refused, before anything was read.
+    #[error("no memory")]
+    Memory,
+}
+
+impl From<ReadFault> for ReplayFault {
+    ghost from_gives = { λ fault replay_fault. replay_fault ≡ replay_fault_of fault };
+
+    fn from(fault: ReadFault) -> ReplayFault {
+        match fault {
+            ReadFault::Read => ReplayFault::Read,
+            ReadFault::TooLong => ReplayFault::TooLong,
+        }
+    }
+}
+
+impl From<WriteFault> for ReplayFault {
+    ghost from_gives = { λ _ replay_fault. replay_fault ≡ variants.Write };
+
+    fn from(_fault: WriteFault) -> ReplayFault {
+        ReplayFault::Write
+    }
+}
+
+impl From<Memory> for ReplayFault {
+    ghost from_gives = { λ _ replay_fault. replay_fault ≡ variants.Memory };
+
+    fn from(_refused: Memory) -> ReplayFault {
+        ReplayFault::Memory
+    }
+}

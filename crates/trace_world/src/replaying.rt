@@ -1,0 +1,47 @@
+//! The replay of lines of many tenants.
+ghost use Rattle.std.specs.Prelude.{◌≡◌, ◌+◌, ◌<◌, ◌≤◌, ◌^◌, IfOk, OnErr, IsErrOf, ◌⊎◌};
+ghost use Rattle.line_protocol.specs.Writing.{IsWriteFault};
+ghost use Rattle.trace_world.specs.Replayed.{Replays, ReplaysInPart};
+
+use crate::answer::Answer;
+use crate::{Counts, ReplayFault, World};
+use line_protocol::{Line, Buffer, Sink, Source, flush};
+use std::alloc::Global;
+use trace_types::Code;
+
+/// Reads lines of all tenants, `TENANT REQUEST`, does what they ask and writes a line for each, `TENANT REPLY`.
+///
+/// It reads to the end of the input, and flushes what it wrote.
+pub fn replay<T, R: Source, W: Sink>(
+    rt: &T,
+    alloc: Global,
+    world: &mut World,
+    reader: &mut R,
+    writer: &mut W,
+) -> Result<Counts, ReplayFault>
+    ensures ok { IfOk result (λ counts. Replays (R.given reader.old) (R.given reader.new) (R.has_ended reader.new)
+        (W.taken writer.old) (W.taken writer.new) world.old counts world.new) }
+    ensures fault { OnErr result (ReplaysInPart (R.given reader.old) (R.given reader.new) (R.has_ended reader.new)
+        (W.taken writer.old) (W.taken writer.new) world.old world.new) }
+
+    // When each fault comes.
+    ensures read { IsErrOf result ReplayFault.Read → R.failures reader.old < R.failures reader.new }
+    ensures too_long { IsErrOf result ReplayFault.TooLong → R.reads reader.old + 2 ^ 30 ≤ R.reads reader.new }
+    ensures write { IsErrOf result ReplayFault.Write → IsWriteFault (W.failures writer.old) (W.failures writer.new)
+        (W.interruptions writer.old) (W.interruptions writer.new) }
+    ensures memory { IsErrOf result ReplayFault.Memory → R.reads reader.new ≡ R.reads reader.old }
+{
+    let mut lines = Buffer::new(alloc)?;
+    let mut counts = Counts::none();
+    loop {
+        let answer = match lines.next_line(reader)? {
+            Line::End => break,
+            Line::TooLong => Answer::to_nobody(Code::Line),
+            Line::Whole => Answer::to_line(rt, world, lines.line()),
+        };
+        answer.write(writer)?;
+        counts.count(&answer.reply);
+    }
+    flush(writer)?;
+    Ok(counts)
+}
