@@ -1,5 +1,7 @@
 //! What the program does.
-ghost use Rattle.std.specs.Prelude.{◌≡◌, ◌≤◌};
+ghost use Rattle.std.specs.Prelude.{◌≡◌, ◌++◌, ◌⊎◌, OnOk, IfErr};
+ghost use Rattle.itc_trace.specs.Fault.{status_of};
+ghost use Rattle.itc_trace.specs.Program.{ReplaysFresh, IsStatus};
 
 use crate::fault::Fault;
 use crate::words::{Asked, Refusal, read_words};
@@ -17,7 +19,12 @@ pub fn run<T: AllocGlobal, S: AsStr, R: Source, W: Sink, E: Sink>(
     writer: &mut W,
     errors: &mut E,
 ) -> u8
-    ensures { result ≤ 4 }
+    ensures status { IsStatus result }
+    // Where it is done, help was shown and nothing read, or all lines were replayed.
+    ensures done { result ≡ 0 → (R.reads reader.new ≡ R.reads reader.old)
+        ⊎ ReplaysFresh (R.given reader.old) (R.given reader.new) (R.has_ended reader.new) (W.taken writer.old) (W.taken writer.new) }
+    // Where the words or the tenants are refused, nothing was read.
+    ensures refused { result ≡ 2 → R.reads reader.new ≡ R.reads reader.old }
 {
     let alloc = rt.alloc();
     let done = match read_words(alloc, words) {
@@ -42,19 +49,28 @@ fn replay_tenants<T, R: Source, W: Sink>(
     tenants: &[String],
     reader: &mut R,
     writer: &mut W,
-) -> Result<(), Fault> {
+) -> Result<(), Fault>
+    ensures done { OnOk result (ReplaysFresh (R.given reader.old) (R.given reader.new) (R.has_ended reader.new)
+        (W.taken writer.old) (W.taken writer.new)) }
+    ensures refused { IfErr result (λ fault. status_of fault ≡ 2 → R.reads reader.new ≡ R.reads reader.old) }
+{
     let mut names = Vec::new(alloc);
     for tenant in tenants {
         let name = Name::read(tenant.as_bytes()).ok_or(Fault::Tenants)?;
         names.push(name).map_err(|_| Fault::Memory)?;
     }
     let mut world = World::new(alloc, &names, Limits::default())?;
-    replay(rt, alloc, &mut world, reader, writer)?;
-    Ok(())
+    match replay(rt, alloc, &mut world, reader, writer) {
+        Ok(_) => Ok(()),
+        Err(fault) => Err(Fault::from(fault)),
+    }
 }
 
 /// Writes a text, and hands it on.
-fn show<W: Sink>(writer: &mut W, text: &str) -> Result<(), Fault> {
+fn show<W: Sink>(writer: &mut W, text: &str) -> Result<(), Fault>
+    ensures ok { OnOk result (W.taken writer.new ≡ W.taken writer.old ++ text.now) }
+    ensures err { IfErr result (λ fault. fault ≡ Fault.Write) }
+{
     write_bytes(writer, text.as_bytes()).map_err(|_| Fault::Write)?;
     flush(writer).map_err(|_| Fault::Write)
 }
