@@ -67,13 +67,17 @@ found-step : (i x : ℕ) (xs : List ℕ) (b : Bool) (r : Option ℕ) → (x == 1
 found-step i x xs true r is later =
     (0, omega arith, record { before = []; after = xs; splits = rw (eqb-true x 10 is) refl; no_end = tt; place = refl })
 found-step i x xs false None is later = (is, later)
-found-step i x xs false (Some k) is (at, place, ends) =
-    (suc at, omega arith, record {
-      before = x ∷ ends.before;
-      after = ends.after;
-      splits = ap (λ bytes. x ∷ bytes) ends.splits;
-      no_end = (is, ends.no_end);
-      place = ap suc ends.place })
+found-step i x xs false (Some k) is (at, place, ends) = (
+  suc at,
+  omega arith,
+  record {
+    before = x ∷ ends.before;
+    after = ends.after;
+    splits = ap (λ bytes. x ∷ bytes) ends.splits;
+    no_end = (is, ends.no_end);
+    place = ap suc ends.place;
+  },
+)
 
 found : (i : ℕ) (xs : List ℕ) → Found i xs (position_from (λ byte. byte == 10) i xs)
 found i [] = tt

@@ -20,7 +20,8 @@ GivesLine-ended {after = after} gave before is_ended grows splits no_end = recor
   gave = gave;
   grows = grows;
   first = λ rest _.
-      ap lines (ap (λ bytes. bytes ++ rest) splits ∙ append_assoc before (10 ∷ after) rest) ∙ lines-ended before (after ++ rest) no_end }
+      ap lines (ap (λ bytes. bytes ++ rest) splits ∙ append_assoc before (10 ∷ after) rest) ∙ lines-ended before (after ++ rest) no_end;
+}
 
 -- the line after the last end of line
 pub GivesLine-last : {given given' left : List ℕ} (gave : List ℕ) (x : ℕ) (xs : List ℕ) (is_ended : Bool) → IsTrue is_ended → given' ≡ given ++ gave → left ++ gave ≡ x ∷ xs → HasNoEnd (x ∷ xs)
@@ -30,7 +31,8 @@ GivesLine-last gave x xs is_ended ended grows splits no_end = record {
   grows = grows;
   first = λ rest none.
       ap lines (ap (λ bytes. bytes ++ rest) splits ∙ ap (λ more. (x ∷ xs) ++ more) (none ended) ∙ append-nil (x ∷ xs))
-      ∙ lines-last x xs no_end ∙ ap (λ more. (x ∷ xs) ∷ lines more) (sym (none ended)) }
+      ∙ lines-last x xs no_end ∙ ap (λ more. (x ∷ xs) ∷ lines more) (sym (none ended));
+}
 
 -- a line that is held is found as what it is
 found_as : {given given' : List ℕ} (old new : Held) (b : Bool) → is_too_long new.line ≡ b → GivesLine given given' old.left new.left new.is_ended new.line
@@ -46,7 +48,7 @@ pub Finds-at : {given given' mid : List ℕ} {at : ℕ} (old new : Held) → Com
     → new.line ≡ without_return (take at mid) → new.left ≡ drop (at + 1) mid → Finds given given' old new (kind_of new.line)
 Finds-at {mid = mid} {at = at} old new comes ends line left =
     let before : take at mid ≡ ends.before =
-        ap (λ n. take n mid) (sym ends.place) ∙ ap (take (length ends.before)) ends.splits ∙ take-append_seam ends.before (10 ∷ ends.after) in
+    ap (λ n. take n mid) (sym ends.place) ∙ ap (take (length ends.before)) ends.splits ∙ take-append_seam ends.before (10 ∷ ends.after) in
     let is : new.line ≡ without_return ends.before = line ∙ ap without_return before in
     let after : new.left ≡ ends.after = left ∙ EndsAt-after mid at ends in
     Finds-line old new (rw (is, after) (GivesLine-ended comes.gave ends.before new.is_ended comes.grows (sym comes.adds ∙ ends.splits) ends.no_end))
@@ -83,22 +85,24 @@ skipped_line : {given given' given'' left mid left' : List ℕ} (is_ended : Bool
     → (given'' ≡ given' ++ (skipped ++ 10 ∷ left')) ⊎ ((given'' ≡ given' ++ skipped) × (left' ≡ []) × IsTrue is_ended)
     → (line : Text) × GivesLine given given'' left left' is_ended line × (is_too_long line ≡ true)
 skipped_line {given = given} {left = left} {mid = mid} {left' = left'} is_ended skipped comes no_end long none (inl grows) =
-    let more : List ℕ = skipped ++ 10 ∷ left' in
-    ( without_return (mid ++ skipped),
+    let more : List ℕ = skipped ++ 10 ∷ left' in (
+      without_return (mid ++ skipped),
       GivesLine-ended (comes.gave ++ more) (mid ++ skipped) is_ended
-      (grows ∙ ap (λ bytes. bytes ++ more) comes.grows ∙ append_assoc given comes.gave more)
-      (sym (append_assoc left comes.gave more) ∙ ap (λ bytes. bytes ++ more) (sym comes.adds) ∙ sym (append_assoc mid skipped (10 ∷ left')))
-      (HasNoEnd-append mid skipped no_end none),
-      too_long (without_return (mid ++ skipped)) (omega (arith, length-without_return (mid ++ skipped), length-append mid skipped)) )
+          (grows ∙ ap (λ bytes. bytes ++ more) comes.grows ∙ append_assoc given comes.gave more)
+          (sym (append_assoc left comes.gave more) ∙ ap (λ bytes. bytes ++ more) (sym comes.adds) ∙ sym (append_assoc mid skipped (10 ∷ left')))
+          (HasNoEnd-append mid skipped no_end none),
+      too_long (without_return (mid ++ skipped)) (omega (arith, length-without_return (mid ++ skipped), length-append mid skipped)),
+    )
 skipped_line {mid = []} is_ended skipped comes no_end long none (inr ends) = absurd (omega arith)
-skipped_line {given = given} {left = left} {mid = x ∷ xs} {left' = left'} is_ended skipped comes no_end long none (inr ends) =
-    ( x ∷ (xs ++ skipped),
-      rw ends.1
+skipped_line {given = given} {left = left} {mid = x ∷ xs} {left' = left'} is_ended skipped comes no_end long none (inr ends) = (
+  x ∷ (xs ++ skipped),
+  rw ends.1
       (GivesLine-last (comes.gave ++ skipped) x (xs ++ skipped) is_ended ends.2
-       (ends.0 ∙ ap (λ bytes. bytes ++ skipped) comes.grows ∙ append_assoc given comes.gave skipped)
-       (sym (append_assoc left comes.gave skipped) ∙ ap (λ bytes. bytes ++ skipped) (sym comes.adds))
-       (HasNoEnd-append (x ∷ xs) skipped no_end none)),
-      too_long (x ∷ (xs ++ skipped)) (omega (arith, length-append xs skipped)) )
+      (ends.0 ∙ ap (λ bytes. bytes ++ skipped) comes.grows ∙ append_assoc given comes.gave skipped)
+      (sym (append_assoc left comes.gave skipped) ∙ ap (λ bytes. bytes ++ skipped) (sym comes.adds))
+      (HasNoEnd-append (x ∷ xs) skipped no_end none)),
+  too_long (x ∷ (xs ++ skipped)) (omega (arith, length-append xs skipped)),
+)
 
 pub Finds-skipped : {given given' given'' left mid left' : List ℕ} {is_ended : Bool} → Comes given given' left mid → HasNoEnd mid → 202 ≤ length mid → Skips given' given'' left' is_ended
     → (line : Text) × GivesLine given given'' left left' is_ended line × (is_too_long line ≡ true)
@@ -121,10 +125,11 @@ HasRead-line {start = start} {given = given} {given' = given'} {held = held} {he
   so_far = λ rest none.
       ap lines (append_assoc before.came gives.gave rest)
       ∙ before.so_far (gives.gave ++ rest) (λ ended.
-          ap (λ bytes. bytes ++ rest) (gave_none given given' gives.gave gives.grows (at_end ended).0) ∙ none (at_end ended).1)
+      ap (λ bytes. bytes ++ rest) (gave_none given given' gives.gave gives.grows (at_end ended).0) ∙ none (at_end ended).1)
       ∙ ap (λ bytes. found ++ lines bytes) (sym (append_assoc held.left gives.gave rest))
       ∙ ap (λ more. found ++ more) (gives.first rest none)
-      ∙ sym (append_assoc found (line ∷ []) (lines (held'.left ++ rest))) }
+      ∙ sym (append_assoc found (line ∷ []) (lines (held'.left ++ rest)));
+}
 
 -- For callers: at the end of the input these are all the lines of what came.
 pub HasRead-end : {start given : List ℕ} {held : Held} {found : List Text} (read : HasRead start given held found) → held.left ≡ [] → lines read.came ≡ found
@@ -136,5 +141,6 @@ pub is_ended-next : {S : Type 0} (has_ended : S → Bool) (source source' : S) {
     → (IsTrue new → IsTrue old ⊎ IsTrue (has_ended source')) → (IsTrue old → (source' ≡ source) × IsTrue new) → IsTrue new → IsTrue (has_ended source')
 is_ended-next {S = S} has_ended source source' before ended at_end now =
     elim (ended now) [
-      inl was ↦ let P : S → Type 0 = λ s. IsTrue (has_ended s) in subst P (sym (at_end was).0) (before was)
-    | inr told ↦ told ]
+      | inl was ↦ let P : S → Type 0 = λ s. IsTrue (has_ended s) in subst P (sym (at_end was).0) (before was)
+      | inr told ↦ told
+    ]

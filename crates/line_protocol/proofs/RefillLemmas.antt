@@ -32,7 +32,8 @@ refilled given given' bytes moved_bytes buffer s e k (Ok n) from to is grows fit
       adds =
           rw front
           (behind (slice_range bytes s e) (buffer ++ post_of (e - s) k moved_bytes) (e - s) n (length-slice_range bytes s e from to)
-           ∙ ap (λ after. slice_range bytes s e ++ after) (take-append-le n buffer (post_of (e - s) k moved_bytes) fits)) }
+          ∙ ap (λ after. slice_range bytes s e ++ after) (take-append-le n buffer (post_of (e - s) k moved_bytes) fits));
+    }
 refilled given given' bytes moved_bytes buffer s e k (Err stop) from to is grows fits =
     let front : take (e - s) moved_bytes ≡ slice_range bytes s e = ap (take (e - s)) is ∙ moved bytes s e from to in
     record {
@@ -40,4 +41,5 @@ refilled given given' bytes moved_bytes buffer s e k (Err stop) from to is grows
       grows = grows;
       adds =
           rw front
-          (behind (slice_range bytes s e) (buffer ++ post_of (e - s) k moved_bytes) (e - s) 0 (length-slice_range bytes s e from to)) }
+          (behind (slice_range bytes s e) (buffer ++ post_of (e - s) k moved_bytes) (e - s) 0 (length-slice_range bytes s e from to));
+    }

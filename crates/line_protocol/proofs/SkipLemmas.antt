@@ -25,7 +25,8 @@ Skipped-more given given' given'' left left' skipped comes none no_end = record 
   skipped = skipped.skipped ++ left';
   no_end = HasNoEnd-append skipped.skipped left' skipped.no_end no_end;
   grows =
-      came given' given'' left left' comes none ∙ ap (λ bytes. bytes ++ left') skipped.grows ∙ append_assoc given skipped.skipped left' }
+      came given' given'' left left' comes none ∙ ap (λ bytes. bytes ++ left') skipped.grows ∙ append_assoc given skipped.skipped left';
+}
 
 pub Skips-at : (given given' given'' left left' rest : List ℕ) (at : ℕ) (is_ended : Bool) → Skipped given given' → Comes given' given'' left left' → left ≡ [] → EndsAt left' at → rest ≡ drop (at + 1) left'
     → Skips given given'' rest is_ended
@@ -35,4 +36,5 @@ Skips-at given given' given'' left left' rest at is_ended skipped comes none end
   grows = inl (
       came given' given'' left left' comes none ∙ ap (λ bytes. bytes ++ left') skipped.grows ∙ append_assoc given skipped.skipped left'
       ∙ ap (λ bytes. given ++ (skipped.skipped ++ bytes)) (ends.splits ∙ ap (λ after. ends.before ++ 10 ∷ after) (sym (is ∙ EndsAt-after left' at ends)))
-      ∙ ap (λ bytes. given ++ bytes) (sym (append_assoc skipped.skipped ends.before (10 ∷ rest)))) }
+      ∙ ap (λ bytes. given ++ bytes) (sym (append_assoc skipped.skipped ends.before (10 ∷ rest))));
+}

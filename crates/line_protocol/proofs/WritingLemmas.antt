@@ -17,7 +17,8 @@ Wrote-more {old = old} {new' = new'} {text = text} {rest = rest} n wrote more = 
   written = wrote.written ++ take n rest;
   grows = more ∙ ap (λ bytes. bytes ++ take n rest) wrote.grows ∙ append_assoc old wrote.written (take n rest);
   front =
-      wrote.front ∙ ap (λ bytes. wrote.written ++ bytes) (sym (take-append-drop n rest)) ∙ sym (append_assoc wrote.written (take n rest) (drop n rest)) }
+      wrote.front ∙ ap (λ bytes. wrote.written ++ bytes) (sym (take-append-drop n rest)) ∙ sym (append_assoc wrote.written (take n rest) (drop n rest));
+}
 
 pub Wrote-front : {old new text rest : List ℕ} → Wrote old new text rest → WritesFront old new text
 Wrote-front {rest = rest} wrote = record { written = wrote.written; rest = rest; grows = wrote.grows; front = wrote.front }
@@ -32,4 +33,5 @@ WritesFront-first second front = record {
   written = front.written;
   rest = front.rest ++ second;
   grows = front.grows;
-  front = ap (λ bytes. bytes ++ second) front.front ∙ append_assoc front.written front.rest second }
+  front = ap (λ bytes. bytes ++ second) front.front ∙ append_assoc front.written front.rest second;
+}

@@ -1,6 +1,5 @@
 -- What one read does to a source.
 use Rattle.std.specs.Prelude.{ℕ, Result, Bool, false, ◌&&◌, List, [], length, take, Ok, Err, ◌==◌, nat_lt}
-
 use Rattle.line_protocol.specs.declared.stop.Stop.{Stop}
 use Rattle.line_protocol.specs.declared.stop.Stop.TheVariants.{Interrupted, Failed}
 

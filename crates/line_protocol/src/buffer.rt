@@ -31,18 +31,20 @@ impl Model for Buffer {
     ghost Value = { Held };
 
     ghost view = { λ b. record {
-        line = slice_range b.bytes.items b.line_start b.line_end;
-        left = slice_range b.bytes.items b.start b.end;
-        is_ended = b.is_ended;
-        reads = b.reads } };
+      line = slice_range b.bytes.items b.line_start b.line_end;
+      left = slice_range b.bytes.items b.start b.end;
+      is_ended = b.is_ended;
+      reads = b.reads;
+    } };
 
     ghost invariant = { λ b. record {
-        line_from : b.line_start ≤ b.line_end;
-        line_to : b.line_end ≤ 65536;
-        left_from : b.start ≤ b.end;
-        left_to : b.end ≤ 65536;
-        room : vec_len b.bytes ≡ 65536;
-        reads : b.reads ≤ 2 ^ 30 } };
+      line_from : b.line_start ≤ b.line_end;
+      line_to : b.line_end ≤ 65536;
+      left_from : b.start ≤ b.end;
+      left_to : b.end ≤ 65536;
+      room : vec_len b.bytes ≡ 65536;
+      reads : b.reads ≤ 2 ^ 30;
+    } };
 }
 
 impl Buffer {
@@ -78,7 +80,9 @@ impl Buffer {
         &self.bytes[self.line_start..self.line_end]
     }
 
-    /// Finds the next line.
+    /// Finds the next line of the source. It takes no memory.
+    ///
+    /// `Read` comes where a read failed, `TooLong` where 2^30 reads were made into this buffer.
     pub fn next_line<R: Source>(&mut self, source: &mut R) -> Result<Line, ReadFault>
         ensures ok { IfOk result (λ line. Finds (R.given source.old) (R.given source.new) self.old self.new line) }
         ensures work { IfOk result (λ line. LeavesLess self.old self.new line) }
@@ -254,7 +258,12 @@ impl Buffer {
 }
 
 /// Moves the bytes from `start` to `end` to the front, and makes one read into all the room after them.
-fn refill<R: Source>(bytes: &mut [u8], start: usize, end: usize, source: &mut R) -> Result<usize, Stop>
+fn refill<R: Source>(
+    bytes: &mut [u8],
+    start: usize,
+    end: usize,
+    source: &mut R,
+) -> Result<usize, Stop>
     requires from { start ≤ end }
     requires to { end ≤ length bytes.old }
     requires room { end - start < length bytes.old }

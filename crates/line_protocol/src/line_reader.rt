@@ -8,24 +8,11 @@ use std::alloc::Global;
 use trace_types::Memory;
 
 /// Reads lines from a source that it is lent. After a fault it answers that fault again, with no read.
-///
-/// What it reads into is a parameter, so that a caller's proof knows the source once the line reader is dropped.
-pub struct LineReader<'a, R: Source, B: Drop = Buffer> {
+#[derive(Drop)]
+pub struct LineReader<'a, R: Source> {
     source: &'a mut R,
-    buffer: B,
+    buffer: Buffer,
     fault: Option<ReadFault>,
-}
-
-impl<'a, R: Source, B: Drop> Drop for LineReader<'a, R, B> {
-    fn drop(self)
-        ensures { self.exit.0.now ≡ self.entry.source.now }
-    {
-        let LineReader {
-            source: _source,
-            buffer: _buffer,
-            fault: _fault,
-        } = self;
-    }
 }
 
 impl<'a, R: Source> LineReader<'a, R> {

@@ -1,16 +1,16 @@
 -- While root is the one task, its events are in one line, and their trees are numbers.
-use Rattle.std.proofs.Common.{◌≡◌, ◌≢◌, ℕ, zero, suc, ◌+◌, ◌-◌, ◌<◌, ◌≤◌, Bool, true, false, cond, not, ◌||◌, ◌&&◌, List, [], ◌∷◌, ◌++◌, length, get_or, reverse, Option, Some, None, IsTrue, is_some, eqb, leb, ltb, refl, sym, ap, ◌∙◌, arith, inl, inr}
+use Rattle.std.proofs.Common.{◌≡◌, ℕ, zero, suc, ◌+◌, ◌-◌, ◌<◌, ◌≤◌, Bool, true, false, cond, ◌||◌, List, [], ◌∷◌, ◌++◌, length, get_or, Option, Some, None, eqb, leb, refl, sym, ap, ◌∙◌, arith, inl}
 use Rattle.std.proofs.lemmas.Bool.Decides.{nat_tests}
 use Rattle.std.proofs.lemmas.List.{reverse-append, length-reverse, length-append}
 use Rattle.std.proofs.lemmas.Grind.{common_steps}
-use Rattle.std.specs.Prelude.{if◌then◌else◌, ◌==◌, nat_le, count_by, fold}
-use Rattle.std.specs.List.{AllByRecursion, list_any, sum_by}
+use Rattle.std.specs.Prelude.{if◌then◌else◌, ◌==◌, fold}
+use Rattle.std.specs.List.{AllByRecursion, list_any}
 use Rattle.trace_types.specs.Name.{Text, root, is_same}
 use Rattle.trace_types.specs.Rows.{History, history_of, starts_task, sends_message, starts, is_of, is_known, newest, last_event, is_event, task_count, message_count}
-use Rattle.trace_types.specs.Reachability.{increasing, event_or_none, second_event, predecessors, reaches, order_of}
+use Rattle.trace_types.specs.Reachability.{event_or_none, second_event, predecessors, reaches, order_of}
 use Rattle.trace_types.proofs.Names.{is_same_iff}
 use Rattle.trace_types.specs.Limits.{Limits}
-use Rattle.trace_types.specs.Tenant.{Tenant, fresh, after, step, row_after, with_row, reply_to_view, Steps, AreLegal}
+use Rattle.trace_types.specs.Tenant.{Tenant, fresh, after, row_after, with_row, reply_to_view, Steps, AreLegal}
 use Rattle.trace_types.specs.Text.{CanBeWritten}
 use Rattle.trace_types.proofs.Interleaving.{after-push, limits-after}
 use Rattle.trace_types.specs.declared.request.Request.{Request}
@@ -23,7 +23,7 @@ use Rattle.trace_types.specs.declared.row.Kind.TheVariants.{Local}
 use Rattle.trace_types.specs.declared.order.Order.{Order}
 use Rattle.trace_types.specs.declared.order.Order.TheVariants.{Same, Before, After, Concurrent}
 use Rattle.event_tree.specs.EventTree.{EventTree, Leaf, maximum}
-use Rattle.event_tree.specs.Comparison.{IsBelow, StandsAs}
+use Rattle.event_tree.specs.Comparison.{StandsAs}
 use Rattle.tenant_ledger.specs.Ledger.{AreOfRoot, trees_of, IsKept}
 
 -- no report starts a task or sends a message yet
@@ -79,7 +79,7 @@ reaches-root [] a b h low high = grind (arith, nat_tests)
 reaches-root (row ∷ history) a b h low high =
     let before : (n : ℕ) → n ≤ length history → reaches history a n ≡ leb a n = λ n le. reaches-root history a n h.1 low le in
     let last : list_any (λ event. reaches history a event) (predecessors history row.task row.kind row.name) ≡ leb a (length history) =
-      rw (h.0, predecessors-root history row.kind row.name h.1, any-event_or_none (λ event. reaches history a event) (length history), before (length history) (omega arith)) (grind (arith, nat_tests)) in
+    rw (h.0, predecessors-root history row.kind row.name h.1, any-event_or_none (λ event. reaches history a event) (length history), before (length history) (omega arith)) (grind (arith, nat_tests)) in
     rw last (grind (arith, nat_tests, before b))
 
 -- numbers stand to each other as the events do
@@ -159,7 +159,7 @@ pub next_row : (tenant : Tenant) (limits : Limits) (rows : List Row) (task : Tex
 next_row tenant limits rows task preds last same of_root task_is last_is preds_are =
     let count : last ≡ length (history_of rows) = last_is ∙ ap (λ (t : Tenant). length t.rows) (sym same) ∙ sym (length-reverse rows) in
     let preds_is : preds ≡ predecessors (history_of rows) root Local None =
-      preds_are ∙ ap event_or_none count ∙ sym (predecessors-root (history_of rows) Local None of_root) in
+    preds_are ∙ ap event_or_none count ∙ sym (predecessors-root (history_of rows) Local None of_root) in
     rw (task_is, preds_is) refl
 
 -- the tenant with that row
@@ -181,9 +181,11 @@ AreLegal-push : (limits : Limits) (rows : List Row) → length rows < limits.eve
 AreLegal-push limits rows room legal =
     let tenant : Tenant = after (fresh limits) legal.0 in
     let same : tenant ≡ record { limits = limits; rows = rows } = same_tenant tenant limits rows (limits-after (fresh limits) legal.0) legal.2 in
-    let full : leb limits.events (length (history_of rows)) ≡ false = rw (length-reverse rows) (grind (arith, nat_tests)) in
-    (legal.0 ++ request.Local root ∷ [], AllByRecursion-push legal.0 (request.Local root) legal.1 refl,
-    rw (after-push (fresh limits) legal.0 (request.Local root), same, full) refl)
+    let full : leb limits.events (length (history_of rows)) ≡ false = rw (length-reverse rows) (grind (arith, nat_tests)) in (
+      legal.0 ++ request.Local root ∷ [],
+      AllByRecursion-push legal.0 (request.Local root) legal.1 refl,
+      rw (after-push (fresh limits) legal.0 (request.Local root), same, full) refl,
+    )
 
 -- one event more is kept
 pub IsKept-push : (limits : Limits) (rows rows' : List Row) (trees trees' : List EventTree) (row : Row) (tree : EventTree) → IsKept limits rows trees

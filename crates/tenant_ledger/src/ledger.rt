@@ -1,8 +1,6 @@
 //! The ledger of one tenant.
-ghost use Rattle.std.specs.Prelude.{◌≡◌, ◌+◌, ◌<◌, ◌++◌, ◌∷◌, [], ◌≤◌, IfOk, IsOk, OnErr, OnOk, IfSome, is_some, Some, None, length};
+ghost use Rattle.std.specs.Prelude.{◌≡◌, ◌+◌, ◌<◌, ◌≤◌, IfOk, IsOk, OnErr, OnOk, Some, None, length};
 ghost use Rattle.trace_types.specs.Name.{root};
-ghost use Rattle.event_tree.specs.EventTree.{Leaf};
-ghost use Rattle.trace_types.specs.Limits.{Limits};
 ghost use Rattle.trace_types.specs.Rows.{history_of, is_event};
 ghost use Rattle.trace_types.specs.Reachability.{event_or_none};
 ghost use Rattle.trace_types.specs.Tenant.{fresh, Steps, AreLegal, reply_to_view, row_after, with_row};
@@ -23,8 +21,7 @@ pub struct Ledger {
 }
 
 impl Model for Ledger {
-    ghost use Rattle.trace_types.specs.Reachability.{event_or_none};
-ghost use Rattle.trace_types.specs.Tenant.{Tenant};
+    ghost use Rattle.trace_types.specs.Tenant.{Tenant};
     ghost use Rattle.tenant_ledger.specs.Ledger.{IsKept};
 
     ghost Value = { Tenant };
@@ -35,7 +32,7 @@ ghost use Rattle.trace_types.specs.Tenant.{Tenant};
 }
 
 impl Ledger {
-    /// The ledger of a tenant that has reported nothing.
+    /// The ledger of a tenant that has reported nothing. It takes no memory before the first report.
     pub fn new(alloc: Global, limits: Limits) -> Result<Ledger, Memory>
         ensures ledger { IfOk result (λ ledger. ledger ≡ fresh limits) }
         ensures succeeds { IsOk result }
@@ -56,7 +53,12 @@ impl Ledger {
         &self.rows
     }
 
-    /// Does one request.
+    /// Takes one request: an accepted report is the tenant's next event, and a query is answered.
+    ///
+    /// A report is refused with the first of these that applies: `NoTask` (401) where no such task is known,
+    /// `EventsFull` (413) at the limit, `NoMemory` (507) where a request for memory was refused. A query is
+    /// refused with `NoEvent` (404) where it names no event, and never for want of memory.
+    /// A refused request changes nothing.
     pub fn report(&mut self, request: &Request) -> Reply
         ensures { Steps self.old request.now result self.new }
     {
@@ -66,7 +68,7 @@ impl Ledger {
         }
     }
 
-    /// Answers a query, and refuses a report with 410. It changes nothing.
+    /// Answers a query as [`Ledger::report`] does, and refuses every report with `ViewOnly` (410). It takes no memory.
     pub fn ask(&self, request: &Request) -> Reply
         ensures { result ≡ reply_to_view self.now request.now }
     {
@@ -162,3 +164,6 @@ fn event_or_none(alloc: Global, event: u64) -> Preds
         Preds::of(alloc, &[event])
     }
 }
+
+#[cfg(test)]
+mod tests;

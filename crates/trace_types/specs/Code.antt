@@ -4,6 +4,7 @@ use Rattle.trace_types.specs.Name.{Text}
 use Rattle.trace_types.specs.declared.code.Code.{Code}
 use Rattle.trace_types.specs.declared.code.Code.TheVariants.{Line, NoTask, TaskExists, TaskEnded, NoEvent, NoMessage, MessageExists, AlreadyReceived, NotEnded, AlreadyJoined, ViewOnly, EventsFull, TasksFull, MessagesFull, NoTenant, DeskTaken, NoPlace, SessionOver, NoMemory}
 
+-- the number that stands in a reply
 abbrev pub code_number : Code → ℕ
 code_number Line = 400
 code_number NoTask = 401
@@ -25,6 +26,7 @@ code_number NoPlace = 422
 code_number SessionOver = 423
 code_number NoMemory = 507
 
+-- the words that stand after the number
 abbrev pub code_text : Code → Text
 code_text Line = codes "line"
 code_text NoTask = codes "no task"

@@ -29,7 +29,7 @@ alone limits requests = replies (fresh limits) requests
 abbrev pub tenant_after : Limits → List Call → ℕ → Tenant
 tenant_after limits calls tenant = after (fresh limits) (kept (calls_of tenant calls))
 
--- the last of the replies, where there is one
+-- the last of the replies, and the first argument where there is none
 abbrev pub last : Reply → List Reply → Reply
 last reply [] = reply
 last reply (next ∷ replies) = last next replies

@@ -15,6 +15,7 @@ abbrev pub words : Text → List Text
 words [] = [] ∷ []
 words (byte ∷ bytes) = if byte == 32 then [] ∷ words bytes else onto byte (words bytes)
 
+-- whether the byte is a digit `0` to `9`
 abbrev pub is_digit : ℕ → Bool
 is_digit byte = is_between 48 57 byte
 
@@ -23,13 +24,15 @@ abbrev pub number_onto : ℕ → Text → ℕ
 number_onto n [] = n
 number_onto n (digit ∷ digits) = number_onto (10 * n + (digit - 48)) digits
 
--- one to nine digits, of which the first is 0 only where it is the only one
+-- whether the text is one to nine digits, of which the first is `0` only where it is the only one
 abbrev pub is_number : Text → Bool
 is_number text = is_between 1 9 (length text) && list_all is_digit text && ((length text == 1) || not (slice_index text 0 == 48))
 
+-- the number that the text spells, where it spells one
 abbrev pub number_of : Text → Option ℕ
 number_of text = if is_number text then Some (number_onto 0 text) else None
 
+-- the name that the text is, where it is one
 abbrev pub name_of : Text → Option Text
 name_of text = if is_name text then Some text else None
 
@@ -38,15 +41,17 @@ abbrev pub both : {A B C : Type 0} → (A → B → C) → Option A → Option B
 both make None b = None
 both make (Some a) b = option_map (make a) b
 
--- one argument and no more; two arguments and no more; none
+-- the request of one name and no more
 abbrev pub with_name : (Text → Request) → List Text → Option Request
 with_name make (name ∷ []) = option_map make (name_of name)
 with_name make arguments = None
 
+-- the request of two numbers and no more
 abbrev pub with_numbers : (ℕ → ℕ → Request) → List Text → Option Request
 with_numbers make (a ∷ b ∷ []) = both make (number_of a) (number_of b)
 with_numbers make arguments = None
 
+-- the request that has no argument
 abbrev pub with_nothing : Request → List Text → Option Request
 with_nothing request [] = Some request
 with_nothing request arguments = None
@@ -60,7 +65,7 @@ request_of_words (keyword ∷ arguments) =
     else if is_same keyword (codes "count") then with_nothing Count arguments
     else None
 
--- the request that the line spells
+-- the request that the line spells, where it spells one
 abbrev pub request_of : Text → Option Request
 request_of line = request_of_words (words line)
 

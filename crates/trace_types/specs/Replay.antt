@@ -12,7 +12,7 @@ use Rattle.trace_types.specs.declared.request.Request.{Request}
 use Rattle.trace_types.specs.declared.reply.Reply.{Reply}
 use Rattle.trace_types.specs.declared.reply.Reply.TheVariants.{Accepted, Refused}
 
--- the place of the name among the tenants' names
+-- the first place of the name among the tenants' names
 abbrev pub place_of : List Text → Text → Option ℕ
 place_of [] name = None
 place_of (other ∷ names) name = if is_same other name then Some 0 else option_map suc (place_of names name)
@@ -24,16 +24,18 @@ pub data Asked : Type 0 where
   NoRequest : (tenant : ℕ) → Asked
   Asks : (tenant : ℕ) (request : Request) → Asked
 
+-- what is asked by a tenant at this place, if it is one, with this request, if it is one
 abbrev pub asked_at : Option ℕ → Option Request → Asked
 asked_at None request = NoTenants code.NoTenant
 asked_at (Some tenant) None = NoRequest tenant
 asked_at (Some tenant) (Some request) = Asks tenant request
 
+-- what is asked where a line names a tenant or does not
 abbrev pub asked_by : List Text → Option (Text × Option Request) → Asked
 asked_by names None = NoTenants code.Line
 asked_by names (Some addressed) = asked_at (place_of names addressed.0) addressed.1
 
--- what the line asks of tenants of these names
+-- what the line asks of tenants of these names; one that is too long belongs to no tenant, whatever it names
 abbrev pub asked : List Text → Text → Asked
 asked names line = if is_too_long line then NoTenants code.Line else asked_by names (addressed_by line)
 

@@ -1,5 +1,5 @@
--- What the accepted rows of one tenant say, found by search. A history is the rows, the newest first:
--- the event of its first row is as great as the history is long.
+-- What the accepted rows of one tenant say, found by search. A history is the rows, the newest first,
+-- so the event number of its first row is the length of the history.
 use Rattle.std.specs.Prelude.{ℕ, suc, ◌+◌, Bool, false, ◌||◌, ◌&&◌, List, [], ◌∷◌, length, reverse, Option, Some, None, if◌then◌else◌, ◌==◌, nat_lt, count_by}
 use Rattle.std.specs.List.{list_any}
 use Rattle.trace_types.specs.Name.{Text, is_same, root}

@@ -5,7 +5,7 @@ ghost use Rattle.trace_types.specs.Name.{is_between};
 
 use std::marker::Model;
 
-/// How many events, tasks and messages one tenant may have. No limit is shared between tenants.
+/// How many events, tasks and messages one tenant may have, each at least 1. No limit is shared between tenants.
 #[derive(Clone, Copy, Debug, PartialEq, Eq)]
 pub struct Limits {
     events: u64,
@@ -27,22 +27,25 @@ impl Model for Limits {
 }
 
 impl Limits {
-    /// Events of one tenant: from 1.
+    /// The greatest limit on events.
     pub const MOST_EVENTS: u64 = 16384;
 
+    /// The limit on events where none is asked for.
     pub const DEFAULT_EVENTS: u64 = 4096;
 
-    /// Tasks that one tenant ever has, root included: from 1.
+    /// The greatest limit on the tasks that a tenant ever has, root included.
     pub const MOST_TASKS: u64 = 2048;
 
+    /// The limit on tasks where none is asked for.
     pub const DEFAULT_TASKS: u64 = 512;
 
-    /// Messages of one tenant: from 1.
+    /// The greatest limit on messages.
     pub const MOST_MESSAGES: u64 = 16384;
 
+    /// The limit on messages where none is asked for.
     pub const DEFAULT_MESSAGES: u64 = 2048;
 
-    /// These limits; `None` exactly where one is out of its range.
+    /// These limits; `None` exactly where one is 0 or above its greatest. It takes no memory.
     pub fn read(events: u64, tasks: u64, messages: u64) -> Option<Limits>
         ensures ranges { IsSome result ↔ IsTrue (are_limits events tasks messages) }
         ensures limits { IfSome result (λ limits. limits ≡ record { events = events; tasks = tasks; messages = messages }) }
@@ -69,7 +72,7 @@ impl Limits {
         self.events
     }
 
-    /// The most tasks, root included.
+    /// The most tasks that there may ever be, root included; joined tasks count.
     pub fn tasks(self) -> u64
         ensures { result ≡ self.tasks }
     {
@@ -100,4 +103,37 @@ fn is_within(amount: u64, most: u64) -> bool
     ensures { result ≡ is_between 1 most amount }
 {
     1 <= amount && amount <= most
+}
+
+#[cfg(test)]
+mod tests {
+    use super::*;
+
+    #[test]
+    fn limits_are_read_within_their_ranges_alone(rt: HostRuntime) {
+        for (amounts, are_limits) in [
+            ((1, 1, 1), true),
+            ((16384, 2048, 16384), true),
+            ((0, 1, 1), false),
+            ((1, 0, 1), false),
+            ((1, 1, 0), false),
+            ((16385, 2048, 16384), false),
+            ((16384, 2049, 16384), false),
+            ((16384, 2048, 16385), false),
+        ] {
+            let (events, tasks, messages) = amounts;
+            let read = Limits::read(events, tasks, messages);
+            assert_eq!(rt; read.is_some(), are_limits, "{amounts:?}");
+        }
+    }
+
+    #[test]
+    fn each_limit_is_the_one_asked_for_and_the_defaults_are_4096_512_and_2048(rt: HostRuntime) {
+        assert_eq!(rt; Limits::read(3, 4, 5).map(amounts), Some((3, 4, 5)));
+        assert_eq!(rt; amounts(Limits::default()), (4096, 512, 2048));
+    }
+
+    fn amounts(limits: Limits) -> (u64, u64, u64) {
+        (limits.events(), limits.tasks(), limits.messages())
+    }
 }

@@ -43,7 +43,7 @@ impl Name {
     /// The most bytes that a name has.
     pub const MOST: usize = 24;
 
-    /// The name that the bytes spell; `None` exactly where they are no name.
+    /// The name that the bytes spell; `None` exactly where they are no name. It takes no memory.
     pub fn read(text: &[u8]) -> Option<Name>
         ensures read { IsSome result ↔ IsTrue (is_name text.now) }
         ensures name { IfSome result (λ name. name ≡ text.now) }
@@ -126,5 +126,46 @@ impl Hash for Name {
 
     fn hash<H: Hasher>(&self, state: &mut H) {
         self.as_bytes().hash(state);
+    }
+}
+
+#[cfg(test)]
+mod tests {
+    use super::*;
+
+    #[test]
+    fn names_are_1_to_24_letters_digits_and_underscores(rt: HostRuntime) {
+        for (text, is_name) in [
+            ("a", true),
+            ("_", true),
+            ("0", true),
+            ("AZaz09_", true),
+            ("abcdefghijklmnopqrstuvwx", true),
+            ("abcdefghijklmnopqrstuvwxy", false),
+            ("", false),
+            ("a/", false),
+            (":a", false),
+            ("a@a", false),
+            ("[", false),
+            ("^", false),
+            ("`", false),
+            ("{", false),
+            ("a b", false),
+            ("a-b", false),
+            ("a\r", false),
+            ("a\0", false),
+            ("ä", false),
+        ] {
+            assert_eq!(rt; Name::read(text.as_bytes()).is_some(), is_name, "{text}");
+        }
+    }
+
+    #[test]
+    fn names_keep_their_text(rt: HostRuntime) {
+        for text in ["a", "root", "abcdefghijklmnopqrstuvwx"] {
+            let name = Name::read(text.as_bytes()).expect(&rt, text);
+            assert_eq!(rt; name.as_bytes(), text.as_bytes());
+            assert_eq!(rt; name == Name::root(), text == "root", "{text}");
+        }
     }
 }

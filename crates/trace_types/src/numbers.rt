@@ -18,7 +18,7 @@ impl Model for Numbers {
 }
 
 impl Numbers {
-    /// The numbers, as a slice.
+    /// The numbers, lent without memory.
     pub fn as_slice(&self) -> &[u64]
         ensures { result.now ≡ self.now }
     {
@@ -38,5 +38,19 @@ impl From<Vec<u64>> for Numbers {
 
     fn from(items: Vec<u64>) -> Numbers {
         Numbers { items }
+    }
+}
+
+#[cfg(test)]
+mod tests {
+    use super::*;
+    use std::test::Fail;
+
+    #[test]
+    fn numbers_lend_and_give_back_the_list_they_are_made_from(rt: HostRuntime) -> Result<(), Fail> {
+        let numbers = Numbers::from([1, 2, 4].to_vec(rt.alloc())?);
+        assert_eq!(rt; numbers.as_slice(), [1, 2, 4].as_slice());
+        assert_eq!(rt; numbers.into_vec().as_slice(), [1, 2, 4].as_slice());
+        Ok(())
     }
 }

@@ -9,7 +9,7 @@ pub enum Reply {
     Accepted(u64),
     /// 200: how the first event stands to the second.
     Ordering(Order),
-    /// 200: the numbers of events, of tasks ever and of messages.
+    /// 200: how many events there are, how many tasks there ever were, root included, and how many messages there are.
     Count(u64, u64, u64),
     /// The request is refused, and changed nothing.
     Refused(Code),

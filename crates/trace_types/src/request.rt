@@ -2,7 +2,7 @@
 
 use crate::Name;
 
-/// A request of one tenant. Event numbers are below 1 000 000 000.
+/// A request of one tenant. A line can spell event numbers below 1 000 000 000 alone.
 #[derive(Clone, Copy, Debug, PartialEq, Eq)]
 pub enum Request {
     /// Reports that the task did something by itself.

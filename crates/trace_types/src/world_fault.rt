@@ -8,7 +8,7 @@ use thiserror::Error;
 /// Why a world of tenants is not made.
 #[derive(Clone, Copy, Debug, PartialEq, Eq, Error)]
 pub enum WorldFault {
-    /// There are too few names or too many.
+    /// There is no name, there are more than 16, or one stands twice.
     #[error("bad tenants")]
     Names,
     /// A request for memory was refused.

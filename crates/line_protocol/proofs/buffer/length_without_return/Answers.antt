@@ -13,7 +13,8 @@ pub returns-else-len-gt0-clause-taken : goal.returns-else-len-gt0-clause-taken
 returns-else-len-gt0-clause-taken c =
     take-length c.args.piece.now ∙
     elim c.else-len-gt0.branch [
-      else-len-gt0-via-then-len-gt0+else-piece-len-eq13 w ↦ without_return-none c.args.piece.now (λ _. w.if-piece-len-eq13.false)
-    | else-len-gt0-via-else-len-gt0 w ↦
-        let few : length c.args.piece.now ≤ 0 = w.if-len-gt0.false in
-        without_return-none c.args.piece.now (λ more. absurd (omega arith)) ]
+      | else-len-gt0-via-then-len-gt0+else-piece-len-eq13 w ↦ without_return-none c.args.piece.now (λ _. w.if-piece-len-eq13.false)
+      | else-len-gt0-via-else-len-gt0 w ↦
+          let few : length c.args.piece.now ≤ 0 = w.if-len-gt0.false in
+          without_return-none c.args.piece.now (λ more. absurd (omega arith))
+    ]

@@ -8,7 +8,8 @@ invariant-loop-rest g l = record {
   failures : g.W.Sink.failures l.writer ≡ g.W.Sink.failures l.fn.writer;
   interruptions : g.W.Sink.interruptions l.writer + l.patience ≡ g.W.Sink.interruptions l.fn.writer + l.fn.patience;
   more : g.W.Sink.interruptions l.fn.writer ≤ g.W.Sink.interruptions l.writer;
-  patient : 0 < l.patience }
+  patient : 0 < l.patience;
+}
 
 abbrev pub decreases-loop-rest : goal.decreases-loop-rest
 decreases-loop-rest g l = length l.rest + l.patience

@@ -8,4 +8,5 @@ loop-byte-preserved c =
     let fits = number_fits c.loop-byte.number c.from.result c.loop-byte.byte-index c.loop-byte.invariant.small (omega arith) (omega arith) in
     record {
       value = rw (c.loop-byte.invariant.value, c.from.ensures) (sym (number_onto-take c.args.word.now c.loop-byte.byte-index c.loop-byte-test.true));
-      small = fits.0 }
+      small = fits.0;
+    }

@@ -5,4 +5,5 @@ use Rattle.line_protocol.proofs.request.value_of.Given as goal
 abbrev pub invariant-loop-byte : goal.invariant-loop-byte
 invariant-loop-byte l = record {
   value : l.number ≡ number_onto 0 (take l.byte-index l.word);
-  small : l.number < 10 ^ l.byte-index }
+  small : l.number < 10 ^ l.byte-index;
+}

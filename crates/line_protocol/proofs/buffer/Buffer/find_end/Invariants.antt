@@ -10,7 +10,8 @@ invariant-loop-self g l = record {
   failures : g.R.Source.failures l.source ≡ g.R.Source.failures l.fn.source;
   reads : l.self.reads + g.R.Source.reads l.fn.source ≡ l.fn.self.reads + g.R.Source.reads l.source;
   ended : IsTrue l.self.is_ended → IsTrue l.fn.self.is_ended ⊎ IsTrue (g.R.Source.has_ended l.source);
-  at_end : IsTrue l.fn.self.is_ended → (l.source ≡ l.fn.source) × (l.self ≡ l.fn.self) }
+  at_end : IsTrue l.fn.self.is_ended → (l.source ≡ l.fn.source) × (l.self ≡ l.fn.self);
+}
 
 abbrev pub decreases-loop-self : goal.decreases-loop-self
 decreases-loop-self g l = 2 ^ 30 - l.self.reads

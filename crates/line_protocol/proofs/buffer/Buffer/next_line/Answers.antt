@@ -10,14 +10,14 @@ pub returns-in-Some-clause-ok : goal.returns-in-Some-clause-ok
 returns-in-Some-clause-ok g c =
     rw c.take_line.ensures.kind
     (Finds-at c.args.self.now c.take_line.new.self c.in_ok-at.ensures.comes (rw c.in-Some.is at c.in_ok-at.ensures.found)
-     c.take_line.ensures.line c.take_line.ensures.left)
+    c.take_line.ensures.line c.take_line.ensures.left)
 
 pub returns-in-None-clause-ok : goal.returns-in-None-clause-ok
 returns-in-None-clause-ok g c =
     rw c.take_rest.ensures.kind
     (Finds-rest c.args.self.now c.take_rest.new.self _ c.in_ok-at.ensures.comes (rw c.in-None.is at c.in_ok-at.ensures.found)
-     (c.take_rest.ensures.same.0 ∙ ap (λ held. held.is_ended) (sym c.self.view_is) ∙ c.if-self.true)
-     c.take_rest.ensures.line c.take_rest.ensures.left)
+    (c.take_rest.ensures.same.0 ∙ ap (λ held. held.is_ended) (sym c.self.view_is) ∙ c.if-self.true)
+    c.take_rest.ensures.line c.take_rest.ensures.left)
 
 pub returns-in_ok-skip_line-in-None-2-clause-ok : goal.returns-in_ok-skip_line-in-None-2-clause-ok
 returns-in_ok-skip_line-in-None-2-clause-ok g c =

@@ -10,7 +10,8 @@ invariant-loop-self g l = record {
   goes_on : l.self.is_ended ≡ false;
   more : l.fn.self.reads ≤ l.self.reads;
   failures : g.R.Source.failures l.source ≡ g.R.Source.failures l.fn.source;
-  reads : l.self.reads + g.R.Source.reads l.fn.source ≡ l.fn.self.reads + g.R.Source.reads l.source }
+  reads : l.self.reads + g.R.Source.reads l.fn.source ≡ l.fn.self.reads + g.R.Source.reads l.source;
+}
 
 abbrev pub decreases-loop-self : goal.decreases-loop-self
 decreases-loop-self g l = 2 ^ 30 - l.self.reads

@@ -17,4 +17,5 @@ loop-self-preserved g c =
       more = omega (arith, c.in_ok-read_more.ensures.progress, c.loop-self.invariant.more);
       failures = omega (arith, c.in_ok-read_more.ensures.failures, c.loop-self.invariant.failures);
       reads = omega (arith, c.in_ok-read_more.ensures.reads, c.loop-self.invariant.reads);
-      ended = c.in_ok-read_more.ensures.ended }
+      ended = c.in_ok-read_more.ensures.ended;
+    }

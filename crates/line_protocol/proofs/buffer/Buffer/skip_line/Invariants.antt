@@ -8,7 +8,8 @@ invariant-loop-self g l = record {
   more : l.fn.self.reads ≤ l.self.reads;
   failures : g.R.Source.failures l.source ≡ g.R.Source.failures l.fn.source;
   reads : l.self.reads + g.R.Source.reads l.fn.source ≡ l.fn.self.reads + g.R.Source.reads l.source;
-  ended : IsTrue l.self.is_ended → IsTrue (g.R.Source.has_ended l.source) }
+  ended : IsTrue l.self.is_ended → IsTrue (g.R.Source.has_ended l.source);
+}
 
 abbrev pub decreases-loop-self : goal.decreases-loop-self
 decreases-loop-self g l = 2 ^ 30 - l.self.reads

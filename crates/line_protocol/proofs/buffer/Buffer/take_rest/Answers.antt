@@ -16,7 +16,8 @@ something (x ∷ xs) n len more = rw (← len) refl
 pub returns-clause-kind : goal.returns-clause-kind
 returns-clause-kind c =
     let len : length (slice_range c.self.inside.bytes.items c.self.inside.start c.self.inside.end) ≡ c.self.inside.end - c.self.inside.start =
-        length-slice_range c.self.inside.bytes.items c.self.inside.start c.self.inside.end c.self.invariant.left_from (omega arith) in
+    length-slice_range c.self.inside.bytes.items c.self.inside.start c.self.inside.end c.self.invariant.left_from (omega arith) in
     elim c.if-len-eq0.branch [
-      then-len-eq0 w ↦ rw (w.result-is, ← c.self.view_is) (nothing _ (len ∙ w.if-len-eq0.true))
-    | else-len-eq0 w ↦ rw (w.result-is, w.kind_of.ensures, ← c.self.view_is) (something _ _ len (omega arith)) ]
+      | then-len-eq0 w ↦ rw (w.result-is, ← c.self.view_is) (nothing _ (len ∙ w.if-len-eq0.true))
+      | else-len-eq0 w ↦ rw (w.result-is, w.kind_of.ensures, ← c.self.view_is) (something _ _ len (omega arith))
+    ]

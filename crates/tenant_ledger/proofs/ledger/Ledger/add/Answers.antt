@@ -1,4 +1,4 @@
-use Rattle.std.proofs.Common.{◌≡◌, ◌+◌, List, ◌∷◌, [], ◌++◌, length, None, sym, ap, ◌∙◌, arith}
+use Rattle.std.proofs.Common.{◌≡◌, ◌+◌, ◌∷◌, [], ◌++◌, length, sym, ap, ◌∙◌, arith}
 use Rattle.trace_types.specs.Tenant.{Tenant}
 use Rattle.event_tree.specs.EventTree.{Leaf}
 use Rattle.tenant_ledger.proofs.Root.{next_row, with_next_row, IsKept-push}

@@ -1,7 +1,5 @@
-use Rattle.std.proofs.Common.{◌≡◌, List, length, sym, ap, ◌∙◌}
+use Rattle.std.proofs.Common.{length, ap, ◌∙◌}
 use Rattle.trace_types.specs.Tenant.{Tenant}
-use Rattle.event_tree.specs.EventTree.{EventTree}
-use Rattle.tenant_ledger.specs.Ledger.{trees_of}
 use Rattle.tenant_ledger.proofs.Root.{last_height}
 use Rattle.tenant_ledger.proofs.ledger.Ledger.height.Goals as goal
 

@@ -1,6 +1,5 @@
-use Rattle.std.proofs.Common.{◌≡◌, List, sym, ap, arith}
+use Rattle.std.proofs.Common.{sym, ap, arith}
 use Rattle.trace_types.specs.Tenant.{Tenant}
-use Rattle.trace_types.specs.declared.row.Row.{Row}
 use Rattle.tenant_ledger.proofs.Root.{has_tree, tree_is, order_answers}
 use Rattle.tenant_ledger.proofs.ledger.Ledger.order.Goals as goal
 

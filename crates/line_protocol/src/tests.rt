@@ -1,0 +1,239 @@
+//! Lines, requests and replies as they come and go, over readers and writers that are slow, interrupted or fail.
+
+use crate::{
+    FromReader, IntoWriter, Line, LineReader, Source, WriteFault, read_addressed, read_request,
+    write_reply,
+};
+use std::alloc::Global;
+use std::io;
+use std::io::{Error, ErrorKind, Read, Write};
+use std::test::Fail;
+use trace_types::{Code, Order, Reply, Request};
+
+/// A reader of some bytes, each second of whose reads is interrupted.
+#[derive(Drop)]
+struct Slow<'a> {
+    bytes: &'a [u8],
+    /// The most bytes that one read gives.
+    most: usize,
+    was_interrupted: bool,
+    /// Whether a read fails where the bytes end.
+    fails: bool,
+}
+
+impl Read for Slow<'_> {
+    fn read(&mut self, buffer: &mut [u8]) -> io::Result<usize> {
+        self.was_interrupted = !self.was_interrupted;
+        if self.was_interrupted {
+            return Err(Error::from(ErrorKind::Interrupted));
+        }
+        if self.fails && self.bytes.is_empty() {
+            return Err(Error::from(ErrorKind::BrokenPipe));
+        }
+        let count = self.most.min(buffer.len()).min(self.bytes.len());
+        buffer[..count].copy_from_slice(&self.bytes[..count]);
+        self.bytes = &self.bytes[count..];
+        Ok(count)
+    }
+}
+
+/// The lines, each with a bar after it; `!` for one that is too long, and `?` for each answer that is a fault.
+fn shown(alloc: Global, bytes: &[u8], most: usize, fails: bool) -> Result<Vec<u8>, Fail> {
+    let mut source = FromReader::new(Slow {
+        bytes,
+        most,
+        was_interrupted: false,
+        fails,
+    });
+    shown_from(alloc, &mut source)
+}
+
+fn shown_from<R: Source>(alloc: Global, source: &mut R) -> Result<Vec<u8>, Fail> {
+    let mut lines = LineReader::new(alloc, source)?;
+    let mut text = Vec::new(alloc);
+    for _ in 0..9 {
+        let found = lines.next();
+        show(&mut text, found.ok(), lines.line())?;
+    }
+    Ok(text)
+}
+
+fn show(text: &mut Vec<u8>, found: Option<Line>, line: &[u8]) -> Result<(), Fail> {
+    match found {
+        Some(Line::Whole) => {
+            text.extend_from_slice(line)?;
+            text.push(b'|')?;
+        }
+        Some(Line::TooLong) => text.extend_from_slice(b"!|")?,
+        Some(Line::End) => {}
+        None => text.push(b'?')?,
+    }
+    Ok(())
+}
+
+#[test]
+fn lines_end_at_line_feeds(rt: HostRuntime) -> Result<(), Fail> {
+    let table: [(&[u8], &[u8]); 8] = [
+        (b"", b""),
+        (b"\n", b"|"),
+        (b"x count\r\n", b"x count|"),
+        (b"x count\r", b"x count\r|"),
+        (b"x count\r\r\n", b"x count\r|"),
+        (b"x count\n\nx count", b"x count||x count|"),
+        (b"\r\n\r\n", b"||"),
+        (b" \n", b" |"),
+    ];
+    for (bytes, want) in table {
+        for most in [1, 65536] {
+            let text = shown(rt.alloc(), bytes, most, false)?;
+            assert_eq!(rt; text.as_slice(), want);
+        }
+    }
+    Ok(())
+}
+
+#[test]
+fn a_fault_is_answered_again(rt: HostRuntime) -> Result<(), Fail> {
+    let text = shown(rt.alloc(), b"one\ntwo", 2, true)?;
+    assert_eq!(rt; text.as_slice(), b"one|????????".as_slice());
+    Ok(())
+}
+
+/// How a line of this many bytes with this end is shown, with a line behind it.
+fn shown_long(alloc: Global, len: usize, end: &[u8]) -> Result<Vec<u8>, Fail> {
+    let mut bytes = vec![in alloc; b'x'; len]?;
+    bytes.extend_from_slice(end)?;
+    let text = shown(alloc, bytes.as_slice(), 65536, false)?;
+    if text.len() > 200 {
+        return Ok(text[200..].to_vec(alloc)?);
+    }
+    Ok(text)
+}
+
+#[test]
+fn two_hundred_bytes_are_a_line(rt: HostRuntime) -> Result<(), Fail> {
+    let table: [(usize, &[u8], &[u8]); 9] = [
+        (200, b"", b"|"),
+        (200, b"\n", b"|"),
+        (200, b"\r\nb", b"|b|"),
+        (200, b"\r", b"!|"),
+        (200, b"\r\r\nb", b"!|b|"),
+        (201, b"", b"!|"),
+        (201, b"\nb", b"!|b|"),
+        (201, b"\r\nb", b"!|b|"),
+        (150000, b"\nb\n", b"!|b|"),
+    ];
+    for (len, end, want) in table {
+        let text = shown_long(rt.alloc(), len, end)?;
+        assert_eq!(rt; text.as_slice(), want, "{len} bytes");
+    }
+    Ok(())
+}
+
+#[test]
+fn requests_are_spelled_exactly(rt: HostRuntime) {
+    assert_eq!(rt; read_request(b"count"), Some(Request::Count));
+    assert_eq!(rt;
+        read_request(b"order 0 999999999"),
+        Some(Request::Order(0, 999_999_999))
+    );
+    let local = read_request(b"local abcdefghijklmnopqrstuvwx");
+    assert!(rt; matches!(local, Some(Request::Local(_))));
+    let refused: [&[u8]; 16] = [
+        b"",
+        b" ",
+        b"count ",
+        b" count",
+        b"Count",
+        b"order 1",
+        b"order 1  2",
+        b"order 1 2 ",
+        b"order 01 2",
+        b"order 00 2",
+        b"order 1 1000000000",
+        b"order 1 -2",
+        b"local",
+        b"local a\0",
+        b"local \xff",
+        b"local abcdefghijklmnopqrstuvwxy",
+    ];
+    for line in refused {
+        assert_eq!(rt; read_request(line), None);
+    }
+}
+
+#[test]
+fn the_tenant_is_the_first_word(rt: HostRuntime) {
+    assert!(rt; matches!(read_addressed(b"x count"), Some((_, Some(Request::Count)))));
+    assert!(rt; matches!(read_addressed(b"x"), Some((_, None))));
+    assert!(rt; matches!(read_addressed(b"x "), Some((_, None))));
+    assert!(rt; read_addressed(b" count").is_none());
+    assert!(rt; read_addressed(b"").is_none());
+}
+
+/// A writer that takes one byte at a time, and is interrupted before each.
+#[derive(Drop)]
+struct Narrow<'a> {
+    taken: &'a mut Vec<u8>,
+    was_interrupted: bool,
+    /// How many bytes it takes before it fails.
+    room: usize,
+}
+
+impl Write for Narrow<'_> {
+    fn write(&mut self, bytes: &[u8]) -> io::Result<usize> {
+        self.was_interrupted = !self.was_interrupted;
+        if self.was_interrupted {
+            return Err(Error::from(ErrorKind::Interrupted));
+        }
+        if bytes.is_empty() || self.taken.len() >= self.room {
+            return Ok(0);
+        }
+        match self.taken.push(bytes[0]) {
+            Ok(()) => Ok(1),
+            Err(_) => Err(Error::from(ErrorKind::OutOfMemory)),
+        }
+    }
+
+    fn flush(&mut self) -> io::Result<()> {
+        Ok(())
+    }
+}
+
+fn written(alloc: Global, reply: &Reply, room: usize) -> (Vec<u8>, Result<(), WriteFault>) {
+    let mut taken = Vec::new(alloc);
+    let mut writer = IntoWriter::new(Narrow {
+        taken: &mut taken,
+        was_interrupted: false,
+        room,
+    });
+    let outcome = write_reply(&mut writer, reply);
+    drop(writer);
+    (taken, outcome)
+}
+
+#[test]
+fn replies_are_written_whole(rt: HostRuntime) {
+    let table: [(Reply, &[u8]); 5] = [
+        (Reply::Accepted(17), b"201 17"),
+        (Reply::Ordering(Order::Concurrent), b"200 concurrent"),
+        (
+            Reply::Count(0, 1, u64::MAX),
+            b"200 0 1 18446744073709551615",
+        ),
+        (Reply::Refused(Code::NoEvent), b"404 no event"),
+        (Reply::Refused(Code::NoMemory), b"507 no memory"),
+    ];
+    for (reply, want) in table {
+        let (text, outcome) = written(rt.alloc(), &reply, 99);
+        assert!(rt; outcome.is_ok());
+        assert_eq!(rt; text.as_slice(), want);
+    }
+}
+
+#[test]
+fn a_full_writer_is_a_fault(rt: HostRuntime) {
+    let (text, outcome) = written(rt.alloc(), &Reply::Count(1, 2, 3), 6);
+    assert!(rt; outcome.is_err());
+    assert_eq!(rt; text.as_slice(), b"200 1 ".as_slice());
+}
