@@ -1,7 +1,15 @@
 pub mod Bounds
 pub mod Canonical
+pub mod Costs
 pub mod Decided
+pub mod Events
+pub mod Filled
+pub mod Grown
+pub mod Joined
 pub mod NormLemmas
+pub mod Pricing
+pub mod Raising
 pub mod Standing
+pub mod Values
 pub mod Vectors
 pub mod Walk

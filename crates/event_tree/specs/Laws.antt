@@ -1,11 +1,17 @@
 -- The laws of event trees.
-use Rattle.std.specs.Prelude.{◌≡◌, ℕ, ◌↔◌}
+use Rattle.std.specs.Prelude.{◌≡◌, ◌≢◌, ℕ, ◌+◌, ◌≤◌, ◌↔◌, max}
+use Rattle.id_tree.specs.Id.{Id, Zero}
+use Rattle.id_tree.specs.Id as ids
 use Rattle.trace_types.specs.Points.{Point}
 use Rattle.trace_types.specs.declared.order.Order.{Order}
 use Rattle.trace_types.specs.declared.order.Order.TheVariants.{Same}
-use Rattle.event_tree.specs.EventTree.{EventTree, Node, value, IsNormal}
-use Rattle.event_tree.specs.Comparison.{StandsAs}
+use Rattle.event_tree.specs.EventTree.{EventTree, Node, value, maximum, IsNormal}
+use Rattle.event_tree.specs.Comparison.{IsBelow, StandsAs}
 use Rattle.event_tree.specs.Norm.{norm}
+use Rattle.event_tree.specs.Join.{join}
+use Rattle.event_tree.specs.Fill.{fill}
+use Rattle.event_tree.specs.Event.{event}
+use Rattle.event_tree.specs.Raised.{StaysOutside, RisesSomewhere}
 
 -- the two trees have one value at every point
 abbrev pub HaveSameValues : EventTree → EventTree → Type 0
@@ -34,3 +40,47 @@ StandOneWay = (e f : EventTree) (order other : Order) → StandsAs order e f →
 -- normal trees stand as the same exactly where they are the same tree
 abbrev pub SameIsEqual : Type 0
 SameIsEqual = (e f : EventTree) → IsNormal e → IsNormal f → (StandsAs Same e f ↔ (e ≡ f))
+
+-- the join has at each point the greater of the two values
+abbrev pub JoinHasTheGreater : Type 0
+JoinHasTheGreater = (e f : EventTree) (point : Point) → value (join e f) point ≡ max (value e point) (value f point)
+
+-- the join is normal
+abbrev pub JoinIsNormal : Type 0
+JoinIsNormal = (e f : EventTree) → IsNormal (join e f)
+
+-- filling a normal tree lowers no value
+abbrev pub FillLowersNone : Type 0
+FillLowersNone = (id : Id) (tree : EventTree) → IsNormal tree → IsBelow tree (fill id tree)
+
+-- and raises only points that the id owns
+abbrev pub FillStaysOutside : Type 0
+FillStaysOutside = (id : Id) (tree : EventTree) → IsNormal tree → StaysOutside id tree (fill id tree)
+
+-- the filled tree is normal
+abbrev pub FillIsNormal : Type 0
+FillIsNormal = (id : Id) (tree : EventTree) → IsNormal tree → IsNormal (fill id tree)
+
+-- what holds of each normal id but 0, and each normal tree
+abbrev pub ForNormal : (Id → EventTree → Type 0) → Type 0
+ForNormal P = (id : Id) (tree : EventTree) → ids.IsNormal id → id ≢ Zero → IsNormal tree → P id tree
+
+-- an event lowers no value
+abbrev pub EventLowersNone : Type 0
+EventLowersNone = ForNormal (λ id tree. IsBelow tree (event id tree))
+
+-- it raises only points that the id owns
+abbrev pub EventStaysOutside : Type 0
+EventStaysOutside = ForNormal (λ id tree. StaysOutside id tree (event id tree))
+
+-- it raises some point
+abbrev pub EventRises : Type 0
+EventRises = ForNormal (λ id tree. RisesSomewhere tree (event id tree))
+
+-- it raises the greatest value by at most one
+abbrev pub EventIsBounded : Type 0
+EventIsBounded = ForNormal (λ id tree. maximum (event id tree) ≤ maximum tree + 1)
+
+-- its tree is normal
+abbrev pub EventIsNormal : Type 0
+EventIsNormal = ForNormal (λ id tree. IsNormal (event id tree))

@@ -1,14 +1,22 @@
 //! The event tree, kept normal.
-ghost use Rattle.std.specs.Prelude.{◌≡◌, ◌+◌, ◌^◌, ◌<◌, ◌≤◌, ◌↔◌, ◌⊎◌, ◌||◌, max, IfOk, IsTrue};
+ghost use Rattle.std.specs.Prelude.{◌≡◌, ◌≢◌, ◌+◌, ◌^◌, ◌<◌, ◌≤◌, ◌↔◌, ◌⊎◌, ◌||◌, max, IfOk, IsTrue};
+ghost use Rattle.id_tree.specs.Id.{Zero};
 ghost use Rattle.event_tree.specs.EventTree.{Leaf, IsNormal, minimum, maximum};
 ghost use Rattle.event_tree.specs.Comparison.{IsBelow, StandsAs};
 ghost use Rattle.event_tree.specs.Lifted.{IsLiftedBelow};
 ghost use Rattle.event_tree.specs.Ranges.{range_of, IsRangeBelow, CanBeBelow};
 ghost use Rattle.event_tree.specs.Norm.{norm, lowered};
+ghost use Rattle.event_tree.specs.Join.{joined_number, joined, join};
+ghost use Rattle.event_tree.specs.Event.{event};
+ghost use Rattle.event_tree.specs.Parts.{tree_of_parts};
 
+use id_tree::IdTree;
 use std::alloc::Global;
 use std::marker::Model;
 use trace_types::{Memory, Order};
+
+mod filling;
+mod growth;
 
 /// An event tree in normal form, whose greatest value is below 2^64.
 #[cycle(ev_tree)]
@@ -28,6 +36,13 @@ enum Node {
         left: Box<EvTree>,
         right: Box<EvTree>,
     },
+}
+
+/// What a tree is made of, with the children of an inner node lent.
+#[derive(Drop)]
+pub enum Parts<'a> {
+    Leaf(u64),
+    Node(u64, &'a EvTree, &'a EvTree),
 }
 
 impl Model for EvTree {
@@ -108,6 +123,145 @@ impl EvTree {
                 },
             },
         }
+    }
+
+    /// What the tree is made of.
+    pub fn parts(&self) -> Parts<'_>
+        ensures exact { tree_of_parts result ≡ self.now }
+        ensures normal { IsNormal self.now }
+        ensures fits { maximum self.now < 2 ^ 64 }
+    {
+        match &self.node {
+            Node::Leaf(n) => Parts::Leaf(*n),
+            Node::Fork {
+                base,
+                left,
+                right,
+                ..
+            } => Parts::Node(*base, left, right),
+        }
+    }
+
+    /// The same tree in memory of its own.
+    pub fn share(&self, alloc: Global) -> Result<EvTree, Memory>
+        ensures { IfOk result (λ tree. tree ≡ self.now) }
+    {
+        match &self.node {
+            Node::Leaf(n) => Ok(EvTree::leaf(*n)),
+            Node::Fork {
+                base,
+                spread,
+                left,
+                right,
+            } => {
+                let left = left.share(alloc)?;
+                let left = Box::new(alloc, left)?;
+                let right = right.share(alloc)?;
+                let right = Box::new(alloc, right)?;
+                Ok(EvTree {
+                    node: Node::Fork {
+                        base: *base,
+                        spread: *spread,
+                        left,
+                        right,
+                    },
+                })
+            }
+        }
+    }
+
+    /// The tree that has at each point the greater of the values of the two.
+    pub fn join(&self, alloc: Global, other: &EvTree) -> Result<EvTree, Memory>
+        ensures { IfOk result (λ tree. tree ≡ join self.now other.now) }
+    {
+        self.normal();
+        other.normal();
+        self.joined(alloc, 0, other, 0)
+    }
+
+    fn joined(
+        &self,
+        alloc: Global,
+        lift: u64,
+        other: &EvTree,
+        other_lift: u64,
+    ) -> Result<EvTree, Memory>
+        requires fits { lift + maximum self.now < 2 ^ 64 }
+        requires other_fits { other_lift + maximum other.now < 2 ^ 64 }
+        ensures { IfOk result (λ tree. tree ≡ joined lift self.now other_lift other.now) }
+    {
+        match (&self.node, &other.node) {
+            (Node::Leaf(n), _) => other.joined_number(alloc, other_lift, lift + *n),
+            (_, Node::Leaf(n)) => self.joined_number(alloc, lift, other_lift + *n),
+            (
+                Node::Fork {
+                    base,
+                    left,
+                    right,
+                    ..
+                },
+                Node::Fork {
+                    base: other_base,
+                    left: other_left,
+                    right: other_right,
+                    ..
+                },
+            ) => {
+                let (root, other_root) = (lift + *base, other_lift + *other_base);
+                let low = root.min(other_root);
+                let (lift, other_lift) = (root - low, other_root - low);
+                let left = left.joined(alloc, lift, other_left, other_lift)?;
+                let right = right.joined(alloc, lift, other_right, other_lift)?;
+                EvTree::fork(alloc, low, left, right)
+            }
+        }
+    }
+
+    /// The join of this tree lifted by `lift` and of `number`.
+    fn joined_number(&self, alloc: Global, lift: u64, number: u64) -> Result<EvTree, Memory>
+        requires { lift + maximum self.now < 2 ^ 64 }
+        ensures { IfOk result (λ tree. tree ≡ joined_number number lift self.now) }
+    {
+        if lift + self.max() <= number {
+            return Ok(EvTree::leaf(number));
+        }
+        match &self.node {
+            Node::Leaf(n) => Ok(EvTree::leaf(lift + *n)),
+            Node::Fork {
+                base,
+                left,
+                right,
+                ..
+            } => {
+                let root = lift + *base;
+                let low = number.min(root);
+                let (number, lift) = (number - low, root - low);
+                let left = left.joined_number(alloc, lift, number)?;
+                let right = right.joined_number(alloc, lift, number)?;
+                EvTree::fork(alloc, low, left, right)
+            }
+        }
+    }
+
+    /// The tree raised at points of the id, by filling where that changes it and else by growing.
+    pub fn event(alloc: Global, id: &IdTree, tree: &EvTree) -> Result<EvTree, Memory>
+        requires some { id.now ≢ Zero }
+        requires fits { maximum tree.now + 1 < 2 ^ 64 }
+        ensures { IfOk result (λ after. after ≡ event id.now tree.now) }
+    {
+        tree.normal();
+        id_tree::laws::each_tree_is_normal(id);
+        if tree.fill_changes(id) {
+            return tree.filled(alloc, id);
+        }
+        let zero = EvTree::leaf(0);
+        let Some(price) = tree.growth_cost(id, &zero)? else {
+            unreachable!();
+        };
+        let Some(after) = tree.grown_for(alloc, id, price, &zero)? else {
+            unreachable!();
+        };
+        Ok(after)
     }
 
     /// The least value at any point.

@@ -1,5 +1,9 @@
 //! The laws of event trees, each the contract of a function that does nothing.
 ghost use Rattle.event_tree.specs.Laws.{NormalIsCanonical, NormKeepsValues, NormIsNormal, StandSomehow, StandOneWay, SameIsEqual};
+ghost use Rattle.event_tree.specs.Laws.{JoinHasTheGreater, JoinIsNormal};
+ghost use Rattle.event_tree.specs.Laws.{FillLowersNone, FillStaysOutside, FillIsNormal};
+ghost use Rattle.event_tree.specs.Laws.{EventLowersNone, EventStaysOutside, EventRises, EventIsBounded, EventIsNormal};
+ghost use Rattle.event_tree.specs.Tables.{FollowsJoinTable, FollowsGrowTable, FollowsEventTable};
 
 /// A normal tree is told by its values.
 pub fn canonical()
@@ -21,4 +25,33 @@ pub fn one_order()
 /// `Order::Same` says that two trees are equal.
 pub fn same_is_equal()
     ensures { SameIsEqual }
+{}
+
+/// `join`, `grown` and `event` follow the published tables row by row.
+pub fn tables()
+    ensures join { FollowsJoinTable }
+    ensures grow { FollowsGrowTable }
+    ensures event { FollowsEventTable }
+{}
+
+/// The join has at each point the greater value.
+pub fn join_value()
+    ensures values { JoinHasTheGreater }
+    ensures normal { JoinIsNormal }
+{}
+
+/// Filling below an id raises values at points that the id owns, and no other.
+pub fn fill_raises()
+    ensures lowers_none { FillLowersNone }
+    ensures outside { FillStaysOutside }
+    ensures normal { FillIsNormal }
+{}
+
+/// An event raises some value at points that the id owns, and no other.
+pub fn event_raises()
+    ensures lowers_none { EventLowersNone }
+    ensures outside { EventStaysOutside }
+    ensures rises { EventRises }
+    ensures bounded { EventIsBounded }
+    ensures normal { EventIsNormal }
 {}

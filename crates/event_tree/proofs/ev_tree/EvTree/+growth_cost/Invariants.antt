@@ -1,0 +1,5 @@
+use Rattle.id_tree.specs.IdCode.{pair_count}
+use Rattle.event_tree.proofs.ev_tree.EvTree.+growth_cost.Given as goal
+
+abbrev pub decreases-growth_cost : goal.decreases-growth_cost
+decreases-growth_cost l = pair_count l.id.now

@@ -1,0 +1,169 @@
+//! Growing a tree below an id at the least cost.
+ghost use Rattle.std.specs.Prelude.{◌≡◌, ◌+◌, ◌^◌, ◌<◌, ◌⊎◌, false, Some, IfOk, IfSome, IfNone};
+ghost use Rattle.event_tree.specs.EventTree.{Leaf, maximum, IsNormal};
+ghost use Rattle.event_tree.specs.Grow.{root, left_of, right_of, expansion, is_less, is_cheaper, cheaper, dearer, cost};
+ghost use Rattle.event_tree.specs.GrownFor.{grown_for};
+
+use super::{EvTree, Node};
+use id_tree::{IdTree, Parts as IdParts};
+use std::alloc::Global;
+use trace_types::Memory;
+
+/// What growing a tree costs: numbers made nodes, and steps down.
+#[derive(Clone, Copy)]
+pub(super) struct Cost {
+    expansions: u64,
+    steps: u64,
+}
+
+impl Cost {
+    const NOTHING: Cost = Cost {
+        expansions: 0,
+        steps: 0,
+    };
+
+    fn is_less(self, other: Cost) -> bool
+        ensures { result ≡ is_less self other }
+    {
+        self.expansions < other.expansions
+            || self.expansions == other.expansions && self.steps < other.steps
+    }
+
+    /// The cheaper of the two, of equals the second.
+    fn cheaper(one: Option<Cost>, other: Option<Cost>) -> Option<Cost>
+        ensures { result ≡ cheaper one other }
+    {
+        match (one, other) {
+            (Some(cost), Some(other_cost)) if cost.is_less(other_cost) => one,
+            (Some(_), None) => one,
+            _ => other,
+        }
+    }
+
+    /// The cost with one step more. A path too long to be counted fits in no memory.
+    fn further(self, expansions: u64) -> Result<Cost, Memory>
+        ensures { IfOk result (λ more. Some more ≡ dearer expansions 1 (Some self)) }
+    {
+        Ok(Cost {
+            expansions: self.expansions.checked_add(expansions).ok_or(Memory)?,
+            steps: self.steps.checked_add(1).ok_or(Memory)?,
+        })
+    }
+
+    /// What is left of the price after a step.
+    fn after_step(self, expansions: u64) -> Option<Cost>
+        ensures left { IfSome result (λ left.
+            (self.expansions ≡ left.expansions + expansions) × (self.steps ≡ left.steps + 1)) }
+        ensures spent { IfNone result ((self.expansions < expansions) ⊎ (self.steps ≡ 0)) }
+    {
+        if self.expansions < expansions || self.steps == 0 {
+            None
+        } else {
+            Some(Cost {
+                expansions: self.expansions - expansions,
+                steps: self.steps - 1,
+            })
+        }
+    }
+}
+
+/// A tree as a node: a number counts as a node over 0 and 0, and takes an expansion.
+#[derive(Clone, Copy)]
+struct Opened<'a> {
+    root: u64,
+    left: &'a EvTree,
+    right: &'a EvTree,
+    expansion: u64,
+}
+
+impl EvTree {
+    fn opened<'a>(&'a self, zero: &'a EvTree) -> Opened<'a>
+        requires { zero.now ≡ Leaf 0 }
+        ensures root { result.root ≡ root self.now }
+        ensures left { result.left.now ≡ left_of self.now }
+        ensures right { result.right.now ≡ right_of self.now }
+        ensures expansion { result.expansion ≡ expansion self.now }
+        ensures normal { IsNormal self.now }
+    {
+        match &self.node {
+            Node::Leaf(n) => Opened {
+                root: *n,
+                left: zero,
+                right: zero,
+                expansion: 1,
+            },
+            Node::Fork {
+                base,
+                left,
+                right,
+                ..
+            } => Opened {
+                root: *base,
+                left,
+                right,
+                expansion: 0,
+            },
+        }
+    }
+
+    /// The least cost of growing the tree. Below a number stands `zero`.
+    pub(super) fn growth_cost(&self, id: &IdTree, zero: &EvTree) -> Result<Option<Cost>, Memory>
+        requires { zero.now ≡ Leaf 0 }
+        ensures { IfOk result (λ price. price ≡ cost id.now self.now) }
+    {
+        match id.parts() {
+            IdParts::Zero => Ok(None),
+            IdParts::One => Ok(Some(Cost::NOTHING)),
+            IdParts::Pair(left_id, right_id) => {
+                let opened = self.opened(zero);
+                let left = opened.left.growth_cost(left_id, zero)?;
+                let right = opened.right.growth_cost(right_id, zero)?;
+                match Cost::cheaper(left, right) {
+                    Some(cost) => Ok(Some(cost.further(opened.expansion)?)),
+                    None => Ok(None),
+                }
+            }
+        }
+    }
+
+    /// The grown tree in normal form, if it costs exactly `price`; it is to be had for no less.
+    /// Below a number stands `zero`.
+    pub(super) fn grown_for(
+        &self,
+        alloc: Global,
+        id: &IdTree,
+        price: Cost,
+        zero: &EvTree,
+    ) -> Result<Option<EvTree>, Memory>
+        requires least { is_cheaper (cost id.now self.now) (Some price) ≡ false }
+        requires fits { maximum self.now + 1 < 2 ^ 64 }
+        requires zero { zero.now ≡ Leaf 0 }
+        ensures { IfOk result (λ found. found ≡ grown_for price id.now self.now) }
+    {
+        let (left_id, right_id) = match id.parts() {
+            IdParts::Zero => return Ok(None),
+            IdParts::One => {
+                let is_free = price.expansions == 0 && price.steps == 0;
+                return Ok(if is_free {
+                    Some(EvTree::leaf(self.max() + 1))
+                } else {
+                    None
+                });
+            }
+            IdParts::Pair(left_id, right_id) => (left_id, right_id),
+        };
+        let opened = self.opened(zero);
+        let Some(price) = price.after_step(opened.expansion) else {
+            return Ok(None);
+        };
+        if let Some(right) = opened.right.grown_for(alloc, right_id, price, zero)? {
+            let left = opened.left.share(alloc)?;
+            return Ok(Some(EvTree::fork(alloc, opened.root, left, right)?));
+        }
+        let Some(left) = opened.left.grown_for(alloc, left_id, price, zero)? else {
+            return Ok(None);
+        };
+        let right = opened.right.share(alloc)?;
+        Ok(Some(EvTree::fork(alloc, opened.root, left, right)?))
+    }
+}

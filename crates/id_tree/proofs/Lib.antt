@@ -1,0 +1,6 @@
+pub mod Disjoint
+pub mod Ids
+pub mod Normal
+pub mod Split
+pub mod Sum
+pub mod Vectors

@@ -1,0 +1,34 @@
+-- What is normal, and which halves are apart.
+use Rattle.std.proofs.Common.{◌≢◌, refl}
+use Rattle.id_tree.specs.Id.{Id, Zero, One, Pair, AreApart, IsNormal}
+use Rattle.id_tree.specs.Operations.{norm}
+
+-- halves are apart whichever is named first
+pub AreApart-sym : (a b : Id) → AreApart a b → AreApart b a
+AreApart-sym Zero Zero apart = apart
+AreApart-sym One One apart = apart
+AreApart-sym Zero One apart = tt
+AreApart-sym Zero (Pair l r) apart = tt
+AreApart-sym One Zero apart = tt
+AreApart-sym One (Pair l r) apart = tt
+AreApart-sym (Pair l r) Zero apart = tt
+AreApart-sym (Pair l r) One apart = tt
+AreApart-sym (Pair l r) (Pair l' r') apart = tt
+
+-- nothing is apart from something
+pub AreApart-Zero : (id : Id) → id ≢ Zero → AreApart Zero id
+AreApart-Zero Zero some = some refl
+AreApart-Zero One some = tt
+AreApart-Zero (Pair l r) some = tt
+
+-- the normal form of normal halves is normal
+pub IsNormal-norm : (left right : Id) → IsNormal left → IsNormal right → IsNormal (norm left right)
+IsNormal-norm Zero Zero n m = tt
+IsNormal-norm One One n m = tt
+IsNormal-norm Zero One n m = (n, m, tt)
+IsNormal-norm Zero (Pair l r) n m = (n, m, tt)
+IsNormal-norm One Zero n m = (n, m, tt)
+IsNormal-norm One (Pair l r) n m = (n, m, tt)
+IsNormal-norm (Pair l r) Zero n m = (n, m, tt)
+IsNormal-norm (Pair l r) One n m = (n, m, tt)
+IsNormal-norm (Pair l r) (Pair l' r') n m = (n, m, tt)

@@ -1,0 +1,10 @@
+-- What a node of the tree is seen as.
+use Rattle.id_tree.specs.Id as plain
+use Rattle.id_tree.specs.declared.tree.Node.{Node}
+use Rattle.id_tree.specs.declared.tree.Node.TheVariants.{Zero, One, Pair}
+
+-- the plain id
+abbrev pub id_of : Node → plain.Id
+id_of Zero = plain.Zero
+id_of One = plain.One
+id_of (Pair left right) = plain.Pair left.value right.value

@@ -1,0 +1,65 @@
+//! What ids mean, point by point: each law is the contract of a function with an empty body.
+ghost use Rattle.std.specs.Prelude.{◌≡◌, ◌≢◌, ◌||◌};
+ghost use Rattle.trace_types.specs.Points.{Point};
+ghost use Rattle.id_tree.specs.Id.{Id, Zero, Pair, owns, AreDisjoint, IsNormal};
+ghost use Rattle.id_tree.specs.Laws.{SharesOut, OwnTheSame};
+ghost use Rattle.id_tree.specs.Operations.{norm, split, sum};
+
+use crate::IdTree;
+
+/// Each tree is normal.
+pub fn each_tree_is_normal(id: &IdTree)
+    ensures { IsNormal id.now }
+{
+    let _parts = id.parts();
+}
+
+/// Of a point that is owned, exactly one part of a split owns it, and no part owns any other.
+pub fn split_shares_out_the_points()
+    ensures { (id : Id) → SharesOut id (split id).0 (split id).1 }
+{}
+
+/// The parts of a split are disjoint, so that they may be summed.
+pub fn split_parts_are_disjoint()
+    ensures { (id : Id) → AreDisjoint (split id).0 (split id).1 }
+{}
+
+/// The sum of the parts of a split is the id that was split.
+pub fn sum_undoes_split()
+    ensures { (id : Id) → IsNormal id → sum (split id).0 (split id).1 ≡ id }
+{}
+
+/// An id that owns a point is split into two that do.
+pub fn split_gives_each_part_some()
+    ensures { (id : Id) → id ≢ Zero → ((split id).0 ≢ Zero) × ((split id).1 ≢ Zero) }
+{}
+
+/// The parts of a normal id are normal.
+pub fn split_is_normal()
+    ensures { (id : Id) → IsNormal id → IsNormal (split id).0 × IsNormal (split id).1 }
+{}
+
+/// A sum owns what either id owns.
+pub fn sum_owns_what_either_owns()
+    ensures { (a b : Id) (point : Point) → owns (sum a b) point ≡ (owns a point || owns b point) }
+{}
+
+/// The sum of normal ids is normal.
+pub fn sum_is_normal()
+    ensures { (a b : Id) → IsNormal a → IsNormal b → IsNormal (sum a b) }
+{}
+
+/// The normal form of a pair owns what the pair owns.
+pub fn norm_owns_what_the_pair_owns()
+    ensures { (left right : Id) → OwnTheSame (norm left right) (Pair left right) }
+{}
+
+/// The normal form of normal halves is normal.
+pub fn norm_is_normal()
+    ensures { (left right : Id) → IsNormal left → IsNormal right → IsNormal (norm left right) }
+{}
+
+/// Normal ids that own the same points are the same id.
+pub fn normal_ids_are_unique()
+    ensures { (a b : Id) → IsNormal a → IsNormal b → OwnTheSame a b → a ≡ b }
+{}
