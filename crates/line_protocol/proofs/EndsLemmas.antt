@@ -1,11 +1,10 @@
 -- Ends of line, and the lines that they make.
-use Rattle.std.proofs.Common.{◌≡◌, ℕ, suc, ◌+◌, ◌-◌, ◌≤◌, ◌<◌, Bool, true, false, cond, IsTrue, List, [], ◌∷◌, ◌++◌, length, take, drop, slice_index, get_or, Option, None, Some, eqb, refl, sym, ap, ◌∙◌, arith, add-one, append_assoc, ◌==◌, zero, eqb-true, ◌≢◌}
+use Rattle.std.proofs.Common.{◌≡◌, ℕ, suc, ◌+◌, ◌-◌, ◌<◌, Bool, true, false, cond, List, [], ◌∷◌, ◌++◌, length, take, get_or, Option, None, Some, refl, ap, arith, ◌==◌, zero, eqb-true, ◌≢◌}
 use Rattle.std.proofs.lemmas.Bool.Decides.{eqb_tells}
 use Rattle.std.proofs.Common.{inl, inr}
 use Rattle.std.proofs.lemmas.Iterator.Adapters.{position_from-zero}
 use Rattle.std.specs.List.{position, position_from}
-use Rattle.trace_types.specs.Name.{Text}
-use Rattle.trace_types.specs.Lines.{Piece, pieces, onto_piece, lines, line_of, without_return, is_too_long}
+use Rattle.trace_types.specs.Lines.{pieces, onto_piece, lines, without_return}
 use Rattle.line_protocol.specs.Ends.{HasNoEnd, EndsAt, IsEnd}
 
 -- the piece up to an end of line

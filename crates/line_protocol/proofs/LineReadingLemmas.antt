@@ -1,15 +1,13 @@
 -- The lines that a line reader finds, and for callers what they are together.
-use Rattle.std.proofs.Common.{◌≡◌, ◌≤◌, ◌<◌, ◌+◌, ◌-◌, ℕ, suc, Bool, IsTrue, true, false, cond, List, [], ◌∷◌, ◌++◌, ◌⊎◌, inl, inr, length, take, drop, refl, sym, ap, ◌∙◌, append_assoc, arith, add-one, length-append, subst, ◌==◌, lt-ltb}
-use Rattle.std.specs.Prelude.{nat_lt, Option, None, Some}
+use Rattle.std.proofs.Common.{◌≡◌, ◌≤◌, ◌+◌, ℕ, Bool, IsTrue, true, false, cond, List, [], ◌∷◌, ◌++◌, ◌⊎◌, inl, inr, length, take, drop, refl, sym, ap, ◌∙◌, append_assoc, arith, length-append, subst, ◌==◌, lt-ltb}
 use Rattle.std.proofs.lemmas.List.{append-nil, append_cancel_left}
-use Rattle.std.proofs.Math.Seq.{take-append_seam, drop-append-add}
+use Rattle.std.proofs.Math.Seq.{take-append_seam}
 use Rattle.trace_types.specs.Name.{Text}
 use Rattle.trace_types.specs.Lines.{lines, without_return, is_too_long}
 use Rattle.line_protocol.specs.Held.{Held}
-use Rattle.line_protocol.specs.declared.line.Line.{Line}
-use Rattle.line_protocol.specs.declared.line.Line.TheVariants.{Whole, TooLong, End}
-use Rattle.line_protocol.specs.LineReading.{GivesLine, Finds, Extends, HasRead, work_left, LeavesLess}
-use Rattle.line_protocol.specs.Ends.{HasNoEnd, EndsAt, Comes, Skips, kind_of, kind_of_length, last_line}
+use Rattle.line_protocol.specs.declared.line.Line.TheVariants.{Whole, TooLong}
+use Rattle.line_protocol.specs.LineReading.{GivesLine, Finds, HasRead}
+use Rattle.line_protocol.specs.Ends.{HasNoEnd, EndsAt, Comes, Skips, kind_of, last_line}
 use Rattle.line_protocol.proofs.EndsLemmas.{lines-ended, lines-last, HasNoEnd-append}
 use Rattle.line_protocol.proofs.SkipLemmas.{EndsAt-after}
 

@@ -1,7 +1,7 @@
 -- What a read into the room behind kept bytes leaves.
-use Rattle.std.proofs.Common.{◌≡◌, ℕ, ◌+◌, ◌-◌, ◌≤◌, List, [], ◌++◌, length, take, drop, slice_range, refl, sym, ap, ◌∙◌, arith, Result, Ok, Err, add-zero, zero-add}
-use Rattle.std.proofs.Math.Seq.{paste, take-append-add}
-use Rattle.std.proofs.lemmas.List.{take-append-le, append-nil}
+use Rattle.std.proofs.Common.{◌≡◌, ℕ, ◌+◌, ◌-◌, ◌≤◌, List, [], ◌++◌, length, take, drop, slice_range, sym, ap, ◌∙◌, arith, Result, Ok, Err, zero-add}
+use Rattle.std.proofs.Math.Seq.{take-append-add}
+use Rattle.std.proofs.lemmas.List.{take-append-le}
 use Rattle.std.proofs.lemmas.List.Edits.{take-paste}
 use Rattle.std.proofs.Common.{length-drop}
 use Rattle.std.specs.List.{copy_within}

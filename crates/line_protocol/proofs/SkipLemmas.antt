@@ -1,6 +1,6 @@
 -- What is read on while a line is skipped.
-use Rattle.std.proofs.Common.{◌≡◌, ℕ, suc, ◌+◌, List, [], ◌∷◌, ◌++◌, ◌⊎◌, inl, Bool, length, drop, refl, sym, ap, ◌∙◌, append_assoc, add-one}
-use Rattle.std.proofs.Math.Seq.{drop-append-add, drop-append_seam}
+use Rattle.std.proofs.Common.{◌≡◌, ℕ, ◌+◌, List, [], ◌∷◌, ◌++◌, inl, Bool, length, drop, sym, ap, ◌∙◌, append_assoc}
+use Rattle.std.proofs.Math.Seq.{drop-append-add}
 use Rattle.line_protocol.specs.Ends.{HasNoEnd, EndsAt, Comes, Skips}
 use Rattle.line_protocol.proofs.EndsLemmas.{HasNoEnd-append}
 

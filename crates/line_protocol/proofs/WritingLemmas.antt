@@ -1,7 +1,7 @@
 -- Texts that are written piece by piece.
-use Rattle.std.proofs.Common.{◌≡◌, ℕ, ◌+◌, ◌≤◌, ◌<◌, List, [], ◌∷◌, ◌++◌, Result, Ok, Err, length, take, drop, refl, sym, ap, ◌∙◌, append_assoc, arith}
+use Rattle.std.proofs.Common.{◌≡◌, ℕ, List, [], ◌++◌, take, drop, refl, sym, ap, ◌∙◌, append_assoc}
 use Rattle.std.proofs.lemmas.List.{append-nil, take-append-drop}
-use Rattle.line_protocol.specs.Writing.{WritesFront, Writes, Spends}
+use Rattle.line_protocol.specs.Writing.{WritesFront}
 
 -- Of the text all but the rest was written.
 pub record Wrote (old new text rest : List ℕ) : Type 0 where

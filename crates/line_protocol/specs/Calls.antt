@@ -1,7 +1,7 @@
 -- The calls that were made of a reader or a writer, the last first.
-use Rattle.std.specs.Prelude.{ℕ, suc, ◌+◌, Bool, false, List, [], ◌∷◌, ◌++◌, slice_index, ◌==◌, if◌then◌else◌}
+use Rattle.std.specs.Prelude.{ℕ, ◌+◌, Bool, false, List, [], ◌∷◌, ◌++◌, slice_index, ◌==◌, if◌then◌else◌}
 
--- how a call ended: 0 it moved bytes, 1 it moved none of some, 2 it failed, 3 it was interrupted
+-- how a call ended: 0 it moved bytes, 1 it moved none of some, 2 it failed, 3 it was interrupted, 4 it flushed
 pub record Call : Type 0 where
   pub ending : ℕ
   pub bytes : List ℕ
@@ -18,6 +18,11 @@ bytes_moved (call ∷ earlier) = bytes_moved earlier ++ call.bytes
 abbrev pub is_last_empty : List Call → Bool
 is_last_empty [] = false
 is_last_empty (call ∷ earlier) = call.ending == 1
+
+-- whether the last call flushed
+abbrev pub is_last_flush : List Call → Bool
+is_last_flush [] = false
+is_last_flush (call ∷ earlier) = call.ending == 4
 
 -- how many calls ended so
 abbrev pub endings : ℕ → List Call → ℕ

@@ -12,5 +12,5 @@ count_ending (Ok n) room = if (n == 0) && nat_lt 0 room then 1 else 0
 count_ending (Err stop) room = stop_ending stop
 
 abbrev pub flush_ending : {A : Type 0} → Result A Stop → ℕ
-flush_ending (Ok done) = 0
+flush_ending (Ok done) = 4
 flush_ending (Err stop) = stop_ending stop

@@ -1,5 +1,5 @@
 -- What a line reader holds.
-use Rattle.std.specs.Prelude.{ℕ, Bool, List, take, drop, ◌-◌}
+use Rattle.std.specs.Prelude.{ℕ, Bool, List}
 use Rattle.trace_types.specs.Name.{Text}
 
 pub record Held : Type 0 where

@@ -1,5 +1,5 @@
 -- The words behind the first blank.
-use Rattle.std.specs.Prelude.{ℕ, List, [], Option, None, Some}
+use Rattle.std.specs.Prelude.{List, [], Option, None, Some}
 use Rattle.trace_types.specs.Name.{Text}
 use Rattle.trace_types.specs.Reading.{words}
 

@@ -1,8 +1,8 @@
 //! The bytes that a line reader has read.
-ghost use Rattle.std.specs.Prelude.{◌≡◌, ℕ, ◌+◌, ◌-◌, ◌≤◌, ◌<◌, ◌^◌, Bool, IsTrue, List, [], ◌++◌, ◌⊎◌, false, IfOk, OnOk, OnErr, IfNone, MatchOption, length, take, drop, slice_range, position, ◌==◌};
-ghost use Rattle.trace_types.specs.Lines.{without_return, is_too_long};
+ghost use Rattle.std.specs.Prelude.{◌≡◌, ◌+◌, ◌-◌, ◌≤◌, ◌<◌, ◌^◌, IsTrue, [], ◌⊎◌, false, IfOk, OnOk, OnErr, IfNone, length, take, drop, slice_range, position, ◌==◌};
+ghost use Rattle.trace_types.specs.Lines.{without_return};
 ghost use Rattle.line_protocol.specs.LineReading.{Extends, Finds, LeavesLess, work_left, failed_reads, IfTooLong};
-ghost use Rattle.line_protocol.specs.Ends.{HasNoEnd, IsEnd, Comes, Skips, kind_of, kind_of_length, last_line};
+ghost use Rattle.line_protocol.specs.Ends.{IsEnd, Comes, Skips, kind_of, kind_of_length, last_line};
 ghost use Rattle.line_protocol.specs.Source.{failure_count, bytes_read};
 
 use crate::{Line, ReadFault, Source, Stop};

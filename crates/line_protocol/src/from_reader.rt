@@ -1,5 +1,5 @@
 //! Any reader, as a source.
-ghost use Rattle.std.specs.Prelude.{◌≡◌, ◌≤◌, ℕ, [], false, length, IfOk};
+ghost use Rattle.std.specs.Prelude.{◌≡◌, []};
 ghost use Rattle.line_protocol.specs.Calls.{bytes_moved, is_last_empty, endings, call_count};
 
 use crate::log::{Log, count_ending};

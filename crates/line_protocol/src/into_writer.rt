@@ -1,6 +1,6 @@
 //! Any writer, as a sink.
-ghost use Rattle.std.specs.Prelude.{◌≡◌, ◌≤◌, ◌+◌, ℕ, [], length, IfOk};
-ghost use Rattle.line_protocol.specs.Calls.{bytes_moved, endings};
+ghost use Rattle.std.specs.Prelude.{◌≡◌, ◌+◌, []};
+ghost use Rattle.line_protocol.specs.Calls.{bytes_moved, endings, is_last_flush};
 
 use crate::log::{Log, count_ending, flush_ending};
 use crate::stop::{stopped, stopped_count};
@@ -34,6 +34,8 @@ impl<W: Write + Drop> Sink for IntoWriter<W> {
     ghost failures = { λ s. endings 1 s.log.calls + endings 2 s.log.calls };
 
     ghost interruptions = { λ s. endings 3 s.log.calls };
+
+    ghost is_flushed = { λ s. is_last_flush s.log.calls };
 
     fn write_some(&mut self, bytes: &[u8]) -> Result<usize, Stop> {
         let outcome = stopped_count(self.writer.write(bytes));

@@ -1,5 +1,5 @@
 //! Bytes, cut into lines.
-ghost use Rattle.std.specs.Prelude.{◌≡◌, ℕ, ◌+◌, ◌≤◌, Bool, IsTrue, List, [], ◌++◌, ◌⊎◌, false, Some, None, Err, IfOk, IfErr, OnOk, IfSome, IfNone};
+ghost use Rattle.std.specs.Prelude.{◌≡◌, ◌+◌, IsTrue, [], ◌⊎◌, false, Some, None, Err, IfOk, IfErr, OnOk, IfSome, IfNone};
 ghost use Rattle.line_protocol.specs.LineReading.{Extends, Finds, LeavesLess, failed_reads, IfTooLong};
 
 use crate::buffer::Buffer;
@@ -8,11 +8,24 @@ use std::alloc::Global;
 use trace_types::Memory;
 
 /// Reads lines from a source that it is lent. After a fault it answers that fault again, with no read.
-#[derive(Drop)]
-pub struct LineReader<'a, R: Source> {
+///
+/// What it reads into is a parameter, so that a caller's proof knows the source once the line reader is dropped.
+pub struct LineReader<'a, R: Source, B: Drop = Buffer> {
     source: &'a mut R,
-    buffer: Buffer,
+    buffer: B,
     fault: Option<ReadFault>,
+}
+
+impl<'a, R: Source, B: Drop> Drop for LineReader<'a, R, B> {
+    fn drop(self)
+        ensures { self.exit.0.now ≡ self.entry.source.now }
+    {
+        let LineReader {
+            source: _source,
+            buffer: _buffer,
+            fault: _fault,
+        } = self;
+    }
 }
 
 impl<'a, R: Source> LineReader<'a, R> {

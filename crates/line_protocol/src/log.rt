@@ -1,5 +1,5 @@
 //! The calls that were made, which only clauses read.
-ghost use Rattle.std.specs.Prelude.{◌≡◌, ℕ, List, [], ◌∷◌};
+ghost use Rattle.std.specs.Prelude.{◌≡◌, List, [], ◌∷◌};
 ghost use Rattle.std.specs.Borrow.{ftrue};
 ghost use Rattle.line_protocol.specs.Calls.{Call, call_of};
 ghost use Rattle.line_protocol.specs.Endings.{count_ending, flush_ending};
@@ -51,7 +51,7 @@ pub(crate) fn flush_ending(outcome: Result<(), Stop>) -> u64
     ensures { result ≡ flush_ending outcome }
 {
     match outcome {
-        Ok(()) => 0,
+        Ok(()) => 4,
         Err(Stop::Failed) => 2,
         Err(Stop::Interrupted) => 3,
     }

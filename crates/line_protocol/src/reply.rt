@@ -1,5 +1,5 @@
 //! Replies, written without memory.
-ghost use Rattle.std.specs.Prelude.{◌≡◌, ℕ, ◌+◌, ◌≤◌, ◌<◌, ◌++◌, ◌⊎◌, OnOk, OnErr, length, decimal, codes};
+ghost use Rattle.std.specs.Prelude.{◌≡◌, ◌≤◌, ◌<◌, ◌++◌, OnOk, OnErr, decimal, codes, IsTrue};
 ghost use Rattle.trace_types.specs.Text.{reply_text, order_text};
 ghost use Rattle.trace_types.specs.Code.{code_number, code_text};
 ghost use Rattle.line_protocol.specs.Writing.{WritesFront, IsWriteFault, Writes, Spends};
@@ -49,6 +49,7 @@ pub fn write_reply<W: Sink>(writer: &mut W, reply: &Reply) -> Result<(), WriteFa
 /// Flushes what was written.
 pub fn flush<W: Sink>(writer: &mut W) -> Result<(), WriteFault>
     ensures taken { W.taken writer.new ≡ W.taken writer.old }
+    ensures flushed { OnOk result (IsTrue (W.is_flushed writer.new)) }
     ensures fault { OnErr result (IsWriteFault (W.failures writer.old) (W.failures writer.new)
         (W.interruptions writer.old) (W.interruptions writer.new)) }
     ensures no_failure { OnOk result (W.failures writer.new ≡ W.failures writer.old) }

@@ -1,9 +1,9 @@
 //! Requests, read in place.
-ghost use Rattle.std.specs.Prelude.{◌≡◌, ℕ, ◌≤◌, ◌∷◌, true, length, position, ◌==◌};
+ghost use Rattle.std.specs.Prelude.{◌≡◌, ◌≤◌, ◌∷◌, true, length, position, ◌==◌};
 ghost use Rattle.std.specs.Option.{option_copied};
 ghost use Rattle.std.specs.List.{list_all};
 ghost use Rattle.trace_types.specs.Name.{is_same};
-ghost use Rattle.trace_types.specs.Reading.{request_of, addressed_by, words, number_of, is_digit, is_number, number_onto, request_of_words, with_name, with_numbers, with_nothing};
+ghost use Rattle.trace_types.specs.Reading.{request_of, addressed_by, words, number_of, is_digit, is_number, number_onto, with_name, with_numbers, with_nothing};
 ghost use Rattle.trace_types.specs.declared.request.Request.TheVariants.{Local, Order, Count};
 ghost use Rattle.line_protocol.specs.Words.{words_after};
 

@@ -65,7 +65,7 @@ LeadsTo-line old mid new found marks text counts line to reply before answers =
     let entry : Entry = (asked old.names line, answers.mark) in
     let pushed : entries old.names (found ++ line ∷ []) (marks ++ answers.mark ∷ []) ≡ es ++ entry ∷ [] = entries-push old.names found marks line answers.mark before.one_each in
     let due : (calls : List Call) → IsAfter old calls → reply ≡ reply_to old.limits (calls ++ calls_by es) entry.0 entry.1 =
-      λ calls after. rw (before.names, before.limits) at (answers.due (calls ++ calls_by es) (before.leads calls after)) in
+    λ calls after. rw (before.names, before.limits) at (answers.due (calls ++ calls_by es) (before.leads calls after)) in
     let to_is : to ≡ addressee old.names entry.0 = rw before.names at answers.addressed in
     record {
       one_each = rw (length-append marks (answers.mark ∷ []), length-append found (line ∷ []), before.one_each) refl;
@@ -73,7 +73,7 @@ LeadsTo-line old mid new found marks text counts line to reply before answers =
       limits = answers.limits ∙ before.limits;
       places = answers.places ∙ before.places;
       marked = λ calls after. rw pushed (MarksMayStand-push old.limits calls es entry (before.marked calls after)
-        (rw (before.names, before.limits) at (answers.marked (calls ++ calls_by es) (before.leads calls after))));
+          (rw (before.names, before.limits) at (answers.marked (calls ++ calls_by es) (before.leads calls after))));
       text_is = λ calls after.
           ap (λ name. text ++ (name ++ codes " " ++ reply_text reply ++ 10 ∷ [])) to_is
           ∙ ap (λ r. text ++ written old.names entry.0 r) (due calls after)
@@ -89,8 +89,8 @@ LeadsTo-line old mid new found marks text counts line to reply before answers =
       leads = λ calls after.
           let next : IsAfter new ((calls ++ calls_by es) ++ call_of entry.0 entry.1) = rw before.names at (answers.leads (calls ++ calls_by es) (before.leads calls after)) in
           let same : (calls ++ calls_by es) ++ call_of entry.0 entry.1 ≡ calls ++ calls_by (entries old.names (found ++ line ∷ []) (marks ++ answers.mark ∷ [])) =
-            append_assoc calls (calls_by es) (call_of entry.0 entry.1)
-            ∙ ap (λ more. calls ++ more) (sym (calls_by-push es entry) ∙ ap calls_by (sym pushed)) in
+          append_assoc calls (calls_by es) (call_of entry.0 entry.1)
+          ∙ ap (λ more. calls ++ more) (sym (calls_by-push es entry) ∙ ap calls_by (sym pushed)) in
           subst (IsAfter new) same next;
     }
 

@@ -19,7 +19,7 @@ IsPlace-place_of [] name = tt
 IsPlace-place_of (other ∷ names) name =
     let at_front : is_same other name ≡ true → IfSome (Some 0) (IsPlace (other ∷ names) name) = λ same. (omega arith, λ d. (is_same_iff other name).0 same) in
     elim (is_same other name) as (λ b. (is_same other name ≡ b) → IfSome (if b then Some 0 else option_map suc (place_of names name)) (IsPlace (other ∷ names) name))
-      [ true ↦ at_front | false ↦ λ differ. IsPlace-suc other names name (place_of names name) (IsPlace-place_of names name) ] refl
+    [ true ↦ at_front | false ↦ λ differ. IsPlace-suc other names name (place_of names name) (IsPlace-place_of names name) ] refl
 
 -- one place further
 pub place_of-later : (i : ℕ) (other : Text) (names : List Text) (name : Text) → is_same other name ≡ false

@@ -7,11 +7,11 @@
 
 mod answer;
 mod counts;
-mod replaying;
 mod replay_fault;
+mod replaying;
 mod world;
 
 pub use counts::Counts;
-pub use replaying::replay;
 pub use replay_fault::ReplayFault;
+pub use replaying::replay;
 pub use world::World;

@@ -1,11 +1,11 @@
 //! The replay of lines of many tenants.
-ghost use Rattle.std.specs.Prelude.{◌≡◌, ◌+◌, ◌<◌, ◌≤◌, ◌^◌, IfOk, OnErr, IsErrOf, ◌⊎◌};
+ghost use Rattle.std.specs.Prelude.{◌≡◌, ◌+◌, ◌<◌, ◌≤◌, ◌^◌, IfOk, OnErr, IsErrOf, ◌⊎◌, IsTrue, OnOk};
 ghost use Rattle.line_protocol.specs.Writing.{IsWriteFault};
 ghost use Rattle.trace_world.specs.Replayed.{Replays, ReplaysInPart};
 
 use crate::answer::Answer;
 use crate::{Counts, ReplayFault, World};
-use line_protocol::{Line, Buffer, Sink, Source, flush};
+use line_protocol::{Buffer, Line, Sink, Source, flush};
 use std::alloc::Global;
 use trace_types::Code;
 
@@ -21,6 +21,8 @@ pub fn replay<T, R: Source, W: Sink>(
 ) -> Result<Counts, ReplayFault>
     ensures ok { IfOk result (λ counts. Replays (R.given reader.old) (R.given reader.new) (R.has_ended reader.new)
         (W.taken writer.old) (W.taken writer.new) world.old counts world.new) }
+    // What was written was flushed.
+    ensures flushed { OnOk result (IsTrue (W.is_flushed writer.new)) }
     ensures fault { OnErr result (ReplaysInPart (R.given reader.old) (R.given reader.new) (R.has_ended reader.new)
         (W.taken writer.old) (W.taken writer.new) world.old world.new) }
 

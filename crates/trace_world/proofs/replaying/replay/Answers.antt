@@ -44,46 +44,47 @@ pub returns-in_err-next_line-clause-fault : goal.returns-in_err-next_line-clause
 returns-in_err-next_line-clause-fault g c =
     let at_end = c.in_err-next_line.ensures.at_end in
     let more = c.in_err-next_line.ensures.given in
-    OnErr-always _ (in_part_whole _ more.0 c.loop-lines.invariant.follows more.1 (λ e.
-        ( append_cancel_left (g.R.Source.given c.loop-lines.reader) more.0 [] (sym more.1 ∙ ap g.R.Source.given (at_end e).0 ∙ sym (append-nil _)),
-          subst (λ (source : g.row.R.Denot). IsTrue (g.R.Source.has_ended source)) (sym (at_end e).0) (c.loop-lines.invariant.ended e) )))
+    OnErr-always _ (in_part_whole _ more.0 c.loop-lines.invariant.follows more.1 (λ e. (
+      append_cancel_left (g.R.Source.given c.loop-lines.reader) more.0 [] (sym more.1 ∙ ap g.R.Source.given (at_end e).0 ∙ sym (append-nil _)),
+      subst (λ (source : g.row.R.Denot). IsTrue (g.R.Source.has_ended source)) (sym (at_end e).0) (c.loop-lines.invariant.ended e),
+    )))
 
 pub returns-in_err-write-clause-fault : goal.returns-in_err-write-clause-fault
 returns-in_err-write-clause-fault g c =
     let at_end = c.in_ok-next_line.ensures.at_end in
     let told : IsTrue c.next_line.new.self.is_ended → IsTrue (g.R.Source.has_ended c.next_line.new.source) =
-      λ e. ⊎_elim (λ was. subst (λ (source : g.row.R.Denot). IsTrue (g.R.Source.has_ended source)) (sym (at_end was).0) (c.loop-lines.invariant.ended was)) (λ now. now) (c.in_ok-next_line.ensures.ended e) in
+    λ e. ⊎_elim (λ was. subst (λ (source : g.row.R.Denot). IsTrue (g.R.Source.has_ended source)) (sym (at_end was).0) (c.loop-lines.invariant.ended was)) (λ now. now) (c.in_ok-next_line.ensures.ended e) in
     let answered : Answered (g.R.Source.given c.loop-lines.reader) (g.R.Source.given c.next_line.new.source) c.loop-lines.lines c.next_line.new.self c.loop-lines.world
-      (addressee_text c.match-branch-3.answer.tenant) c.match-branch-3.answer.reply c.match-branch-3.world =
-      elim c.match-branch-3.branch [
-        | in-TooLong w ↦ answered_where_too_long _ _ c.loop-lines.lines c.next_line.new.self c.loop-lines.world c.match-branch-3.world c.in_ok-next_line.field-0 c.match-branch-3.answer w.to_nobody-answer.result
-            w.in-TooLong.is c.in_ok-next_line.ensures.ok w.answer-is w.to_nobody-answer.ensures w.world-is
-        | in-Whole w ↦ answered_where_whole _ _ c.loop-lines.lines c.next_line.new.self c.loop-lines.world w.to_line-answer.new.world c.match-branch-3.world c.in_ok-next_line.field-0 c.match-branch-3.answer w.to_line-answer.result w.line.result.now
-            w.in-Whole.is c.in_ok-next_line.ensures.ok w.answer-is w.line.ensures w.world-is w.to_line-answer.ensures
-      ] in
+    (addressee_text c.match-branch-3.answer.tenant) c.match-branch-3.answer.reply c.match-branch-3.world =
+    elim c.match-branch-3.branch [
+      | in-TooLong w ↦ answered_where_too_long _ _ c.loop-lines.lines c.next_line.new.self c.loop-lines.world c.match-branch-3.world c.in_ok-next_line.field-0 c.match-branch-3.answer w.to_nobody-answer.result
+          w.in-TooLong.is c.in_ok-next_line.ensures.ok w.answer-is w.to_nobody-answer.ensures w.world-is
+      | in-Whole w ↦ answered_where_whole _ _ c.loop-lines.lines c.next_line.new.self c.loop-lines.world w.to_line-answer.new.world c.match-branch-3.world c.in_ok-next_line.field-0 c.match-branch-3.answer w.to_line-answer.result w.line.result.now
+          w.in-Whole.is c.in_ok-next_line.ensures.ok w.answer-is w.line.ensures w.world-is w.to_line-answer.ensures
+    ] in
     OnErr-always _ (in_part_last _ c.loop-lines.invariant.follows answered (λ e. (ap g.R.Source.given (at_end e).0, (at_end e).1)) told c.in_err-write.ensures.err)
 
 pub loop-lines-preserved : goal.loop-lines-preserved
 loop-lines-preserved g c =
     let at_end = c.in_ok-next_line.ensures.at_end in
     let told : IsTrue c.next_line.new.self.is_ended → IsTrue (g.R.Source.has_ended c.next_line.new.source) =
-      λ e. ⊎_elim (λ was. subst (λ (source : g.row.R.Denot). IsTrue (g.R.Source.has_ended source)) (sym (at_end was).0) (c.loop-lines.invariant.ended was)) (λ now. now) (c.in_ok-next_line.ensures.ended e) in
+    λ e. ⊎_elim (λ was. subst (λ (source : g.row.R.Denot). IsTrue (g.R.Source.has_ended source)) (sym (at_end was).0) (c.loop-lines.invariant.ended was)) (λ now. now) (c.in_ok-next_line.ensures.ended e) in
     let answered : Answered (g.R.Source.given c.loop-lines.reader) (g.R.Source.given c.next_line.new.source) c.loop-lines.lines c.next_line.new.self c.loop-lines.world
-      (addressee_text c.match-branch-3.answer.tenant) c.match-branch-3.answer.reply c.match-branch-3.world =
-      elim c.match-branch-3.branch [
-        | in-TooLong w ↦ answered_where_too_long _ _ c.loop-lines.lines c.next_line.new.self c.loop-lines.world c.match-branch-3.world c.in_ok-next_line.field-0 c.match-branch-3.answer w.to_nobody-answer.result
-            w.in-TooLong.is c.in_ok-next_line.ensures.ok w.answer-is w.to_nobody-answer.ensures w.world-is
-        | in-Whole w ↦ answered_where_whole _ _ c.loop-lines.lines c.next_line.new.self c.loop-lines.world w.to_line-answer.new.world c.match-branch-3.world c.in_ok-next_line.field-0 c.match-branch-3.answer w.to_line-answer.result w.line.result.now
-            w.in-Whole.is c.in_ok-next_line.ensures.ok w.answer-is w.line.ensures w.world-is w.to_line-answer.ensures
-      ] in
+    (addressee_text c.match-branch-3.answer.tenant) c.match-branch-3.answer.reply c.match-branch-3.world =
+    elim c.match-branch-3.branch [
+      | in-TooLong w ↦ answered_where_too_long _ _ c.loop-lines.lines c.next_line.new.self c.loop-lines.world c.match-branch-3.world c.in_ok-next_line.field-0 c.match-branch-3.answer w.to_nobody-answer.result
+          w.in-TooLong.is c.in_ok-next_line.ensures.ok w.answer-is w.to_nobody-answer.ensures w.world-is
+      | in-Whole w ↦ answered_where_whole _ _ c.loop-lines.lines c.next_line.new.self c.loop-lines.world w.to_line-answer.new.world c.match-branch-3.world c.in_ok-next_line.field-0 c.match-branch-3.answer w.to_line-answer.result w.line.result.now
+          w.in-Whole.is c.in_ok-next_line.ensures.ok w.answer-is w.line.ensures w.world-is w.to_line-answer.ensures
+    ] in
     let before = c.loop-lines.invariant in
     let step = c.in_ok-next_line.ensures in
     let wrote = c.in_ok-write.ensures in
     let less : work_left c.next_line.new.self < work_left c.loop-lines.lines =
-      elim c.match-branch-3.branch [
-        | in-TooLong w ↦ subst (LeavesLess c.loop-lines.lines c.next_line.new.self) w.in-TooLong.is step.work
-        | in-Whole w ↦ subst (LeavesLess c.loop-lines.lines c.next_line.new.self) w.in-Whole.is step.work
-      ] in
+    elim c.match-branch-3.branch [
+      | in-TooLong w ↦ subst (LeavesLess c.loop-lines.lines c.next_line.new.self) w.in-TooLong.is step.work
+      | in-Whole w ↦ subst (LeavesLess c.loop-lines.lines c.next_line.new.self) w.in-Whole.is step.work
+    ] in
     record {
       follows = rw c.count.ensures (Follows-line answered.line _ _ before.follows answered.gives (λ e. (ap g.R.Source.given (at_end e).0, (at_end e).1)) answered.answers wrote.ok);
       ended = told;
@@ -101,16 +102,16 @@ pub returns-in_err-flush-clause-fault : goal.returns-in_err-flush-clause-fault
 returns-in_err-flush-clause-fault g c =
     let at_end = c.in_ok-next_line.ensures.at_end in
     let told : IsTrue c.next_line.new.self.is_ended → IsTrue (g.R.Source.has_ended c.next_line.new.source) =
-      λ e. ⊎_elim (λ was. subst (λ (source : g.row.R.Denot). IsTrue (g.R.Source.has_ended source)) (sym (at_end was).0) (c.loop-lines.invariant.ended was)) (λ now. now) (c.in_ok-next_line.ensures.ended e) in
+    λ e. ⊎_elim (λ was. subst (λ (source : g.row.R.Denot). IsTrue (g.R.Source.has_ended source)) (sym (at_end was).0) (c.loop-lines.invariant.ended was)) (λ now. now) (c.in_ok-next_line.ensures.ended e) in
     let finds : Finds (g.R.Source.given c.loop-lines.reader) (g.R.Source.given c.next_line.new.source) c.loop-lines.lines c.next_line.new.self End =
-      subst (Finds (g.R.Source.given c.loop-lines.reader) (g.R.Source.given c.next_line.new.source) c.loop-lines.lines c.next_line.new.self) c.in-End.is c.in_ok-next_line.ensures.ok in
+    subst (Finds (g.R.Source.given c.loop-lines.reader) (g.R.Source.given c.next_line.new.source) c.loop-lines.lines c.next_line.new.self) c.in-End.is c.in_ok-next_line.ensures.ok in
     OnErr-always _ (in_part_whole _ [] (Follows-flushed c.in_err-flush.ensures.taken c.loop-lines.invariant.follows) (finds.0 ∙ sym (append-nil _)) (λ e. (refl, told (at_end e).1)))
 
 pub returns-clause-ok : goal.returns-clause-ok
 returns-clause-ok g c =
     let at_end = c.in_ok-next_line.ensures.at_end in
     let told : IsTrue c.next_line.new.self.is_ended → IsTrue (g.R.Source.has_ended c.next_line.new.source) =
-      λ e. ⊎_elim (λ was. subst (λ (source : g.row.R.Denot). IsTrue (g.R.Source.has_ended source)) (sym (at_end was).0) (c.loop-lines.invariant.ended was)) (λ now. now) (c.in_ok-next_line.ensures.ended e) in
+    λ e. ⊎_elim (λ was. subst (λ (source : g.row.R.Denot). IsTrue (g.R.Source.has_ended source)) (sym (at_end was).0) (c.loop-lines.invariant.ended was)) (λ now. now) (c.in_ok-next_line.ensures.ended e) in
     let finds : Finds (g.R.Source.given c.loop-lines.reader) (g.R.Source.given c.next_line.new.source) c.loop-lines.lines c.next_line.new.self End =
-      subst (Finds (g.R.Source.given c.loop-lines.reader) (g.R.Source.given c.next_line.new.source) c.loop-lines.lines c.next_line.new.self) c.in-End.is c.in_ok-next_line.ensures.ok in
+    subst (Finds (g.R.Source.given c.loop-lines.reader) (g.R.Source.given c.next_line.new.source) c.loop-lines.lines c.next_line.new.self) c.in-End.is c.in_ok-next_line.ensures.ok in
     replays_all c.next_line.new.self _ (Follows-flushed c.in_ok-flush.ensures.taken c.loop-lines.invariant.follows) finds (told finds.3)

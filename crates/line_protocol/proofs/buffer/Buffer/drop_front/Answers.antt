@@ -1,4 +1,4 @@
-use Rattle.std.proofs.Common.{◌≡◌, ◌+◌, ◌≤◌, arith, refl}
+use Rattle.std.proofs.Common.{◌+◌, ◌≤◌, arith, refl}
 use Rattle.line_protocol.proofs.Ranges.{slice_range-drop, length-slice_range}
 use Rattle.line_protocol.proofs.buffer.Buffer.drop_front.Goals as goal
 

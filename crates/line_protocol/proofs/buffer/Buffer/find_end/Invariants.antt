@@ -1,4 +1,4 @@
-use Rattle.std.proofs.Common.{◌≡◌, ◌+◌, ◌-◌, ◌^◌, ◌<◌, ◌≤◌, ◌⊎◌, IsTrue}
+use Rattle.std.proofs.Common.{◌≡◌, ◌+◌, ◌-◌, ◌^◌, ◌≤◌, ◌⊎◌, IsTrue}
 use Rattle.line_protocol.specs.LineReading.{work_left}
 use Rattle.line_protocol.specs.Ends.{Comes}
 use Rattle.line_protocol.proofs.buffer.Buffer.find_end.Given as goal

@@ -1,4 +1,4 @@
-use Rattle.std.proofs.Common.{ℕ, Bool, ◌≡◌, ◌≤◌, ◌⊎◌, IsTrue, arith, rules, length, inl, inr, refl, sym, ap, ◌∙◌, false, true}
+use Rattle.std.proofs.Common.{ℕ, Bool, ◌≡◌, ◌≤◌, ◌⊎◌, IsTrue, inl, inr, sym, ap, ◌∙◌, false}
 use Rattle.line_protocol.proofs.LineReadingLemmas.{Finds-at, Finds-rest, Finds-skipped}
 use Rattle.line_protocol.proofs.buffer.Buffer.next_line.Goals as goal
 

@@ -1,5 +1,4 @@
-use Rattle.std.proofs.Common.{◌≡◌, ◌+◌, ◌-◌, ◌^◌, ◌<◌, ◌≤◌, false, length}
-use Rattle.line_protocol.specs.LineReading.{work_left}
+use Rattle.std.proofs.Common.{◌≡◌, ◌+◌, ◌-◌, ◌^◌, ◌≤◌, false}
 use Rattle.line_protocol.specs.Ends.{Comes}
 use Rattle.line_protocol.proofs.buffer.Buffer.read_more.Given as goal
 

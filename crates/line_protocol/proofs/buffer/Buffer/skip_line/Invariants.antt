@@ -1,4 +1,4 @@
-use Rattle.std.proofs.Common.{◌≡◌, ◌+◌, ◌-◌, ◌^◌, ◌<◌, ◌≤◌, ◌⊎◌, IsTrue}
+use Rattle.std.proofs.Common.{◌≡◌, ◌+◌, ◌-◌, ◌^◌, ◌≤◌, IsTrue}
 use Rattle.line_protocol.proofs.SkipLemmas.{Skipped}
 use Rattle.line_protocol.proofs.buffer.Buffer.skip_line.Given as goal
 

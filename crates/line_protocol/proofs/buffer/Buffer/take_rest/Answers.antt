@@ -1,6 +1,6 @@
-use Rattle.std.proofs.Common.{◌≡◌, ◌+◌, ◌-◌, ◌≤◌, ◌<◌, ℕ, List, [], ◌∷◌, length, arith, refl, slice_range, vec_len, ◌∙◌}
+use Rattle.std.proofs.Common.{◌≡◌, ◌-◌, ◌<◌, ℕ, List, [], ◌∷◌, length, arith, refl, slice_range, ◌∙◌}
 use Rattle.line_protocol.specs.declared.line.Line.TheVariants.{End}
-use Rattle.line_protocol.specs.Ends.{last_line, kind_of, kind_of_length}
+use Rattle.line_protocol.specs.Ends.{last_line, kind_of_length}
 use Rattle.line_protocol.proofs.Ranges.{length-slice_range}
 use Rattle.line_protocol.proofs.buffer.Buffer.take_rest.Goals as goal
 use Rattle.line_protocol.proofs.buffer.Buffer.take_rest.Goals.{then-len-eq0, else-len-eq0}
