@@ -1,13 +1,12 @@
 -- The answers to lines that name a tenant.
-use Rattle.std.proofs.Common.{◌≡◌, ℕ, ◌<◌, Bool, true, false, List, [], ◌∷◌, ◌++◌, length, get_or, set, Option, Some, None, refl, sym, ap, ◌∙◌, subst, codes}
+use Rattle.std.proofs.Common.{◌≡◌, ℕ, false, List, [], length, get_or, Option, Some, None, refl, sym, ap, ◌∙◌, subst, codes}
 use Rattle.std.proofs.lemmas.List.{append-nil, length-set}
 use Rattle.std.specs.Prelude.{IfSome}
 use Rattle.trace_types.specs.Name.{Text}
 use Rattle.trace_types.specs.Lines.{is_too_long}
 use Rattle.trace_types.specs.Reading.{addressed_by}
-use Rattle.trace_types.specs.Interleaving.{Call}
-use Rattle.trace_types.specs.Replay.{Asked, NoTenants, NoRequest, Asks, asked, place_of, call_of, reply_to, addressee, MarkMayStand}
-use Rattle.trace_types.specs.World.{World, StepsOne, IsAfter, IsDue, tells_want}
+use Rattle.trace_types.specs.Replay.{NoTenants, NoRequest, Asks, asked, place_of}
+use Rattle.trace_types.specs.World.{World, StepsOne, IsDue, tells_want}
 use Rattle.trace_types.specs.declared.code.Code.{Code}
 use Rattle.trace_types.specs.declared.code.Code.TheVariants as code
 use Rattle.trace_types.specs.declared.request.Request.{Request}

@@ -1,20 +1,19 @@
 -- Line after line of a replay.
-use Rattle.std.proofs.Common.{◌≡◌, ℕ, suc, ◌+◌, ◌-◌, ◌<◌, ◌≤◌, Bool, true, false, IsTrue, List, [], ◌∷◌, ◌++◌, length, take, Option, refl, sym, ap, ◌∙◌, subst, append_assoc, cond, zero-add, arith, codes}
+use Rattle.std.proofs.Common.{◌≡◌, ℕ, ◌+◌, Bool, IsTrue, List, [], ◌∷◌, ◌++◌, refl, sym, ap, ◌∙◌, subst, append_assoc, cond, zero-add, codes}
 use Rattle.std.proofs.lemmas.List.{append-nil, length-append}
 use Rattle.std.specs.Prelude.{count_by}
 use Rattle.std.proofs.lemmas.List.Sums.{sum_by-append}
-use Rattle.line_protocol.proofs.LineReadingLemmas.{HasRead-start, HasRead-line, HasRead-end}
+use Rattle.line_protocol.proofs.LineReadingLemmas.{HasRead-line}
 use Rattle.trace_types.specs.Name.{Text}
 use Rattle.trace_types.specs.Text.{reply_text}
 use Rattle.trace_types.specs.Interleaving.{Call}
-use Rattle.trace_types.specs.Replay.{Asked, asked, call_of, reply_to, addressee, written, Entry, entries, calls_by, replies_to, output, MarkMayStand, MarksMayStand, is_accepted, is_answered, is_refused}
+use Rattle.trace_types.specs.Replay.{asked, call_of, reply_to, addressee, written, Entry, entries, calls_by, replies_to, output, is_accepted, is_answered, is_refused}
 use Rattle.trace_types.specs.World.{World, IsAfter}
 use Rattle.trace_types.specs.declared.reply.Reply.{Reply}
 use Rattle.trace_types.proofs.Replay.{entries-push, calls_by-push, replies_to-push, output-push, MarksMayStand-push}
 use Rattle.line_protocol.specs.Held.{Held}
 use Rattle.line_protocol.specs.LineReading.{HasRead, GivesLine}
 use Rattle.trace_world.specs.declared.counts.Counts.{Counts}
-use Rattle.trace_world.specs.Answer.{addressee_text, answer_text}
 use Rattle.trace_world.specs.Counted.{counted_with, one_if}
 use Rattle.trace_world.specs.Replayed.{counts_of, LeadsTo, Answers}
 

@@ -1,14 +1,14 @@
 -- Replays that a fault cuts short.
-use Rattle.std.proofs.Common.{◌≡◌, ℕ, zero, suc, ◌+◌, ◌-◌, ◌<◌, ◌≤◌, Bool, true, false, IsTrue, List, [], ◌∷◌, ◌++◌, length, take, drop, refl, sym, ap, ◌∙◌, subst, append_assoc, arith, codes, None}
+use Rattle.std.proofs.Common.{◌≡◌, ℕ, zero, suc, ◌-◌, ◌≤◌, Bool, true, false, IsTrue, List, [], ◌∷◌, ◌++◌, length, take, refl, sym, ap, ◌∙◌, subst, append_assoc, arith, codes, None}
 use Rattle.std.proofs.lemmas.List.{append-nil, length-append}
 use Rattle.std.proofs.Math.Seq.{take-append_seam}
 use Rattle.trace_types.specs.Name.{Text}
 use Rattle.trace_types.specs.Limits.{Limits}
-use Rattle.trace_types.specs.Lines.{lines, is_too_long}
+use Rattle.trace_types.specs.Lines.{lines}
 use Rattle.trace_types.specs.Text.{reply_text}
 use Rattle.trace_types.specs.Interleaving.{Call}
-use Rattle.trace_types.specs.Replay.{asked, call_of, entries, output, NoTenants, first_mark}
-use Rattle.trace_types.specs.World.{World, IsAfter}
+use Rattle.trace_types.specs.Replay.{asked, call_of, entries, output}
+use Rattle.trace_types.specs.World.{World}
 use Rattle.trace_types.specs.declared.code.Code.TheVariants as code
 use Rattle.trace_types.specs.declared.reply.Reply.{Reply}
 use Rattle.trace_types.specs.declared.reply.Reply.TheVariants.{Refused}
@@ -19,12 +19,14 @@ use Rattle.line_protocol.specs.declared.line.Line.TheVariants.{Whole, TooLong, E
 use Rattle.trace_world.specs.declared.answer.Answer.{Answer}
 use Rattle.trace_world.specs.Answer.{addressee_text}
 use Rattle.line_protocol.specs.Writing.{WritesFront}
-use Rattle.line_protocol.proofs.LineReadingLemmas.{HasRead-start, HasRead-line, HasRead-end}
+use Rattle.line_protocol.proofs.LineReadingLemmas.{HasRead-line, HasRead-end}
 use Rattle.trace_world.specs.declared.counts.Counts.{Counts}
+use Rattle.trace_world.specs.declared.replay_fault.ReplayFault.{ReplayFault}
+use Rattle.trace_world.specs.declared.replay_fault.ReplayFault.TheVariants.{Write}
 use Rattle.trace_world.specs.Counted.{counted_with, one_if}
-use Rattle.trace_world.specs.Replayed.{LeadsTo, Answers, AreFirstLines, ReplaysInPart, Replays}
+use Rattle.trace_world.specs.Replayed.{Answers, AreFirstLines, ReplaysInPart, Replays}
 use Rattle.trace_world.proofs.Answering.{answers_nobody}
-use Rattle.trace_world.proofs.Following.{Follows, no_counts, LeadsTo-none, LeadsTo-line, Follows-line}
+use Rattle.trace_world.proofs.Following.{Follows, no_counts, LeadsTo-none, LeadsTo-line}
 
 -- a line was found, and this is its answer
 pub record Answered (given given' : List ℕ) (held held' : Held) (old : World) (to : Text) (reply : Reply) (new : World) : Type 0 where
@@ -82,8 +84,8 @@ output-take-le names limits before (line ∷ found) (mark ∷ marks) (suc n) =
 -- all that was found was written
 pub in_part_whole : {start given given' taken taken' : List ℕ} {old new : World} {held : Held} {counts : Counts} (has_ended : Bool) (gave : List ℕ)
     → Follows start given taken taken' old held counts new
-    → given' ≡ given ++ gave → (IsTrue held.is_ended → (gave ≡ []) × IsTrue has_ended) → ReplaysInPart start given' has_ended taken taken' old new
-in_part_whole {old = old} {counts = counts} has_ended gave follows grows at_end = record {
+    → given' ≡ given ++ gave → (IsTrue held.is_ended → (gave ≡ []) × IsTrue has_ended) → (fault : ReplayFault) → ReplaysInPart fault start given' has_ended taken taken' old new
+in_part_whole {old = old} {counts = counts} has_ended gave follows grows at_end fault = record {
   found = follows.found;
   marks = follows.marks;
   text = follows.text;
@@ -93,6 +95,7 @@ in_part_whole {old = old} {counts = counts} has_ended gave follows grows at_end 
   first = AreFirstLines-from has_ended gave follows.read grows at_end;
   writes = follows.writes;
   front = sym (append-nil follows.text);
+  replied = λ not_write. refl;
   leads = follows.leads;
   whole = λ calls after.
       let less = output-take-le old.names old.limits calls follows.found follows.marks (length follows.found - 1) in
@@ -105,7 +108,7 @@ pub in_part_last : {start given given' taken taken' taken'' : List ℕ} {old mid
     → Follows start given taken taken' old held counts mid
     → Answered given given' held held' mid to reply new
     → (IsTrue held.is_ended → (given' ≡ given) × IsTrue held'.is_ended) → (IsTrue held'.is_ended → IsTrue has_ended)
-    → WritesFront taken' taken'' (to ++ codes " " ++ reply_text reply ++ 10 ∷ []) → ReplaysInPart start given' has_ended taken taken'' old new
+    → WritesFront taken' taken'' (to ++ codes " " ++ reply_text reply ++ 10 ∷ []) → ReplaysInPart Write start given' has_ended taken taken'' old new
 in_part_last {start = start} {given' = given'} {taken = taken} {old = old} {mid = mid} {new = new} {held' = held'} {counts = counts} {to = to} {reply = reply} has_ended follows answered at_end ended front =
     let read : HasRead start given' held' (follows.found ++ answered.line ∷ []) = HasRead-line follows.read answered.gives at_end in
     record {
@@ -118,6 +121,7 @@ in_part_last {start = start} {given' = given'} {taken = taken} {old = old} {mid 
       first = AreFirstLines-from has_ended [] read (sym (append-nil given')) (λ e. (refl, ended e));
       writes = front.grows ∙ ap (λ bytes. bytes ++ front.written) follows.writes ∙ append_assoc taken follows.text front.written;
       front = ap (λ bytes. follows.text ++ bytes) front.front ∙ sym (append_assoc follows.text front.written front.rest);
+      replied = λ not_write. absurd (not_write refl);
       leads = LeadsTo-line old mid new follows.found follows.marks follows.text counts answered.line to reply follows.leads answered.answers;
       whole = λ calls after.
           let count : length (follows.found ++ answered.line ∷ []) - 1 ≡ length follows.found = omega (arith, length-append follows.found (answered.line ∷ [])) in
@@ -127,8 +131,8 @@ in_part_last {start = start} {given' = given'} {taken = taken} {old = old} {mid 
     }
 
 -- nothing was read or written
-pub in_part_none : (given taken : List ℕ) (has_ended : Bool) (world : World) → ReplaysInPart given given has_ended taken taken world world
-in_part_none given taken has_ended world = record {
+pub in_part_none : (given taken : List ℕ) (has_ended : Bool) (world : World) (fault : ReplayFault) → ReplaysInPart fault given given has_ended taken taken world world
+in_part_none given taken has_ended world fault = record {
   found = [];
   marks = [];
   text = [];
@@ -138,6 +142,7 @@ in_part_none given taken has_ended world = record {
   first = record { came = []; left = []; reads = sym (append-nil given); first = λ rest none. refl };
   writes = sym (append-nil taken);
   front = refl;
+  replied = λ not_write. refl;
   leads = LeadsTo-none world;
   whole = λ calls after. omega arith;
 }

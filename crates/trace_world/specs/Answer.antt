@@ -1,5 +1,5 @@
 -- How the answer to a line is written.
-use Rattle.std.specs.Prelude.{ℕ, List, [], ◌∷◌, ◌++◌, Option, Some, None, codes}
+use Rattle.std.specs.Prelude.{[], ◌∷◌, ◌++◌, Option, Some, None, codes}
 use Rattle.trace_types.specs.Name.{Text}
 use Rattle.trace_types.specs.Text.{reply_text}
 use Rattle.trace_types.specs.declared.reply.Reply.{Reply}

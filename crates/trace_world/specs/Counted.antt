@@ -4,6 +4,7 @@ use Rattle.trace_types.specs.Replay.{is_accepted, is_answered, is_refused}
 use Rattle.trace_types.specs.declared.reply.Reply.{Reply}
 use Rattle.trace_world.specs.declared.counts.Counts.{Counts}
 
+-- 1 where it is so
 abbrev pub one_if : Bool → ℕ
 one_if b = if b then 1 else 0
 

@@ -1,13 +1,14 @@
 -- What a replay did.
-use Rattle.std.specs.Prelude.{◌≡◌, ℕ, ◌+◌, ◌-◌, ◌≤◌, Bool, IsTrue, List, ◌∷◌, [], ◌++◌, length, take, count_by, ◌⊎◌}
+use Rattle.std.specs.Prelude.{◌≡◌, ◌≢◌, ℕ, ◌-◌, ◌≤◌, Bool, IsTrue, List, [], ◌++◌, length, take, count_by}
 use Rattle.trace_types.specs.Name.{Text}
-use Rattle.trace_types.specs.Limits.{Limits}
 use Rattle.trace_types.specs.Lines.{lines}
 use Rattle.trace_types.specs.Interleaving.{Call}
 use Rattle.trace_types.specs.World.{World, IsAfter}
-use Rattle.trace_types.specs.Replay.{asked, call_of, reply_to, addressee, Entry, entries, calls_by, replies_to, output, MarkMayStand, MarksMayStand, is_accepted, is_answered, is_refused}
+use Rattle.trace_types.specs.Replay.{asked, call_of, reply_to, addressee, entries, calls_by, replies_to, output, MarkMayStand, MarksMayStand, is_accepted, is_answered, is_refused}
 use Rattle.trace_types.specs.declared.reply.Reply.{Reply}
 use Rattle.trace_world.specs.declared.counts.Counts.{Counts}
+use Rattle.trace_world.specs.declared.replay_fault.ReplayFault.{ReplayFault}
+use Rattle.trace_world.specs.declared.replay_fault.ReplayFault.TheVariants.{Write}
 
 -- how many replies there are, and how many of each sort
 abbrev pub counts_of : List Reply → Counts
@@ -50,8 +51,8 @@ pub record AreFirstLines (given given' : List ℕ) (has_ended : Bool) (found : L
   pub first : (rest : List ℕ) → (IsTrue has_ended → rest ≡ []) → lines (came ++ rest) ≡ found ++ lines (left ++ rest)
 
 -- A fault came in between: the first lines were replayed, a front of their output was written, and at most the last
--- of them lacks its whole reply.
-pub record ReplaysInPart (given given' : List ℕ) (has_ended : Bool) (taken taken' : List ℕ) (old new : World) : Type 0 where
+-- of them lacks its whole reply: none of them does, unless the fault is one of writing.
+pub record ReplaysInPart (fault : ReplayFault) (given given' : List ℕ) (has_ended : Bool) (taken taken' : List ℕ) (old new : World) : Type 0 where
   pub found : List Text
   pub marks : List Bool
   pub text : Text
@@ -61,6 +62,7 @@ pub record ReplaysInPart (given given' : List ℕ) (has_ended : Bool) (taken tak
   pub first : AreFirstLines given given' has_ended found
   pub writes : taken' ≡ taken ++ written
   pub front : text ≡ written ++ unwritten
+  pub replied : fault ≢ Write → unwritten ≡ []
   pub leads : LeadsTo old found marks text counts new
   pub whole : (calls : List Call) → IsAfter old calls →
       length (output old.names old.limits calls (entries old.names (take (length found - 1) found) (take (length found - 1) marks))) ≤ length written

@@ -57,6 +57,7 @@ impl Answer {
         ensures err { OnErr result (WritesFront (W.taken writer.old) (W.taken writer.new) (answer_text self.now.tenant self.now.reply)) }
         ensures fault { OnErr result (IsWriteFault (W.failures writer.old) (W.failures writer.new)
             (W.interruptions writer.old) (W.interruptions writer.new)) }
+        ensures no_failure { OnOk result (W.failures writer.new ≡ W.failures writer.old) }
         ensures failures { W.failures writer.old ≤ W.failures writer.new }
         ensures interruptions { W.interruptions writer.old ≤ W.interruptions writer.new }
     {

@@ -30,7 +30,7 @@ impl Model for World {
 }
 
 impl World {
-    /// Tenants of these names that have reported nothing. It takes one name, and answers `Names` for none or more.
+    /// Tenants of these names that have reported nothing. It takes one name, and answers `Names` for none or several.
     pub fn new(alloc: Global, names: &[Name], limits: Limits) -> Result<World, WorldFault>
         ensures names { IsErrOf result WorldFault.Names ↔ (length names.now ≢ 1) }
         ensures world { IfOk result (λ world. world ≡ record { names = names.now; limits = limits; tenants = map (λ name. fresh limits) names.now }) }
@@ -74,7 +74,7 @@ impl World {
         place_of(&self.names, name)
     }
 
-    /// Does one request of the tenant at this place.
+    /// Does one request of the tenant at this place. It answers 507 only where memory was refused.
     ///
     /// Nothing waits on `rt` while the tenants share nothing.
     pub fn step<R>(&mut self, rt: &R, tenant: usize, request: &Request) -> Reply
@@ -103,4 +103,27 @@ fn place_of(names: &[Name], name: &Name) -> Option<usize>
         }
     }
     None
+}
+
+#[cfg(test)]
+mod tests {
+    use super::*;
+    use std::test::Fail;
+
+    fn name(text: &[u8]) -> Result<Name, &'static str> {
+        Name::read(text).ok_or("no name")
+    }
+
+    #[test]
+    fn a_world_takes_one_name(rt: HostRuntime) -> Result<(), Fail> {
+        let (x, y) = (name(b"x")?, name(b"y")?);
+        for names in [&[][..], &[x, y]] {
+            let refused = World::new(rt.alloc(), names, Limits::default()).err();
+            assert_eq!(rt; refused, Some(WorldFault::Names));
+        }
+        let world = World::new(rt.alloc(), &[x], Limits::default())?;
+        assert_eq!(rt; world.tenant_count(), 1);
+        assert_eq!(rt; (world.find(&x), world.find(&y)), (Some(0), None));
+        Ok(())
+    }
 }

@@ -1,20 +1,19 @@
-use Rattle.std.proofs.Common.{◌≡◌, ◌+◌, ◌<◌, ◌≤◌, IsTrue, true, false, List, [], ◌∷◌, ◌++◌, ◌⊎◌, ⊎_elim, length, refl, sym, ap, ◌∙◌, subst, arith}
+use Rattle.std.proofs.Common.{◌≡◌, ◌<◌, IsTrue, true, false, [], ⊎_elim, refl, sym, ap, ◌∙◌, subst, arith}
 use Rattle.std.proofs.lemmas.List.{append-nil, append_cancel_left}
 use Rattle.line_protocol.proofs.LineReadingLemmas.{HasRead-start}
 use Rattle.line_protocol.specs.Held.{Held}
 use Rattle.line_protocol.specs.LineReading.{Finds, LeavesLess, work_left}
 use Rattle.line_protocol.specs.declared.line.Line.TheVariants.{End}
 use Rattle.trace_types.specs.Replay.{is_accepted, is_answered, is_refused}
-use Rattle.trace_types.specs.World.{World}
 use Rattle.trace_world.specs.Answer.{addressee_text}
-use Rattle.trace_world.proofs.Fronts.{OnErr-always}
+use Rattle.trace_world.proofs.Fronts.{IfErr-always, IfErr-equal}
 use Rattle.trace_world.proofs.Following.{LeadsTo-none, Follows-line}
 use Rattle.trace_world.proofs.Parts.{in_part_none, in_part_whole, in_part_last, replays_all, Answered, answered_where_too_long, answered_where_whole, Follows-flushed, one_if-le}
 use Rattle.trace_world.proofs.replaying.replay.Goals as goal
 use Rattle.trace_world.proofs.replaying.replay.Goals.{in-TooLong, in-Whole}
 
 pub returns-in_err-lines-clause-fault : goal.returns-in_err-lines-clause-fault
-returns-in_err-lines-clause-fault g c = OnErr-always _ (in_part_none _ _ _ c.args.world.now)
+returns-in_err-lines-clause-fault g c = IfErr-always _ (in_part_none _ _ _ c.args.world.now)
 
 pub loop-lines-init : goal.loop-lines-init
 loop-lines-init g c =
@@ -32,7 +31,7 @@ loop-lines-init g c =
       ended = λ e. let bad : true ≡ false = sym e ∙ ap (λ (h : Held). h.is_ended) held in absurd (cc);
       failures = refl;
       reads = rw held (omega arith);
-      write_failures = omega arith;
+      write_failures = refl;
       interruptions = omega arith;
       room = rw (none, held) (omega arith);
       accepted = rw none (omega arith);
@@ -44,7 +43,7 @@ pub returns-in_err-next_line-clause-fault : goal.returns-in_err-next_line-clause
 returns-in_err-next_line-clause-fault g c =
     let at_end = c.in_err-next_line.ensures.at_end in
     let more = c.in_err-next_line.ensures.given in
-    OnErr-always _ (in_part_whole _ more.0 c.loop-lines.invariant.follows more.1 (λ e. (
+    IfErr-always _ (in_part_whole _ more.0 c.loop-lines.invariant.follows more.1 (λ e. (
       append_cancel_left (g.R.Source.given c.loop-lines.reader) more.0 [] (sym more.1 ∙ ap g.R.Source.given (at_end e).0 ∙ sym (append-nil _)),
       subst (λ (source : g.row.R.Denot). IsTrue (g.R.Source.has_ended source)) (sym (at_end e).0) (c.loop-lines.invariant.ended e),
     )))
@@ -62,7 +61,7 @@ returns-in_err-write-clause-fault g c =
       | in-Whole w ↦ answered_where_whole _ _ c.loop-lines.lines c.next_line.new.self c.loop-lines.world w.to_line-answer.new.world c.match-branch-3.world c.in_ok-next_line.field-0 c.match-branch-3.answer w.to_line-answer.result w.line.result.now
           w.in-Whole.is c.in_ok-next_line.ensures.ok w.answer-is w.line.ensures w.world-is w.to_line-answer.ensures
     ] in
-    OnErr-always _ (in_part_last _ c.loop-lines.invariant.follows answered (λ e. (ap g.R.Source.given (at_end e).0, (at_end e).1)) told c.in_err-write.ensures.err)
+    IfErr-equal _ _ _ c.from_residual-in_err-write.ensures.1 (in_part_last _ c.loop-lines.invariant.follows answered (λ e. (ap g.R.Source.given (at_end e).0, (at_end e).1)) told c.in_err-write.ensures.err)
 
 pub loop-lines-preserved : goal.loop-lines-preserved
 loop-lines-preserved g c =
@@ -90,7 +89,7 @@ loop-lines-preserved g c =
       ended = told;
       failures = omega (arith, step.failures, before.failures);
       reads = omega (arith, before.reads, step.reads);
-      write_failures = omega (arith, before.write_failures, wrote.failures);
+      write_failures = omega (arith, before.write_failures, wrote.no_failure);
       interruptions = omega (arith, before.interruptions, wrote.interruptions);
       room = rw c.count.ensures (omega (arith, before.room, less));
       accepted = rw c.count.ensures (omega (arith, before.accepted, one_if-le (is_accepted c.match-branch-3.answer.reply)));
@@ -105,7 +104,7 @@ returns-in_err-flush-clause-fault g c =
     λ e. ⊎_elim (λ was. subst (λ (source : g.row.R.Denot). IsTrue (g.R.Source.has_ended source)) (sym (at_end was).0) (c.loop-lines.invariant.ended was)) (λ now. now) (c.in_ok-next_line.ensures.ended e) in
     let finds : Finds (g.R.Source.given c.loop-lines.reader) (g.R.Source.given c.next_line.new.source) c.loop-lines.lines c.next_line.new.self End =
     subst (Finds (g.R.Source.given c.loop-lines.reader) (g.R.Source.given c.next_line.new.source) c.loop-lines.lines c.next_line.new.self) c.in-End.is c.in_ok-next_line.ensures.ok in
-    OnErr-always _ (in_part_whole _ [] (Follows-flushed c.in_err-flush.ensures.taken c.loop-lines.invariant.follows) (finds.0 ∙ sym (append-nil _)) (λ e. (refl, told (at_end e).1)))
+    IfErr-always _ (in_part_whole _ [] (Follows-flushed c.in_err-flush.ensures.taken c.loop-lines.invariant.follows) (finds.0 ∙ sym (append-nil _)) (λ e. (refl, told (at_end e).1)))
 
 pub returns-clause-ok : goal.returns-clause-ok
 returns-clause-ok g c =

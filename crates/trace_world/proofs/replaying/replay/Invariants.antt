@@ -9,7 +9,7 @@ invariant-loop-lines g l = record {
   ended : IsTrue l.lines.is_ended → IsTrue (g.R.Source.has_ended l.reader);
   failures : g.R.Source.failures l.reader ≡ g.R.Source.failures l.fn.reader;
   reads : l.lines.reads + g.R.Source.reads l.fn.reader ≤ g.R.Source.reads l.reader;
-  write_failures : g.W.Sink.failures l.fn.writer ≤ g.W.Sink.failures l.writer;
+  write_failures : g.W.Sink.failures l.writer ≡ g.W.Sink.failures l.fn.writer;
   interruptions : g.W.Sink.interruptions l.fn.writer ≤ g.W.Sink.interruptions l.writer;
   room : l.counts.lines + work_left l.lines ≤ 2 ^ 46;
   accepted : l.counts.accepted ≤ l.counts.lines;

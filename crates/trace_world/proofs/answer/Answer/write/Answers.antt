@@ -1,9 +1,9 @@
-use Rattle.std.proofs.Common.{◌≡◌, List, [], ◌∷◌, ◌++◌, refl, ap, ◌∙◌, append_assoc, codes}
+use Rattle.std.proofs.Common.{[], ◌∷◌, ◌++◌, ap, ◌∙◌, append_assoc, codes}
 use Rattle.std.proofs.lemmas.Result.{on_err_weaker}
 use Rattle.std.proofs.lemmas.List.{append-nil}
 use Rattle.trace_world.proofs.Fronts.{OnErr-always, WritesFront-after}
 use Rattle.trace_types.specs.Text.{reply_text}
-use Rattle.trace_world.specs.Answer.{addressee_text, answer_text}
+use Rattle.trace_world.specs.Answer.{addressee_text}
 use Rattle.trace_world.proofs.answer.Answer.write.Goals as goal
 
 pub returns-in_err-write_bytes-2-clause-err : goal.returns-in_err-write_bytes-2-clause-err

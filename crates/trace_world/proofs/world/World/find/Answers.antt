@@ -1,5 +1,4 @@
-use Rattle.std.proofs.Common.{◌≡◌, ℕ, ◌<◌, length, Option, sym, ap, ◌∙◌, subst, arith}
-use Rattle.std.specs.Prelude.{IfSome}
+use Rattle.std.proofs.Common.{length, sym, ap, ◌∙◌}
 use Rattle.trace_types.specs.World.{World}
 use Rattle.trace_world.proofs.Places.{within_places}
 use Rattle.trace_world.proofs.world.World.find.Goals as goal

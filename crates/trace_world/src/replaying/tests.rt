@@ -1,0 +1,261 @@
+ghost use Rattle.std.specs.Prelude.{◌≤◌, IfOk};
+
+use super::*;
+use line_protocol::{FromReader, IntoWriter};
+use std::io;
+use std::io::{Error, ErrorKind, Read, Write};
+use std::process::Abort;
+use std::test::Fail;
+use trace_types::{Limits, Name};
+
+/// How a reader or a writer goes: at most so many bytes in one call, and one call fails once so many bytes were moved.
+#[derive(Clone, Copy)]
+struct Pace {
+    most: usize,
+    until_fault: Option<usize>,
+}
+
+impl Pace {
+    const AT_ONCE: Pace = Pace {
+        most: usize::MAX,
+        until_fault: None,
+    };
+
+    const BYTE_BY_BYTE: Pace = Pace {
+        most: 1,
+        until_fault: None,
+    };
+
+    fn failing_after(count: usize) -> Pace {
+        Pace {
+            most: usize::MAX,
+            until_fault: Some(count),
+        }
+    }
+
+    /// How many of these bytes the next call moves.
+    fn moved(&mut self, len: usize) -> io::Result<usize>
+        ensures { IfOk result (λ count. count ≤ len) }
+    {
+        let count = self.most.min(len);
+        match self.until_fault {
+            None => Ok(count),
+            Some(0) => {
+                self.until_fault = None;
+                Err(Error::from(ErrorKind::Other))
+            }
+            Some(left) => {
+                let count = count.min(left);
+                self.until_fault = Some(left - count);
+                Ok(count)
+            }
+        }
+    }
+}
+
+/// A reader of bytes in memory.
+#[derive(Drop)]
+struct Input<'a> {
+    rest: &'a [u8],
+    pace: Pace,
+}
+
+impl Read for Input<'_> {
+    fn read(&mut self, buffer: &mut [u8]) -> io::Result<usize> {
+        let count = self.pace.moved(self.rest.len().min(buffer.len()))?;
+        buffer[..count].copy_from_slice(&self.rest[..count]);
+        self.rest = &self.rest[count..];
+        Ok(count)
+    }
+}
+
+/// A writer into memory, and how many of its bytes were flushed.
+#[derive(Drop)]
+struct Output {
+    bytes: Vec<u8>,
+    flushed: usize,
+    pace: Pace,
+}
+
+impl Write for Output {
+    fn write(&mut self, bytes: &[u8]) -> io::Result<usize> {
+        let count = self.pace.moved(bytes.len())?;
+        self.bytes.extend_from_slice(&bytes[..count])?;
+        Ok(count)
+    }
+
+    fn flush(&mut self) -> io::Result<()> {
+        self.pace.moved(0)?;
+        self.flushed = self.bytes.len();
+        Ok(())
+    }
+}
+
+/// A world of one tenant, `x`.
+fn world_of_x(alloc: Global, events: u64) -> Result<World, Fail> {
+    let name = Name::read(b"x").ok_or("no name")?;
+    let limits = Limits::read(events, 512, 2048).ok_or("no limits")?;
+    Ok(World::new(alloc, &[name], limits)?)
+}
+
+/// What a replay answered, what was written, and how many bytes of it were flushed.
+#[derive(Drop)]
+struct Run {
+    outcome: Result<Counts, ReplayFault>,
+    text: String,
+    flushed: usize,
+}
+
+fn replay_bytes<R: AllocGlobal>(
+    rt: &R,
+    world: &mut World,
+    input: &[u8],
+    reader: Pace,
+    writer: Pace,
+) -> Result<Run, Fail> {
+    let mut output = Output {
+        bytes: Vec::new(rt.alloc()),
+        flushed: 0,
+        pace: writer,
+    };
+    let mut from = FromReader::new(Input {
+        rest: input,
+        pace: reader,
+    });
+    let mut into = IntoWriter::new(&mut output);
+    let outcome = replay(rt, rt.alloc(), world, &mut from, &mut into);
+    Ok(Run {
+        outcome,
+        text: String::from_utf8(output.bytes)?,
+        flushed: output.flushed,
+    })
+}
+
+/// A line of 200 letters, one of 201, an empty one, and others; the last has no end.
+fn odd_lines(alloc: Global) -> Result<Vec<u8>, Fail> {
+    let mut input = vec![in alloc; b'a'; 402]?;
+    input[200] = b'\n';
+    input.extend_from_slice(b"\n\nq count\nx  count\nx\nx count")?;
+    Ok(input)
+}
+
+/// The replies to these lines, however they come and go.
+fn answers<R: Abort + AllocGlobal>(
+    rt: &R,
+    events: u64,
+    input: &[u8],
+    want: &str,
+    counts: Counts,
+) -> Result<(), Fail> {
+    for reader in [Pace::AT_ONCE, Pace::BYTE_BY_BYTE] {
+        for writer in [Pace::AT_ONCE, Pace::BYTE_BY_BYTE] {
+            let mut world = world_of_x(rt.alloc(), events)?;
+            let run = replay_bytes(rt, &mut world, input, reader, writer)?;
+            assert_eq!(rt; run.text.as_str(), want);
+            assert_eq!(rt; run.outcome, Ok(counts), "on {want}");
+            assert_eq!(rt; run.flushed, want.len(), "on {want}");
+        }
+    }
+    Ok(())
+}
+
+#[test]
+fn empty_input_has_empty_output(rt: HostRuntime) -> Result<(), Fail> {
+    answers(&rt, 4096, b"", "", Counts::none())
+}
+
+#[test]
+fn a_line_that_is_no_request_is_refused_in_its_place(rt: HostRuntime) -> Result<(), Fail> {
+    let want =
+        "? 400 line\n? 400 line\n? 400 line\n? 420 no tenant\nx 400 line\nx 400 line\nx 200 0 1 0\n";
+    let counts = Counts {
+        lines: 7,
+        accepted: 0,
+        answered: 1,
+        refused: 6,
+    };
+    answers(&rt, 4096, &odd_lines(rt.alloc())?, want, counts)
+}
+
+#[test]
+fn requests_get_the_replies_of_their_tenant(rt: HostRuntime) -> Result<(), Fail> {
+    let input =
+        b"x local root\nx local root\nx order 1 2\nx order 2 1\nx order 3 1\nx local q\nx spawn root a\n";
+    let want =
+        "x 201 1\nx 201 2\nx 200 before\nx 200 after\nx 404 no event\nx 401 no task\nx 400 line\n";
+    let counts = Counts {
+        lines: 7,
+        accepted: 2,
+        answered: 2,
+        refused: 3,
+    };
+    answers(&rt, 4096, input, want, counts)
+}
+
+#[test]
+fn no_event_is_accepted_above_the_limit(rt: HostRuntime) -> Result<(), Fail> {
+    let input = b"x local root\r\nx local root\r\nx local root\r\n";
+    let counts = Counts {
+        lines: 3,
+        accepted: 2,
+        answered: 0,
+        refused: 1,
+    };
+    answers(
+        &rt,
+        2,
+        input,
+        "x 201 1\nx 201 2\nx 413 events full\n",
+        counts,
+    )
+}
+
+/// What a replay leaves that a fault cut short, and what the tenant counts afterwards.
+fn stops<R: Abort + AllocGlobal>(
+    rt: &R,
+    reader: Pace,
+    writer: Pace,
+    fault: ReplayFault,
+    want: &str,
+    count: &str,
+) -> Result<(), Fail> {
+    let mut world = world_of_x(rt.alloc(), 4096)?;
+    let input = b"x local root\nx local root\n";
+    let cut = replay_bytes(rt, &mut world, input, reader, writer)?;
+    assert_eq!(rt; cut.outcome, Err(fault));
+    assert_eq!(rt; cut.text.as_str(), want);
+    let counted = replay_bytes(rt, &mut world, b"x count\n", Pace::AT_ONCE, Pace::AT_ONCE)?;
+    assert_eq!(rt; counted.text.as_str(), count, "after {want}");
+    Ok(())
+}
+
+#[test]
+fn a_fault_leaves_a_front_of_the_output(rt: HostRuntime) -> Result<(), Fail> {
+    let all = Pace::AT_ONCE;
+    for (reader, writer, fault, want, count) in [
+        (
+            Pace::failing_after(20),
+            all,
+            ReplayFault::Read,
+            "x 201 1\n",
+            "x 200 1 1 0\n",
+        ),
+        (
+            all,
+            Pace::failing_after(10),
+            ReplayFault::Write,
+            "x 201 1\nx ",
+            "x 200 2 1 0\n",
+        ),
+        (
+            all,
+            Pace::failing_after(16),
+            ReplayFault::Write,
+            "x 201 1\nx 201 2\n",
+            "x 200 2 1 0\n",
+        ),
+    ] {
+        stops(&rt, reader, writer, fault, want, count)?;
+    }
+    Ok(())
+}
