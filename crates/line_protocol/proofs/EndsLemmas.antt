@@ -1,11 +1,14 @@
 -- Ends of line, and the lines that they make.
 use Rattle.std.proofs.Common.{◌≡◌, ℕ, suc, ◌+◌, ◌-◌, ◌<◌, Bool, true, false, cond, List, [], ◌∷◌, ◌++◌, length, take, get_or, Option, None, Some, refl, ap, arith, ◌==◌, zero, eqb-true, ◌≢◌}
 use Rattle.std.proofs.lemmas.Bool.Decides.{eqb_tells}
+use Rattle.std.proofs.lemmas.List.{length-map}
+use Rattle.std.proofs.lemmas.List.Sums.{sum_by-cons}
+use Rattle.std.specs.Prelude.{if◌then◌else◌}
 use Rattle.std.proofs.Common.{inl, inr}
 use Rattle.std.proofs.lemmas.Iterator.Adapters.{position_from-zero}
 use Rattle.std.specs.List.{position, position_from}
-use Rattle.trace_types.specs.Lines.{pieces, onto_piece, lines, without_return}
-use Rattle.line_protocol.specs.Ends.{HasNoEnd, EndsAt, IsEnd}
+use Rattle.trace_types.specs.Lines.{Piece, pieces, onto_piece, line_of, lines, without_return}
+use Rattle.line_protocol.specs.Ends.{HasNoEnd, end_count, EndsAt, IsEnd}
 
 -- the piece up to an end of line
 pub pieces-ended : (xs ys : List ℕ) → HasNoEnd xs → pieces (xs ++ 10 ∷ ys) ≡ record { bytes = xs; is_ended = true } ∷ pieces ys
@@ -23,6 +26,25 @@ pieces-last x (y ∷ ys) h = rw h.0 (ap (onto_piece x) (pieces-last y ys h.1))
 
 pub lines-last : (x : ℕ) (xs : List ℕ) → HasNoEnd (x ∷ xs) → lines (x ∷ xs) ≡ (x ∷ xs) ∷ []
 lines-last x xs h = rw (pieces-last x xs h) refl
+
+-- a byte at the front of some pieces makes no piece
+length-onto_piece : (x n : ℕ) (ps : List Piece) → length ps ≡ suc n → length (onto_piece x ps) ≡ suc n
+length-onto_piece x n [] some = absurd (omega arith)
+length-onto_piece x n (p ∷ ps) some = some
+
+-- one byte more at the front
+length-pieces-step : (x n : ℕ) (ps : List Piece) (b : Bool) → length ps ≡ suc n → length (if b then record { bytes = []; is_ended = true } ∷ ps else onto_piece x ps) ≡ suc (cond b 1 0 + n)
+length-pieces-step x n ps true later = omega arith
+length-pieces-step x n ps false later = omega (arith, length-onto_piece x n ps later)
+
+length-pieces-ended : (xs : List ℕ) → length (pieces (xs ++ 10 ∷ [])) ≡ suc (end_count xs)
+length-pieces-ended [] = refl
+length-pieces-ended (x ∷ xs) =
+    rw (sum_by-cons (λ byte. cond (byte == 10) 1 0) x xs) (length-pieces-step x (end_count xs) (pieces (xs ++ 10 ∷ [])) (x == 10) (length-pieces-ended xs))
+
+-- With an end of line after them, bytes are one line more than they have ends.
+pub length-lines-ended : (xs : List ℕ) → length (lines (xs ++ 10 ∷ [])) ≡ end_count xs + 1
+length-lines-ended xs = omega (arith, length-map (pieces (xs ++ 10 ∷ [])) line_of, length-pieces-ended xs)
 
 -- two stretches with no end
 pub HasNoEnd-append : (xs ys : List ℕ) → HasNoEnd xs → HasNoEnd ys → HasNoEnd (xs ++ ys)

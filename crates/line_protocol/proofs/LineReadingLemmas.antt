@@ -6,9 +6,9 @@ use Rattle.trace_types.specs.Name.{Text}
 use Rattle.trace_types.specs.Lines.{lines, without_return, is_too_long}
 use Rattle.line_protocol.specs.Held.{Held}
 use Rattle.line_protocol.specs.declared.line.Line.TheVariants.{Whole, TooLong}
-use Rattle.line_protocol.specs.LineReading.{GivesLine, Finds, HasRead}
-use Rattle.line_protocol.specs.Ends.{HasNoEnd, EndsAt, Comes, Skips, kind_of, last_line}
-use Rattle.line_protocol.proofs.EndsLemmas.{lines-ended, lines-last, HasNoEnd-append}
+use Rattle.line_protocol.specs.LineReading.{GivesLine, Finds, FindsNone, HasRead}
+use Rattle.line_protocol.specs.Ends.{HasNoEnd, end_count, EndsAt, Comes, Skipped, Skips, kind_of, last_line}
+use Rattle.line_protocol.proofs.EndsLemmas.{lines-ended, lines-last, HasNoEnd-append, length-lines-ended}
 use Rattle.line_protocol.proofs.SkipLemmas.{EndsAt-after}
 
 -- the line before an end of line
@@ -106,6 +106,15 @@ pub Finds-skipped : {given given' given'' left mid left' : List ℕ} {is_ended :
     → (line : Text) × GivesLine given given'' left left' is_ended line × (is_too_long line ≡ true)
 Finds-skipped {is_ended = is_ended} comes no_end long skips = skipped_line is_ended skips.skipped comes no_end long skips.no_end skips.grows
 
+-- a read failed while a line was skipped
+pub FindsNone-skipped : {given given' given'' mid : List ℕ} {old : Held} → Comes given given' old.left mid → HasNoEnd mid → Skipped given' given'' → old.is_ended ≡ false → FindsNone given given'' old
+FindsNone-skipped {given = given} {mid = mid} {old = old} comes no_end skipped goes_on = record {
+  gave = comes.gave ++ skipped.skipped;
+  grows = skipped.grows ∙ ap (λ bytes. bytes ++ skipped.skipped) comes.grows ∙ append_assoc given comes.gave skipped.skipped;
+  no_end = subst HasNoEnd (ap (λ bytes. bytes ++ skipped.skipped) comes.adds ∙ append_assoc old.left comes.gave skipped.skipped) (HasNoEnd-append mid skipped.skipped no_end skipped.no_end);
+  goes_on = goes_on;
+}
+
 -- For callers: nothing is read yet.
 pub HasRead-start : (start : List ℕ) (held : Held) → held.left ≡ [] → HasRead start start held []
 HasRead-start start held none = record { came = []; grows = sym (append-nil start); so_far = λ rest _. rw none refl }
@@ -133,6 +142,18 @@ HasRead-line {start = start} {given = given} {given' = given'} {held = held} {he
 pub HasRead-end : {start given : List ℕ} {held : Held} {found : List Text} (read : HasRead start given held found) → held.left ≡ [] → lines read.came ≡ found
 HasRead-end {found = found} read none =
     ap lines (sym (append-nil read.came)) ∙ read.so_far [] (λ _. refl) ∙ ap (λ bytes. found ++ lines (bytes ++ [])) none ∙ append-nil found
+
+-- For callers: where no line was found, there are as many lines as ends of line came.
+pub HasRead-none : {start given given' : List ℕ} {held : Held} {found : List Text} (read : HasRead start given held found) (none : FindsNone given given' held)
+    → length found ≡ end_count (read.came ++ none.gave)
+HasRead-none {held = held} {found = found} read none =
+    let more : List ℕ = none.gave ++ 10 ∷ [] in
+    let all : length (lines ((read.came ++ none.gave) ++ 10 ∷ [])) ≡ end_count (read.came ++ none.gave) + 1 = length-lines-ended (read.came ++ none.gave) in
+    let split : lines ((read.came ++ none.gave) ++ 10 ∷ []) ≡ found ++ lines (held.left ++ more) =
+    ap lines (append_assoc read.came none.gave (10 ∷ [])) ∙ read.so_far more (λ ended. absurd (cc)) in
+    let last : length (lines (held.left ++ more)) ≡ 1 =
+    ap (λ bytes. length (lines bytes)) (sym (append_assoc held.left none.gave (10 ∷ []))) ∙ ap length (lines-ended (held.left ++ none.gave) [] none.no_end) in
+    omega (arith, all, ap length split, length-append found (lines (held.left ++ more)), last)
 
 -- For callers: what a line reader knows of the end, its source has told.
 pub is_ended-next : {S : Type 0} (has_ended : S → Bool) (source source' : S) {old new : Bool} → (IsTrue old → IsTrue (has_ended source))

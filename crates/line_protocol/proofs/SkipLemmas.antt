@@ -1,14 +1,8 @@
 -- What is read on while a line is skipped.
 use Rattle.std.proofs.Common.{◌≡◌, ℕ, ◌+◌, List, [], ◌∷◌, ◌++◌, inl, Bool, length, drop, sym, ap, ◌∙◌, append_assoc}
 use Rattle.std.proofs.Math.Seq.{drop-append-add}
-use Rattle.line_protocol.specs.Ends.{HasNoEnd, EndsAt, Comes, Skips}
+use Rattle.line_protocol.specs.Ends.{HasNoEnd, EndsAt, Comes, Skipped, Skips}
 use Rattle.line_protocol.proofs.EndsLemmas.{HasNoEnd-append}
-
--- The source gave more, with no end of line.
-pub record Skipped (given given' : List ℕ) : Type 0 where
-  pub skipped : List ℕ
-  pub no_end : HasNoEnd skipped
-  pub grows : given' ≡ given ++ skipped
 
 -- what is left behind the first end of line
 pub EndsAt-after : (bytes : List ℕ) (at : ℕ) (ends : EndsAt bytes at) → drop (at + 1) bytes ≡ ends.after

@@ -1,5 +1,5 @@
 -- Where the first line of some bytes ends.
-use Rattle.std.specs.Prelude.{◌≡◌, ℕ, nat_lt, if◌then◌else◌, Bool, false, IsTrue, List, [], ◌∷◌, ◌++◌, ◌⊎◌, length, Option, None, Some, ◌==◌}
+use Rattle.std.specs.Prelude.{◌≡◌, ℕ, nat_lt, if◌then◌else◌, Bool, false, IsTrue, List, [], ◌∷◌, ◌++◌, ◌⊎◌, length, count_by, Option, None, Some, ◌==◌}
 use Rattle.trace_types.specs.Name.{Text}
 use Rattle.line_protocol.specs.declared.line.Line.{Line}
 use Rattle.line_protocol.specs.declared.line.Line.TheVariants.{Whole, TooLong, End}
@@ -8,6 +8,10 @@ use Rattle.line_protocol.specs.declared.line.Line.TheVariants.{Whole, TooLong, E
 abbrev pub HasNoEnd : List ℕ → Type 0
 HasNoEnd [] = Unit {0}
 HasNoEnd (byte ∷ bytes) = ((byte == 10) ≡ false) × HasNoEnd bytes
+
+-- how many ends of line there are
+abbrev pub end_count : List ℕ → ℕ
+end_count bytes = count_by (λ byte. byte == 10) bytes
 
 -- the first end of line
 pub record EndsAt (bytes : List ℕ) (at : ℕ) : Type 0 where
@@ -27,6 +31,12 @@ pub record Comes (given given' left left' : List ℕ) : Type 0 where
   pub gave : List ℕ
   pub grows : given' ≡ given ++ gave
   pub adds : left' ≡ left ++ gave
+
+-- The source gave more, with no end of line.
+pub record Skipped (given given' : List ℕ) : Type 0 where
+  pub skipped : List ℕ
+  pub no_end : HasNoEnd skipped
+  pub grows : given' ≡ given ++ skipped
 
 -- The source gave more, up to an end of line and what is left, or up to the end of the input.
 pub record Skips (given given' left' : List ℕ) (is_ended : Bool) : Type 0 where

@@ -3,6 +3,7 @@ use Rattle.std.specs.Prelude.{◌≡◌, ℕ, ◌+◌, ◌-◌, ◌*◌, ◌≤�
 use Rattle.trace_types.specs.Name.{Text}
 use Rattle.trace_types.specs.Lines.{lines, is_too_long}
 use Rattle.line_protocol.specs.Held.{Held}
+use Rattle.line_protocol.specs.Ends.{HasNoEnd}
 use Rattle.line_protocol.specs.declared.line.Line.{Line}
 use Rattle.line_protocol.specs.declared.line.Line.TheVariants.{Whole, TooLong, End}
 use Rattle.line_protocol.specs.declared.read_fault.ReadFault.{ReadFault}
@@ -27,6 +28,13 @@ Finds given given' old new TooLong =
     (line : Text) × GivesLine given given' old.left new.left new.is_ended line × (is_too_long line ≡ true)
 Finds given given' old new End =
     (given' ≡ given) × (old.left ≡ []) × (new.left ≡ []) × IsTrue new.is_ended
+
+-- No line was found: the source had not told the end, and what was left and what it gave then have no end of line.
+pub record FindsNone (given given' : List ℕ) (old : Held) : Type 0 where
+  pub gave : List ℕ
+  pub grows : given' ≡ given ++ gave
+  pub no_end : HasNoEnd (old.left ++ gave)
+  pub goes_on : old.is_ended ≡ false
 
 -- More bytes than a line reader can still give: those that it holds, and 65536 for each read that it may make.
 abbrev pub work_left : Held → ℕ

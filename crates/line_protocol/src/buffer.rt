@@ -1,8 +1,8 @@
 //! The bytes that a line reader has read.
 ghost use Rattle.std.specs.Prelude.{◌≡◌, ◌+◌, ◌-◌, ◌≤◌, ◌<◌, ◌^◌, IsTrue, [], ◌⊎◌, false, IfOk, OnOk, OnErr, IfNone, length, take, drop, slice_range, position, ◌==◌};
 ghost use Rattle.trace_types.specs.Lines.{without_return};
-ghost use Rattle.line_protocol.specs.LineReading.{Extends, Finds, LeavesLess, work_left, failed_reads, IfTooLong};
-ghost use Rattle.line_protocol.specs.Ends.{IsEnd, Comes, Skips, kind_of, kind_of_length, last_line};
+ghost use Rattle.line_protocol.specs.LineReading.{Extends, Finds, FindsNone, LeavesLess, work_left, failed_reads, IfTooLong};
+ghost use Rattle.line_protocol.specs.Ends.{IsEnd, HasNoEnd, Comes, Skipped, Skips, kind_of, kind_of_length, last_line};
 ghost use Rattle.line_protocol.specs.Source.{failure_count, bytes_read};
 
 use crate::{Line, ReadFault, Source, Stop};
@@ -85,6 +85,7 @@ impl Buffer {
     /// `Read` comes where a read failed, `TooLong` where 2^30 reads were made into this buffer.
     pub fn next_line<R: Source>(&mut self, source: &mut R) -> Result<Line, ReadFault>
         ensures ok { IfOk result (λ line. Finds (R.given source.old) (R.given source.new) self.old self.new line) }
+        ensures err { OnErr result (FindsNone (R.given source.old) (R.given source.new) self.old) }
         ensures work { IfOk result (λ line. LeavesLess self.old self.new line) }
         ensures given { Extends (R.given source.old) (R.given source.new) }
         ensures failures { R.failures source.new ≡ R.failures source.old + failed_reads result }
@@ -107,6 +108,7 @@ impl Buffer {
     fn find_end<R: Source>(&mut self, source: &mut R) -> Result<Option<usize>, ReadFault>
         ensures comes { Comes (R.given source.old) (R.given source.new) self.old.left self.new.left }
         ensures found { IfOk result (λ end. IsEnd self.new.left end) }
+        ensures err { OnErr result (HasNoEnd self.new.left × (self.old.is_ended ≡ false)) }
         ensures none { IfOk result (λ end. IfNone end (IsTrue self.new.is_ended ⊎ (202 ≤ length self.new.left))) }
         ensures work { work_left self.new ≤ work_left self.old }
         ensures failures { R.failures source.new ≡ R.failures source.old + failed_reads result }
@@ -166,6 +168,7 @@ impl Buffer {
         requires { self.old.is_ended ≡ false }
         ensures given { Extends (R.given source.old) (R.given source.new) }
         ensures ok { OnOk result (Skips (R.given source.old) (R.given source.new) self.new.left self.new.is_ended) }
+        ensures err { OnErr result (Skipped (R.given source.old) (R.given source.new)) }
         ensures work { work_left self.new + length self.old.left ≤ work_left self.old }
         ensures failures { R.failures source.new ≡ R.failures source.old + failed_reads result }
         ensures too_long { IfTooLong result self.new.reads }
@@ -211,6 +214,7 @@ impl Buffer {
         requires room { length self.old.left < 65536 }
         requires open { self.old.is_ended ≡ false }
         ensures comes { Comes (R.given source.old) (R.given source.new) self.old.left self.new.left }
+        ensures same { OnErr result (self.new.left ≡ self.old.left) }
         ensures progress { OnOk result (self.old.reads < self.new.reads) }
         ensures most { self.new.reads ≤ 2 ^ 30 }
         ensures work { work_left self.new ≤ work_left self.old }

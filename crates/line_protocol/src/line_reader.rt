@@ -1,6 +1,6 @@
 //! Bytes, cut into lines.
-ghost use Rattle.std.specs.Prelude.{◌≡◌, ◌+◌, IsTrue, [], ◌⊎◌, false, Some, None, Err, IfOk, IfErr, OnOk, IfSome, IfNone};
-ghost use Rattle.line_protocol.specs.LineReading.{Extends, Finds, LeavesLess, failed_reads, IfTooLong};
+ghost use Rattle.std.specs.Prelude.{◌≡◌, ◌+◌, IsTrue, [], ◌⊎◌, false, Some, None, Err, IfOk, IfErr, OnOk, OnErr, IfSome, IfNone};
+ghost use Rattle.line_protocol.specs.LineReading.{Extends, Finds, FindsNone, LeavesLess, failed_reads, IfTooLong};
 
 use crate::buffer::Buffer;
 use crate::{Line, ReadFault, Source};
@@ -50,6 +50,9 @@ impl<'a, R: Source> LineReader<'a, R> {
         // What is found is the first line of what was left and came.
         ensures ok { IfOk result (λ line.
             Finds (R.given self.old.source.now) (R.given self.new.source.now) self.old.buffer self.new.buffer line) }
+        // A fault loses no line that has its end.
+        ensures err { IfNone self.old.fault
+            (OnErr result (FindsNone (R.given self.old.source.now) (R.given self.new.source.now) self.old.buffer)) }
         // Each line leaves less work, so a loop over the lines ends.
         ensures work { IfOk result (λ line. LeavesLess self.old.buffer self.new.buffer line) }
         ensures given { Extends (R.given self.old.source.now) (R.given self.new.source.now) }

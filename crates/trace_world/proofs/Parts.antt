@@ -1,5 +1,5 @@
 -- Replays that a fault cuts short.
-use Rattle.std.proofs.Common.{◌≡◌, ℕ, zero, suc, ◌-◌, ◌≤◌, Bool, true, false, IsTrue, List, [], ◌∷◌, ◌++◌, length, take, refl, sym, ap, ◌∙◌, subst, append_assoc, arith, codes, None}
+use Rattle.std.proofs.Common.{◌≡◌, ◌≢◌, ℕ, zero, suc, ◌-◌, ◌≤◌, Bool, true, false, IsTrue, List, [], ◌∷◌, ◌++◌, length, take, refl, sym, ap, ◌∙◌, subst, append_assoc, arith, codes, None}
 use Rattle.std.proofs.lemmas.List.{append-nil, length-append}
 use Rattle.std.proofs.Math.Seq.{take-append_seam}
 use Rattle.trace_types.specs.Name.{Text}
@@ -13,13 +13,14 @@ use Rattle.trace_types.specs.declared.code.Code.TheVariants as code
 use Rattle.trace_types.specs.declared.reply.Reply.{Reply}
 use Rattle.trace_types.specs.declared.reply.Reply.TheVariants.{Refused}
 use Rattle.line_protocol.specs.Held.{Held}
-use Rattle.line_protocol.specs.LineReading.{HasRead, GivesLine, Finds}
+use Rattle.line_protocol.specs.Ends.{end_count}
+use Rattle.line_protocol.specs.LineReading.{HasRead, GivesLine, Finds, FindsNone}
 use Rattle.line_protocol.specs.declared.line.Line.{Line}
 use Rattle.line_protocol.specs.declared.line.Line.TheVariants.{Whole, TooLong, End}
 use Rattle.trace_world.specs.declared.answer.Answer.{Answer}
 use Rattle.trace_world.specs.Answer.{addressee_text}
 use Rattle.line_protocol.specs.Writing.{WritesFront}
-use Rattle.line_protocol.proofs.LineReadingLemmas.{HasRead-line, HasRead-end}
+use Rattle.line_protocol.proofs.LineReadingLemmas.{HasRead-line, HasRead-end, HasRead-none}
 use Rattle.trace_world.specs.declared.counts.Counts.{Counts}
 use Rattle.trace_world.specs.declared.replay_fault.ReplayFault.{ReplayFault}
 use Rattle.trace_world.specs.declared.replay_fault.ReplayFault.TheVariants.{Write}
@@ -82,10 +83,12 @@ output-take-le names limits before (line ∷ found) (mark ∷ marks) (suc n) =
     append-le _ _ _ (output-take-le names limits (before ++ call_of (asked names line) mark) found marks n)
 
 -- all that was found was written
-pub in_part_whole : {start given given' taken taken' : List ℕ} {old new : World} {held : Held} {counts : Counts} (has_ended : Bool) (gave : List ℕ)
-    → Follows start given taken taken' old held counts new
-    → given' ≡ given ++ gave → (IsTrue held.is_ended → (gave ≡ []) × IsTrue has_ended) → (fault : ReplayFault) → ReplaysInPart fault start given' has_ended taken taken' old new
-in_part_whole {old = old} {counts = counts} has_ended gave follows grows at_end fault = record {
+in_part_whole : {start given given' taken taken' : List ℕ} {old new : World} {held : Held} {counts : Counts} (has_ended : Bool) (gave : List ℕ)
+    → (follows : Follows start given taken taken' old held counts new)
+    → given' ≡ given ++ gave → (IsTrue held.is_ended → (gave ≡ []) × IsTrue has_ended) → (fault : ReplayFault)
+    → (fault ≢ Write → length follows.found ≡ end_count (follows.read.came ++ gave)) → ReplaysInPart fault start given' has_ended taken taken' old new
+unfolding AreFirstLines-from
+in_part_whole {old = old} {counts = counts} has_ended gave follows grows at_end fault all_found = record {
   found = follows.found;
   marks = follows.marks;
   text = follows.text;
@@ -93,6 +96,7 @@ in_part_whole {old = old} {counts = counts} has_ended gave follows grows at_end 
   written = follows.text;
   unwritten = [];
   first = AreFirstLines-from has_ended gave follows.read grows at_end;
+  none_lost = all_found;
   writes = follows.writes;
   front = sym (append-nil follows.text);
   replied = λ not_write. refl;
@@ -102,6 +106,19 @@ in_part_whole {old = old} {counts = counts} has_ended gave follows grows at_end 
       let all = ap length (follows.leads.text_is calls after) in
       omega (arith, less, all);
 }
+
+-- a read failed
+pub in_part_read : {start given given' taken taken' : List ℕ} {old new : World} {held : Held} {counts : Counts} (has_ended : Bool)
+    → Follows start given taken taken' old held counts new → FindsNone given given' held
+    → (fault : ReplayFault) → ReplaysInPart fault start given' has_ended taken taken' old new
+in_part_read has_ended follows none fault =
+    in_part_whole has_ended none.gave follows none.grows (λ ended. absurd (cc)) fault (λ not_write. HasRead-none follows.read none)
+
+-- all was replayed, and it was not flushed
+pub in_part_unflushed : {start given given' taken taken' : List ℕ} {old new : World} {held : Held} {counts : Counts} (held' : Held) (has_ended : Bool)
+    → Follows start given taken taken' old held counts new → Finds given given' held held' End → IsTrue has_ended → ReplaysInPart Write start given' has_ended taken taken' old new
+in_part_unflushed held' has_ended follows finds ended =
+    in_part_whole has_ended [] follows (finds.0 ∙ sym (append-nil _)) (λ _. (refl, ended)) Write (λ not_write. absurd (not_write refl))
 
 -- the last line was written in part
 pub in_part_last : {start given given' taken taken' taken'' : List ℕ} {old mid new : World} {held held' : Held} {counts : Counts} {to : Text} {reply : Reply} (has_ended : Bool)
@@ -121,6 +138,7 @@ in_part_last {start = start} {given' = given'} {taken = taken} {old = old} {mid 
       first = AreFirstLines-from has_ended [] read (sym (append-nil given')) (λ e. (refl, ended e));
       writes = front.grows ∙ ap (λ bytes. bytes ++ front.written) follows.writes ∙ append_assoc taken follows.text front.written;
       front = ap (λ bytes. follows.text ++ bytes) front.front ∙ sym (append_assoc follows.text front.written front.rest);
+      none_lost = λ not_write. absurd (not_write refl);
       replied = λ not_write. absurd (not_write refl);
       leads = LeadsTo-line old mid new follows.found follows.marks follows.text counts answered.line to reply follows.leads answered.answers;
       whole = λ calls after.
@@ -140,6 +158,7 @@ in_part_none given taken has_ended world fault = record {
   written = [];
   unwritten = [];
   first = record { came = []; left = []; reads = sym (append-nil given); first = λ rest none. refl };
+  none_lost = λ not_write. refl;
   writes = sym (append-nil taken);
   front = refl;
   replied = λ not_write. refl;

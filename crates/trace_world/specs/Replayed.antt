@@ -6,6 +6,7 @@ use Rattle.trace_types.specs.Interleaving.{Call}
 use Rattle.trace_types.specs.World.{World, IsAfter}
 use Rattle.trace_types.specs.Replay.{asked, call_of, reply_to, addressee, entries, calls_by, replies_to, output, MarkMayStand, MarksMayStand, is_accepted, is_answered, is_refused}
 use Rattle.trace_types.specs.declared.reply.Reply.{Reply}
+use Rattle.line_protocol.specs.Ends.{end_count}
 use Rattle.trace_world.specs.declared.counts.Counts.{Counts}
 use Rattle.trace_world.specs.declared.replay_fault.ReplayFault.{ReplayFault}
 use Rattle.trace_world.specs.declared.replay_fault.ReplayFault.TheVariants.{Write}
@@ -51,7 +52,8 @@ pub record AreFirstLines (given given' : List ℕ) (has_ended : Bool) (found : L
   pub first : (rest : List ℕ) → (IsTrue has_ended → rest ≡ []) → lines (came ++ rest) ≡ found ++ lines (left ++ rest)
 
 -- A fault came in between: the first lines were replayed, a front of their output was written, and at most the last
--- of them lacks its whole reply: none of them does, unless the fault is one of writing.
+-- of them lacks its whole reply. Unless the fault is one of writing, none of them does, and as many lines were replayed
+-- as ends of line came.
 pub record ReplaysInPart (fault : ReplayFault) (given given' : List ℕ) (has_ended : Bool) (taken taken' : List ℕ) (old new : World) : Type 0 where
   pub found : List Text
   pub marks : List Bool
@@ -60,6 +62,7 @@ pub record ReplaysInPart (fault : ReplayFault) (given given' : List ℕ) (has_en
   pub written : List ℕ
   pub unwritten : List ℕ
   pub first : AreFirstLines given given' has_ended found
+  pub none_lost : fault ≢ Write → length found ≡ end_count first.came
   pub writes : taken' ≡ taken ++ written
   pub front : text ≡ written ++ unwritten
   pub replied : fault ≢ Write → unwritten ≡ []

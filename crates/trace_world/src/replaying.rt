@@ -11,8 +11,9 @@ use trace_types::Code;
 
 /// Reads lines of all tenants, `TENANT REQUEST`, does what they ask and writes a line for each, `TENANT REPLY`.
 ///
-/// It reads to the end of the input, and then flushes what it wrote, once. A fault ends it without a flush, and lines
-/// that were read by then and not answered are lost. Nothing waits on `rt` while the tenants share nothing.
+/// It reads to the end of the input, and then flushes what it wrote, once. A fault ends it without a flush. Where no
+/// more can be read (`Read`, `TooLong`), each line whose end came is answered, and only an unfinished one is lost; after
+/// a write fault, lines that were read and not answered are lost. Nothing waits on `rt` while the tenants share nothing.
 pub fn replay<T, R: Source, W: Sink>(
     rt: &T,
     alloc: Global,

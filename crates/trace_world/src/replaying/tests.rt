@@ -241,6 +241,13 @@ fn a_fault_leaves_a_front_of_the_output(rt: HostRuntime) -> Result<(), Fail> {
             "x 200 1 1 0\n",
         ),
         (
+            Pace::failing_after(26),
+            all,
+            ReplayFault::Read,
+            "x 201 1\nx 201 2\n",
+            "x 200 2 1 0\n",
+        ),
+        (
             all,
             Pace::failing_after(10),
             ReplayFault::Write,

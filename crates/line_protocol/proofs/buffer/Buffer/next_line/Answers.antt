@@ -1,10 +1,21 @@
-use Rattle.std.proofs.Common.{ℕ, Bool, ◌≡◌, ◌≤◌, ◌⊎◌, IsTrue, inl, inr, sym, ap, ◌∙◌, false}
-use Rattle.line_protocol.proofs.LineReadingLemmas.{Finds-at, Finds-rest, Finds-skipped}
+use Rattle.std.proofs.Common.{rules, ℕ, Bool, ◌≡◌, ◌≤◌, ◌⊎◌, IsTrue, inl, inr, refl, sym, ap, ◌∙◌, true, false}
+use Rattle.line_protocol.specs.LineReading.{FindsNone}
+use Rattle.line_protocol.proofs.LineReadingLemmas.{Finds-at, Finds-rest, Finds-skipped, FindsNone-skipped}
+use Rattle.line_protocol.proofs.buffer.Buffer.next_line.Given.{Over}
+use Rattle.line_protocol.proofs.buffer.Buffer.next_line.Goals.{After-skip_line}
 use Rattle.line_protocol.proofs.buffer.Buffer.next_line.Goals as goal
 
 long : (is_ended : Bool) (n : ℕ) → is_ended ≡ false → IsTrue is_ended ⊎ (202 ≤ n) → 202 ≤ n
 long is_ended n going (inl ended) = absurd (cc)
 long is_ended n going (inr enough) = enough
+
+goes_on : (old new : Bool) → new ≡ false → (IsTrue old → new ≡ old) → old ≡ false
+goes_on true new going same = sym (same refl) ∙ going
+goes_on false new going same = refl
+
+-- a line is skipped only where the end was not told
+going : (g : Over) (c : After-skip_line g) → c.find_end.new.self.is_ended ≡ false
+going g c = ap (λ held. held.is_ended) (sym c.self.view_is) ∙ c.if-self.false
 
 pub returns-in-Some-clause-ok : goal.returns-in-Some-clause-ok
 returns-in-Some-clause-ok g c =
@@ -21,6 +32,13 @@ returns-in-None-clause-ok g c =
 
 pub returns-in_ok-skip_line-in-None-2-clause-ok : goal.returns-in_ok-skip_line-in-None-2-clause-ok
 returns-in_ok-skip_line-in-None-2-clause-ok g c =
-    let going : c.find_end.new.self.is_ended ≡ false = ap (λ held. held.is_ended) (sym c.self.view_is) ∙ c.if-self.false in
     Finds-skipped c.in_ok-at.ensures.comes (rw c.in-None-2.is at c.in_ok-at.ensures.found)
-    (long _ _ going (rw c.in-None-2.is at c.in_ok-at.ensures.none)) c.in_ok-skip_line-in-None-2.ensures.ok
+    (long _ _ (going g (goal.at.returns-in_ok-skip_line-in-None-2-clause-ok g c).After-skip_line) (rw c.in-None-2.is at c.in_ok-at.ensures.none)) c.in_ok-skip_line-in-None-2.ensures.ok
+
+pub returns-in_err-skip_line-in-None-2-clause-err : goal.returns-in_err-skip_line-in-None-2-clause-err
+returns-in_err-skip_line-in-None-2-clause-err g c =
+    let going = going g (goal.at.returns-in_err-skip_line-in-None-2-clause-err g c).After-skip_line in
+    let none : FindsNone (g.R.Source.given c.args.source.now) (g.R.Source.given c.skip_line.new.source) c.args.self.now =
+    FindsNone-skipped c.in_ok-at.ensures.comes (rw c.in-None-2.is at c.in_ok-at.ensures.found) c.in_err-skip_line-in-None-2.ensures.err
+    (goes_on c.args.self.now.is_ended c.find_end.new.self.is_ended going (λ e. ap (λ held. held.is_ended) (c.in_ok-at.ensures.at_end e).1)) in
+    search rules

@@ -1,5 +1,5 @@
 use Rattle.std.proofs.Common.{◌≡◌, ◌+◌, ◌-◌, ◌^◌, ◌≤◌, IsTrue}
-use Rattle.line_protocol.proofs.SkipLemmas.{Skipped}
+use Rattle.line_protocol.specs.Ends.{Skipped}
 use Rattle.line_protocol.proofs.buffer.Buffer.skip_line.Given as goal
 
 abbrev pub invariant-loop-self : goal.invariant-loop-self
