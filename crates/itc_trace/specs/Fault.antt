@@ -1,5 +1,5 @@
 -- How the program's faults are told.
-use Rattle.std.specs.Prelude.{ℕ, List, ◌++◌, codes}
+use Rattle.std.specs.Prelude.{ℕ, List, codes}
 use Rattle.trace_types.specs.declared.world_fault.WorldFault.{WorldFault}
 use Rattle.trace_types.specs.declared.world_fault.WorldFault.TheVariants as world
 use Rattle.trace_world.specs.declared.replay_fault.ReplayFault.{ReplayFault}

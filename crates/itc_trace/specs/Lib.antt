@@ -1,2 +1,4 @@
+pub mod CommandLine
 pub mod Fault
 pub mod Program
+pub mod Reading

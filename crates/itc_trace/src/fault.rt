@@ -1,6 +1,7 @@
 //! Why the program does not do what it was asked.
 ghost use Rattle.std.specs.Prelude.{◌≡◌, ◌++◌, OnOk};
 ghost use Rattle.itc_trace.specs.Fault.{status_of, line_of, fault_of_world, fault_of_replay};
+ghost use Rattle.itc_trace.specs.Program.{Tells};
 
 use line_protocol::{Sink, flush, write_bytes};
 use trace_types::WorldFault;
@@ -47,7 +48,9 @@ impl Fault {
 
     /// Writes the fault's line, and answers its status. Where that line cannot be written the status tells alone.
     pub(crate) fn tell<E: Sink>(self, errors: &mut E) -> u8
-        ensures { result ≡ status_of self }
+        ensures status { result ≡ status_of self }
+        ensures told { Tells (E.taken errors.old) (E.taken errors.new) (E.failures errors.old) (E.failures errors.new)
+            (E.interruptions errors.old) (E.interruptions errors.new) self }
     {
         if write_bytes(errors, self.line().as_bytes()).is_ok() {
             let _ = flush(errors);

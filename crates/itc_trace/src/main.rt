@@ -4,6 +4,9 @@
 //! `replay` of `trace_world`, and which says how the program ends.
 #![tactic(auto)]
 
+ghost use Rattle.std.specs.Prelude.{IfOk};
+ghost use Rattle.itc_trace.specs.Program.{IsStatus};
+
 mod fault;
 mod program;
 #[cfg(test)]
@@ -30,7 +33,9 @@ fn main(rt: HostRuntime) -> ExitCode {
 }
 
 /// Runs the program. An error comes where the words are no text, or for want of memory.
-fn start(rt: &HostRuntime, errors: &mut IntoWriter<io::Stderr>) -> io::Result<u8> {
+fn start(rt: &HostRuntime, errors: &mut IntoWriter<io::Stderr>) -> io::Result<u8>
+    ensures { IfOk result IsStatus }
+{
     let words: Vec<String> = env::args(rt)?.skip(1).collect(rt.alloc())?;
     let output = BufWriter::with_capacity(rt.alloc(), OUTPUT_ROOM, rt.stdout())?;
     let mut reader = FromReader::new(rt.stdin());

@@ -1,7 +1,11 @@
 //! What the program does.
-ghost use Rattle.std.specs.Prelude.{◌≡◌, ◌++◌, ◌⊎◌, OnOk, IfErr};
+ghost use Rattle.std.specs.Prelude.{◌≡◌, ◌≢◌, ◌<◌, ◌++◌, ◌⊎◌, List, map, true, false, IsTrue, OnOk, IfOk, IfErr, IfSome, IsErr, IsErrAnd, string_bytes};
+ghost use Rattle.line_protocol.specs.Writing.{IsWriteFault};
+ghost use Rattle.std.specs.List.{list_all};
+ghost use Rattle.trace_types.specs.Name.{Text, is_name};
+ghost use Rattle.itc_trace.specs.CommandLine.{tenants_in, are_taken};
 ghost use Rattle.itc_trace.specs.Fault.{status_of};
-ghost use Rattle.itc_trace.specs.Program.{ReplaysFresh, IsStatus};
+ghost use Rattle.itc_trace.specs.Program.{ReplaysFresh, ReplaysFreshInPart, IsStatus, IsStatusOf, IsFailure, Tells};
 
 use crate::fault::Fault;
 use crate::words::{Asked, Refusal, read_words};
@@ -20,11 +24,35 @@ pub fn run<T: AllocGlobal, S: AsStr, R: Source, W: Sink, E: Sink>(
     errors: &mut E,
 ) -> u8
     ensures status { IsStatus result }
-    // Where it is done, help was shown and nothing read, or all lines were replayed.
-    ensures done { result ≡ 0 → (R.reads reader.new ≡ R.reads reader.old)
-        ⊎ ReplaysFresh (R.given reader.old) (R.given reader.new) (R.has_ended reader.new) (W.taken writer.old) (W.taken writer.new) }
-    // Where the words or the tenants are refused, nothing was read.
-    ensures refused { result ≡ 2 → R.reads reader.new ≡ R.reads reader.old }
+    // Tenants after `replay` are refused where they are not to be taken, and where they are, their lines are replayed.
+    ensures taken { IfSome (tenants_in (map S.text words.now)) (λ tenants. IsStatusOf (are_taken tenants) result) }
+    ensures replayed { result ≡ 0 → IfSome (tenants_in (map S.text words.now)) (λ tenants.
+        ReplaysFresh tenants (R.given reader.old) (R.given reader.new) (R.has_ended reader.new) (W.taken writer.old) (W.taken writer.new)) }
+    ensures in_part { result ≡ 3 → IfSome (tenants_in (map S.text words.now)) (λ tenants.
+        ReplaysFreshInPart tenants (R.given reader.old) (R.given reader.new) (R.has_ended reader.new) (W.taken writer.old) (W.taken writer.new)) }
+
+    // Whatever the words are, help was shown and nothing read, or the lines of some tenants were replayed.
+    ensures done { result ≡ 0 → (reader.new ≡ reader.old) ⊎ ((tenants : List Text) ×
+        ReplaysFresh tenants (R.given reader.old) (R.given reader.new) (R.has_ended reader.new) (W.taken writer.old) (W.taken writer.new)) }
+    ensures flushed { result ≡ 0 → IsTrue (W.is_flushed writer.new) }
+    ensures quiet { result ≡ 0 → errors.new ≡ errors.old }
+
+    // Where the words or the tenants are refused, and for want of memory, nothing was read or written.
+    ensures refused { (result ≡ 2) ⊎ (result ≡ 4) → (reader.new ≡ reader.old) × (writer.new ≡ writer.old) }
+
+    // What each other status says. A failed read or write is never passed over.
+    ensures failed { result ≡ 3 → (fault : Fault)
+        × IsFailure (R.failures reader.old) (R.failures reader.new) (R.reads reader.old) (R.reads reader.new)
+        (W.failures writer.old) (W.failures writer.new) (W.interruptions writer.old) (W.interruptions writer.new) fault
+        × Tells (E.taken errors.old) (E.taken errors.new) (E.failures errors.old) (E.failures errors.new)
+        (E.interruptions errors.old) (E.interruptions errors.new) fault }
+    ensures read_failed { R.failures reader.old < R.failures reader.new → result ≡ 3 }
+    ensures write_failed { W.failures writer.old < W.failures writer.new → result ≡ 3 }
+    ensures no_memory { result ≡ 4 → Tells (E.taken errors.old) (E.taken errors.new) (E.failures errors.old) (E.failures errors.new)
+        (E.interruptions errors.old) (E.interruptions errors.new) Fault.Memory }
+    ensures no_tenants { result ≡ 2 → IfSome (tenants_in (map S.text words.now)) (λ tenants.
+        Tells (E.taken errors.old) (E.taken errors.new) (E.failures errors.old) (E.failures errors.new)
+        (E.interruptions errors.old) (E.interruptions errors.new) Fault.Tenants) }
 {
     let alloc = rt.alloc();
     let done = match read_words(alloc, words) {
@@ -50,15 +78,22 @@ fn replay_tenants<T, R: Source, W: Sink>(
     reader: &mut R,
     writer: &mut W,
 ) -> Result<(), Fault>
-    ensures done { OnOk result (ReplaysFresh (R.given reader.old) (R.given reader.new) (R.has_ended reader.new)
+    ensures ok { OnOk result (ReplaysFresh (map string_bytes tenants.now) (R.given reader.old) (R.given reader.new) (R.has_ended reader.new)
         (W.taken writer.old) (W.taken writer.new)) }
-    ensures refused { IfErr result (λ fault. status_of fault ≡ 2 → R.reads reader.new ≡ R.reads reader.old) }
+    ensures taken { OnOk result (are_taken (map string_bytes tenants.now) ≡ true) }
+    ensures flushed { OnOk result (IsTrue (W.is_flushed writer.new)) }
+    ensures refused { IfErr result (λ fault. status_of fault ≡ 2 → (fault ≡ Fault.Tenants) × (are_taken (map string_bytes tenants.now) ≡ false)) }
+    ensures unchanged { IfErr result (λ fault. (status_of fault ≡ 2) ⊎ (status_of fault ≡ 4) → (reader.new ≡ reader.old) × (writer.new ≡ writer.old)) }
+    ensures in_part { IfErr result (λ fault. status_of fault ≡ 3 → (are_taken (map string_bytes tenants.now) ≡ true)
+        × ReplaysFreshInPart (map string_bytes tenants.now) (R.given reader.old) (R.given reader.new) (R.has_ended reader.new)
+        (W.taken writer.old) (W.taken writer.new)) }
+    ensures failed { IfErr result (λ fault. status_of fault ≡ 3 → IsFailure (R.failures reader.old) (R.failures reader.new)
+        (R.reads reader.old) (R.reads reader.new) (W.failures writer.old) (W.failures writer.new)
+        (W.interruptions writer.old) (W.interruptions writer.new) fault) }
+    ensures read_failed { R.failures reader.old < R.failures reader.new → IsErrAnd result (λ fault. status_of fault ≡ 3) }
+    ensures write_failed { W.failures writer.old < W.failures writer.new → IsErrAnd result (λ fault. status_of fault ≡ 3) }
 {
-    let mut names = Vec::new(alloc);
-    for tenant in tenants {
-        let name = Name::read(tenant.as_bytes()).ok_or(Fault::Tenants)?;
-        names.push(name).map_err(|_| Fault::Memory)?;
-    }
+    let names = read_names(alloc, tenants)?;
     let mut world = World::new(alloc, &names, Limits::default())?;
     match replay(rt, alloc, &mut world, reader, writer) {
         Ok(_) => Ok(()),
@@ -66,10 +101,28 @@ fn replay_tenants<T, R: Source, W: Sink>(
     }
 }
 
+/// The tenants' names.
+fn read_names(alloc: Global, tenants: &[String]) -> Result<Vec<Name>, Fault>
+    ensures ok { IfOk result (λ names. (names.items ≡ map string_bytes tenants.now) × (list_all is_name (map string_bytes tenants.now) ≡ true)) }
+    ensures err { IfErr result (λ fault. (fault ≡ Fault.Memory) ⊎ ((fault ≡ Fault.Tenants) × (list_all is_name (map string_bytes tenants.now) ≡ false))) }
+{
+    let mut names = Vec::new(alloc);
+    for tenant in tenants {
+        let Some(name) = Name::read(tenant.as_bytes()) else {
+            return Err(Fault::Tenants);
+        };
+        names.push(name).map_err(|_| Fault::Memory)?;
+    }
+    Ok(names)
+}
+
 /// Writes a text, and hands it on.
 fn show<W: Sink>(writer: &mut W, text: &str) -> Result<(), Fault>
     ensures ok { OnOk result (W.taken writer.new ≡ W.taken writer.old ++ text.now) }
-    ensures err { IfErr result (λ fault. fault ≡ Fault.Write) }
+    ensures flushed { OnOk result (IsTrue (W.is_flushed writer.new)) }
+    ensures err { IfErr result (λ fault. (fault ≡ Fault.Write)
+        × IsWriteFault (W.failures writer.old) (W.failures writer.new) (W.interruptions writer.old) (W.interruptions writer.new)) }
+    ensures failed { W.failures writer.old < W.failures writer.new → IsErr result }
 {
     write_bytes(writer, text.as_bytes()).map_err(|_| Fault::Write)?;
     flush(writer).map_err(|_| Fault::Write)
