@@ -1,0 +1,42 @@
+-- Texts of stamps, computed by the definitions.
+use Rattle.std.proofs.Common.{◌≡◌, refl}
+use Rattle.std.specs.Prelude.{codes}
+use Rattle.std.specs.Fmt.{digits}
+use Rattle.id_tree.specs.Id as ids
+use Rattle.event_tree.specs.EventTree.{Leaf, Node}
+use Rattle.stamp_codec.specs.Stamp.{seed, fork, event, join, peek}
+use Rattle.stamp_codec.specs.StampText.{Number, Fork, stamp_text, whole_text, tree_of}
+
+-- the seed
+text-seed : stamp_text seed ≡ codes "[1;0]"
+unfolding digits
+text-seed = refl
+
+-- the seed after a fork, on either side
+text-forked : stamp_text (fork seed).0 ≡ codes "[(1,0);0]"
+unfolding digits
+text-forked = refl
+
+text-forked_right : stamp_text (fork seed).1 ≡ codes "[(0,1);0]"
+unfolding digits
+text-forked_right = refl
+
+-- after an event, and after both halves join again
+text-event : stamp_text (event seed) ≡ codes "[1;1]"
+unfolding digits
+text-event = refl
+
+text-joined : stamp_text (join (event (fork seed).0) (event (fork seed).1)) ≡ codes "[1;1]"
+unfolding digits
+text-joined = refl
+
+text-peek : stamp_text (peek (event seed)) ≡ codes "[0;1]"
+unfolding digits
+text-peek = refl
+
+-- a tree that is written with digits
+text-digits : whole_text (ids.Pair ids.One ids.Zero) (Fork (codes "12") (Number (codes "1")) (Number (codes "0"))) ≡ codes "[(1,0);(12,1,0)]"
+text-digits = refl
+
+tree-digits : tree_of (Fork (codes "12") (Number (codes "1")) (Number (codes "0"))) ≡ Node 12 (Leaf 1) (Leaf 0)
+tree-digits = refl

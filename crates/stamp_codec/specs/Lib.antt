@@ -1,0 +1,9 @@
+pub mod Bounds
+pub mod Built
+pub mod Faults
+pub mod Passes
+pub mod Reading
+pub mod Scan
+pub mod Stamp
+pub mod StampText
+pub mod Walks

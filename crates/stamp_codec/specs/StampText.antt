@@ -1,0 +1,78 @@
+-- The text of a stamp.
+--
+--   stamp  = "[" id ";" tree "]"
+--   id     = "0" | "1" | "(" id "," id ")"
+--   tree   = number | "(" number "," tree "," tree ")"
+--   number = "0" | nonzero digit, then any digits
+use Rattle.std.specs.Prelude.{◌≡◌, ℕ, ◌+◌, ◌-◌, ◌*◌, ◌≤◌, ◌⊎◌, List, [], ◌∷◌, ◌++◌, codes}
+use Rattle.std.specs.Fmt.{decimal}
+use Rattle.id_tree.specs.Id.{Id, Zero, One, Pair}
+use Rattle.event_tree.specs.EventTree.{EventTree, Leaf, Node}
+use Rattle.stamp_codec.specs.declared.stamp.Stamp.{Stamp}
+
+-- the text of an id
+abbrev pub id_text : Id → List ℕ
+id_text Zero = codes "0"
+id_text One = codes "1"
+id_text (Pair left right) = codes "(" ++ (id_text left ++ (codes "," ++ (id_text right ++ codes ")")))
+
+-- the text of an event tree
+abbrev pub tree_text : EventTree → List ℕ
+tree_text (Leaf n) = decimal n
+tree_text (Node n left right) = codes "(" ++ (decimal n ++ (codes "," ++ (tree_text left ++ (codes "," ++ (tree_text right ++ codes ")")))))
+
+-- the text of a stamp
+abbrev pub stamp_text : Stamp → List ℕ
+stamp_text s = codes "[" ++ (id_text s.id ++ (codes ";" ++ (tree_text s.tree ++ codes "]")))
+
+-- An event tree as it may be written: each number is a list of digits, of any size.
+pub data Written : Type 0 where
+  Number : (digits : List ℕ) → Written
+  Fork : (digits : List ℕ) (left right : Written) → Written
+
+-- each byte is a digit
+abbrev pub AreDigits : List ℕ → Type 0
+AreDigits [] = Unit {0}
+AreDigits (digit ∷ digits) = (48 ≤ digit) × (digit ≤ 57) × AreDigits digits
+
+-- a 0 alone, or a digit that is not 0 and any digits
+abbrev pub IsNumber : List ℕ → Type 0
+IsNumber [] = ⊥
+IsNumber (first ∷ others) = ((first ≡ 48) × (others ≡ [])) ⊎ ((49 ≤ first) × (first ≤ 57) × AreDigits others)
+
+-- each number of the tree is one
+abbrev pub HasNumbers : Written → Type 0
+HasNumbers (Number digits) = IsNumber digits
+HasNumbers (Fork digits left right) = IsNumber digits × HasNumbers left × HasNumbers right
+
+-- the number that the digits say after those of n
+abbrev pub read_on : ℕ → List ℕ → ℕ
+read_on n [] = n
+read_on n (digit ∷ digits) = read_on (n * 10 + (digit - 48)) digits
+
+-- the number that the digits say
+abbrev pub number_of : List ℕ → ℕ
+number_of digits = read_on 0 digits
+
+-- the event tree that is written
+abbrev pub tree_of : Written → EventTree
+tree_of (Number digits) = Leaf (number_of digits)
+tree_of (Fork digits left right) = Node (number_of digits) (tree_of left) (tree_of right)
+
+-- the bytes of the tree as it is written
+abbrev pub written_text : Written → List ℕ
+written_text (Number digits) = digits
+written_text (Fork digits left right) = codes "(" ++ (digits ++ (codes "," ++ (written_text left ++ (codes "," ++ (written_text right ++ codes ")")))))
+
+-- the bytes of a stamp with its tree as it is written
+abbrev pub whole_text : Id → Written → List ℕ
+whole_text id tree = codes "[" ++ (id_text id ++ (codes ";" ++ (written_text tree ++ codes "]")))
+
+-- the text is that of this id and this tree
+pub record Spells (text : List ℕ) (id : Id) (tree : Written) : Type 0 where
+  pub numbers : HasNumbers tree
+  pub whole : text ≡ whole_text id tree
+
+-- the text has the shape of a stamp
+abbrev pub IsShaped : List ℕ → Type 0
+IsShaped text = (id : Id) × (tree : Written) × Spells text id tree

@@ -1,0 +1,225 @@
+use crate::{Stamp, StampFault, read_stamp, write_stamp};
+use std::alloc::{AllocError, Global};
+use std::test::Fail;
+use trace_types::Memory;
+
+fn fault_of(alloc: Global, text: &[u8]) -> Option<StampFault> {
+    read_stamp(alloc, text).err()
+}
+
+fn stamp_of(alloc: Global, text: &str) -> Result<Stamp, StampFault> {
+    read_stamp(alloc, text.as_bytes())
+}
+
+/// The text of what the text is read as.
+fn text_again(alloc: Global, text: &str) -> Result<Vec<u8>, StampFault> {
+    let stamp = stamp_of(alloc, text)?;
+    Ok(write_stamp(alloc, &stamp)?)
+}
+
+/// The two texts with ` and ` between them.
+fn text_of_both(alloc: Global, first: &Stamp, second: &Stamp) -> Result<Vec<u8>, StampFault> {
+    let mut text = write_stamp(alloc, first)?;
+    add(&mut text, b" and ")?;
+    add(&mut text, write_stamp(alloc, second)?.as_slice())?;
+    Ok(text)
+}
+
+fn add(text: &mut Vec<u8>, more: &[u8]) -> Result<(), Memory> {
+    Ok(text.extend_from_slice(more)?)
+}
+
+fn text_of_fork(alloc: Global, text: &str) -> Result<Vec<u8>, StampFault> {
+    let (first, second) = stamp_of(alloc, text)?.fork(alloc)?;
+    text_of_both(alloc, &first, &second)
+}
+
+fn text_of_peek(alloc: Global, text: &str) -> Result<Vec<u8>, StampFault> {
+    let stamp = stamp_of(alloc, text)?;
+    let peek = stamp.peek(alloc)?;
+    text_of_both(alloc, &peek, &stamp)
+}
+
+/// The text of the stamp after an event, or nothing where there can be none.
+fn text_of_event(alloc: Global, text: &str) -> Result<Vec<u8>, StampFault> {
+    let stamp = stamp_of(alloc, text)?;
+    if stamp.id.is_zero() || stamp.tree.max() >= u64::MAX - 1 {
+        return Ok(Vec::new(alloc));
+    }
+    let after = stamp.event(alloc)?;
+    Ok(write_stamp(alloc, &after)?)
+}
+
+/// The text of the join, or nothing where the ids overlap.
+fn text_of_join(alloc: Global, text: &str, other: &str) -> Result<Vec<u8>, StampFault> {
+    let stamp = stamp_of(alloc, text)?;
+    let other = stamp_of(alloc, other)?;
+    if !stamp.id.disjoint(&other.id) {
+        return Ok(Vec::new(alloc));
+    }
+    let joined = stamp.join(alloc, &other)?;
+    Ok(write_stamp(alloc, &joined)?)
+}
+
+/// `open` parentheses before a 0, and as many times `close` behind it, inside `front` and `back`.
+fn nested(
+    alloc: Global,
+    front: &[u8],
+    count: usize,
+    open: &[u8],
+    close: &[u8],
+    back: &[u8],
+) -> Result<Vec<u8>, AllocError> {
+    let mut text = Vec::from_slice(alloc, front)?;
+    for _ in 0..count {
+        text.extend_from_slice(open)?;
+    }
+    text.push(b'0')?;
+    for _ in 0..count {
+        text.extend_from_slice(close)?;
+    }
+    text.extend_from_slice(back)?;
+    Ok(text)
+}
+
+fn fault_of_nested_id(alloc: Global, count: usize) -> Result<Option<StampFault>, AllocError> {
+    let text = nested(alloc, b"[", count, b"(", b",1)", b";0]")?;
+    Ok(fault_of(alloc, text.as_slice()))
+}
+
+fn fault_of_nested_tree(alloc: Global, count: usize) -> Result<Option<StampFault>, AllocError> {
+    let text = nested(alloc, b"[1;", count, b"(0,", b",1)", b"]")?;
+    Ok(fault_of(alloc, text.as_slice()))
+}
+
+#[test]
+fn a_text_is_refused_at_the_place_of_its_fault(rt: HostRuntime) -> Result<(), Fail> {
+    for (text, fault) in [
+        ("", StampFault::Shape(0)),
+        ("[1;]", StampFault::Shape(3)),
+        ("[1;5", StampFault::Shape(4)),
+        ("[1;01]", StampFault::Shape(4)),
+        ("[1;5]x", StampFault::Shape(5)),
+        ("[2;5]", StampFault::Shape(1)),
+        ("[(1,0;5]", StampFault::Shape(5)),
+        ("[(1,0);(1,2)]", StampFault::Shape(11)),
+        ("[(0,0);01]", StampFault::Shape(8)),
+        ("[(0,0);1]", StampFault::NotNormal(1)),
+        ("[(1,1);1]", StampFault::NotNormal(1)),
+        ("[(0,(1,1));1]", StampFault::NotNormal(4)),
+        ("[1;(1,0,0)]", StampFault::NotNormal(3)),
+        ("[1;(0,1,2)]", StampFault::NotNormal(3)),
+        ("[1;(0,0,(0,3,3))]", StampFault::NotNormal(8)),
+        ("[1;(0,(0,1,2),1)]", StampFault::NotNormal(3)),
+        ("[1;(0,(0,0,0),0)]", StampFault::NotNormal(6)),
+    ] {
+        assert_eq!(rt; fault_of(rt.alloc(), text.as_bytes()), Some(fault));
+    }
+    Ok(())
+}
+
+#[test]
+fn sums_above_the_bound_are_refused_at_the_number(rt: HostRuntime) -> Result<(), Fail> {
+    for (text, fault) in [
+        ("[1;18446744073709551616]", StampFault::TooLarge(3)),
+        ("[1;9223372036854775808]", StampFault::TooLarge(3)),
+        (
+            "[1;340282366920938463463374607431768211456]",
+            StampFault::TooLarge(3),
+        ),
+        ("[1;(9223372036854775807,0,1)]", StampFault::TooLarge(26)),
+        (
+            "[(0,0);(1,0,(9223372036854775807,0,1))]",
+            StampFault::TooLarge(13),
+        ),
+    ] {
+        assert_eq!(rt; fault_of(rt.alloc(), text.as_bytes()), Some(fault));
+    }
+    Ok(())
+}
+
+#[test]
+fn a_stamp_is_written_as_it_was_read(rt: HostRuntime) -> Result<(), Fail> {
+    for text in [
+        "[1;0]",
+        "[0;4]",
+        "[(1,0);(2,1,0)]",
+        "[((1,0),(1,0));(2,0,(0,2,0))]",
+        "[1;9223372036854775807]",
+        "[0;(9223372036854775806,0,1)]",
+    ] {
+        assert_eq!(rt; text_again(rt.alloc(), text)?.as_slice(), text.as_bytes());
+    }
+    Ok(())
+}
+
+#[test]
+fn fork_and_peek_give_the_published_stamps(rt: HostRuntime) -> Result<(), Fail> {
+    let alloc = rt.alloc();
+    assert_eq!(rt;
+        text_of_fork(alloc, "[1;0]")?.as_slice(),
+        b"[(1,0);0] and [(0,1);0]".as_slice()
+    );
+    assert_eq!(rt;
+        text_of_fork(alloc, "[(1,0);(2,1,0)]")?.as_slice(),
+        b"[((1,0),0);(2,1,0)] and [((0,1),0);(2,1,0)]".as_slice()
+    );
+    assert_eq!(rt;
+        text_of_peek(alloc, "[(1,0);(2,1,0)]")?.as_slice(),
+        b"[0;(2,1,0)] and [(1,0);(2,1,0)]".as_slice()
+    );
+    Ok(())
+}
+
+#[test]
+fn event_and_join_give_the_published_stamps(rt: HostRuntime) -> Result<(), Fail> {
+    for (before, after) in [
+        ("[(1,0);(3,0,1)]", "[(1,0);4]"),
+        ("[1;(4,0,1)]", "[1;5]"),
+        ("[(0,1);2]", "[(0,1);(2,0,1)]"),
+        (
+            "[((1,0),(1,0));(2,0,(0,1,0))]",
+            "[((1,0),(1,0));(2,0,(0,2,0))]",
+        ),
+    ] {
+        assert_eq!(rt;
+            text_of_event(rt.alloc(), before)?.as_slice(),
+            after.as_bytes()
+        );
+    }
+    for (one, other, joined) in [
+        ("[(1,0);(2,1,0)]", "[(0,1);(2,0,2)]", "[1;(3,0,1)]"),
+        ("[(1,0);4]", "[(0,1);(2,0,3)]", "[1;(4,0,1)]"),
+    ] {
+        assert_eq!(rt;
+            text_of_join(rt.alloc(), one, other)?.as_slice(),
+            joined.as_bytes()
+        );
+    }
+    Ok(())
+}
+
+#[test]
+fn deep_texts_are_answered_without_deep_recursion(rt: HostRuntime) -> Result<(), Fail> {
+    let alloc = rt.alloc();
+    let open = nested(alloc, b"[", 50_000, b"(", b"", b"")?;
+    assert_eq!(rt;
+        fault_of(alloc, open.as_slice()),
+        Some(StampFault::Shape(50_002))
+    );
+    assert_eq!(rt; fault_of_nested_id(alloc, 2048)?, None);
+    assert_eq!(rt;
+        fault_of_nested_id(alloc, 2049)?,
+        Some(StampFault::TooLarge(2049))
+    );
+    assert_eq!(rt;
+        fault_of_nested_id(alloc, 50_000)?,
+        Some(StampFault::TooLarge(2049))
+    );
+    assert_eq!(rt; fault_of_nested_tree(alloc, 2048)?, None);
+    assert_eq!(rt;
+        fault_of_nested_tree(alloc, 2049)?,
+        Some(StampFault::TooLarge(6147))
+    );
+    Ok(())
+}

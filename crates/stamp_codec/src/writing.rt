@@ -1,0 +1,66 @@
+//! The text of a stamp.
+ghost use Rattle.std.specs.Prelude.{◌≡◌, ◌++◌, decimal, IfOk};
+ghost use Rattle.stamp_codec.specs.StampText.{id_text, tree_text, stamp_text};
+
+use crate::Stamp;
+use event_tree::{EvTree, Parts as TreeParts};
+use id_tree::{IdTree, Parts as IdParts};
+use itoa::Buffer;
+use std::alloc::Global;
+use trace_types::Memory;
+
+/// The text of the stamp, also where it is too large to be read again.
+pub fn write_stamp(alloc: Global, stamp: &Stamp) -> Result<Vec<u8>, Memory>
+    ensures { IfOk result (λ text. text.items ≡ stamp_text stamp.now) }
+{
+    let mut text = Vec::new(alloc);
+    text.push(b'[')?;
+    write_id(&mut text, &stamp.id)?;
+    text.push(b';')?;
+    write_tree(&mut text, &stamp.tree)?;
+    text.push(b']')?;
+    Ok(text)
+}
+
+fn write_id(text: &mut Vec<u8>, id: &IdTree) -> Result<(), Memory>
+    ensures { IfOk result (λ _. text.new.items ≡ text.old.items ++ id_text id.now) }
+{
+    match id.parts() {
+        IdParts::Zero => text.push(b'0')?,
+        IdParts::One => text.push(b'1')?,
+        IdParts::Pair(left, right) => {
+            text.push(b'(')?;
+            write_id(text, left)?;
+            text.push(b',')?;
+            write_id(text, right)?;
+            text.push(b')')?;
+        }
+    }
+    Ok(())
+}
+
+fn write_tree(text: &mut Vec<u8>, tree: &EvTree) -> Result<(), Memory>
+    ensures { IfOk result (λ _. text.new.items ≡ text.old.items ++ tree_text tree.now) }
+{
+    match tree.parts() {
+        TreeParts::Leaf(n) => write_number(text, n)?,
+        TreeParts::Node(n, left, right) => {
+            text.push(b'(')?;
+            write_number(text, n)?;
+            text.push(b',')?;
+            write_tree(text, left)?;
+            text.push(b',')?;
+            write_tree(text, right)?;
+            text.push(b')')?;
+        }
+    }
+    Ok(())
+}
+
+fn write_number(text: &mut Vec<u8>, n: u64) -> Result<(), Memory>
+    ensures { IfOk result (λ _. text.new.items ≡ text.old.items ++ decimal n) }
+{
+    let mut buffer = Buffer::new();
+    text.extend_from_slice(buffer.format(n).as_bytes())?;
+    Ok(())
+}
