@@ -8,7 +8,7 @@ use Rattle.line_protocol.specs.Writing.{WritesFront, IsWriteFault}
 use Rattle.trace_world.specs.Replayed.{Replays, ReplaysInPart}
 use Rattle.trace_world.specs.declared.counts.Counts.{Counts}
 use Rattle.trace_world.specs.declared.replay_fault.ReplayFault.{ReplayFault}
-use Rattle.itc_trace.specs.Fault.{line_of}
+use Rattle.itc_trace.specs.Fault.{line_of, fault_of_replay}
 use Rattle.itc_trace.specs.declared.fault.Fault.{Fault}
 use Rattle.itc_trace.specs.declared.fault.Fault.TheVariants.{Read, Write, TooLong}
 
@@ -26,11 +26,12 @@ pub record ReplaysFresh (names : List Text) (given given' : List ℕ) (has_ended
   pub later : World
   pub replays : Replays given given' has_ended taken taken' (fresh_world names) counts later
 
--- A replay for such tenants was broken off.
-pub record ReplaysFreshInPart (names : List Text) (given given' : List ℕ) (has_ended : Bool) (taken taken' : List ℕ) : Type 0 where
-  pub fault : ReplayFault
+-- A replay for such tenants was broken off by this fault.
+pub record ReplaysFreshInPart (fault : Fault) (names : List Text) (given given' : List ℕ) (has_ended : Bool) (taken taken' : List ℕ) : Type 0 where
+  pub cause : ReplayFault
+  pub told : fault_of_replay cause ≡ fault
   pub later : World
-  pub replays : ReplaysInPart fault given given' has_ended taken taken' (fresh_world names) later
+  pub replays : ReplaysInPart cause given given' has_ended taken taken' (fresh_world names) later
 
 -- one of the statuses with which the program ends
 abbrev pub IsStatus : ℕ → Type 0

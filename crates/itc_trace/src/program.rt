@@ -28,8 +28,6 @@ pub fn run<T: AllocGlobal, S: AsStr, R: Source, W: Sink, E: Sink>(
     ensures taken { IfSome (tenants_in (map S.text words.now)) (λ tenants. IsStatusOf (are_taken tenants) result) }
     ensures replayed { result ≡ 0 → IfSome (tenants_in (map S.text words.now)) (λ tenants.
         ReplaysFresh tenants (R.given reader.old) (R.given reader.new) (R.has_ended reader.new) (W.taken writer.old) (W.taken writer.new)) }
-    ensures in_part { result ≡ 3 → IfSome (tenants_in (map S.text words.now)) (λ tenants.
-        ReplaysFreshInPart tenants (R.given reader.old) (R.given reader.new) (R.has_ended reader.new) (W.taken writer.old) (W.taken writer.new)) }
 
     // Whatever the words are, help was shown and nothing read, or the lines of some tenants were replayed.
     ensures done { result ≡ 0 → (reader.new ≡ reader.old) ⊎ ((tenants : List Text) ×
@@ -45,7 +43,9 @@ pub fn run<T: AllocGlobal, S: AsStr, R: Source, W: Sink, E: Sink>(
         × IsFailure (R.failures reader.old) (R.failures reader.new) (R.reads reader.old) (R.reads reader.new)
         (W.failures writer.old) (W.failures writer.new) (W.interruptions writer.old) (W.interruptions writer.new) fault
         × Tells (E.taken errors.old) (E.taken errors.new) (E.failures errors.old) (E.failures errors.new)
-        (E.interruptions errors.old) (E.interruptions errors.new) fault }
+        (E.interruptions errors.old) (E.interruptions errors.new) fault
+        × IfSome (tenants_in (map S.text words.now)) (λ tenants. ReplaysFreshInPart fault tenants
+        (R.given reader.old) (R.given reader.new) (R.has_ended reader.new) (W.taken writer.old) (W.taken writer.new)) }
     ensures read_failed { R.failures reader.old < R.failures reader.new → result ≡ 3 }
     ensures write_failed { W.failures writer.old < W.failures writer.new → result ≡ 3 }
     ensures no_memory { result ≡ 4 → Tells (E.taken errors.old) (E.taken errors.new) (E.failures errors.old) (E.failures errors.new)
@@ -85,7 +85,7 @@ fn replay_tenants<T, R: Source, W: Sink>(
     ensures refused { IfErr result (λ fault. status_of fault ≡ 2 → (fault ≡ Fault.Tenants) × (are_taken (map string_bytes tenants.now) ≡ false)) }
     ensures unchanged { IfErr result (λ fault. (status_of fault ≡ 2) ⊎ (status_of fault ≡ 4) → (reader.new ≡ reader.old) × (writer.new ≡ writer.old)) }
     ensures in_part { IfErr result (λ fault. status_of fault ≡ 3 → (are_taken (map string_bytes tenants.now) ≡ true)
-        × ReplaysFreshInPart (map string_bytes tenants.now) (R.given reader.old) (R.given reader.new) (R.has_ended reader.new)
+        × ReplaysFreshInPart fault (map string_bytes tenants.now) (R.given reader.old) (R.given reader.new) (R.has_ended reader.new)
         (W.taken writer.old) (W.taken writer.new)) }
     ensures failed { IfErr result (λ fault. status_of fault ≡ 3 → IsFailure (R.failures reader.old) (R.failures reader.new)
         (R.reads reader.old) (R.reads reader.new) (W.failures writer.old) (W.failures writer.new)
