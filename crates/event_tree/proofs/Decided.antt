@@ -2,7 +2,7 @@
 use Rattle.std.proofs.Common.{ℕ, ◌+◌, ◌≤◌, ◌⊎◌, inl, inr, arith}
 use Rattle.std.proofs.lemmas.Bool.{cases_lt}
 use Rattle.trace_types.specs.Points.{Left, Right}
-use Rattle.event_tree.specs.EventTree.{EventTree, Leaf, Node, minimum, maximum}
+use Rattle.trace_types.specs.EventTree.{EventTree, Leaf, Node, minimum, maximum}
 use Rattle.event_tree.specs.Comparison.{IsBelow}
 use Rattle.event_tree.specs.Lifted.{IsLiftedBelow}
 use Rattle.event_tree.proofs.Walk.{ranges_from_below, below_from_ranges, below_on, below_from_sides}

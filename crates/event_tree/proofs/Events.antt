@@ -1,12 +1,12 @@
 -- The event raises some point of the id, no other, and its greatest value by at most one.
 use Rattle.std.proofs.Common.{◌≡◌, ◌≢◌, ◌+◌, ◌≤◌, Bool, true, false, ◌==◌, inl, inr, refl, ap, arith}
 use Rattle.std.proofs.lemmas.Bool.{cases_Bool, eqb-true, and_parts, eq-eqb}
-use Rattle.id_tree.specs.Id.{Id, Zero}
-use Rattle.id_tree.specs.Id as ids
-use Rattle.event_tree.specs.EventTree.{EventTree, Leaf, Node, value, maximum, IsNormal}
-use Rattle.event_tree.specs.Fill.{fill}
-use Rattle.event_tree.specs.Grow.{grown}
-use Rattle.event_tree.specs.Event.{is_same, normalised, event}
+use Rattle.trace_types.specs.Id.{Id, Zero}
+use Rattle.trace_types.specs.Id as ids
+use Rattle.trace_types.specs.EventTree.{EventTree, Leaf, Node, value, maximum, IsNormal}
+use Rattle.trace_types.specs.Fill.{fill}
+use Rattle.trace_types.specs.Grow.{grown}
+use Rattle.trace_types.specs.Event.{is_same, normalised, event}
 use Rattle.event_tree.specs.Changes.{fill_changes}
 use Rattle.event_tree.specs.Raised.{RisesSomewhere}
 use Rattle.event_tree.specs.Tables.{FollowsEventTable}

@@ -1,10 +1,10 @@
 -- Filling raises only points of the id, keeps trees normal and their greatest value, and whether it changes the tree is told.
 use Rattle.std.proofs.Common.{◌≡◌, ◌≢◌, ℕ, ◌+◌, ◌≤◌, Bool, true, false, ◌||◌, max, [], inl, inr, refl, ap, subst, arith}
 use Rattle.std.proofs.lemmas.Bool.{cases_lt, lt-ltb, le-ltb}
-use Rattle.id_tree.specs.Id.{Id, Zero, One, Pair}
-use Rattle.event_tree.specs.EventTree.{EventTree, Leaf, Node, minimum, maximum, IsNormal}
-use Rattle.event_tree.specs.Norm.{norm}
-use Rattle.event_tree.specs.Fill.{node_filled, fill}
+use Rattle.trace_types.specs.Id.{Id, Zero, One, Pair}
+use Rattle.trace_types.specs.EventTree.{EventTree, Leaf, Node, minimum, maximum, IsNormal}
+use Rattle.trace_types.specs.Norm.{norm}
+use Rattle.trace_types.specs.Fill.{node_filled, fill}
 use Rattle.event_tree.specs.Changes.{is_flattened, node_changes, fill_changes}
 use Rattle.event_tree.specs.Raised.{RisesSomewhere}
 use Rattle.event_tree.proofs.Bounds.{minimum-le-maximum}

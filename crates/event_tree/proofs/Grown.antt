@@ -2,12 +2,12 @@
 use Rattle.std.proofs.Common.{◌≡◌, ◌≢◌, ℕ, ◌+◌, ◌≤◌, true, false, is_some, [], inl, inr, refl, arith}
 use Rattle.std.proofs.lemmas.Bool.{cases_Bool}
 use Rattle.trace_types.specs.Points.{Point, half_of, within_half}
-use Rattle.id_tree.specs.Id.{Id, Zero, One, Pair, AreApart}
-use Rattle.id_tree.specs.Id as ids
-use Rattle.event_tree.specs.EventTree.{EventTree, Leaf, Node, value, maximum, IsNormal}
+use Rattle.trace_types.specs.Id.{Id, Zero, One, Pair, AreApart}
+use Rattle.trace_types.specs.Id as ids
+use Rattle.trace_types.specs.EventTree.{EventTree, Leaf, Node, value, maximum, IsNormal}
 use Rattle.event_tree.specs.Comparison.{IsBelow}
-use Rattle.event_tree.specs.Grow.{root, left_of, right_of, expansion, is_cheaper, cheaper, dearer, cost, grown}
-use Rattle.event_tree.specs.Event.{normalised}
+use Rattle.trace_types.specs.Grow.{root, left_of, right_of, expansion, is_cheaper, cheaper, dearer, cost, grown}
+use Rattle.trace_types.specs.Event.{normalised}
 use Rattle.event_tree.specs.Raised.{RisesSomewhere}
 use Rattle.event_tree.specs.Tables.{FollowsGrowTable}
 use Rattle.event_tree.proofs.Bounds.{value-le-maximum, on_either_side}

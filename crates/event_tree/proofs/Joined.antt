@@ -1,9 +1,9 @@
 -- The join has the greater value at each point and is normal, and it is the one of the table.
 use Rattle.std.proofs.Common.{◌≡◌, ℕ, ◌+◌, ◌-◌, ◌≤◌, min, max, arith}
 use Rattle.trace_types.specs.Points.{Half, Left, Right, Point, half_of, within_half, at_half}
-use Rattle.event_tree.specs.EventTree.{EventTree, Leaf, Node, value, maximum, IsNormal}
-use Rattle.event_tree.specs.Norm.{norm}
-use Rattle.event_tree.specs.Join.{lifted, joined_number, joined, join}
+use Rattle.trace_types.specs.EventTree.{EventTree, Leaf, Node, value, maximum, IsNormal}
+use Rattle.trace_types.specs.Norm.{norm}
+use Rattle.trace_types.specs.Join.{lifted, joined_number, joined, join}
 use Rattle.event_tree.specs.Tables.{FollowsJoinTable}
 use Rattle.event_tree.proofs.Bounds.{value-le-maximum, reaches_maximum}
 use Rattle.event_tree.proofs.Canonical.{same_from_values}

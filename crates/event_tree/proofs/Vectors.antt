@@ -2,12 +2,12 @@
 use Rattle.std.proofs.Common.{◌≡◌, [], ◌∷◌, refl, arith}
 use Rattle.trace_types.specs.declared.order.Order.TheVariants.{Before, Concurrent}
 use Rattle.trace_types.specs.Points.{Left, Right}
-use Rattle.event_tree.specs.EventTree.{Leaf, Node}
+use Rattle.trace_types.specs.EventTree.{Leaf, Node}
 use Rattle.event_tree.specs.Comparison.{StandsAs}
-use Rattle.event_tree.specs.Norm.{norm}
-use Rattle.event_tree.specs.Join.{join}
-use Rattle.event_tree.specs.Event.{event}
-use Rattle.id_tree.specs.Id.{Id, Zero, One, Pair}
+use Rattle.trace_types.specs.Norm.{norm}
+use Rattle.trace_types.specs.Join.{join}
+use Rattle.trace_types.specs.Event.{event}
+use Rattle.trace_types.specs.Id.{Id, Zero, One, Pair}
 use Rattle.event_tree.proofs.Bounds.{value-le-maximum}
 
 pub norm-2-1-2 : norm 2 (Leaf 1) (Leaf 2) ≡ Node 3 (Leaf 0) (Leaf 1)

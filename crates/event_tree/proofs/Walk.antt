@@ -1,7 +1,7 @@
 -- What a step of the comparison walk decides, in one direction.
 use Rattle.std.proofs.Common.{◌≡◌, ℕ, ◌+◌, ◌↔◌, Bool, IsTrue, [], ◌∷◌, arith}
 use Rattle.trace_types.specs.Points.{Half, Left, Right, at_half}
-use Rattle.event_tree.specs.EventTree.{EventTree, Node}
+use Rattle.trace_types.specs.EventTree.{EventTree, Node}
 use Rattle.event_tree.specs.Lifted.{IsLiftedBelow}
 use Rattle.event_tree.specs.Ranges.{range_of, IsRangeBelow, CanBeBelow}
 use Rattle.event_tree.proofs.Bounds.{minimum-le-value, value-le-maximum, reaches_minimum, reaches_maximum}

@@ -1,7 +1,7 @@
 -- Whether filling a tree below an id changes it.
 use Rattle.std.specs.Prelude.{ℕ, Bool, true, false, nat_lt, ◌||◌}
-use Rattle.id_tree.specs.Id.{Id, Zero, One, Pair}
-use Rattle.event_tree.specs.EventTree.{EventTree, Leaf, Node, minimum}
+use Rattle.trace_types.specs.Id.{Id, Zero, One, Pair}
+use Rattle.trace_types.specs.EventTree.{EventTree, Leaf, Node, minimum}
 
 -- whether the number that is the tree's greatest value, and at least the given one, is another tree
 abbrev pub is_flattened : EventTree → ℕ → Bool

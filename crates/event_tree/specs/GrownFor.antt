@@ -1,10 +1,10 @@
 -- The grown tree at a price.
 use Rattle.std.specs.Prelude.{Bool, false, ◌==◌, ◌&&◌, if◌then◌else◌, Option, Some, None}
-use Rattle.id_tree.specs.Id.{Id}
-use Rattle.event_tree.specs.declared.ev_tree.growth.Cost.{Cost}
-use Rattle.event_tree.specs.EventTree.{EventTree}
-use Rattle.event_tree.specs.Grow.{cost, grown}
-use Rattle.event_tree.specs.Event.{normalised}
+use Rattle.trace_types.specs.Id.{Id}
+use Rattle.trace_types.specs.Grow.{Cost}
+use Rattle.trace_types.specs.EventTree.{EventTree}
+use Rattle.trace_types.specs.Grow.{cost, grown}
+use Rattle.trace_types.specs.Event.{normalised}
 
 -- it costs exactly the price
 abbrev pub costs : Cost → Option Cost → Bool

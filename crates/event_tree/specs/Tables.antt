@@ -1,13 +1,13 @@
 -- The rows of the published tables of join, grow and event.
 use Rattle.std.specs.Prelude.{◌≡◌, ◌≢◌, ℕ, ◌+◌, ◌-◌, ◌≤◌, max, true, false, Some}
-use Rattle.id_tree.specs.Id.{Id, Zero, One, Pair}
-use Rattle.id_tree.specs.Id as ids
-use Rattle.event_tree.specs.EventTree.{EventTree, Leaf, Node}
-use Rattle.event_tree.specs.Norm.{norm}
-use Rattle.event_tree.specs.Join.{lifted, join}
-use Rattle.event_tree.specs.Fill.{fill}
-use Rattle.event_tree.specs.Grow.{is_cheaper, dearer, cost, grown}
-use Rattle.event_tree.specs.Event.{normalised, event}
+use Rattle.trace_types.specs.Id.{Id, Zero, One, Pair}
+use Rattle.trace_types.specs.Id as ids
+use Rattle.trace_types.specs.EventTree.{EventTree, Leaf, Node}
+use Rattle.trace_types.specs.Norm.{norm}
+use Rattle.trace_types.specs.Join.{lifted, join}
+use Rattle.trace_types.specs.Fill.{fill}
+use Rattle.trace_types.specs.Grow.{is_cheaper, dearer, cost, grown}
+use Rattle.trace_types.specs.Event.{normalised, event}
 
 -- join: numbers, a number beside a node, two nodes, and else the two swapped
 pub record FollowsJoinTable : Type 0 where

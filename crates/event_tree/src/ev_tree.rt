@@ -1,13 +1,13 @@
 //! The event tree, kept normal.
 ghost use Rattle.std.specs.Prelude.{◌≡◌, ◌≢◌, ◌+◌, ◌^◌, ◌<◌, ◌≤◌, ◌↔◌, ◌⊎◌, ◌||◌, max, IfOk, IsTrue};
-ghost use Rattle.id_tree.specs.Id.{Zero};
-ghost use Rattle.event_tree.specs.EventTree.{Leaf, IsNormal, minimum, maximum};
+ghost use Rattle.trace_types.specs.Id.{Zero};
+ghost use Rattle.trace_types.specs.EventTree.{Leaf, IsNormal, minimum, maximum};
 ghost use Rattle.event_tree.specs.Comparison.{IsBelow, StandsAs};
 ghost use Rattle.event_tree.specs.Lifted.{IsLiftedBelow};
 ghost use Rattle.event_tree.specs.Ranges.{range_of, IsRangeBelow, CanBeBelow};
-ghost use Rattle.event_tree.specs.Norm.{norm, lowered};
-ghost use Rattle.event_tree.specs.Join.{joined_number, joined, join};
-ghost use Rattle.event_tree.specs.Event.{event};
+ghost use Rattle.trace_types.specs.Norm.{norm, lowered};
+ghost use Rattle.trace_types.specs.Join.{joined_number, joined, join};
+ghost use Rattle.trace_types.specs.Event.{event};
 ghost use Rattle.event_tree.specs.Parts.{tree_of_parts};
 
 use id_tree::IdTree;
@@ -46,7 +46,7 @@ pub enum Parts<'a> {
 }
 
 impl Model for EvTree {
-    ghost use Rattle.event_tree.specs.EventTree.{EventTree};
+    ghost use Rattle.trace_types.specs.EventTree.{EventTree};
     ghost use Rattle.event_tree.specs.EventTreeCode.{event_tree_code};
 
     ghost Value = { EventTree };

@@ -1,7 +1,7 @@
 -- What the program did.
 use Rattle.std.specs.Prelude.{◌≡◌, ◌≢◌, ℕ, ◌+◌, ◌<◌, ◌≤◌, ◌^◌, Bool, true, false, List, ◌++◌, ◌⊎◌, map}
 use Rattle.trace_types.specs.Name.{Text}
-use Rattle.trace_types.specs.Limits.{Limits}
+use Rattle.trace_types.specs.Limits.{default_limits}
 use Rattle.trace_types.specs.Tenant.{fresh}
 use Rattle.trace_types.specs.World.{World}
 use Rattle.line_protocol.specs.Writing.{WritesFront, IsWriteFault}
@@ -11,10 +11,6 @@ use Rattle.trace_world.specs.declared.replay_fault.ReplayFault.{ReplayFault}
 use Rattle.itc_trace.specs.Fault.{line_of, fault_of_replay}
 use Rattle.itc_trace.specs.declared.fault.Fault.{Fault}
 use Rattle.itc_trace.specs.declared.fault.Fault.TheVariants.{Read, Write, TooLong}
-
--- the limits that stand where none are asked for
-abbrev pub default_limits : Limits
-default_limits = record { events = 4096; tasks = 512; messages = 2048 }
 
 -- tenants of these names that have reported nothing
 abbrev pub fresh_world : List Text → World

@@ -3,14 +3,14 @@ use Rattle.std.proofs.Common.{◌≡◌, ℕ, suc, ◌+◌, ◌-◌, ◌*◌, �
 use Rattle.std.specs.Prelude.{nat_le}
 use Rattle.std.proofs.lemmas.List.Elements.{All-get_or}
 use Rattle.std.proofs.lemmas.List.Sums.{AllPass-from_list_all}
-use Rattle.trace_types.specs.declared.request.Request.{Request}
 use Rattle.std.specs.List.{position, position_from, list_all}
 use Rattle.std.proofs.lemmas.Iterator.Adapters.{position_from-zero}
 use Rattle.std.proofs.lemmas.Grind.{pow_more}
 use Rattle.std.proofs.Math.Nat.{pow-le-pow_right}
 use Rattle.std.proofs.Math.Seq.{take-suc}
 use Rattle.trace_types.specs.Name.{Text}
-use Rattle.trace_types.specs.Reading.{words, onto, is_digit, number_onto, with_name, with_numbers, with_nothing}
+use Rattle.trace_types.specs.Reading.{words, onto, is_digit, number_onto, only, only_two, with_nothing}
+use Rattle.trace_types.specs.declared.request.Request.{Request}
 
 -- what a cut at the blank that a search from place i on finds leaves of the words
 abbrev Cuts : ℕ → Text → Option ℕ → Type 0
@@ -86,11 +86,13 @@ some_word (byte ∷ bytes) = by_blank (byte == 32) refl
     by_blank false is = let some = onto_some byte (words bytes) in (some.0, some.1, rw is some.2)
 
 -- too many arguments
-pub with_name-more : (make : Text → Request) (name rest : Text) (all : List Text) → all ≡ name ∷ words rest → None ≡ with_name make all
-with_name-more make name rest all is = rw (is, (some_word rest).2) refl
+pub only-more : {A : Type 0} (read : Text → Option A) (word rest : Text) (all : List Text) → all ≡ word ∷ words rest → None ≡ only read all
+only-more read word rest all is = rw (is, (some_word rest).2) refl
 
-pub with_numbers-more : (make : ℕ → ℕ → Request) (a b rest : Text) (all : List Text) → all ≡ a ∷ b ∷ words rest → None ≡ with_numbers make all
-with_numbers-more make a b rest all is = rw (is, (some_word rest).2) refl
+pub only_two-more : {A : Type 0} (read : Text → Option A) (a b rest : Text) (all : List Text) → all ≡ a ∷ b ∷ words rest → None ≡ only_two read all
+only_two-more read a b rest all is = rw (is, (some_word rest).2) refl
 
-pub with_nothing-more : (request : Request) (rest : Text) → None ≡ with_nothing request (words rest)
-with_nothing-more request rest = rw ((some_word rest).2) refl
+-- what has no argument is not read where there is one
+pub no_argument-more : (is_keyword : Bool) (request : Request) (rest : Text) → None ≡ cond is_keyword (with_nothing request (words rest)) None
+no_argument-more true request rest = rw ((some_word rest).2) refl
+no_argument-more false request rest = refl

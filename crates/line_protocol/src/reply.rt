@@ -1,12 +1,12 @@
 //! Replies, written without memory.
 ghost use Rattle.std.specs.Prelude.{◌≡◌, ◌≤◌, ◌<◌, ◌++◌, OnOk, OnErr, decimal, codes, IsTrue};
-ghost use Rattle.trace_types.specs.Text.{reply_text, order_text};
+ghost use Rattle.trace_types.specs.Text.{reply_text, order_text, state_text};
 ghost use Rattle.trace_types.specs.Code.{code_number, code_text};
 ghost use Rattle.line_protocol.specs.Writing.{WritesFront, IsWriteFault, Writes, Spends};
 
 use crate::{Sink, Stop, WriteFault};
 use itoa::Buffer;
-use trace_types::{Code, Order, Reply};
+use trace_types::{Code, Order, Reply, TaskState};
 
 /// How many interruptions end one call.
 const MOST_INTERRUPTIONS: u64 = 1048576;
@@ -39,6 +39,8 @@ pub fn write_reply<W: Sink>(writer: &mut W, reply: &Reply) -> Result<(), WriteFa
     match reply {
         Reply::Accepted(event) => write_number(writer, &mut patience, b"201 ", *event),
         Reply::Ordering(order) => write_pieces(writer, &mut patience, b"200 ", order_text(*order)),
+        Reply::Stamp(text) => write_pieces(writer, &mut patience, b"200 ", text.as_bytes()),
+        Reply::Task(state, last) => write_task(writer, &mut patience, *state, *last),
         Reply::Count(events, tasks, messages) => {
             write_count(writer, &mut patience, *events, *tasks, *messages)
         }
@@ -76,6 +78,34 @@ fn order_text(order: Order) -> &'static [u8]
         Order::After => b"after",
         Order::Concurrent => b"concurrent",
     }
+}
+
+/// The word for how far a task has come.
+fn state_text(state: TaskState) -> &'static [u8]
+    ensures { result.now ≡ state_text state }
+{
+    match state {
+        TaskState::Live => b"live",
+        TaskState::Ended => b"ended",
+        TaskState::Joined => b"joined",
+    }
+}
+
+/// Writes the state and the last event of a task.
+fn write_task<W: Sink>(
+    writer: &mut W,
+    patience: &mut u64,
+    state: TaskState,
+    last: u64,
+) -> Result<(), WriteFault>
+    requires { 0 < patience.old }
+    ensures written { Writes (W.taken writer.old) (W.taken writer.new) result
+        ((codes "200 " ++ state_text state) ++ (codes " " ++ decimal last)) }
+    ensures spent { Spends (W.failures writer.old) (W.failures writer.new)
+        (W.interruptions writer.old) (W.interruptions writer.new) patience.old patience.new result }
+{
+    write_pieces(writer, patience, b"200 ", state_text(state))?;
+    write_number(writer, patience, b" ", last)
 }
 
 /// Writes the three numbers of a count.

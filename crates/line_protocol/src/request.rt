@@ -3,8 +3,7 @@ ghost use Rattle.std.specs.Prelude.{◌≡◌, ◌≤◌, ◌∷◌, true, lengt
 ghost use Rattle.std.specs.Option.{option_copied};
 ghost use Rattle.std.specs.List.{list_all};
 ghost use Rattle.trace_types.specs.Name.{is_same};
-ghost use Rattle.trace_types.specs.Reading.{request_of, addressed_by, words, number_of, is_digit, is_number, number_onto, with_name, with_numbers, with_nothing};
-ghost use Rattle.trace_types.specs.declared.request.Request.TheVariants.{Local, Order, Count};
+ghost use Rattle.trace_types.specs.Reading.{request_of, addressed_by, words, number_of, is_digit, is_number, number_onto, name_of, only, only_two, request_of_words};
 ghost use Rattle.line_protocol.specs.Words.{words_after};
 
 use trace_types::{Name, Request};
@@ -14,12 +13,33 @@ pub fn read_request(line: &[u8]) -> Option<Request>
     ensures { result ≡ request_of line.now }
 {
     let (keyword, arguments) = split_first(line);
+    match arguments {
+        None => is_word(keyword, b"count").then_some(Request::Count),
+        Some(arguments) => read_arguments(keyword, arguments),
+    }
+}
+
+/// The request of a keyword that has arguments.
+fn read_arguments(keyword: &[u8], arguments: &[u8]) -> Option<Request>
+    ensures { result ≡ request_of_words (keyword.now ∷ words arguments.now) }
+{
     if is_word(keyword, b"local") {
-        read_local(arguments?)
+        Some(Request::Local(only_name(arguments)?))
+    } else if is_word(keyword, b"spawn") {
+        let (task, child) = two_names(arguments)?;
+        Some(Request::Spawn(task, child))
+    } else if is_word(keyword, b"end") {
+        Some(Request::End(only_name(arguments)?))
+    } else if is_word(keyword, b"join") {
+        let (task, child) = two_names(arguments)?;
+        Some(Request::Join(task, child))
     } else if is_word(keyword, b"order") {
-        read_order(arguments?)
-    } else if is_word(keyword, b"count") {
-        read_count(arguments)
+        let (first, second) = two_numbers(arguments)?;
+        Some(Request::Order(first, second))
+    } else if is_word(keyword, b"stamp") {
+        Some(Request::Stamp(only_number(arguments)?))
+    } else if is_word(keyword, b"task") {
+        Some(Request::Task(only_name(arguments)?))
     } else {
         None
     }
@@ -38,34 +58,45 @@ pub fn read_addressed(line: &[u8]) -> Option<(Name, Option<Request>)>
     }
 }
 
-/// The arguments of `local`.
-fn read_local(arguments: &[u8]) -> Option<Request>
-    ensures { result ≡ with_name Local (words arguments.now) }
+/// The name, where there is one argument and no more.
+fn only_name(arguments: &[u8]) -> Option<Name>
+    ensures { result ≡ only name_of (words arguments.now) }
 {
     match split_first(arguments) {
-        (name, None) => Some(Request::Local(Name::read(name)?)),
+        (name, None) => Name::read(name),
         (_, Some(_)) => None,
     }
 }
 
-/// The arguments of `order`.
-fn read_order(arguments: &[u8]) -> Option<Request>
-    ensures { result ≡ with_numbers Order (words arguments.now) }
+/// The two names, where there are two arguments and no more.
+fn two_names(arguments: &[u8]) -> Option<(Name, Name)>
+    ensures { result ≡ only_two name_of (words arguments.now) }
 {
     let (first, rest) = split_first(arguments);
     match split_first(rest?) {
-        (second, None) => Some(Request::Order(read_number(first)?, read_number(second)?)),
+        (second, None) => Some((Name::read(first)?, Name::read(second)?)),
         (_, Some(_)) => None,
     }
 }
 
-/// The arguments of `count`, of which there are none.
-fn read_count(arguments: Option<&[u8]>) -> Option<Request>
-    ensures { result ≡ with_nothing Count (words_after (option_copied arguments.entry)) }
+/// The number, where there is one argument and no more.
+fn only_number(arguments: &[u8]) -> Option<u64>
+    ensures { result ≡ only number_of (words arguments.now) }
 {
-    match arguments {
-        None => Some(Request::Count),
-        Some(_) => None,
+    match split_first(arguments) {
+        (number, None) => read_number(number),
+        (_, Some(_)) => None,
+    }
+}
+
+/// The two numbers, where there are two arguments and no more.
+fn two_numbers(arguments: &[u8]) -> Option<(u64, u64)>
+    ensures { result ≡ only_two number_of (words arguments.now) }
+{
+    let (first, rest) = split_first(arguments);
+    match split_first(rest?) {
+        (second, None) => Some((read_number(first)?, read_number(second)?)),
+        (_, Some(_)) => None,
     }
 }
 

@@ -1,8 +1,8 @@
 -- What is built of an id, and the first of its faults.
 use Rattle.std.proofs.Common.{◌≡◌, ◌↔◌, ℕ, ◌+◌, ◌-◌, Bool, true, false, Option, Some, None, List, ◌∷◌, length, drop, get_or, refl, sym, ap, ◌∙◌, inl, inr, arith}
 use Rattle.std.specs.Prelude.{IsTrue}
-use Rattle.id_tree.specs.Id.{Id, Zero, One, Pair}
-use Rattle.id_tree.specs.Operations.{norm}
+use Rattle.trace_types.specs.Id.{Id, Zero, One, Pair}
+use Rattle.trace_types.specs.IdOperations.{norm}
 use Rattle.stamp_codec.specs.Walks.{second_id, is_same_leaf, first_id_fault}
 use Rattle.stamp_codec.specs.Built.{IsBuildFault, IsSameLeaf}
 use Rattle.stamp_codec.specs.declared.fault.StampFault.{StampFault}

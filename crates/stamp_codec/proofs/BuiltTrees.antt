@@ -1,7 +1,7 @@
 -- What is built of a tree, and the first of its faults.
 use Rattle.std.proofs.Common.{◌≡◌, ◌≢◌, ℕ, ◌+◌, ◌-◌, ◌^◌, ◌<◌, max, Some, None, Err, List, ◌∷◌, length, drop, get_or, refl, sym, ap, ◌∙◌, arith}
-use Rattle.event_tree.specs.EventTree.{EventTree, Leaf, minimum, maximum}
-use Rattle.event_tree.specs.Event.{normalised}
+use Rattle.trace_types.specs.EventTree.{EventTree, Leaf, minimum, maximum}
+use Rattle.trace_types.specs.Event.{normalised}
 use Rattle.event_tree.proofs.Bounds.{minimum-le-value, value-le-maximum, reaches_minimum, reaches_maximum}
 use Rattle.event_tree.proofs.Grown.{value-normalised, maximum-normalised-le}
 use Rattle.stamp_codec.specs.StampText.{Written, Number, Fork, number_of, tree_of}

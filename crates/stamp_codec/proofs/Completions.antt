@@ -1,6 +1,6 @@
 -- Which bytes complete a stamp, from each state of the scan on.
 use Rattle.std.proofs.Common.{◌≡◌, ℕ, List, [], ◌∷◌, ◌++◌, Option, Some, None}
-use Rattle.id_tree.specs.Id as ids
+use Rattle.trace_types.specs.Id as ids
 use Rattle.stamp_codec.specs.StampText.{Written, id_text, written_text, HasNumbers, AreDigits, IsNumber}
 use Rattle.stamp_codec.specs.declared.shape.Part.{Part}
 use Rattle.stamp_codec.specs.declared.shape.Part.TheVariants.{Id, Tree}

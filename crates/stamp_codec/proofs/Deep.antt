@@ -1,7 +1,7 @@
 -- A walk over an id finds the first parenthesis that is nested too deep.
 use Rattle.std.proofs.Common.{◌≡◌, ◌≢◌, ℕ, ◌+◌, ◌-◌, Some, None, List, length, drop, get_or, refl, ap, ◌∙◌}
 use Rattle.std.proofs.lemmas.Bool.{eq-eqb, ne_eqb}
-use Rattle.id_tree.specs.Id.{Id, Zero, One, Pair}
+use Rattle.trace_types.specs.Id.{Id, Zero, One, Pair}
 use Rattle.stamp_codec.specs.Faults.{most_nested}
 use Rattle.stamp_codec.specs.Walks.{second_id, first_deep}
 use Rattle.stamp_codec.proofs.Parts.{BeginsId, id_opened, id_second}

@@ -1,8 +1,8 @@
 -- The first fault that a walk finds is at the least of all places.
 use Rattle.std.proofs.Common.{◌≡◌, ◌≢◌, ◌⊎◌, inl, inr, ℕ, ◌+◌, ◌<◌, ◌≤◌, min, Bool, true, false, cond, not, ltb, eqb, ◌||◌, Option, Some, None, List, [], ◌∷◌, ◌++◌, length, refl, arith, length-append}
 use Rattle.std.proofs.lemmas.Bool.{eqb-true, eqb-false, eq-eqb, ltb-true, lt-ltb, cases_eq}
-use Rattle.id_tree.specs.Id.{Id, Zero, One, Pair, AreApart}
-use Rattle.event_tree.specs.EventTree.{EventTree, Leaf, Node, minimum, AreUnequal}
+use Rattle.trace_types.specs.Id.{Id, Zero, One, Pair, AreApart}
+use Rattle.trace_types.specs.EventTree.{EventTree, Leaf, Node, minimum, AreUnequal}
 use Rattle.stamp_codec.specs.StampText.{Written, Number, Fork, HasNumbers, id_text, written_text, number_of, tree_of}
 use Rattle.stamp_codec.specs.Faults.{IsLeast, most_nested, greatest_sum, tree_start, IsIdTooDeepAt, IsTreeTooLargeAt, IsTooLargeAt, IsIdNotNormalAt, IsTreeNotNormalAt, IsNotNormalAt}
 use Rattle.stamp_codec.specs.Walks.{first_of_two, first_child, second_child, second_id, first_deep, first_large, is_same_leaf, first_id_fault, is_same_number, is_faulty, first_tree_fault, first_size_fault, first_node_fault}

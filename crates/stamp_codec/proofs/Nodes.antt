@@ -1,6 +1,6 @@
 -- What the text of a node begins with, and what follows from its first byte.
 use Rattle.std.proofs.Common.{◌≡◌, ◌≢◌, ◌⊎◌, inl, inr, ℕ, List, [], ◌∷◌, ◌++◌, refl, ap, ◌∙◌, append_assoc, arith}
-use Rattle.id_tree.specs.Id.{Zero, One, Pair}
+use Rattle.trace_types.specs.Id.{Zero, One, Pair}
 use Rattle.stamp_codec.specs.StampText.{Number, Fork, id_text, written_text, IsNumber}
 use Rattle.stamp_codec.proofs.Completions.{IsIdText, IsTreeText}
 

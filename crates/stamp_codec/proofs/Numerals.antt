@@ -3,7 +3,7 @@ use Rattle.std.proofs.Common.{◌≡◌, inl, inr, ℕ, ◌^◌, ◌<◌, List, 
 use Rattle.std.specs.Fmt.{decimal}
 use Rattle.std.proofs.lemmas.Str.Parse.{IsNumeralModel, numerals_by_fold}
 use Rattle.std.proofs.lemmas.Fmt.{decimal-digits_value}
-use Rattle.event_tree.specs.EventTree.{maximum}
+use Rattle.trace_types.specs.EventTree.{maximum}
 use Rattle.stamp_codec.specs.StampText.{Written, Number, Fork, HasNumbers, IsNumber, AreDigits, read_on, number_of, tree_of, tree_text, written_text}
 use Rattle.stamp_codec.proofs.Parts.{AreDigits-number}
 

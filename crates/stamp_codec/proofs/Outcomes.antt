@@ -1,8 +1,8 @@
 -- What the passes together say of a text.
 use Rattle.std.proofs.Common.{◌≡◌, inl, inr, ℕ, ◌+◌, ◌^◌, ◌<◌, ◌≤◌, min, Bool, true, false, cond, ltb, eqb, Option, Some, None, Result, Ok, Err, List, refl, sym, subst, ◌∙◌, arith}
 use Rattle.std.proofs.lemmas.Bool.{ltb-false, cases_eq}
-use Rattle.id_tree.specs.Id.{Id}
-use Rattle.event_tree.specs.EventTree.{EventTree, Leaf, Node, minimum, maximum, AreUnequal, IsNormal}
+use Rattle.trace_types.specs.Id.{Id}
+use Rattle.trace_types.specs.EventTree.{EventTree, Leaf, Node, minimum, maximum, AreUnequal, IsNormal}
 use Rattle.stamp_codec.specs.StampText.{Written, Number, Fork, Spells, IsShaped, number_of, tree_of, stamp_text}
 use Rattle.stamp_codec.specs.Faults.{IsLeast, most_nested, greatest_sum, tree_start, IsTooLargeAt, IsNotNormalAt}
 use Rattle.stamp_codec.specs.Walks.{first_of_two, first_child, second_child, first_deep, first_large, is_faulty, first_id_fault, first_tree_fault, first_size_fault, first_node_fault}

@@ -1,7 +1,7 @@
 -- What stands behind the parenthesis at the front of a text, and where.
 use Rattle.std.proofs.Common.{◌≡◌, ◌≢◌, ℕ, ◌+◌, ◌-◌, ◌*◌, ◌<◌, ◌≤◌, inl, inr, min, true, false, ltb, List, [], ◌∷◌, ◌++◌, length, drop, get_or, refl, ap, ◌∙◌, append_assoc, arith, length-append, length-drop}
 use Rattle.std.proofs.lemmas.Bool.{lt-ltb, le-ltb, le-leb, lt-leb, cases_lt}
-use Rattle.id_tree.specs.Id.{Id, Zero, One, Pair}
+use Rattle.trace_types.specs.Id.{Id, Zero, One, Pair}
 use Rattle.stamp_codec.specs.StampText.{Written, Number, Fork, HasNumbers, IsNumber, AreDigits, id_text, written_text, read_on, number_of}
 use Rattle.stamp_codec.specs.Faults.{greatest_sum}
 use Rattle.stamp_codec.specs.Scan.{is_digit}

@@ -3,9 +3,9 @@ use Rattle.std.proofs.Common.{◌≡◌, inl, inr, ℕ, ◌+◌, ◌^◌, ◌<�
 use Rattle.std.specs.Fmt.{decimal}
 use Rattle.std.proofs.lemmas.Fmt.{digits_decimal, digits_value-decimal, first_decimal, decimal_digit}
 use Rattle.std.proofs.lemmas.Bool.{cases_eq}
-use Rattle.id_tree.specs.Id.{Id, Zero, One, Pair, AreApart}
-use Rattle.id_tree.specs.Id as ids
-use Rattle.event_tree.specs.EventTree.{EventTree, Leaf, Node, maximum, IsNormal}
+use Rattle.trace_types.specs.Id.{Id, Zero, One, Pair}
+use Rattle.trace_types.specs.Id as ids
+use Rattle.trace_types.specs.EventTree.{EventTree, Leaf, Node, maximum, IsNormal}
 use Rattle.event_tree.specs.Height.{height}
 use Rattle.stamp_codec.specs.StampText.{HasNumbers, IsNumber, AreDigits, id_text, tree_text, stamp_text, written_text, number_of, tree_of}
 use Rattle.stamp_codec.specs.Faults.{most_nested, greatest_sum, tree_start, IsIdTooDeepAt, IsTreeTooLargeAt, IsTooLargeAt, IsIdNotNormalAt, IsTreeNotNormalAt, IsNotNormalAt}

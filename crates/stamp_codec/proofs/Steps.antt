@@ -2,7 +2,7 @@
 use Rattle.std.proofs.Common.{◌≡◌, ◌≢◌, ◌↔◌, ◌⊎◌, inl, inr, ℕ, ◌≤◌, ◌<◌, Bool, true, false, cond, List, [], ◌∷◌, ◌++◌, Option, Some, None, refl, sym, ap, ◌∙◌, append_assoc, arith, eqb, leb, ◌||◌}
 use Rattle.std.proofs.lemmas.Bool.{eqb-true, eqb-false}
 use Rattle.std.proofs.lemmas.Bool.Decides.{leb_tells}
-use Rattle.id_tree.specs.Id.{Zero, One}
+use Rattle.trace_types.specs.Id.{Zero, One}
 use Rattle.stamp_codec.specs.StampText.{AreDigits, IsNumber}
 use Rattle.stamp_codec.specs.Scan.{awaiting, closed, id_begun, tree_begun, number_begun, number_ended, is_digit, stepped}
 use Rattle.stamp_codec.specs.declared.shape.Part.{Part}

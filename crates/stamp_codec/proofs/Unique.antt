@@ -1,6 +1,6 @@
 -- A text spells one id and one tree.
 use Rattle.std.proofs.Common.{◌≡◌, ℕ, ◌≤◌, List, [], ◌∷◌, ◌++◌, refl, sym, ap, ◌∙◌, arith}
-use Rattle.id_tree.specs.Id.{Id, Zero, One, Pair}
+use Rattle.trace_types.specs.Id.{Id, Zero, One, Pair}
 use Rattle.stamp_codec.specs.StampText.{Written, Number, Fork, HasNumbers, IsNumber, AreDigits, Spells, id_text, written_text}
 use Rattle.stamp_codec.specs.Passes.{EndsDigits}
 use Rattle.stamp_codec.proofs.Nodes.{heads, pair_text-append, number_first}

@@ -1,9 +1,9 @@
 -- What building gives, and its faults.
 use Rattle.std.specs.Prelude.{◌≡◌, ℕ, ◌+◌, ◌^◌, ◌≤◌, min, max, Bool, false, not, ◌==◌, ◌||◌, ◌⊎◌, if◌then◌else◌, List, Option, Some, None, Result, Ok, Err}
-use Rattle.id_tree.specs.Id.{Id, Zero, One}
-use Rattle.event_tree.specs.EventTree.{minimum, maximum}
-use Rattle.event_tree.specs.Event.{normalised}
-use Rattle.event_tree.specs.Norm.{norm}
+use Rattle.trace_types.specs.Id.{Id, Zero, One}
+use Rattle.trace_types.specs.EventTree.{minimum, maximum}
+use Rattle.trace_types.specs.Event.{normalised}
+use Rattle.trace_types.specs.Norm.{norm}
 use Rattle.stamp_codec.specs.StampText.{Written, Number, Fork, number_of, tree_of}
 use Rattle.stamp_codec.specs.Walks.{first_of_two, first_id_fault, first_tree_fault, first_node_fault}
 use Rattle.stamp_codec.specs.declared.stamp.Stamp.{Stamp}

@@ -1,9 +1,9 @@
 -- Stamps of the interval tree clock (Almeida, Baquero and Fonte 2008).
-use Rattle.id_tree.specs.Id.{Zero, One}
-use Rattle.id_tree.specs.Operations as ids
-use Rattle.event_tree.specs.EventTree.{Leaf}
-use Rattle.event_tree.specs.Event as trees
-use Rattle.event_tree.specs.Join as joins
+use Rattle.trace_types.specs.Id.{Zero, One}
+use Rattle.trace_types.specs.IdOperations as ids
+use Rattle.trace_types.specs.EventTree.{Leaf}
+use Rattle.trace_types.specs.Event as trees
+use Rattle.trace_types.specs.Join as joins
 use Rattle.stamp_codec.specs.declared.stamp.Stamp.{Stamp}
 
 -- the first stamp: every point, and nothing has happened

@@ -6,24 +6,15 @@
 --   number = "0" | nonzero digit, then any digits
 use Rattle.std.specs.Prelude.{◌≡◌, ℕ, ◌+◌, ◌-◌, ◌*◌, ◌≤◌, ◌⊎◌, List, [], ◌∷◌, ◌++◌, codes}
 use Rattle.std.specs.Fmt.{decimal}
-use Rattle.id_tree.specs.Id.{Id, Zero, One, Pair}
-use Rattle.event_tree.specs.EventTree.{EventTree, Leaf, Node}
+use Rattle.trace_types.specs.Id.{Id, Zero, One, Pair}
+use Rattle.trace_types.specs.EventTree.{EventTree, Leaf, Node}
+pub use Rattle.trace_types.specs.StampText.{id_text, tree_text}
+use Rattle.trace_types.specs.StampText.{stamp_text as text_of_stamp}
 use Rattle.stamp_codec.specs.declared.stamp.Stamp.{Stamp}
-
--- the text of an id
-abbrev pub id_text : Id → List ℕ
-id_text Zero = codes "0"
-id_text One = codes "1"
-id_text (Pair left right) = codes "(" ++ (id_text left ++ (codes "," ++ (id_text right ++ codes ")")))
-
--- the text of an event tree
-abbrev pub tree_text : EventTree → List ℕ
-tree_text (Leaf n) = decimal n
-tree_text (Node n left right) = codes "(" ++ (decimal n ++ (codes "," ++ (tree_text left ++ (codes "," ++ (tree_text right ++ codes ")")))))
 
 -- the text of a stamp
 abbrev pub stamp_text : Stamp → List ℕ
-stamp_text s = codes "[" ++ (id_text s.id ++ (codes ";" ++ (tree_text s.tree ++ codes "]")))
+stamp_text s = text_of_stamp s.id s.tree
 
 -- An event tree as it may be written: each number is a list of digits, of any size.
 pub data Written : Type 0 where

@@ -1,7 +1,7 @@
 -- The first fault of each kind, as a walk from left to right finds it.
 use Rattle.std.specs.Prelude.{ℕ, ◌+◌, ◌-◌, ◌*◌, min, Bool, true, false, not, ◌==◌, ◌||◌, nat_lt, if◌then◌else◌, List, [], ◌∷◌, length, Option, Some, None}
-use Rattle.id_tree.specs.Id.{Id, Zero, One, Pair}
-use Rattle.event_tree.specs.EventTree.{EventTree, Leaf, minimum}
+use Rattle.trace_types.specs.Id.{Id, Zero, One, Pair}
+use Rattle.trace_types.specs.EventTree.{EventTree, Leaf, minimum}
 use Rattle.stamp_codec.specs.StampText.{Written, Number, Fork, id_text, written_text, number_of, tree_of}
 use Rattle.stamp_codec.specs.Faults.{most_nested, greatest_sum, tree_start}
 use Rattle.stamp_codec.specs.Scan.{is_digit}

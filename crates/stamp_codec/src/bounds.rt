@@ -1,6 +1,6 @@
 //! Whether a text with the shape of a stamp is within the bounds.
 ghost use Rattle.std.specs.Prelude.{◌≡◌, ℕ, ◌+◌, ◌^◌, ◌<◌, ◌≤◌, List, ◌++◌, length, drop, IfOk};
-ghost use Rattle.id_tree.specs.Id.{Id};
+ghost use Rattle.trace_types.specs.Id.{Id};
 ghost use Rattle.stamp_codec.specs.StampText.{Written, id_text};
 ghost use Rattle.stamp_codec.specs.Faults.{most_nested, greatest_sum};
 ghost use Rattle.stamp_codec.specs.Walks.{first_deep, first_large, leading};

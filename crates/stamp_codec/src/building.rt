@@ -1,11 +1,11 @@
 //! Building what a text within the bounds says.
 ghost use Rattle.std.specs.Prelude.{◌≡◌, ℕ, ◌+◌, ◌^◌, ◌<◌, ◌≤◌, List, ◌++◌, length, IfOk, IsTrue, ◌↔◌};
-ghost use Rattle.id_tree.specs.Id.{Id};
-ghost use Rattle.event_tree.specs.EventTree.{maximum};
+ghost use Rattle.trace_types.specs.Id.{Id};
+ghost use Rattle.trace_types.specs.EventTree.{maximum};
 ghost use Rattle.stamp_codec.specs.StampText.{Written, id_text, tree_of};
 ghost use Rattle.stamp_codec.specs.Passes.{BeginsTree};
 ghost use Rattle.std.specs.Prelude.{Some, None};
-ghost use Rattle.event_tree.specs.EventTree.{Leaf};
+ghost use Rattle.trace_types.specs.EventTree.{Leaf};
 ghost use Rattle.stamp_codec.specs.Built.{BuildsId, BuildsTree, IsSameLeaf};
 
 use crate::StampFault;

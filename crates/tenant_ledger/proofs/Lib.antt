@@ -1,1 +1,24 @@
-mod Root
+pub mod Answering
+pub mod Consequences
+pub mod Events
+pub mod Gathered
+pub mod Joining
+pub mod Keeping
+pub mod KeepingAlone
+pub mod KeepingBook
+pub mod KeepingJoin
+pub mod KeepingLegal
+pub mod KeepingReports
+pub mod KeepingRows
+pub mod KeepingSpawn
+pub mod KeepingTasks
+pub mod Legality
+pub mod NamingRows
+pub mod OneMore
+pub mod Ordering
+pub mod Reaching
+pub mod Spawning
+pub mod States
+pub mod Tasks
+pub mod TreeClock
+pub mod Upheld

@@ -1,1 +1,4 @@
+pub mod ClockLaws
+pub mod Legal
+pub mod Invariant
 pub mod Ledger

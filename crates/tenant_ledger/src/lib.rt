@@ -4,6 +4,8 @@
 //! afterwards are one step of the tenant alone (`Steps` of `trace_types`), or want of memory where that may be.
 #![tactic(auto)]
 
+mod book;
+pub mod laws;
 mod ledger;
 
 pub use ledger::Ledger;

@@ -16,7 +16,7 @@ use Rattle.trace_types.specs.declared.code.Code.{Code}
 use Rattle.trace_types.specs.declared.code.Code.TheVariants.{NoMemory}
 use Rattle.trace_types.specs.declared.row.Row.{Row}
 use Rattle.trace_types.specs.declared.request.Request.{Request}
-use Rattle.trace_types.specs.declared.request.Request.TheVariants.{Local, Order, Count}
+use Rattle.trace_types.specs.declared.request.Request.TheVariants.{Local, Spawn, End, Join, Order, Stamp, Task, Count}
 use Rattle.trace_types.specs.declared.reply.Reply.{Reply}
 use Rattle.trace_types.specs.declared.reply.Reply.TheVariants.{Refused}
 
@@ -112,12 +112,22 @@ is_other_code refusal = not (tells_want (Refused refusal.1))
 
 all_other_codes : (limits : Limits) (history : History) (request : Request) → list_all is_other_code (refusals limits history request) ≡ true
 all_other_codes limits history (Local task) = refl
+all_other_codes limits history (Spawn task child) = refl
+all_other_codes limits history (End task) = refl
+all_other_codes limits history (Join task child) = refl
 all_other_codes limits history (Order a b) = refl
+all_other_codes limits history (Stamp event) = refl
+all_other_codes limits history (Task task) = refl
 all_other_codes limits history Count = refl
 
 tells_want-answer_to : (history : History) (request : Request) → tells_want (answer_to history request).0 ≡ false
 tells_want-answer_to history (Local task) = refl
+tells_want-answer_to history (Spawn task child) = refl
+tells_want-answer_to history (End task) = refl
+tells_want-answer_to history (Join task child) = refl
 tells_want-answer_to history (Order a b) = refl
+tells_want-answer_to history (Stamp event) = refl
+tells_want-answer_to history (Task task) = refl
 tells_want-answer_to history Count = refl
 
 tells_want-step_unless : (tenant : Tenant) (request : Request) (refusals : List (Bool × Code)) → list_all is_other_code refusals ≡ true → tells_want (step_unless (first_code refusals) tenant request).0 ≡ false

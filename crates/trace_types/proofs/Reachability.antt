@@ -1,5 +1,5 @@
 -- The computed reachability is the relation, and what an event follows comes before it.
-use Rattle.std.proofs.Common.{◌≡◌, ◌≢◌, ◌↔◌, ◌⊎◌, ℕ, suc, ◌<◌, ◌≤◌, Bool, true, ◌||◌, IsTrue, eqb, ltb, List, [], ◌∷◌, length, Option, Contains, refl, sym, ap, subst, ◌∙◌, inl, inr, arith}
+use Rattle.std.proofs.Common.{◌≡◌, ◌≢◌, ◌↔◌, ◌⊎◌, ℕ, suc, ◌<◌, ◌≤◌, Bool, true, ◌||◌, IsTrue, eqb, ltb, List, [], ◌∷◌, length, Option, Some, None, Contains, refl, sym, ap, subst, ◌∙◌, inl, inr, arith}
 use Rattle.std.specs.List.{list_any, AllByRecursion}
 use Rattle.std.proofs.lemmas.Bool.{false≢true, eq-eqb, ne_eqb, eqb-true, eqb-false, cases_eq, cond-true, cond-false, cond_both, or_cases, or_left, or_right}
 use Rattle.std.proofs.lemmas.List.Elements.{All-from_recursion, All-contains}
@@ -9,7 +9,7 @@ use Rattle.trace_types.specs.Rows.{History, newest, is_of, starts, last_event}
 use Rattle.trace_types.specs.Reachability.{event_or_none, increasing, second_event, predecessors, predecessors_of, LeadsBack, Reaches, reaches}
 use Rattle.trace_types.specs.declared.row.Row.{Row}
 use Rattle.trace_types.specs.declared.row.Kind.{Kind}
-use Rattle.trace_types.specs.declared.row.Kind.TheVariants.{Local}
+use Rattle.trace_types.specs.declared.row.Kind.TheVariants.{Local, Spawn, End, Join}
 
 pub newest-le : (test : Row → Bool) (history : History) → newest test history ≤ length history
 newest-le test [] = omega arith
@@ -24,6 +24,10 @@ last_event-le history task =
 
 pub second_event-le : (history : History) (kind : Kind) (name : Option Text) → second_event history kind name ≤ length history
 second_event-le history Local name = omega arith
+second_event-le history Spawn name = omega arith
+second_event-le history End name = omega arith
+second_event-le history Join None = omega arith
+second_event-le history Join (Some name) = last_event-le history name
 
 -- an event that there is among n
 abbrev IsAmong : ℕ → ℕ → Type 0
@@ -100,10 +104,12 @@ Contains_from_list_any {X} test (first ∷ xs) any = at (or_cases (test first) (
     at (inl passes) later = (first, (0, omega arith, refl), passes)
     at (inr passes) later = let found = later passes in (found.0, (suc found.1.0, omega (arith, found.1.1), found.1.2), found.2)
 
-reaches_newest : (row : Row) (history : History) (a b : ℕ) → b ≡ suc (length history) → reaches (row ∷ history) a b ≡ (eqb b a || list_any (λ event. reaches history a event) (predecessors history row.task row.kind row.name))
+-- what reaches the newest event is itself or reaches one of its predecessors
+pub reaches_newest : (row : Row) (history : History) (a b : ℕ) → b ≡ suc (length history) → reaches (row ∷ history) a b ≡ (eqb b a || list_any (λ event. reaches history a event) (predecessors history row.task row.kind row.name))
 reaches_newest row history a b is = cond-true (eqb b (suc (length history))) _ _ (eq-eqb b (suc (length history)) is)
 
-reaches_earlier : (row : Row) (history : History) (a b : ℕ) → b ≢ suc (length history) → reaches (row ∷ history) a b ≡ reaches history a b
+-- what reaches any other event did so before the newest came
+pub reaches_earlier : (row : Row) (history : History) (a b : ℕ) → b ≢ suc (length history) → reaches (row ∷ history) a b ≡ reaches history a b
 reaches_earlier row history a b differ = cond-false (eqb b (suc (length history))) _ _ (ne_eqb b (suc (length history)) differ)
 
 Reaches_from_test : (history : History) (a b : ℕ) → IsTrue (reaches history a b) → Reaches history a b

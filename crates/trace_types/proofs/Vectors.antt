@@ -2,17 +2,13 @@
 use Rattle.std.proofs.Common.{◌≡◌, ℕ, List, [], ◌∷◌, ◌++◌, replicate, refl, codes}
 use Rattle.std.specs.Fmt.{digits}
 use Rattle.trace_types.specs.Name.{Text}
-use Rattle.trace_types.specs.Limits.{Limits}
+use Rattle.trace_types.specs.Limits.{Limits, default_limits}
 use Rattle.trace_types.specs.Tenant.{fresh, replies}
 use Rattle.trace_types.specs.Lines.{lines}
 use Rattle.trace_types.specs.Replay.{NoRequest, asked, entries, output}
 use Rattle.trace_types.specs.declared.order.Order.TheVariants as order
 use Rattle.trace_types.specs.declared.request.Request.TheVariants as request
 use Rattle.trace_types.specs.declared.reply.Reply.TheVariants.{Accepted, Ordering, Count}
-
--- the limits that a tenant has if nothing else is said
-abbrev default_limits : Limits
-default_limits = record { events = 4096; tasks = 512; messages = 2048 }
 
 -- what is written for the bytes, where the one tenant is x and nothing lacked memory
 abbrev written_for : Limits → List ℕ → Text
@@ -43,7 +39,7 @@ pub output-orders_and_refusals :
     ++ codes "x order 2 1" ++ 10 ∷ []
     ++ codes "x order 3 1" ++ 10 ∷ []
     ++ codes "x local q" ++ 10 ∷ []
-    ++ codes "x spawn root a" ++ 10 ∷ [])
+    ++ codes "x send root a" ++ 10 ∷ [])
     ≡ codes "x 201 1" ++ 10 ∷ []
     ++ codes "x 201 2" ++ 10 ∷ []
     ++ codes "x 200 before" ++ 10 ∷ []
@@ -53,6 +49,45 @@ pub output-orders_and_refusals :
     ++ codes "x 400 line" ++ 10 ∷ []
 unfolding digits
 output-orders_and_refusals = refl
+
+pub output-tasks_come_and_go :
+    written_for default_limits
+    (codes "x local root" ++ 10 ∷ []
+    ++ codes "x stamp 1" ++ 10 ∷ []
+    ++ codes "x spawn root a" ++ 10 ∷ []
+    ++ codes "x stamp 2" ++ 10 ∷ []
+    ++ codes "x local a" ++ 10 ∷ []
+    ++ codes "x local root" ++ 10 ∷ []
+    ++ codes "x order 3 4" ++ 10 ∷ []
+    ++ codes "x stamp 3" ++ 10 ∷ []
+    ++ codes "x stamp 4" ++ 10 ∷ []
+    ++ codes "x end a" ++ 10 ∷ []
+    ++ codes "x join root a" ++ 10 ∷ []
+    ++ codes "x stamp 5" ++ 10 ∷ []
+    ++ codes "x stamp 6" ++ 10 ∷ []
+    ++ codes "x order 4 5" ++ 10 ∷ []
+    ++ codes "x order 5 6" ++ 10 ∷ []
+    ++ codes "x task a" ++ 10 ∷ []
+    ++ codes "x count" ++ 10 ∷ [])
+    ≡ codes "x 201 1" ++ 10 ∷ []
+    ++ codes "x 200 [1;1]" ++ 10 ∷ []
+    ++ codes "x 201 2" ++ 10 ∷ []
+    ++ codes "x 200 [(1,0);2]" ++ 10 ∷ []
+    ++ codes "x 201 3" ++ 10 ∷ []
+    ++ codes "x 201 4" ++ 10 ∷ []
+    ++ codes "x 200 concurrent" ++ 10 ∷ []
+    ++ codes "x 200 [(0,1);(2,0,1)]" ++ 10 ∷ []
+    ++ codes "x 200 [(1,0);(2,1,0)]" ++ 10 ∷ []
+    ++ codes "x 201 5" ++ 10 ∷ []
+    ++ codes "x 201 6" ++ 10 ∷ []
+    ++ codes "x 200 [(0,1);(2,0,2)]" ++ 10 ∷ []
+    ++ codes "x 200 [1;4]" ++ 10 ∷ []
+    ++ codes "x 200 concurrent" ++ 10 ∷ []
+    ++ codes "x 200 before" ++ 10 ∷ []
+    ++ codes "x 200 joined 5" ++ 10 ∷ []
+    ++ codes "x 200 6 2 0" ++ 10 ∷ []
+unfolding digits
+output-tasks_come_and_go = refl
 
 pub output-lines_of_no_request :
     written_for default_limits

@@ -1,10 +1,10 @@
 -- Happened-before (Lamport 1978) in the graph of one tenant's events: reachability along predecessors.
-use Rattle.std.specs.Prelude.{◌≡◌, ℕ, suc, Bool, ◌||◌, List, [], ◌∷◌, length, if◌then◌else◌, ◌==◌, nat_lt, Option, Contains}
+use Rattle.std.specs.Prelude.{◌≡◌, ℕ, suc, Bool, ◌||◌, List, [], ◌∷◌, length, if◌then◌else◌, ◌==◌, nat_lt, Option, Some, None, Contains}
 use Rattle.std.specs.List.{list_any}
 use Rattle.trace_types.specs.Name.{Text}
 use Rattle.trace_types.specs.Rows.{History, last_event}
 use Rattle.trace_types.specs.declared.row.Kind.{Kind}
-use Rattle.trace_types.specs.declared.row.Kind.TheVariants.{Local}
+use Rattle.trace_types.specs.declared.row.Kind.TheVariants.{Local, Spawn, End, Join}
 use Rattle.trace_types.specs.declared.order.Order.{Order}
 use Rattle.trace_types.specs.declared.order.Order.TheVariants.{Same, Before, After, Concurrent}
 
@@ -20,9 +20,17 @@ increasing a b =
     else if a == b then a ∷ []
     else if nat_lt a b then a ∷ b ∷ [] else b ∷ a ∷ []
 
--- the event beside the acting task's last one that a report of this kind follows, or 0
+-- the last event of the task that is named, or 0
+abbrev pub last_of_named : History → Option Text → ℕ
+last_of_named history None = 0
+last_of_named history (Some name) = last_event history name
+
+-- the event beside the acting task's last one that a report of this kind follows, or 0: for a join the joined task's last
 abbrev pub second_event : History → Kind → Option Text → ℕ
 second_event history Local name = 0
+second_event history Spawn name = 0
+second_event history End name = 0
+second_event history Join name = last_of_named history name
 
 -- what a report follows: the acting task's last event and the second one
 abbrev pub predecessors : History → Text → Kind → Option Text → List ℕ

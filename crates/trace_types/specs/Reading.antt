@@ -3,7 +3,7 @@ use Rattle.std.specs.Prelude.{ℕ, ◌+◌, ◌-◌, ◌*◌, Bool, ◌&&◌, �
 use Rattle.std.specs.List.{list_all}
 use Rattle.trace_types.specs.Name.{Text, is_same, is_name, is_between}
 use Rattle.trace_types.specs.declared.request.Request.{Request}
-use Rattle.trace_types.specs.declared.request.Request.TheVariants.{Local, Order, Count}
+use Rattle.trace_types.specs.declared.request.Request.TheVariants.{Local, Spawn, End, Join, Order, Stamp, Task, Count}
 
 -- the byte at the front of the first word
 abbrev pub onto : ℕ → List Text → List Text
@@ -36,20 +36,36 @@ number_of text = if is_number text then Some (number_onto 0 text) else None
 abbrev pub name_of : Text → Option Text
 name_of text = if is_name text then Some text else None
 
--- a value of two, where there are both
-abbrev pub both : {A B C : Type 0} → (A → B → C) → Option A → Option B → Option C
-both make None b = None
-both make (Some a) b = option_map (make a) b
+-- both values, where there are both
+abbrev pub both : {A B : Type 0} → Option A → Option B → Option (A × B)
+both None b = None
+both (Some a) b = option_map (λ b. (a, b)) b
+
+-- what is read of one argument and no more
+abbrev pub only : {A : Type 0} → (Text → Option A) → List Text → Option A
+only read (word ∷ []) = read word
+only read arguments = None
+
+-- what is read of two arguments and no more
+abbrev pub only_two : {A : Type 0} → (Text → Option A) → List Text → Option (A × A)
+only_two read (word ∷ next ∷ []) = both (read word) (read next)
+only_two read arguments = None
 
 -- the request of one name and no more
 abbrev pub with_name : (Text → Request) → List Text → Option Request
-with_name make (name ∷ []) = option_map make (name_of name)
-with_name make arguments = None
+with_name make arguments = option_map make (only name_of arguments)
+
+-- the request of two names and no more
+abbrev pub with_names : (Text → Text → Request) → List Text → Option Request
+with_names make arguments = option_map (λ names. make names.0 names.1) (only_two name_of arguments)
+
+-- the request of one number and no more
+abbrev pub with_number : (ℕ → Request) → List Text → Option Request
+with_number make arguments = option_map make (only number_of arguments)
 
 -- the request of two numbers and no more
 abbrev pub with_numbers : (ℕ → ℕ → Request) → List Text → Option Request
-with_numbers make (a ∷ b ∷ []) = both make (number_of a) (number_of b)
-with_numbers make arguments = None
+with_numbers make arguments = option_map (λ numbers. make numbers.0 numbers.1) (only_two number_of arguments)
 
 -- the request that has no argument
 abbrev pub with_nothing : Request → List Text → Option Request
@@ -61,7 +77,12 @@ abbrev pub request_of_words : List Text → Option Request
 request_of_words [] = None
 request_of_words (keyword ∷ arguments) =
     if is_same keyword (codes "local") then with_name Local arguments
+    else if is_same keyword (codes "spawn") then with_names Spawn arguments
+    else if is_same keyword (codes "end") then with_name End arguments
+    else if is_same keyword (codes "join") then with_names Join arguments
     else if is_same keyword (codes "order") then with_numbers Order arguments
+    else if is_same keyword (codes "stamp") then with_number Stamp arguments
+    else if is_same keyword (codes "task") then with_name Task arguments
     else if is_same keyword (codes "count") then with_nothing Count arguments
     else None
 

@@ -1,11 +1,13 @@
 -- What the accepted rows of one tenant say, found by search. A history is the rows, the newest first,
 -- so the event number of its first row is the length of the history.
-use Rattle.std.specs.Prelude.{ℕ, suc, ◌+◌, Bool, false, ◌||◌, ◌&&◌, List, [], ◌∷◌, length, reverse, Option, Some, None, if◌then◌else◌, ◌==◌, nat_lt, count_by}
+use Rattle.std.specs.Prelude.{ℕ, suc, ◌+◌, Bool, true, false, ◌||◌, ◌&&◌, List, [], ◌∷◌, length, reverse, Option, Some, None, if◌then◌else◌, ◌==◌, nat_lt, count_by}
 use Rattle.std.specs.List.{list_any}
 use Rattle.trace_types.specs.Name.{Text, is_same, root}
 use Rattle.trace_types.specs.declared.row.Row.{Row}
 use Rattle.trace_types.specs.declared.row.Kind.{Kind}
-use Rattle.trace_types.specs.declared.row.Kind.TheVariants.{Local}
+use Rattle.trace_types.specs.declared.row.Kind.TheVariants.{Local, Spawn, End, Join}
+use Rattle.trace_types.specs.declared.task_state.TaskState.{TaskState}
+use Rattle.trace_types.specs.declared.task_state.TaskState.TheVariants.{Live, Ended, Joined}
 
 abbrev pub History : Type 0
 History = List Row
@@ -17,10 +19,30 @@ history_of rows = reverse rows
 -- whether a report of this kind starts the task that it names
 abbrev pub starts_task : Kind → Bool
 starts_task Local = false
+starts_task Spawn = true
+starts_task End = false
+starts_task Join = false
+
+-- whether a report of this kind ends its task
+abbrev pub ends_task : Kind → Bool
+ends_task Local = false
+ends_task Spawn = false
+ends_task End = true
+ends_task Join = false
+
+-- whether a report of this kind takes the task in that it names
+abbrev pub joins_task : Kind → Bool
+joins_task Local = false
+joins_task Spawn = false
+joins_task End = false
+joins_task Join = true
 
 -- whether a report of this kind sends the message that it names
 abbrev pub sends_message : Kind → Bool
 sends_message Local = false
+sends_message Spawn = false
+sends_message End = false
+sends_message Join = false
 
 -- whether the row names the task or message beside its acting task
 abbrev pub names : Row → Text → Bool
@@ -34,6 +56,14 @@ names row name = names_in row.name name
 abbrev pub starts : Text → Row → Bool
 starts task row = starts_task row.kind && names row task
 
+-- whether the row is the report that ended the task
+abbrev pub ends : Text → Row → Bool
+ends task row = ends_task row.kind && is_same row.task task
+
+-- whether the row is the report that took the task in
+abbrev pub joins : Text → Row → Bool
+joins task row = joins_task row.kind && names row task
+
 -- whether the row is an event of the task
 abbrev pub is_of : Text → Row → Bool
 is_of task row = is_same row.task task
@@ -41,6 +71,18 @@ is_of task row = is_same row.task task
 -- `root`, and each task that some row started
 abbrev pub is_known : History → Text → Bool
 is_known history task = is_same task root || list_any (starts task) history
+
+-- the task has ended; perhaps it was joined since
+abbrev pub is_ended : History → Text → Bool
+is_ended history task = list_any (ends task) history
+
+-- some task has joined it
+abbrev pub is_joined : History → Text → Bool
+is_joined history task = list_any (joins task) history
+
+-- how far the task has come
+abbrev pub state_of : History → Text → TaskState
+state_of history task = if is_joined history task then Joined else if is_ended history task then Ended else Live
 
 -- the newest event whose row passes the test, or 0
 abbrev pub newest : (Row → Bool) → History → ℕ

@@ -1,9 +1,10 @@
 -- One tenant by itself: what it is, and what a request does.
-use Rattle.std.specs.Prelude.{◌≡◌, suc, Bool, true, false, IsTrue, List, [], ◌∷◌, ◌++◌, length, Option, Some, None, ◌⊎◌, if◌then◌else◌}
+use Rattle.std.specs.Prelude.{◌≡◌, suc, Bool, true, false, not, IsTrue, List, [], ◌∷◌, ◌++◌, length, Option, Some, None, ◌⊎◌, if◌then◌else◌}
 use Rattle.std.specs.List.{AllByRecursion}
 use Rattle.trace_types.specs.Name.{Text}
 use Rattle.trace_types.specs.Limits.{Limits}
-use Rattle.trace_types.specs.Rows.{History, history_of, task_count, message_count}
+use Rattle.trace_types.specs.Rows.{History, history_of, state_of, last_event, task_count, message_count}
+use Rattle.trace_types.specs.Stamps.{stamp_text_of}
 use Rattle.trace_types.specs.Reachability.{predecessors, order_of}
 use Rattle.trace_types.specs.Refusal.{refusal_of}
 use Rattle.trace_types.specs.Text.{CanBeWritten}
@@ -13,7 +14,7 @@ use Rattle.trace_types.specs.declared.row.Row.{Row}
 use Rattle.trace_types.specs.declared.row.Kind.{Kind}
 use Rattle.trace_types.specs.declared.row.Kind.TheVariants as kind
 use Rattle.trace_types.specs.declared.request.Request.{Request}
-use Rattle.trace_types.specs.declared.request.Request.TheVariants.{Local, Order, Count}
+use Rattle.trace_types.specs.declared.request.Request.TheVariants.{Local, Spawn, End, Join, Order, Stamp, Task, Count}
 use Rattle.trace_types.specs.declared.reply.Reply.{Reply}
 use Rattle.trace_types.specs.declared.reply.Reply.TheVariants as reply
 
@@ -30,10 +31,19 @@ fresh limits = record { limits = limits; rows = [] }
 abbrev pub row_after : History → Text → Kind → Option Text → Row
 row_after history task kind name = record { task = task; kind = kind; name = name; preds = predecessors history task kind name }
 
+-- the answer to a report, and its row
+abbrev pub accepted : History → Text → Kind → Option Text → Reply × Option Row
+accepted history task kind name = (reply.Accepted (suc (length history)), Some (row_after history task kind name))
+
 -- what a request that is not refused is answered, and the row that it adds where it is a report
 abbrev pub answer_to : History → Request → Reply × Option Row
-answer_to history (Local task) = (reply.Accepted (suc (length history)), Some (row_after history task kind.Local None))
+answer_to history (Local task) = accepted history task kind.Local None
+answer_to history (Spawn task child) = accepted history task kind.Spawn (Some child)
+answer_to history (End task) = accepted history task kind.End None
+answer_to history (Join task child) = accepted history task kind.Join (Some child)
 answer_to history (Order a b) = (reply.Ordering (order_of history a b), None)
+answer_to history (Stamp event) = (reply.Stamp (stamp_text_of history event), None)
+answer_to history (Task task) = (reply.Task (state_of history task) (last_event history task), None)
 answer_to history Count = (reply.Count (length history) (task_count history) (message_count history), None)
 
 -- the tenant with one row more, where there is one
@@ -69,7 +79,12 @@ AreLegal limits rows =
 -- whether the request reports something
 abbrev pub is_report : Request → Bool
 is_report (Local task) = true
+is_report (Spawn task child) = true
+is_report (End task) = true
+is_report (Join task child) = true
 is_report (Order a b) = false
+is_report (Stamp event) = false
+is_report (Task task) = false
 is_report Count = false
 
 -- the reply where reports are not taken
@@ -79,7 +94,12 @@ reply_to_view tenant request = if is_report request then reply.Refused ViewOnly 
 -- whether want of memory may be the answer to the request
 abbrev pub may_lack_memory : Request → Bool
 may_lack_memory (Local task) = true
+may_lack_memory (Spawn task child) = true
+may_lack_memory (End task) = true
+may_lack_memory (Join task child) = true
 may_lack_memory (Order a b) = false
+may_lack_memory (Stamp event) = true
+may_lack_memory (Task task) = false
 may_lack_memory Count = false
 
 -- Want of memory may be the answer: the request may lack memory, and is not refused.
@@ -91,3 +111,9 @@ MayLackMemory tenant request =
 abbrev pub Steps : Tenant → Request → Reply → Tenant → Type 0
 Steps old request answer new =
     (step old request ≡ (answer, new)) ⊎ (MayLackMemory old request × (answer ≡ reply.Refused NoMemory) × (new ≡ old))
+
+-- The request was answered where reports are not taken; or want of memory was, where that may be.
+abbrev pub Answers : Tenant → Request → Reply → Type 0
+Answers tenant request answer =
+    (answer ≡ reply_to_view tenant request)
+    ⊎ (IsTrue (not (is_report request)) × MayLackMemory tenant request × (answer ≡ reply.Refused NoMemory))

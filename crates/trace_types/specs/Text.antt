@@ -5,6 +5,8 @@ use Rattle.trace_types.specs.Name.{Text, is_name}
 use Rattle.trace_types.specs.Code.{code_number, code_text}
 use Rattle.trace_types.specs.declared.order.Order.{Order}
 use Rattle.trace_types.specs.declared.order.Order.TheVariants.{Same, Before, After, Concurrent}
+use Rattle.trace_types.specs.declared.task_state.TaskState.{TaskState}
+use Rattle.trace_types.specs.declared.task_state.TaskState.TheVariants.{Live, Ended, Joined}
 use Rattle.trace_types.specs.declared.request.Request.{Request}
 use Rattle.trace_types.specs.declared.request.Request.TheVariants as request
 use Rattle.trace_types.specs.declared.reply.Reply.{Reply}
@@ -17,17 +19,30 @@ order_text Before = codes "before"
 order_text After = codes "after"
 order_text Concurrent = codes "concurrent"
 
+-- how far a task has come, in a word
+abbrev pub state_text : TaskState → Text
+state_text Live = codes "live"
+state_text Ended = codes "ended"
+state_text Joined = codes "joined"
+
 -- a reply without its end of line
 abbrev pub reply_text : Reply → Text
 reply_text (reply.Accepted event) = codes "201 " ++ decimal event
 reply_text (reply.Ordering order) = codes "200 " ++ order_text order
+reply_text (reply.Stamp text) = codes "200 " ++ text
+reply_text (reply.Task state last) = codes "200 " ++ state_text state ++ codes " " ++ decimal last
 reply_text (reply.Count events tasks messages) = codes "200 " ++ decimal events ++ codes " " ++ decimal tasks ++ codes " " ++ decimal messages
 reply_text (reply.Refused code) = decimal (code_number code) ++ codes " " ++ code_text code
 
 -- a request without its end of line
 abbrev pub request_text : Request → Text
 request_text (request.Local task) = codes "local " ++ task
+request_text (request.Spawn task child) = codes "spawn " ++ task ++ codes " " ++ child
+request_text (request.End task) = codes "end " ++ task
+request_text (request.Join task child) = codes "join " ++ task ++ codes " " ++ child
 request_text (request.Order a b) = codes "order " ++ decimal a ++ codes " " ++ decimal b
+request_text (request.Stamp event) = codes "stamp " ++ decimal event
+request_text (request.Task task) = codes "task " ++ task
 request_text request.Count = codes "count"
 
 -- what a number in a request may be: one to nine digits
@@ -37,7 +52,12 @@ IsNumber n = n < 10 ^ 9
 -- whether each part of the request can be written in a request
 abbrev pub CanBeWritten : Request → Type 0
 CanBeWritten (request.Local task) = IsTrue (is_name task)
+CanBeWritten (request.Spawn task child) = IsTrue (is_name task) × IsTrue (is_name child)
+CanBeWritten (request.End task) = IsTrue (is_name task)
+CanBeWritten (request.Join task child) = IsTrue (is_name task) × IsTrue (is_name child)
 CanBeWritten (request.Order a b) = IsNumber a × IsNumber b
+CanBeWritten (request.Stamp event) = IsNumber event
+CanBeWritten (request.Task task) = IsTrue (is_name task)
 CanBeWritten request.Count = Unit {0}
 
 -- the line spells the request

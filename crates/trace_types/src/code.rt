@@ -2,6 +2,8 @@
 ghost use Rattle.std.specs.Prelude.{◌≡◌};
 ghost use Rattle.trace_types.specs.Code.{code_number, code_text};
 
+use crate::Memory;
+
 /// Why a request is refused. A refusal changes nothing of the tenant.
 #[derive(Clone, Copy, Debug, PartialEq, Eq)]
 pub enum Code {
@@ -98,6 +100,16 @@ impl Code {
             Code::SessionOver => "session over",
             Code::NoMemory => "no memory",
         }
+    }
+}
+
+impl From<Memory> for Code {
+    ghost use Rattle.trace_types.specs.declared.code.Code.TheVariants.{NoMemory};
+
+    ghost from_gives = { λ _ code. code ≡ NoMemory };
+
+    fn from(_refused: Memory) -> Code {
+        Code::NoMemory
     }
 }
 

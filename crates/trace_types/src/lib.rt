@@ -17,6 +17,7 @@ mod reply;
 mod request;
 mod row;
 mod task_state;
+mod text;
 mod world_fault;
 
 pub use code::Code;
@@ -30,4 +31,5 @@ pub use reply::Reply;
 pub use request::Request;
 pub use row::{Kind, Row};
 pub use task_state::TaskState;
+pub use text::Text;
 pub use world_fault::WorldFault;

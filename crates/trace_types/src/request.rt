@@ -7,8 +7,18 @@ use crate::Name;
 pub enum Request {
     /// Reports that the task did something by itself.
     Local(Name),
+    /// Reports that the first task starts the second, a new one.
+    Spawn(Name, Name),
+    /// Reports that the task ends.
+    End(Name),
+    /// Reports that the first task takes in the second, which has ended.
+    Join(Name, Name),
     /// Asks how the first event stands to the second.
     Order(u64, u64),
+    /// Asks for the stamp of the event.
+    Stamp(u64),
+    /// Asks for the state and the last event of the task.
+    Task(Name),
     /// Asks for the numbers of events, of tasks ever and of messages.
     Count,
 }

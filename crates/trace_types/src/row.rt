@@ -8,6 +8,12 @@ use crate::{Name, Preds};
 pub enum Kind {
     /// The task did something by itself.
     Local,
+    /// The task started a new one, which is named.
+    Spawn,
+    /// The task ended.
+    End,
+    /// The task took in an ended one, which is named.
+    Join,
 }
 
 /// An accepted report, which is one event. Event k is the k-th row of its tenant, from 1.

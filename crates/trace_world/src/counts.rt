@@ -42,7 +42,9 @@ impl Counts {
         match reply {
             Reply::Accepted(_) => self.accepted += 1,
             Reply::Refused(_) => self.refused += 1,
-            Reply::Ordering(_) | Reply::Count(..) => self.answered += 1,
+            Reply::Ordering(_) | Reply::Stamp(_) | Reply::Task(..) | Reply::Count(..) => {
+                self.answered += 1;
+            }
         }
     }
 }

@@ -1,7 +1,7 @@
 //! Filling a tree below an id.
 ghost use Rattle.std.specs.Prelude.{◌≡◌, IfOk};
 ghost use Rattle.event_tree.specs.Changes.{is_flattened, fill_changes};
-ghost use Rattle.event_tree.specs.Fill.{fill};
+ghost use Rattle.trace_types.specs.Fill.{fill};
 
 use super::{EvTree, Node};
 use id_tree::{IdTree, Parts as IdParts};

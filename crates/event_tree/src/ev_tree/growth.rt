@@ -1,12 +1,13 @@
 //! Growing a tree below an id at the least cost.
 ghost use Rattle.std.specs.Prelude.{◌≡◌, ◌+◌, ◌^◌, ◌<◌, ◌⊎◌, false, Some, IfOk, IfSome, IfNone};
-ghost use Rattle.event_tree.specs.EventTree.{Leaf, maximum, IsNormal};
-ghost use Rattle.event_tree.specs.Grow.{root, left_of, right_of, expansion, is_less, is_cheaper, cheaper, dearer, cost};
+ghost use Rattle.trace_types.specs.EventTree.{Leaf, maximum, IsNormal};
+ghost use Rattle.trace_types.specs.Grow.{root, left_of, right_of, expansion, is_less, is_cheaper, cheaper, dearer, cost};
 ghost use Rattle.event_tree.specs.GrownFor.{grown_for};
 
 use super::{EvTree, Node};
 use id_tree::{IdTree, Parts as IdParts};
 use std::alloc::Global;
+use std::marker::Model;
 use trace_types::Memory;
 
 /// What growing a tree costs: numbers made nodes, and steps down.
@@ -14,6 +15,16 @@ use trace_types::Memory;
 pub(super) struct Cost {
     expansions: u64,
     steps: u64,
+}
+
+impl Model for Cost {
+    ghost use Rattle.trace_types.specs.Grow.{Cost as Price};
+
+    ghost Value = { Price };
+
+    ghost view = { λ c. record { expansions = c.expansions; steps = c.steps } };
+
+    ghost inverse = { λ c. record { expansions = c.expansions; steps = c.steps } };
 }
 
 impl Cost {

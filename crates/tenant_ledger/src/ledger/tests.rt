@@ -1,14 +1,37 @@
 use super::*;
 use std::process::Abort;
 use std::test::Fail;
-use trace_types::Order;
+use trace_types::{Kind, Order, TaskState};
+
+fn name(rt: &impl Abort, text: &str) -> Name {
+    Name::read(text.as_bytes()).expect(rt, text)
+}
 
 fn local(rt: &impl Abort, task: &str) -> Request {
-    Request::Local(Name::read(task.as_bytes()).expect(rt, task))
+    Request::Local(name(rt, task))
+}
+
+fn spawn(rt: &impl Abort, task: &str, child: &str) -> Request {
+    Request::Spawn(name(rt, task), name(rt, child))
+}
+
+fn end(rt: &impl Abort, task: &str) -> Request {
+    Request::End(name(rt, task))
+}
+
+fn join(rt: &impl Abort, task: &str, child: &str) -> Request {
+    Request::Join(name(rt, task), name(rt, child))
+}
+
+fn task(rt: &impl Abort, task: &str) -> Request {
+    Request::Task(name(rt, task))
 }
 
 fn is_query(request: Request) -> bool {
-    !matches!(request, Request::Local(_))
+    !matches!(
+        request,
+        Request::Local(_) | Request::Spawn(..) | Request::End(_) | Request::Join(..)
+    )
 }
 
 #[test]
@@ -54,6 +77,85 @@ fn a_tenant_with_all_its_events_takes_no_more(rt: HostRuntime) -> Result<(), Fai
     Ok(())
 }
 
+/// `root` starts `a`, which starts `b`; both end, and `root` joins `b` and then `a`.
+fn family(rt: &impl Abort) -> [Request; 7] {
+    [
+        spawn(rt, "root", "a"),
+        spawn(rt, "a", "b"),
+        local(rt, "root"),
+        end(rt, "b"),
+        end(rt, "a"),
+        join(rt, "root", "b"),
+        join(rt, "root", "a"),
+    ]
+}
+
+#[test]
+fn tasks_are_ordered_by_what_they_started_and_joined(rt: HostRuntime) -> Result<(), Fail> {
+    let mut ledger = Ledger::new(rt.alloc(), Limits::default())?;
+    for (report, event) in family(&rt).iter().zip([1, 2, 3, 4, 5, 6, 7]) {
+        assert_eq!(rt; ledger.report(report), Reply::Accepted(event));
+    }
+    for (query, reply) in [
+        (Request::Order(3, 4), Reply::Ordering(Order::Concurrent)),
+        (Request::Order(4, 5), Reply::Ordering(Order::Concurrent)),
+        (Request::Order(5, 6), Reply::Ordering(Order::Concurrent)),
+        (Request::Order(2, 6), Reply::Ordering(Order::Before)),
+        (Request::Order(7, 5), Reply::Ordering(Order::After)),
+        (task(&rt, "root"), Reply::Task(TaskState::Live, 7)),
+        (task(&rt, "a"), Reply::Task(TaskState::Joined, 5)),
+        (task(&rt, "b"), Reply::Task(TaskState::Joined, 4)),
+        (task(&rt, "c"), Reply::Refused(Code::NoTask)),
+        (Request::Count, Reply::Count(7, 3, 0)),
+    ] {
+        assert_eq!(rt; ledger.report(&query), reply, "{query:?}");
+        assert_eq!(rt; ledger.ask(&query), reply, "a view of {query:?}");
+    }
+    Ok(())
+}
+
+#[test]
+fn a_row_follows_the_last_events_of_its_task_and_of_the_one_it_joins(
+    rt: HostRuntime,
+) -> Result<(), Fail> {
+    let mut ledger = Ledger::new(rt.alloc(), Limits::default())?;
+    for report in family(&rt).iter() {
+        let _ = ledger.report(report);
+    }
+    let follows: [&[u64]; 7] = [&[], &[1], &[1], &[2], &[2], &[3, 4], &[5, 6]];
+    assert_eq!(rt; ledger.rows().len(), follows.len());
+    for (row, preds) in ledger.rows().iter().zip(follows) {
+        assert_eq!(rt; row.preds.as_slice(), preds, "{:?}", row.kind);
+    }
+    Ok(())
+}
+
+#[test]
+fn a_report_is_refused_with_the_first_code_that_is_due(rt: HostRuntime) -> Result<(), Fail> {
+    let limits = Limits::read(3, 2, 1).ok_or("limits")?;
+    let mut ledger = Ledger::new(rt.alloc(), limits)?;
+    for (request, reply) in [
+        (spawn(&rt, "root", "root"), Reply::Refused(Code::TaskExists)),
+        (join(&rt, "root", "root"), Reply::Refused(Code::NotEnded)),
+        (join(&rt, "root", "a"), Reply::Refused(Code::NoTask)),
+        (spawn(&rt, "root", "a"), Reply::Accepted(1)),
+        (task(&rt, "a"), Reply::Task(TaskState::Live, 1)),
+        (end(&rt, "a"), Reply::Accepted(2)),
+        (end(&rt, "a"), Reply::Refused(Code::TaskEnded)),
+        (spawn(&rt, "a", "a"), Reply::Refused(Code::TaskEnded)),
+        (join(&rt, "a", "b"), Reply::Refused(Code::TaskEnded)),
+        (join(&rt, "root", "a"), Reply::Accepted(3)),
+        (join(&rt, "root", "a"), Reply::Refused(Code::AlreadyJoined)),
+        (join(&rt, "root", "root"), Reply::Refused(Code::NotEnded)),
+        (spawn(&rt, "root", "b"), Reply::Refused(Code::TasksFull)),
+        (end(&rt, "root"), Reply::Refused(Code::EventsFull)),
+        (Request::Count, Reply::Count(3, 2, 0)),
+    ] {
+        assert_eq!(rt; ledger.report(&request), reply, "{request:?}");
+    }
+    Ok(())
+}
+
 #[test]
 fn each_row_follows_the_row_before_it_and_no_other(rt: HostRuntime) -> Result<(), Fail> {
     let mut ledger = Ledger::new(rt.alloc(), Limits::default())?;
@@ -71,7 +173,7 @@ fn each_row_follows_the_row_before_it_and_no_other(rt: HostRuntime) -> Result<()
     Ok(())
 }
 
-/// It passes also where an allocation fails.
+/// It passes also where an allocation fails once the ledger is made.
 #[test]
 fn a_report_that_finds_no_memory_counts_as_not_asked(rt: HostRuntime) -> Result<(), Fail> {
     let mut ledger = Ledger::new(rt.alloc(), Limits::default())?;
@@ -89,5 +191,20 @@ fn a_report_that_finds_no_memory_counts_as_not_asked(rt: HostRuntime) -> Result<
         );
         assert_eq!(rt; ledger.rows().len(), events);
     }
+    Ok(())
+}
+
+/// It passes also where an allocation fails once the ledger is made.
+#[test]
+fn a_spawn_or_join_that_finds_no_memory_changes_nothing(rt: HostRuntime) -> Result<(), Fail> {
+    let mut ledger = Ledger::new(rt.alloc(), Limits::default())?;
+    for (report, event) in family(&rt).iter().zip([1, 2, 3, 4, 5, 6, 7]) {
+        let mut reply = ledger.report(report);
+        if reply == Reply::Refused(Code::NoMemory) {
+            reply = ledger.report(report);
+        }
+        assert_eq!(rt; reply, Reply::Accepted(event), "{report:?}");
+    }
+    assert_eq!(rt; ledger.ask(&Request::Count), Reply::Count(7, 3, 0));
     Ok(())
 }

@@ -91,10 +91,10 @@ impl Write for Output {
     }
 }
 
-/// A world of one tenant, `x`.
-fn world_of_x(alloc: Global, events: u64) -> Result<World, Fail> {
+/// A world of one tenant, `x`, that may have so many events and tasks.
+fn world_of_x(alloc: Global, events: u64, tasks: u64) -> Result<World, Fail> {
     let name = Name::read(b"x").ok_or("no name")?;
-    let limits = Limits::read(events, 512, 2048).ok_or("no limits")?;
+    let limits = Limits::read(events, tasks, 2048).ok_or("no limits")?;
     Ok(World::new(alloc, &[name], limits)?)
 }
 
@@ -142,14 +142,14 @@ fn odd_lines(alloc: Global) -> Result<Vec<u8>, Fail> {
 /// The replies to these lines, however they come and go.
 fn answers<R: Abort + AllocGlobal>(
     rt: &R,
-    events: u64,
+    (events, tasks): (u64, u64),
     input: &[u8],
     want: &str,
     counts: Counts,
 ) -> Result<(), Fail> {
     for reader in [Pace::AT_ONCE, Pace::BYTE_BY_BYTE] {
         for writer in [Pace::AT_ONCE, Pace::BYTE_BY_BYTE] {
-            let mut world = world_of_x(rt.alloc(), events)?;
+            let mut world = world_of_x(rt.alloc(), events, tasks)?;
             let run = replay_bytes(rt, &mut world, input, reader, writer)?;
             assert_eq!(rt; run.text.as_str(), want);
             assert_eq!(rt; run.outcome, Ok(counts), "on {want}");
@@ -161,7 +161,7 @@ fn answers<R: Abort + AllocGlobal>(
 
 #[test]
 fn empty_input_has_empty_output(rt: HostRuntime) -> Result<(), Fail> {
-    answers(&rt, 4096, b"", "", Counts::none())
+    answers(&rt, (4096, 512), b"", "", Counts::none())
 }
 
 #[test]
@@ -174,13 +174,13 @@ fn a_line_that_is_no_request_is_refused_in_its_place(rt: HostRuntime) -> Result<
         answered: 1,
         refused: 6,
     };
-    answers(&rt, 4096, &odd_lines(rt.alloc())?, want, counts)
+    answers(&rt, (4096, 512), &odd_lines(rt.alloc())?, want, counts)
 }
 
 #[test]
 fn requests_get_the_replies_of_their_tenant(rt: HostRuntime) -> Result<(), Fail> {
     let input =
-        b"x local root\nx local root\nx order 1 2\nx order 2 1\nx order 3 1\nx local q\nx spawn root a\n";
+        b"x local root\nx local root\nx order 1 2\nx order 2 1\nx order 3 1\nx local q\nx send root m\n";
     let want =
         "x 201 1\nx 201 2\nx 200 before\nx 200 after\nx 404 no event\nx 401 no task\nx 400 line\n";
     let counts = Counts {
@@ -189,7 +189,7 @@ fn requests_get_the_replies_of_their_tenant(rt: HostRuntime) -> Result<(), Fail>
         answered: 2,
         refused: 3,
     };
-    answers(&rt, 4096, input, want, counts)
+    answers(&rt, (4096, 512), input, want, counts)
 }
 
 #[test]
@@ -203,11 +203,75 @@ fn no_event_is_accepted_above_the_limit(rt: HostRuntime) -> Result<(), Fail> {
     };
     answers(
         &rt,
-        2,
+        (2, 512),
         input,
         "x 201 1\nx 201 2\nx 413 events full\n",
         counts,
     )
+}
+
+#[test]
+fn tasks_come_and_go_and_are_ordered_by_what_they_know(rt: HostRuntime) -> Result<(), Fail> {
+    let input = b"x local root\nx stamp 1\nx spawn root a\nx stamp 2\nx local a\nx local root\n\
+        x order 3 4\nx stamp 3\nx stamp 4\nx end a\nx join root a\nx stamp 5\nx stamp 6\n\
+        x order 4 5\nx order 5 6\nx task a\nx count\n";
+    let want = "x 201 1\nx 200 [1;1]\nx 201 2\nx 200 [(1,0);2]\nx 201 3\nx 201 4\n\
+        x 200 concurrent\nx 200 [(0,1);(2,0,1)]\nx 200 [(1,0);(2,1,0)]\nx 201 5\nx 201 6\n\
+        x 200 [(0,1);(2,0,2)]\nx 200 [1;4]\nx 200 concurrent\nx 200 before\nx 200 joined 5\n\
+        x 200 6 2 0\n";
+    let counts = Counts {
+        lines: 17,
+        accepted: 6,
+        answered: 11,
+        refused: 0,
+    };
+    answers(&rt, (4096, 512), input, want, counts)
+}
+
+#[test]
+fn equal_costs_grow_to_the_right(rt: HostRuntime) -> Result<(), Fail> {
+    let input = b"x spawn root a\nx spawn root b\nx spawn a c\nx end a\nx join root a\n\
+        x stamp 2\nx stamp 3\nx stamp 4\nx stamp 5\n";
+    let want = "x 201 1\nx 201 2\nx 201 3\nx 201 4\nx 201 5\nx 200 [((1,0),0);(1,1,0)]\n\
+        x 200 [(0,(1,0));(1,0,1)]\nx 200 [(0,(1,0));(1,0,(1,1,0))]\n\
+        x 200 [((1,0),(1,0));(2,0,(0,2,0))]\n";
+    let counts = Counts {
+        lines: 9,
+        accepted: 5,
+        answered: 4,
+        refused: 0,
+    };
+    answers(&rt, (4096, 512), input, want, counts)
+}
+
+#[test]
+fn a_refused_spawn_or_report_of_an_ended_task_changes_nothing(rt: HostRuntime) -> Result<(), Fail> {
+    let input = b"x spawn root a\nx end root\nx local root\nx task root\nx count\n";
+    let want = "x 414 tasks full\nx 201 1\nx 403 task ended\nx 200 ended 1\nx 200 1 1 0\n";
+    let counts = Counts {
+        lines: 5,
+        accepted: 1,
+        answered: 2,
+        refused: 2,
+    };
+    answers(&rt, (4096, 1), input, want, counts)
+}
+
+#[test]
+fn each_refusal_of_a_join_or_spawn_is_the_first_that_is_due(rt: HostRuntime) -> Result<(), Fail> {
+    let input = b"x spawn root root\nx join root q\nx join root root\nx spawn root a\nx end a\n\
+        x join root a\nx join root a\nx local a\nx spawn a b\nx spawn q a\nx end q\nx task q\n\
+        x stamp 0\nx stamp 4\nx count\n";
+    let want = "x 402 task exists\nx 401 no task\nx 408 not ended\nx 201 1\nx 201 2\nx 201 3\n\
+        x 409 already joined\nx 403 task ended\nx 403 task ended\nx 401 no task\nx 401 no task\n\
+        x 401 no task\nx 404 no event\nx 404 no event\nx 200 3 2 0\n";
+    let counts = Counts {
+        lines: 15,
+        accepted: 3,
+        answered: 1,
+        refused: 11,
+    };
+    answers(&rt, (3, 512), input, want, counts)
 }
 
 /// What a replay leaves that a fault cut short, and what the tenant counts afterwards.
@@ -219,7 +283,7 @@ fn stops<R: Abort + AllocGlobal>(
     want: &str,
     count: &str,
 ) -> Result<(), Fail> {
-    let mut world = world_of_x(rt.alloc(), 4096)?;
+    let mut world = world_of_x(rt.alloc(), 4096, 512)?;
     let input = b"x local root\nx local root\n";
     let cut = replay_bytes(rt, &mut world, input, reader, writer)?;
     assert_eq!(rt; cut.outcome, Err(fault));

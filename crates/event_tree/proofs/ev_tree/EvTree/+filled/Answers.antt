@@ -1,7 +1,7 @@
 use Rattle.std.proofs.Common.{ap, arith}
 use Rattle.std.proofs.lemmas.Bool.{false≢true}
-use Rattle.event_tree.specs.EventTree.{maximum}
-use Rattle.event_tree.specs.Fill.{fill}
+use Rattle.trace_types.specs.EventTree.{maximum}
+use Rattle.trace_types.specs.Fill.{fill}
 use Rattle.event_tree.proofs.Bounds.{minimum-le-maximum}
 use Rattle.event_tree.proofs.Filled.{maximum-fill-le, node_filled-both}
 use Rattle.event_tree.proofs.ev_tree.EvTree.+filled.Goals as goal

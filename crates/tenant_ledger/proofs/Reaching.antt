@@ -1,0 +1,151 @@
+-- Which events reach the new one and which the others, and that reaching goes forward.
+use Rattle.std.proofs.Common.{◌≡◌, ◌≢◌, ◌⊎◌, ℕ, suc, ◌<◌, ◌≤◌, Bool, true, false, eqb, ltb, List, [], ◌∷◌, length, refl, sym, ap, ◌∙◌, subst, inl, inr, arith}
+use Rattle.std.specs.List.{list_any}
+use Rattle.std.proofs.lemmas.Bool.{false≢true, eq-eqb, eqb-true, cases_eq, cond_both, or_cases, or_left, or_right}
+use Rattle.trace_types.specs.Rows.{History, last_event}
+use Rattle.trace_types.specs.Reachability.{event_or_none, increasing, second_event, predecessors, reaches}
+use Rattle.trace_types.specs.declared.row.Row.{Row}
+use Rattle.trace_types.proofs.Reachability.{last_event-le, second_event-le, reaches_newest, reaches_earlier}
+
+-- the event that a row adds
+abbrev pub new_event : History → ℕ
+new_event earlier = suc (length earlier)
+
+-- the last event of the row's task
+abbrev pub first_of : Row → History → ℕ
+first_of row earlier = last_event earlier row.task
+
+-- the event beside it that the row follows
+abbrev pub second_of : Row → History → ℕ
+second_of row earlier = second_event earlier row.kind row.name
+
+-- the row follows the event, or there is none
+abbrev pub Follows : Row → History → ℕ → Type 0
+Follows row earlier event = (event ≡ first_of row earlier) ⊎ (event ≡ second_of row earlier)
+
+pub followed-le : (row : Row) (earlier : History) (event : ℕ) → Follows row earlier event → event ≤ length earlier
+followed-le row earlier event (inl first) = omega (arith, first, last_event-le earlier row.task)
+followed-le row earlier event (inr second) = omega (arith, second, second_event-le earlier row.kind row.name)
+
+-- a test that holds of one event or none holds of that one
+of_event_or_none : (test : ℕ → Bool) (event : ℕ) → list_any test (event_or_none event) ≡ true → test event ≡ true
+of_event_or_none test event =
+    cond_both (eqb event 0) [] (event ∷ []) (λ events. list_any test events ≡ true → test event ≡ true) (λ _ never. absurd (false≢true never))
+    (λ _ any. elim (or_cases (test event) false any) [ inl holds ↦ holds | inr never ↦ absurd (false≢true never) ])
+
+of_pair : (test : ℕ → Bool) (a b : ℕ) → list_any test (a ∷ b ∷ []) ≡ true → (test a ≡ true) ⊎ (test b ≡ true)
+of_pair test a b any =
+    elim (or_cases (test a) (list_any test (b ∷ [])) any) [
+      | inl holds ↦ inl holds
+      | inr later ↦ inr (elim (or_cases (test b) false later) [ inl holds ↦ holds | inr never ↦ absurd (false≢true never) ])
+    ]
+
+-- a test that holds of some event among two numbers holds of one of the two
+of_increasing : (test : ℕ → Bool) (a b : ℕ) → list_any test (increasing a b) ≡ true → (test a ≡ true) ⊎ (test b ≡ true)
+of_increasing test a b =
+    let Splits = λ (events : List ℕ). list_any test events ≡ true → (test a ≡ true) ⊎ (test b ≡ true) in
+    cond_both (eqb a 0) _ _ Splits (λ _ any. inr (of_event_or_none test b any))
+    λ _. cond_both (eqb b 0) _ _ Splits (λ _ any. inl (of_event_or_none test a any))
+    λ _. cond_both (eqb a b) _ _ Splits (λ _ any. elim (or_cases (test a) false any) [ inl holds ↦ inl holds | inr never ↦ absurd (false≢true never) ])
+    λ _. cond_both (ltb a b) _ _ Splits (λ _ any. of_pair test a b any) (λ _ any. elim (of_pair test b a any) [ inl second ↦ inr second | inr first ↦ inl first ])
+
+any_of_event : (test : ℕ → Bool) (event : ℕ) → event ≢ 0 → test event ≡ true → list_any test (event_or_none event) ≡ true
+any_of_event test event some holds =
+    cond_both (eqb event 0) [] (event ∷ []) (λ events. list_any test events ≡ true) (λ zero. absurd (some (eqb-true event 0 zero)))
+    (λ _. or_left (test event) false holds)
+
+-- where a test holds of the first number, an event, it holds of some event among the two
+any_by_first : (test : ℕ → Bool) (a b : ℕ) → a ≢ 0 → test a ≡ true → list_any test (increasing a b) ≡ true
+any_by_first test a b some holds =
+    let Holds = λ (events : List ℕ). list_any test events ≡ true in
+    cond_both (eqb a 0) _ _ Holds (λ zero. absurd (some (eqb-true a 0 zero)))
+    λ _. cond_both (eqb b 0) _ _ Holds (λ _. any_of_event test a some holds)
+    λ _. cond_both (eqb a b) _ _ Holds (λ _. or_left (test a) false holds)
+    λ _. cond_both (ltb a b) _ _ Holds (λ _. or_left (test a) _ holds) (λ _. or_right (test b) _ (or_left (test a) false holds))
+
+-- and so it is with the second
+any_by_second : (test : ℕ → Bool) (a b : ℕ) → b ≢ 0 → test b ≡ true → list_any test (increasing a b) ≡ true
+any_by_second test a b some holds =
+    let Holds = λ (events : List ℕ). list_any test events ≡ true in
+    cond_both (eqb a 0) _ _ Holds (λ _. any_of_event test b some holds)
+    λ _. cond_both (eqb b 0) _ _ Holds (λ zero. absurd (some (eqb-true b 0 zero)))
+    λ _. cond_both (eqb a b) _ _ Holds (λ same. or_left (test a) false (ap test (eqb-true a b same) ∙ holds))
+    λ _. cond_both (ltb a b) _ _ Holds (λ _. or_right (test a) _ (or_left (test b) false holds)) (λ _. or_left (test b) _ holds)
+
+-- where a test holds of an event that the row follows, it holds of some predecessor
+any_by_followed : (test : ℕ → Bool) (row : Row) (earlier : History) (event : ℕ) → event ≢ 0 → Follows row earlier event → test event ≡ true
+    → list_any test (predecessors earlier row.task row.kind row.name) ≡ true
+any_by_followed test row earlier event some (inl first) holds =
+    any_by_first test (first_of row earlier) (second_of row earlier) (λ zero. some (first ∙ zero)) (ap test (sym first) ∙ holds)
+any_by_followed test row earlier event some (inr second) holds =
+    any_by_second test (first_of row earlier) (second_of row earlier) (λ zero. some (second ∙ zero)) (ap test (sym second) ∙ holds)
+
+-- the row follows an event that this one reaches
+abbrev pub ReachesFollowed : Row → History → ℕ → Type 0
+ReachesFollowed row earlier a = (event : ℕ) × Follows row earlier event × (reaches earlier a event ≡ true)
+
+reaches_followed : (row : Row) (earlier : History) (a : ℕ)
+    → list_any (λ event. reaches earlier a event) (predecessors earlier row.task row.kind row.name) ≡ true → ReachesFollowed row earlier a
+reaches_followed row earlier a any =
+    elim (of_increasing (λ event. reaches earlier a event) (first_of row earlier) (second_of row earlier) any) [
+      | inl first ↦ (first_of row earlier, inl refl, first)
+      | inr second ↦ (second_of row earlier, inr refl, second)
+    ]
+
+pub new_reaches_itself : (row : Row) (earlier : History) → reaches (row ∷ earlier) (new_event earlier) (new_event earlier) ≡ true
+new_reaches_itself row earlier =
+    reaches_newest row earlier (new_event earlier) (new_event earlier) refl ∙ or_left (eqb (new_event earlier) (new_event earlier)) _ (eq-eqb (new_event earlier) (new_event earlier) refl)
+
+-- the one number is the other, or the other is a later event
+abbrev pub IsAtOrBefore : History → ℕ → ℕ → Type 0
+IsAtOrBefore history a b = (a ≡ b) ⊎ ((a < b) × (b ≤ length history))
+
+at_or_before-lt : (history : History) (a b : ℕ) → b ≤ length history → IsAtOrBefore history a b → a < suc (length history)
+at_or_before-lt history a b within (inl same) = omega (arith, same)
+at_or_before-lt history a b within (inr before) = omega (arith, before.0)
+
+at_or_before_more : (row : Row) (earlier : History) (a b : ℕ) → IsAtOrBefore earlier a b → IsAtOrBefore (row ∷ earlier) a b
+at_or_before_more row earlier a b (inl same) = inl same
+at_or_before_more row earlier a b (inr before) = inr (before.0, omega (arith, before.1))
+
+-- an event that reaches another one comes before it
+pub reaches_forward : (history : History) (a b : ℕ) → reaches history a b ≡ true → IsAtOrBefore history a b
+reaches_forward [] a b reached = inl (sym (eqb-true b a reached))
+reaches_forward (row ∷ earlier) a b reached = at (cases_eq b (new_event earlier)) (reaches_forward earlier a)
+  where
+    from_new : b ≡ new_event earlier → ((event : ℕ) → reaches earlier a event ≡ true → IsAtOrBefore earlier a event)
+        → (eqb (new_event earlier) a ≡ true) ⊎ (list_any (λ event. reaches earlier a event) (predecessors earlier row.task row.kind row.name) ≡ true)
+        → IsAtOrBefore (row ∷ earlier) a b
+    from_new last known (inl same) = inl (sym (last ∙ eqb-true (new_event earlier) a same))
+    from_new last known (inr any) =
+        let found : ReachesFollowed row earlier a = reaches_followed row earlier a any in
+        let before : a < new_event earlier = at_or_before-lt earlier a found.0 (followed-le row earlier found.0 found.1) (known found.0 found.2) in
+        inr (omega (arith, before, last), omega (arith, last))
+
+    at : (b ≡ new_event earlier) ⊎ (b ≢ new_event earlier) → ((event : ℕ) → reaches earlier a event ≡ true → IsAtOrBefore earlier a event)
+        → IsAtOrBefore (row ∷ earlier) a b
+    at (inl last) known =
+        let reached_new : reaches (row ∷ earlier) a (new_event earlier) ≡ true = subst (λ event. reaches (row ∷ earlier) a event ≡ true) last reached in
+        from_new last known (or_cases (eqb (new_event earlier) a) _ (sym (reaches_newest row earlier a (new_event earlier) refl) ∙ reached_new))
+    at (inr older) known = at_or_before_more row earlier a b (known b (sym (reaches_earlier row earlier a b older) ∙ reached))
+
+-- no event reaches 0
+reaches_nothing : (history : History) (a b : ℕ) → a ≢ 0 → reaches history a b ≡ true → b ≢ 0
+reaches_nothing history a b some reached zero =
+    elim (reaches_forward history a b reached) [ inl same ↦ some (same ∙ zero) | inr before ↦ omega (arith, before.0, zero) ]
+
+-- what reaches the new event is itself, or reaches one that its row follows
+pub followed_from_reaches : (row : Row) (earlier : History) (a : ℕ) → a ≢ new_event earlier → reaches (row ∷ earlier) a (new_event earlier) ≡ true
+    → ReachesFollowed row earlier a
+followed_from_reaches row earlier a older reached =
+    elim (or_cases (eqb (new_event earlier) a) _ (sym (reaches_newest row earlier a (new_event earlier) refl) ∙ reached)) [
+      | inl same ↦ absurd (older (sym (eqb-true (new_event earlier) a same)))
+      | inr any ↦ reaches_followed row earlier a any
+    ]
+
+-- and an event that reaches one of those reaches the new one
+pub reaches_from_followed : (row : Row) (earlier : History) (a : ℕ) → a ≢ 0 → ReachesFollowed row earlier a
+    → reaches (row ∷ earlier) a (new_event earlier) ≡ true
+reaches_from_followed row earlier a some (event, follows, reached) =
+    reaches_newest row earlier a (new_event earlier) refl
+    ∙ or_right (eqb (new_event earlier) a) _ (any_by_followed (λ e. reaches earlier a e) row earlier event (reaches_nothing earlier a event some reached) follows reached)

@@ -1,0 +1,85 @@
+-- What one row more makes of the tasks: which are known and ended, and their last events.
+use Rattle.std.proofs.Common.{◌≡◌, ◌≢◌, suc, true, false, [], ◌∷◌, length, Option, Some, None, refl, sym, ◌∙◌, subst, inl, inr, arith}
+use Rattle.std.specs.List.{list_any}
+use Rattle.std.proofs.lemmas.Bool.{false≢true, cases_Bool, ne_eqb, or_parts, false_from_ne_true}
+use Rattle.trace_types.specs.Name.{Text, is_same, root}
+use Rattle.trace_types.specs.Rows.{History, newest, is_of, starts, ends, last_event, is_known, is_ended}
+use Rattle.trace_types.specs.declared.row.Row.{Row}
+use Rattle.trace_types.specs.declared.row.Kind.{Kind}
+use Rattle.trace_types.specs.declared.row.Kind.TheVariants.{Local, Spawn, End, Join}
+use Rattle.trace_types.proofs.Names.{is_same_iff}
+use Rattle.tenant_ledger.specs.Legal.{IsLive, Allows, IsLegal}
+
+-- whoever is allowed to report is live
+pub live_from_Allows : (history : History) (task : Text) (kind : Kind) (name : Option Text) → Allows history task kind name → IsLive history task
+live_from_Allows history task Local name allowed = allowed
+live_from_Allows history task Spawn None allowed = absurd allowed
+live_from_Allows history task Spawn (Some child) allowed = allowed.0
+live_from_Allows history task End name allowed = allowed
+live_from_Allows history task Join None allowed = absurd allowed
+live_from_Allows history task Join (Some child) allowed = allowed.0
+
+-- the acting task's last event is the new one
+pub last_event-acting : (row : Row) (earlier : History) (task : Text) → is_same row.task task ≡ true → last_event (row ∷ earlier) task ≡ suc (length earlier)
+last_event-acting row earlier task acts = rw (acts, ne_eqb (suc (length earlier)) 0 (λ zero. omega (arith, zero))) refl
+
+-- so is that of a task that the row starts
+pub last_event-started : (row : Row) (earlier : History) (task : Text) → is_same row.task task ≡ false → newest (is_of task) earlier ≡ 0
+    → starts task row ≡ true → last_event (row ∷ earlier) task ≡ suc (length earlier)
+last_event-started row earlier task other none starts_it = rw (other, none, starts_it) refl
+
+-- any other task keeps its last event
+pub last_event-bystander : (row : Row) (earlier : History) (task : Text) → is_same row.task task ≡ false → starts task row ≡ false
+    → last_event (row ∷ earlier) task ≡ last_event earlier task
+last_event-bystander row earlier task other not_started = rw (other, not_started) refl
+
+-- a task that the row does not start was known if it is
+pub was_known : (row : Row) (earlier : History) (task : Text) → starts task row ≡ false → is_known (row ∷ earlier) task ≡ true → is_known earlier task ≡ true
+was_known row earlier task not_started known = rw not_started at known
+
+-- and a task that has not ended had not
+pub had_not_ended : (row : Row) (earlier : History) (task : Text) → is_ended (row ∷ earlier) task ≡ false → is_ended earlier task ≡ false
+had_not_ended row earlier task not_ended = (or_parts (ends task row) (list_any (ends task) earlier) not_ended).1
+
+-- so a live task that the row does not start was live
+pub was_live : (row : Row) (earlier : History) (task : Text) → starts task row ≡ false → IsLive (row ∷ earlier) task → IsLive earlier task
+was_live row earlier task not_started live = (was_known row earlier task not_started live.0, had_not_ended row earlier task live.1)
+
+-- a task that is not known after a row was not known before it
+pub unwas_known : (row : Row) (earlier : History) (task : Text) → is_known (row ∷ earlier) task ≡ false → is_known earlier task ≡ false
+unwas_known row earlier task unknown =
+    let parts = or_parts (is_same task root) (list_any (starts task) (row ∷ earlier)) unknown in
+    rw (parts.0, (or_parts (starts task row) (list_any (starts task) earlier) parts.1).1) refl
+
+-- what is live is no task that is not known
+live_differs : (history : History) (task other : Text) → IsLive history task → is_known history other ≡ false → task ≢ other
+live_differs history task other live unknown same = false≢true (sym unknown ∙ subst (λ name. is_known history name ≡ true) same live.0)
+
+pub live_is_not_unknown : (history : History) (task other : Text) → IsLive history task → is_known history other ≡ false → is_same task other ≡ false
+live_is_not_unknown history task other live unknown =
+    false_from_ne_true (is_same task other) (λ same. live_differs history task other live unknown ((is_same_iff task other).0 same))
+
+-- nor one that has ended
+pub live_is_not_ended : (history : History) (task other : Text) → IsLive history task → is_ended history other ≡ true → is_same task other ≡ false
+live_is_not_ended history task other live ended =
+    false_from_ne_true (is_same task other)
+    (λ same. false≢true (sym live.1 ∙ subst (λ name. is_ended history name ≡ true) (sym ((is_same_iff task other).0 same)) ended))
+
+-- a task that is not known has no event
+pub unknown_has_no_event : (history : History) (task : Text) → IsLegal history → is_known history task ≡ false → newest (is_of task) history ≡ 0
+unknown_has_no_event [] task legal unknown = refl
+unknown_has_no_event (row ∷ earlier) task legal unknown =
+    let not_before : is_known earlier task ≡ false = unwas_known row earlier task unknown in
+    let live : IsLive earlier row.task = live_from_Allows earlier row.task row.kind row.name legal.0 in
+    rw (live_is_not_unknown earlier row.task task live not_before) (unknown_has_no_event earlier task legal.1 not_before)
+
+-- what holds of two tasks, and of each that is neither, holds of each task
+pub for_each_task : (P : Text → Type 0) (one other : Text) → P one → P other
+    → ((task : Text) → is_same one task ≡ false → is_same other task ≡ false → P task) → (task : Text) → P task
+for_each_task P one other of_one of_other of_neither task = elim (cases_Bool (is_same one task)) [
+  | inl same ↦ subst P ((is_same_iff one task).0 same) of_one
+  | inr not_one ↦ elim (cases_Bool (is_same other task)) [
+    | inl same ↦ subst P ((is_same_iff other task).0 same) of_other
+    | inr neither ↦ of_neither task not_one neither
+  ]
+]

@@ -1,0 +1,83 @@
+use Rattle.std.proofs.Common.{◌≡◌, ◌≤◌, ◌∷◌, [], Some, length, ◌++◌, sym, ap, ◌∙◌, arith, vec_capacity}
+use Rattle.std.proofs.lemmas.List.{length-append}
+use Rattle.std.proofs.lemmas.Option.{slice_get_within}
+use Rattle.indexmap.specs.IndexMap.{index_map_len}
+use Rattle.trace_types.specs.IdOperations.{split}
+use Rattle.trace_types.specs.Rows.{history_of}
+use Rattle.trace_types.specs.Tenant.{row_after}
+use Rattle.trace_types.specs.declared.row.Kind.TheVariants.{Spawn}
+use Rattle.trace_types.specs.declared.task_state.TaskState.TheVariants.{Live}
+use Rattle.tenant_ledger.specs.Ledger.{task_in, HasRoom}
+use Rattle.tenant_ledger.specs.declared.book.Kept.{Kept}
+use Rattle.tenant_ledger.proofs.Keeping.{stay-added, id-added}
+use Rattle.tenant_ledger.proofs.KeepingBook.{WasAdded, same_at_reserve, same_then_id, same_at_put, same_then_put, event_number, ids_same, first_put, first_count, adds_event}
+use Rattle.tenant_ledger.proofs.KeepingReports.{Has, last-le, live_id_some, known_fits, live_task, live_id}
+use Rattle.tenant_ledger.proofs.KeepingSpawn.{spawn_row, spawn_is_next}
+use Rattle.tenant_ledger.proofs.book.Book.forked.Goals as goal
+
+pub known-requires-clause-event : goal.known-requires-clause-event
+known-requires-clause-event c =
+    let has : Has Live c.args.self.now c.args.name c.args.task = record { is = c.requires.book; found = c.requires.task; state_is = c.requires.live } in
+    last-le has
+
+pub event-requires-clause-some : goal.event-requires-clause-some
+event-requires-clause-some c =
+    let has : Has Live c.args.self.now c.args.name c.args.task = record { is = c.requires.book; found = c.requires.task; state_is = c.requires.live } in
+    live_id_some has c.index.result.now c.index.ensures
+
+pub event-requires-clause-fits : goal.event-requires-clause-fits
+event-requires-clause-fits c =
+    let has : Has Live c.args.self.now c.args.name c.args.task = record { is = c.requires.book; found = c.requires.task; state_is = c.requires.live } in
+    known_fits has c.known.result.now c.known.ensures
+
+pub index-requires-2 : goal.index-requires-2
+index-requires-2 c =
+    let has : Has Live c.args.self.now c.args.name c.args.task = record { is = c.requires.book; found = c.requires.task; state_is = c.requires.live } in
+    let ids = c.args.self.now.ids in
+    omega (arith, slice_get_within ids.items c.args.task.id _ (live_task has).id, ids.ok.0)
+
+pub add_id-given-requires : goal.add_id-given-requires
+add_id-given-requires c =
+    let reserved = c.reserve.new.self.ids in
+    let with_kept = c.add_id-kept.new.self.ids in
+    let room : HasRoom c.reserve.new.self 1 = c.in_ok-reserve.ensures.room in
+    let longer : with_kept.items ≡ reserved.items ++ c.in_ok-kept.kept ∷ [] = c.add_id-kept.ensures.ids in
+    let wider : vec_capacity reserved ≤ vec_capacity with_kept = c.add_id-kept.ensures.room in
+    omega (arith, room.ids, wider, ap length longer, length-append reserved.items (c.in_ok-kept.kept ∷ []), reserved.ok.0, with_kept.ok.0)
+
+pub returns : goal.returns
+returns c =
+    let old = c.args.self.now in
+    let with_kept = c.add_id-kept.new.self in
+    let with_ids = c.add_id-given.new.self in
+    let with_child = c.put.new.self in
+    let new = c.put-2.new.self in
+    let kept = c.in_ok-kept.kept in
+    let given = c.in_ok-kept.given in
+    let has : Has Live old c.args.name c.args.task = record { is = c.requires.book; found = c.requires.task; state_is = c.requires.live } in
+    let stamp : Kept = record { tree = c.in_ok-tree.tree; id = c.add_id-kept.result } in
+    let was : WasAdded old with_ids c.add-last.new.self new c.next_row-row.result stamp c.add-last.result = record {
+      before = same_then_id (same_then_id (same_at_reserve c.reserve.ensures.same) c.add_id-kept.ensures.others) c.add_id-given.ensures.others;
+      is = c.add-last.ensures.others;
+      rows = c.add-last.ensures.rows;
+      kept = c.add-last.ensures.kept;
+      number = c.add-last.ensures.event;
+      after = same_then_put (same_at_put c.add-last.new.self with_child c.put.ensures.others) (same_at_put with_child new c.put-2.ensures.others);
+    } in
+    let kept_ids : with_kept.ids.items ≡ old.ids.items ++ kept ∷ [] = c.add_id-kept.ensures.ids ∙ ap (λ ids. ids ++ kept ∷ []) c.reserve.ensures.same.ids in
+    let new_ids : new.ids.items ≡ with_kept.ids.items ++ given ∷ [] = ids_same was ∙ c.add_id-given.ensures.ids in
+    let stay_first = stay-added old.ids.items with_kept.ids.items kept kept_ids in
+    let stay_second = stay-added with_kept.ids.items new.ids.items given new_ids in
+    let kept_there = id-added old.ids.items with_kept.ids.items kept c.add_id-kept.result kept_ids (c.add_id-kept.ensures.place ∙ ap length c.reserve.ensures.same.ids) in
+    let given_there = id-added with_kept.ids.items new.ids.items given c.add_id-given.result new_ids c.add_id-given.ensures.place in
+    let id_is = live_id has c.index.result.now c.index.ensures in
+    let split_id_is = live_id has c.index-2.result.now c.index-2.ensures in
+    adds_event was (row_after (history_of old.rows.items) c.args.name Spawn (Some c.args.child)) c.requires.book
+    (c.next_row-row.ensures ∙ spawn_row has c.args.child c.requires.child c.can_be_written.ensures c.can_be_written-2.ensures c.requires.room c.requires.few c.few_events.ensures)
+    (spawn_is_next has c.args.child c.requires.child c.can_be_written.ensures c.can_be_written-2.ensures c.requires.room c.requires.few c.few_events.ensures
+    c.index.result.now c.known.result.now c.in_ok-tree.tree (kept, given) new.ids.items c.add_id-kept.result c.add_id-given.result (task_in with_child) (task_in new)
+    c.add-last.result (index_map_len with_child.tasks) (index_map_len new.tasks)
+    id_is c.known.ensures c.in_ok-tree.ensures (c.in_ok-kept.ensures ∙ ap split (split_id_is ∙ sym id_is))
+    (λ place id there. stay_second place id (stay_first place id there)) (stay_second c.add_id-kept.result kept kept_there) given_there (event_number was)
+    (first_put was c.args.child _ with_child c.put.ensures.tasks) c.put-2.ensures.tasks
+    (first_count was c.args.child (index_map_len with_child.tasks) c.put.ensures.count) c.put-2.ensures.count)

@@ -1,0 +1,76 @@
+use Rattle.std.proofs.Common.{◌≡◌, ◌∷◌, [], Some, length, ◌++◌, ap, ◌∙◌}
+use Rattle.indexmap.specs.IndexMap.{index_map_len}
+use Rattle.trace_types.specs.Rows.{history_of}
+use Rattle.trace_types.specs.Tenant.{row_after}
+use Rattle.trace_types.specs.declared.row.Kind.TheVariants.{Join}
+use Rattle.trace_types.specs.declared.task_state.TaskState.TheVariants.{Live, Ended}
+use Rattle.tenant_ledger.specs.Ledger.{task_in}
+use Rattle.tenant_ledger.specs.declared.book.Kept.{Kept}
+use Rattle.tenant_ledger.proofs.Keeping.{stay-added, id-added}
+use Rattle.tenant_ledger.proofs.KeepingBook.{WasAdded, same_at_reserve, same_then_id, same_at_put, same_then_put, event_number, ids_same, first_put, first_count, adds_event}
+use Rattle.tenant_ledger.proofs.KeepingJoin.{join_row, disjoint_ids, sum_some, joined_fits, join_is_next}
+use Rattle.tenant_ledger.proofs.KeepingReports.{Has, last-le, live_id, ended_id}
+use Rattle.tenant_ledger.proofs.book.Book.summed.Goals as goal
+
+pub sum-requires : goal.sum-requires
+sum-requires c =
+    let old = c.args.self.now in
+    let has : Has Live old c.args.name c.args.task = record { is = c.requires.book; found = c.requires.task; state_is = c.requires.live } in
+    let has_child : Has Ended old c.args.child c.args.joined = record { is = c.requires.book; found = c.requires.child; state_is = c.requires.ended } in
+    disjoint_ids has has_child c.index.result.now c.index-2.result.now (live_id has c.index.result.now c.index.ensures)
+    (ended_id has_child c.index-2.result.now c.index-2.ensures)
+
+pub known-requires-clause-event : goal.known-requires-clause-event
+known-requires-clause-event c =
+    let has : Has Live c.args.self.now c.args.name c.args.task = record { is = c.requires.book; found = c.requires.task; state_is = c.requires.live } in
+    last-le has
+
+pub known-requires-2-clause-event : goal.known-requires-2-clause-event
+known-requires-2-clause-event c =
+    let has_child : Has Ended c.args.self.now c.args.child c.args.joined = record { is = c.requires.book; found = c.requires.child; state_is = c.requires.ended } in
+    last-le has_child
+
+pub event-requires-clause-some : goal.event-requires-clause-some
+event-requires-clause-some c =
+    let old = c.args.self.now in
+    let has : Has Live old c.args.name c.args.task = record { is = c.requires.book; found = c.requires.task; state_is = c.requires.live } in
+    let has_child : Has Ended old c.args.child c.args.joined = record { is = c.requires.book; found = c.requires.child; state_is = c.requires.ended } in
+    sum_some has has_child c.index.result.now c.index-2.result.now c.in_ok-id.id (live_id has c.index.result.now c.index.ensures)
+    (ended_id has_child c.index-2.result.now c.index-2.ensures) c.in_ok-id.ensures
+
+pub event-requires-clause-fits : goal.event-requires-clause-fits
+event-requires-clause-fits c =
+    let old = c.args.self.now in
+    let has : Has Live old c.args.name c.args.task = record { is = c.requires.book; found = c.requires.task; state_is = c.requires.live } in
+    let has_child : Has Ended old c.args.child c.args.joined = record { is = c.requires.book; found = c.requires.child; state_is = c.requires.ended } in
+    joined_fits has has_child c.known.result.now c.known-2.result.now c.in_ok-known.known c.known.ensures c.known-2.ensures c.in_ok-known.ensures
+
+pub returns : goal.returns
+returns c =
+    let old = c.args.self.now in
+    let with_acting = c.put.new.self in
+    let new = c.put-2.new.self in
+    let id = c.in_ok-id.id in
+    let has : Has Live old c.args.name c.args.task = record { is = c.requires.book; found = c.requires.task; state_is = c.requires.live } in
+    let has_child : Has Ended old c.args.child c.args.joined = record { is = c.requires.book; found = c.requires.child; state_is = c.requires.ended } in
+    let stamp : Kept = record { tree = c.in_ok-tree.tree; id = c.add_id-id.result } in
+    let was : WasAdded old c.add_id-id.new.self c.add-last.new.self new c.next_row-row.result stamp c.add-last.result = record {
+      before = same_then_id (same_at_reserve c.reserve.ensures.same) c.add_id-id.ensures.others;
+      is = c.add-last.ensures.others;
+      rows = c.add-last.ensures.rows;
+      kept = c.add-last.ensures.kept;
+      number = c.add-last.ensures.event;
+      after = same_then_put (same_at_put c.add-last.new.self with_acting c.put.ensures.others) (same_at_put with_acting new c.put-2.ensures.others);
+    } in
+    let new_ids : new.ids.items ≡ old.ids.items ++ id ∷ [] = ids_same was ∙ (c.add_id-id.ensures.ids ∙ ap (λ ids. ids ++ id ∷ []) c.reserve.ensures.same.ids) in
+    adds_event was (row_after (history_of old.rows.items) c.args.name Join (Some c.args.child)) c.requires.book
+    (c.next_row-row.ensures ∙ join_row has has_child)
+    (join_is_next has has_child c.can_be_written.ensures c.can_be_written-2.ensures c.requires.room c.few_events.ensures
+    c.index.result.now c.index-2.result.now id c.known.result.now c.known-2.result.now c.in_ok-known.known c.in_ok-tree.tree new.ids.items c.add_id-id.result
+    (task_in with_acting) (task_in new) c.add-last.result (index_map_len with_acting.tasks) (index_map_len new.tasks)
+    (live_id has c.index.result.now c.index.ensures) (ended_id has_child c.index-2.result.now c.index-2.ensures)
+    c.in_ok-id.ensures c.known.ensures c.known-2.ensures c.in_ok-known.ensures c.in_ok-tree.ensures
+    (stay-added old.ids.items new.ids.items id new_ids)
+    (id-added old.ids.items new.ids.items id c.add_id-id.result new_ids (c.add_id-id.ensures.place ∙ ap length c.reserve.ensures.same.ids)) (event_number was)
+    (first_put was c.args.name _ with_acting c.put.ensures.tasks) c.put-2.ensures.tasks
+    (first_count was c.args.name (index_map_len with_acting.tasks) c.put.ensures.count) c.put-2.ensures.count)

@@ -1,0 +1,7 @@
+use Rattle.trace_types.specs.Rows.{history_of}
+use Rattle.tenant_ledger.proofs.Legality.{IsLegal_from_AreLegal}
+use Rattle.tenant_ledger.proofs.Ordering.{stands_as_ordered}
+use Rattle.tenant_ledger.proofs.laws.clock.Goals as goal
+
+pub returns : goal.returns
+returns c = λ limits rows legal. stands_as_ordered (history_of rows) (IsLegal_from_AreLegal limits rows legal)

@@ -1,0 +1,25 @@
+-- What each accepted row says of the rows before it: what its report was not refused for.
+use Rattle.std.specs.Prelude.{◌≡◌, false, IsTrue, [], ◌∷◌, Option, Some, None}
+use Rattle.trace_types.specs.Name.{Text}
+use Rattle.trace_types.specs.Rows.{History, is_known, is_ended, is_joined}
+use Rattle.trace_types.specs.declared.row.Kind.{Kind}
+use Rattle.trace_types.specs.declared.row.Kind.TheVariants.{Local, Spawn, End, Join}
+
+-- the task is known and has not ended
+abbrev pub IsLive : History → Text → Type 0
+IsLive history task = IsTrue (is_known history task) × (is_ended history task ≡ false)
+
+-- after these rows a report of this kind is not refused for its tasks
+abbrev pub Allows : History → Text → Kind → Option Text → Type 0
+Allows history task Local name = IsLive history task
+Allows history task Spawn None = ⊥
+Allows history task Spawn (Some child) = IsLive history task × (is_known history child ≡ false)
+Allows history task End name = IsLive history task
+Allows history task Join None = ⊥
+Allows history task Join (Some child) =
+    IsLive history task × IsTrue (is_known history child) × IsTrue (is_ended history child) × (is_joined history child ≡ false)
+
+-- each row was allowed after those before it
+abbrev pub IsLegal : History → Type 0
+IsLegal [] = Unit {0}
+IsLegal (row ∷ earlier) = Allows earlier row.task row.kind row.name × IsLegal earlier

@@ -1,0 +1,425 @@
+//! What a ledger keeps.
+ghost use Rattle.std.specs.Prelude.{◌≡◌, ◌≢◌, ◌+◌, ◌-◌, ◌<◌, ◌≤◌, ◌∷◌, [], true, IfOk, OnErr, OnOk, IfErr, IsTrue, Some, None, length, not, slice_get, vec_len, vec_capacity, ◌++◌, if◌then◌else◌, is_some};
+ghost use Rattle.indexmap.specs.IndexMap.{index_map_len, spare};
+ghost use Rattle.trace_types.specs.Name.{Text as Characters, is_name, is_same};
+ghost use Rattle.trace_types.specs.Rows.{history_of, is_event, is_known, is_ended, is_joined};
+ghost use Rattle.trace_types.specs.Reachability.{increasing};
+ghost use Rattle.trace_types.specs.Refusal.{has_all_events, has_all_tasks};
+ghost use Rattle.trace_types.specs.Clock.{tree_clock};
+ghost use Rattle.trace_types.specs.Stamps.{tree_of, stamp_text_of};
+ghost use Rattle.trace_types.specs.Tenant.{fresh, Steps, row_after};
+ghost use Rattle.trace_types.specs.EventTree.{Leaf};
+ghost use Rattle.trace_types.specs.declared.request.Request.TheVariants as request;
+ghost use Rattle.tenant_ledger.specs.Ledger.{IsBook, HasRoom, HaveTheSame, task_in, tenant_of, Decides, LeavesState, Adds, reply_of};
+
+use event_tree::EvTree;
+use id_tree::IdTree;
+use indexmap::IndexMap;
+use stamp_codec::{Stamp, write_stamp};
+use std::alloc::Global;
+use trace_types::{Code, Kind, Limits, Memory, Name, Preds, Row, TaskState, Text};
+
+/// The rows, and what is kept beside them.
+#[derive(Drop)]
+pub(crate) struct Book {
+    pub(crate) limits: Limits,
+    pub(crate) rows: Vec<Row>,
+    alloc: Global,
+    /// What is kept of each event, in the order of the events.
+    kept: Vec<Kept>,
+    /// Each id that some task has or had.
+    ids: Vec<IdTree>,
+    tasks: IndexMap<Name, Task>,
+}
+
+/// What is kept of an event.
+#[derive(Drop)]
+struct Kept {
+    /// What the event knows.
+    tree: EvTree,
+    /// The place of its task's id after it.
+    id: usize,
+}
+
+/// A task that was started.
+#[derive(Clone, Copy)]
+pub(crate) struct Task {
+    pub(crate) state: TaskState,
+    /// Its last event, else the event that started it, else 0.
+    pub(crate) last: u64,
+    /// The place of its id; of a joined task it is not asked.
+    id: usize,
+}
+
+impl Book {
+    /// The book of a tenant that has reported nothing: it has the task `root`.
+    pub(crate) fn new(alloc: Global, limits: Limits) -> Result<Book, Memory>
+        ensures book { IfOk result IsBook }
+        ensures fresh { IfOk result (λ book. tenant_of book ≡ fresh limits) }
+    {
+        let mut ids = Vec::new(alloc);
+        ids.push(IdTree::one())?;
+        let mut tasks = IndexMap::new(alloc);
+        let root = Task {
+            state: TaskState::Live,
+            last: 0,
+            id: 0,
+        };
+        tasks.insert(Name::root(), root)?;
+        Ok(Book {
+            limits,
+            rows: Vec::new(alloc),
+            alloc,
+            kept: Vec::new(alloc),
+            ids,
+            tasks,
+        })
+    }
+
+    pub(crate) fn event_count(&self) -> u64
+        ensures { result ≡ length self.now.rows.items }
+    {
+        self.rows.len() as u64
+    }
+
+    /// How many tasks there ever were.
+    pub(crate) fn task_count(&self) -> u64
+        ensures { result ≡ index_map_len self.now.tasks }
+    {
+        self.tasks.len() as u64
+    }
+
+    pub(crate) fn is_event(&self, event: u64) -> bool
+        ensures { result ≡ is_event (history_of self.now.rows.items) event }
+    {
+        0 < event && event <= self.event_count()
+    }
+
+    /// The tree that is kept of the event.
+    pub(crate) fn tree(&self, event: u64) -> &EvTree
+        requires book { IsBook self.now }
+        requires event { is_event (history_of self.now.rows.items) event ≡ true }
+        ensures { result.now ≡ tree_of tree_clock (history_of self.now.rows.items) event }
+    {
+        &self.kept[event as usize - 1].tree
+    }
+
+    /// The text of the event's stamp.
+    pub(crate) fn stamp_text(&self, event: u64) -> Result<Text, Memory>
+        requires book { IsBook self.now }
+        requires event { is_event (history_of self.now.rows.items) event ≡ true }
+        ensures { IfOk result (λ text. text ≡ stamp_text_of (history_of self.now.rows.items) event) }
+    {
+        let kept = &self.kept[event as usize - 1];
+        let stamp = Stamp {
+            id: self.ids[kept.id].share(self.alloc)?,
+            tree: kept.tree.share(self.alloc)?,
+        };
+        Ok(Text::from(write_stamp(self.alloc, &stamp)?))
+    }
+
+    /// The task of this name; `NoTask` where there is none.
+    pub(crate) fn task(&self, name: &Name) -> Result<Task, Code>
+        ensures ok { IfOk result (λ task. task_in self.now name.now ≡ Some task) }
+        ensures err { IfErr result (λ code. (code ≡ Code.NoTask) × (task_in self.now name.now ≡ None)) }
+    {
+        match self.tasks.get(name) {
+            Some(task) => Ok(*task),
+            None => Err(Code::NoTask),
+        }
+    }
+
+    /// The task, where it may report; else `NoTask` or `TaskEnded`.
+    fn live_task(&self, name: &Name) -> Result<Task, Code>
+        requires { IsBook self.now }
+        ensures task { IfOk result (λ task. (task_in self.now name.now ≡ Some task) × (task.state ≡ TaskState.Live)) }
+        ensures decides { Decides ((not (is_known (history_of self.now.rows.items) name.now), Code.NoTask)
+            ∷ (is_ended (history_of self.now.rows.items) name.now, Code.TaskEnded) ∷ []) result }
+    {
+        let task = self.task(name)?;
+        match task.state {
+            TaskState::Live => Ok(task),
+            TaskState::Ended | TaskState::Joined => Err(Code::TaskEnded),
+        }
+    }
+
+    /// The task, where it may be joined; else `NoTask`, `NotEnded` or `AlreadyJoined`.
+    fn ended_task(&self, name: &Name) -> Result<Task, Code>
+        requires { IsBook self.now }
+        ensures task { IfOk result (λ task. (task_in self.now name.now ≡ Some task) × (task.state ≡ TaskState.Ended)) }
+        ensures decides { Decides ((not (is_known (history_of self.now.rows.items) name.now), Code.NoTask)
+            ∷ (not (is_ended (history_of self.now.rows.items) name.now), Code.NotEnded)
+            ∷ (is_joined (history_of self.now.rows.items) name.now, Code.AlreadyJoined) ∷ []) result }
+    {
+        let task = self.task(name)?;
+        match task.state {
+            TaskState::Live => Err(Code::NotEnded),
+            TaskState::Ended => Ok(task),
+            TaskState::Joined => Err(Code::AlreadyJoined),
+        }
+    }
+
+    /// Refuses one task more at the limit, and a task that exists.
+    fn check_child(&self, name: &Name) -> Result<(), Code>
+        requires { IsBook self.now }
+        ensures child { OnOk result (task_in self.now name.now ≡ None) }
+        ensures few { OnOk result (index_map_len self.now.tasks < self.now.limits.tasks) }
+        ensures decides { Decides ((is_known (history_of self.now.rows.items) name.now, Code.TaskExists)
+            ∷ (has_all_tasks self.now.limits (history_of self.now.rows.items), Code.TasksFull) ∷ []) result }
+    {
+        if self.tasks.contains_key(name) {
+            Err(Code::TaskExists)
+        } else if self.task_count() >= self.limits.tasks() {
+            Err(Code::TasksFull)
+        } else {
+            Ok(())
+        }
+    }
+
+    /// Refuses one event more at the limit.
+    fn check_room(&self) -> Result<(), Code>
+        ensures room { OnOk result (length self.now.rows.items < self.now.limits.events) }
+        ensures decides { Decides ((has_all_events self.now.limits (history_of self.now.rows.items), Code.EventsFull) ∷ []) result }
+    {
+        if self.event_count() < self.limits.events() {
+            Ok(())
+        } else {
+            Err(Code::EventsFull)
+        }
+    }
+
+    /// Reports that the task did something by itself, and gives the event.
+    pub(crate) fn local(&mut self, name: Name) -> Result<u64, Code>
+        requires { IsBook self.old }
+        ensures book { IsBook self.new }
+        ensures steps { Steps (tenant_of self.old) (request.Local name) (reply_of result) (tenant_of self.new) }
+    {
+        let task = self.live_task(&name)?;
+        self.check_room()?;
+        Ok(self.alone(name, Kind::Local, task, TaskState::Live)?)
+    }
+
+    /// Reports that the task ends; its id stays with it.
+    pub(crate) fn end(&mut self, name: Name) -> Result<u64, Code>
+        requires { IsBook self.old }
+        ensures book { IsBook self.new }
+        ensures steps { Steps (tenant_of self.old) (request.End name) (reply_of result) (tenant_of self.new) }
+    {
+        let task = self.live_task(&name)?;
+        self.check_room()?;
+        Ok(self.alone(name, Kind::End, task, TaskState::Ended)?)
+    }
+
+    /// Reports that the task starts `child`.
+    pub(crate) fn spawn(&mut self, name: Name, child: Name) -> Result<u64, Code>
+        requires { IsBook self.old }
+        ensures book { IsBook self.new }
+        ensures steps { Steps (tenant_of self.old) (request.Spawn name child) (reply_of result) (tenant_of self.new) }
+    {
+        let task = self.live_task(&name)?;
+        self.check_child(&child)?;
+        self.check_room()?;
+        Ok(self.forked(name, child, task)?)
+    }
+
+    /// Reports that the task takes in `child`, which has ended.
+    pub(crate) fn join(&mut self, name: Name, child: Name) -> Result<u64, Code>
+        requires { IsBook self.old }
+        ensures book { IsBook self.new }
+        ensures steps { Steps (tenant_of self.old) (request.Join name child) (reply_of result) (tenant_of self.new) }
+    {
+        let task = self.live_task(&name)?;
+        let joined = self.ended_task(&child)?;
+        self.check_room()?;
+        Ok(self.summed(name, child, task, joined)?)
+    }
+
+    /// Adds an event of a task that keeps its id, and leaves the task in this state.
+    fn alone(&mut self, name: Name, kind: Kind, task: Task, state: TaskState) -> Result<u64, Memory>
+        requires book { IsBook self.old }
+        requires task { task_in self.old name ≡ Some task }
+        requires live { task.state ≡ TaskState.Live }
+        requires kind { LeavesState kind state }
+        requires room { length self.old.rows.items < self.old.limits.events }
+        ensures { Adds result self.old (row_after (history_of self.old.rows.items) name kind None) self.new }
+    {
+        self.few_events();
+        can_be_written(&name);
+        let row = self.next_row(name, kind, None, task.last, 0);
+        let start = EvTree::leaf(0);
+        let tree = EvTree::event(
+            self.alloc,
+            &self.ids[task.id],
+            self.known(task.last, &start),
+        )?;
+        self.reserve(0)?;
+        let last = self.add(row, tree, task.id);
+        let id = task.id;
+        self.put(name, Task { state, last, id });
+        Ok(last)
+    }
+
+    /// Adds the event with which the task starts `child`.
+    fn forked(&mut self, name: Name, child: Name, task: Task) -> Result<u64, Memory>
+        requires book { IsBook self.old }
+        requires task { task_in self.old name ≡ Some task }
+        requires live { task.state ≡ TaskState.Live }
+        requires child { task_in self.old child ≡ None }
+        requires few { index_map_len self.old.tasks < self.old.limits.tasks }
+        requires room { length self.old.rows.items < self.old.limits.events }
+        ensures { Adds result self.old (row_after (history_of self.old.rows.items) name Kind.Spawn (Some child)) self.new }
+    {
+        self.few_events();
+        can_be_written(&name);
+        can_be_written(&child);
+        let row = self.next_row(name, Kind::Spawn, Some(child), task.last, 0);
+        let start = EvTree::leaf(0);
+        let tree = EvTree::event(
+            self.alloc,
+            &self.ids[task.id],
+            self.known(task.last, &start),
+        )?;
+        let (kept, given) = self.ids[task.id].split(self.alloc)?;
+        self.reserve(1)?;
+        let kept = self.add_id(kept);
+        let given = self.add_id(given);
+        let last = self.add(row, tree, kept);
+        let started = Task {
+            state: TaskState::Live,
+            last,
+            id: given,
+        };
+        self.put(child, started);
+        let id = kept;
+        self.put(name, Task { last, id, ..task });
+        Ok(last)
+    }
+
+    /// Adds the event with which the task takes in `child`.
+    fn summed(&mut self, name: Name, child: Name, task: Task, joined: Task) -> Result<u64, Memory>
+        requires book { IsBook self.old }
+        requires task { task_in self.old name ≡ Some task }
+        requires live { task.state ≡ TaskState.Live }
+        requires child { task_in self.old child ≡ Some joined }
+        requires ended { joined.state ≡ TaskState.Ended }
+        requires room { length self.old.rows.items < self.old.limits.events }
+        ensures { Adds result self.old (row_after (history_of self.old.rows.items) name Kind.Join (Some child)) self.new }
+    {
+        self.few_events();
+        can_be_written(&name);
+        can_be_written(&child);
+        let row = self.next_row(name, Kind::Join, Some(child), task.last, joined.last);
+        let id = self.ids[task.id].sum(self.alloc, &self.ids[joined.id])?;
+        let start = EvTree::leaf(0);
+        let known = self
+            .known(task.last, &start)
+            .join(self.alloc, self.known(joined.last, &start))?;
+        let tree = EvTree::event(self.alloc, &id, &known)?;
+        self.reserve(0)?;
+        let id = self.add_id(id);
+        let last = self.add(row, tree, id);
+        self.put(name, Task { last, id, ..task });
+        let state = TaskState::Joined;
+        self.put(child, Task { state, ..joined });
+        Ok(last)
+    }
+
+    /// The law that no limit on events is above [`Limits::MOST_EVENTS`]. It does nothing.
+    fn few_events(&self)
+        ensures { self.now.limits.events ≤ 16384 }
+    {
+        self.limits.events();
+    }
+
+    /// The row of the next event, which follows these two events; 0 is none.
+    fn next_row(&self, task: Name, kind: Kind, name: Option<Name>, last: u64, second: u64) -> Row
+        ensures { result ≡ record { task = task; kind = kind; name = name; preds = increasing last second } }
+    {
+        let preds = increasing(self.alloc, last, second);
+        Row {
+            task,
+            kind,
+            name,
+            preds,
+        }
+    }
+
+    /// What the event knows; before any event that is `start`.
+    fn known<'a>(&'a self, event: u64, start: &'a EvTree) -> &'a EvTree
+        requires book { IsBook self.now }
+        requires event { event ≤ length self.now.rows.items }
+        requires start { start.now ≡ Leaf 0 }
+        ensures { result.now ≡ tree_of tree_clock (history_of self.now.rows.items) event }
+    {
+        if event == 0 { start } else { self.tree(event) }
+    }
+
+    /// Makes room for one event, for its ids and for so many new tasks. It changes nothing else.
+    fn reserve(&mut self, tasks: usize) -> Result<(), Memory>
+        ensures same { HaveTheSame self.old self.new }
+        ensures room { OnOk result (HasRoom self.new tasks) }
+    {
+        self.rows.reserve(1)?;
+        self.kept.reserve(1)?;
+        self.ids.reserve(2)?;
+        self.tasks.reserve(tasks)?;
+        Ok(())
+    }
+
+    /// Adds an id, for which there is room, and gives its place.
+    fn add_id(&mut self, id: IdTree) -> usize
+        requires { vec_len self.old.ids < vec_capacity self.old.ids }
+        ensures place { result ≡ length self.old.ids.items }
+        ensures ids { self.new.ids.items ≡ self.old.ids.items ++ id ∷ [] }
+        ensures room { vec_capacity self.old.ids ≤ vec_capacity self.new.ids }
+        ensures others { self.new ≡ record self.old { ids = self.new.ids } }
+    {
+        let place = self.ids.len();
+        self.ids.push(id).unwrap();
+        place
+    }
+
+    /// Adds an event, for which there is room, and gives its number.
+    fn add(&mut self, row: Row, tree: EvTree, id: usize) -> u64
+        requires rows { vec_len self.old.rows < vec_capacity self.old.rows }
+        requires kept { vec_len self.old.kept < vec_capacity self.old.kept }
+        ensures event { result ≡ length self.old.rows.items + 1 }
+        ensures rows { self.new.rows.items ≡ self.old.rows.items ++ row ∷ [] }
+        ensures kept { self.new.kept.items ≡ self.old.kept.items ++ record { tree = tree; id = id } ∷ [] }
+        ensures others { self.new ≡ record self.old { rows = self.new.rows; kept = self.new.kept } }
+    {
+        self.rows.push(row).unwrap();
+        self.kept.push(Kept { tree, id }).unwrap();
+        self.event_count()
+    }
+
+    /// Keeps the task under its name, for which there is room.
+    fn put(&mut self, name: Name, task: Task)
+        requires { task_in self.old name ≡ None → 0 < spare self.old.tasks }
+        ensures tasks { (other : Characters) → task_in self.new other ≡ (if is_same name other then Some task else task_in self.old other) }
+        ensures count { index_map_len self.new.tasks ≡ index_map_len self.old.tasks + (if is_some (task_in self.old name) then 0 else 1) }
+        ensures others { self.new ≡ record self.old { tasks = self.new.tasks } }
+    {
+        self.tasks.insert(name, task).unwrap();
+    }
+}
+
+/// The law that a name can be written in a request. It does nothing.
+fn can_be_written(name: &Name)
+    ensures { IsTrue (is_name name.now) }
+{
+    name.as_bytes();
+}
+
+/// The events among two numbers, increasing and each once; 0 is no event.
+fn increasing(alloc: Global, first: u64, second: u64) -> Preds
+    ensures { result ≡ increasing first second }
+{
+    match (first, second) {
+        (0, 0) => Preds::of(alloc, &[]),
+        (0, event) | (event, 0) => Preds::of(alloc, &[event]),
+        _ if first == second => Preds::of(alloc, &[first]),
+        _ if first < second => Preds::of(alloc, &[first, second]),
+        _ => Preds::of(alloc, &[second, first]),
+    }
+}

@@ -1,0 +1,18 @@
+//! What the stamps of a tenant's events mean.
+ghost use Rattle.std.specs.Prelude.{ℕ, IsTrue, List};
+ghost use Rattle.trace_types.specs.Clock.{tree_clock};
+ghost use Rattle.trace_types.specs.Limits.{Limits};
+ghost use Rattle.trace_types.specs.Reachability.{order_of};
+ghost use Rattle.trace_types.specs.Rows.{history_of, is_event};
+ghost use Rattle.trace_types.specs.Stamps.{tree_of};
+ghost use Rattle.trace_types.specs.Tenant.{AreLegal};
+ghost use Rattle.trace_types.specs.declared.row.Row.{Row};
+ghost use Rattle.event_tree.specs.Comparison.{StandsAs};
+
+/// For legal rows and any two events, comparing what the events know gives their order in the graph: the interval
+/// tree clock (Almeida, Baquero and Fonte 2008) tells happened-before (Lamport 1978).
+pub fn clock()
+    ensures { (limits : Limits) (rows : List Row) → AreLegal limits rows → (a b : ℕ)
+        → IsTrue (is_event (history_of rows) a) → IsTrue (is_event (history_of rows) b)
+        → StandsAs (order_of (history_of rows) a b) (tree_of tree_clock (history_of rows) a) (tree_of tree_clock (history_of rows) b) }
+{}

@@ -1,0 +1,23 @@
+-- The event of the interval tree clock: a tree raised at points of an id.
+use Rattle.std.specs.Prelude.{Bool, false, ◌==◌, ◌&&◌, if◌then◌else◌}
+use Rattle.trace_types.specs.Id.{Id}
+use Rattle.trace_types.specs.EventTree.{EventTree, Leaf, Node}
+use Rattle.trace_types.specs.Fill.{fill}
+use Rattle.trace_types.specs.Grow.{grown}
+use Rattle.trace_types.specs.Norm.{norm}
+
+-- whether the two are the same tree
+abbrev pub is_same : EventTree → EventTree → Bool
+is_same (Leaf m) (Leaf n) = m == n
+is_same (Leaf m) (Node n l r) = false
+is_same (Node m l r) (Leaf n) = false
+is_same (Node m l r) (Node n l' r') = (m == n) && (is_same l l' && is_same r r')
+
+-- the tree with each node in normal form, from the leaves up
+abbrev pub normalised : EventTree → EventTree
+normalised (Leaf n) = Leaf n
+normalised (Node n left right) = norm n (normalised left) (normalised right)
+
+-- the filled tree, or where filling changes nothing the grown one
+abbrev pub event : Id → EventTree → EventTree
+event id tree = if is_same (fill id tree) tree then normalised (grown id tree) else fill id tree
