@@ -1,63 +1,526 @@
-// The same requests in plain Rust, for speed alone: no proofs, no trees, no bounds on lines.
-use std::collections::HashMap;
-use std::io::{stdin, stdout, BufRead, BufReader, BufWriter, Write};
+// Replays the requests that `itc_trace replay` serves, in plain Rust, for speed alone: no proofs.
+//
+// `plain [--events N] [--tasks N] [--messages N] TENANT..` gives the program's replies byte for byte, and refuses in the
+// same order. It leaves out: refusing for want of memory (the process ends), the bound on reads, the program's statuses and
+// lines on standard error, and the ranges of its words (what is no number ends it, names of tenants and limits are taken as
+// they stand, and several tenants are served). A line that one buffer does not hold is kept whole until its end is read.
+//
+// A message has room for one receipt, as no more is taken. No predecessor is followed: order and lists are told by the
+// trees, a list by comparing with each event, also with those that by their numbers alone cannot be in it.
+#[allow(dead_code)]
+#[path = "clock.rs"]
+mod clock;
 
-#[derive(Default)]
+use clock::{write_number, write_stamp, Id, Tree, ZERO};
+use std::collections::hash_map::{Entry, HashMap};
+use std::hash::{Hash, Hasher};
+use std::io::{stdin, stdout, BufRead, BufReader, Result as IoResult, Write};
+
+const ROOM: usize = 65536;
+
+const MOST_BYTES: usize = 200;
+
+/// The text, and then zeros.
+#[derive(Clone, Copy, PartialEq, Eq)]
+struct Name([u8; 24]);
+
+impl Name {
+    fn read(text: &[u8]) -> Option<Name> {
+        let is_name_byte = |byte: &u8| byte.is_ascii_alphanumeric() || *byte == b'_';
+        if text.is_empty() || text.len() > 24 || !text.iter().all(is_name_byte) {
+            return None;
+        }
+        let mut name = [0; 24];
+        name[..text.len()].copy_from_slice(text);
+        Some(Name(name))
+    }
+
+    fn write(&self, out: &mut Vec<u8>) {
+        let length = self.0.iter().position(|byte| *byte == 0).unwrap_or(self.0.len());
+        out.extend_from_slice(&self.0[..length]);
+    }
+}
+
+impl Hash for Name {
+    fn hash<H: Hasher>(&self, state: &mut H) {
+        state.write(&self.0);
+    }
+}
+
+enum Request {
+    Local(Name),
+    Spawn(Name, Name),
+    Send(Name, Name),
+    Recv(Name, Name),
+    End(Name),
+    Join(Name, Name),
+    Order(u64, u64),
+    Past(u64),
+    Concurrent(u64),
+    Event(u64),
+    Stamp(u64),
+    Task(Name),
+    Message(Name),
+    Count,
+}
+
+fn split_first(bytes: &[u8]) -> (&[u8], Option<&[u8]>) {
+    match bytes.iter().position(|byte| *byte == b' ') {
+        Some(at) => (&bytes[..at], Some(&bytes[at + 1..])),
+        None => (bytes, None),
+    }
+}
+
+fn number(word: &[u8]) -> Option<u64> {
+    if word.is_empty() || word.len() > 9 || (word.len() > 1 && word[0] == b'0') {
+        return None;
+    }
+    let mut value = 0;
+    for byte in word {
+        if !byte.is_ascii_digit() {
+            return None;
+        }
+        value = 10 * value + u64::from(byte - b'0');
+    }
+    Some(value)
+}
+
+fn one<T>(words: Option<&[u8]>, read: impl Fn(&[u8]) -> Option<T>) -> Option<T> {
+    read(words?)
+}
+
+fn two<T>(words: Option<&[u8]>, read: impl Fn(&[u8]) -> Option<T>) -> Option<(T, T)> {
+    let (first, second) = split_first(words?);
+    Some((read(first)?, read(second?)?))
+}
+
+impl Request {
+    fn read(line: &[u8]) -> Option<Request> {
+        let (keyword, words) = split_first(line);
+        match keyword {
+            b"local" => one(words, Name::read).map(Request::Local),
+            b"spawn" => two(words, Name::read).map(|(task, child)| Request::Spawn(task, child)),
+            b"send" => two(words, Name::read).map(|(task, message)| Request::Send(task, message)),
+            b"recv" => two(words, Name::read).map(|(task, message)| Request::Recv(task, message)),
+            b"end" => one(words, Name::read).map(Request::End),
+            b"join" => two(words, Name::read).map(|(task, child)| Request::Join(task, child)),
+            b"order" => two(words, number).map(|(first, second)| Request::Order(first, second)),
+            b"past" => one(words, number).map(Request::Past),
+            b"concurrent" => one(words, number).map(Request::Concurrent),
+            b"event" => one(words, number).map(Request::Event),
+            b"stamp" => one(words, number).map(Request::Stamp),
+            b"task" => one(words, Name::read).map(Request::Task),
+            b"message" => one(words, Name::read).map(Request::Message),
+            b"count" if words.is_none() => Some(Request::Count),
+            _ => None,
+        }
+    }
+}
+
+enum Kind {
+    Local,
+    Spawn,
+    Send,
+    Recv,
+    End,
+    Join,
+}
+
+struct Row {
+    task: Name,
+    kind: Kind,
+    name: Option<Name>,
+    /// Increasing; then 0 where there are less than two.
+    preds: [u64; 2],
+    tree: Tree,
+    /// The place of its task's id after it.
+    id: usize,
+}
+
+#[derive(Clone, Copy)]
+enum State {
+    Live,
+    Ended,
+    Joined,
+}
+
+#[derive(Clone, Copy)]
+struct Task {
+    state: State,
+    /// Its last event, else the event that started it, else 0.
+    last: u64,
+    /// The place of its id.
+    id: usize,
+}
+
+struct Message {
+    sent: u64,
+    /// The event that received it, else 0.
+    received: u64,
+}
+
+#[derive(Clone, Copy)]
+struct Limits {
+    events: usize,
+    tasks: usize,
+    messages: usize,
+}
+
+type Refusal = &'static str;
+
+fn preds(first: u64, second: u64) -> [u64; 2] {
+    if first == second { [first, 0] } else { [first.min(second), first.max(second)] }
+}
+
+/// Writes the list of these events without those that are 0.
+fn write_list(out: &mut Vec<u8>, events: &[u64]) {
+    let events = events.iter().filter(|event| **event != 0);
+    write_number(out, events.clone().count() as u64);
+    for event in events {
+        out.push(b' ');
+        write_number(out, *event);
+    }
+}
+
 struct Tenant {
-    rows: Vec<String>,
+    limits: Limits,
+    rows: Vec<Row>,
+    /// Each id that some task has or had.
+    ids: Vec<Id>,
+    tasks: Vec<Task>,
+    places: HashMap<Name, usize>,
+    messages: HashMap<Name, Message>,
 }
 
-fn answer(tenant: &mut Tenant, words: &[&str], out: &mut impl Write) -> std::io::Result<()> {
-    match words {
-        ["local", "root"] => {
-            tenant.rows.push("root".to_string());
-            writeln!(out, "201 {}", tenant.rows.len())
+impl Tenant {
+    fn new(limits: Limits) -> Tenant {
+        let root = Name::read(b"root").expect("a name");
+        let task = Task { state: State::Live, last: 0, id: 0 };
+        Tenant {
+            limits,
+            rows: Vec::new(),
+            ids: vec![Id::One],
+            tasks: vec![task],
+            places: HashMap::from([(root, 0)]),
+            messages: HashMap::new(),
         }
-        ["local", _] => writeln!(out, "401 no task"),
-        ["order", first, second] => match (first.parse::<usize>(), second.parse::<usize>()) {
-            (Ok(a), Ok(b)) => {
-                let is_event = |k| 1 <= k && k <= tenant.rows.len();
-                if !is_event(a) || !is_event(b) {
-                    return writeln!(out, "404 no event");
-                }
-                let order = match a.cmp(&b) {
-                    std::cmp::Ordering::Equal => "same",
-                    std::cmp::Ordering::Less => "before",
-                    std::cmp::Ordering::Greater => "after",
-                };
-                writeln!(out, "200 {order}")
+    }
+
+    fn place(&self, name: &Name) -> Result<usize, Refusal> {
+        self.places.get(name).copied().ok_or("401 no task")
+    }
+
+    fn live(&self, name: &Name) -> Result<usize, Refusal> {
+        let place = self.place(name)?;
+        match self.tasks[place].state {
+            State::Live => Ok(place),
+            State::Ended | State::Joined => Err("403 task ended"),
+        }
+    }
+
+    fn ended(&self, name: &Name) -> Result<usize, Refusal> {
+        let place = self.place(name)?;
+        match self.tasks[place].state {
+            State::Live => Err("408 not ended"),
+            State::Ended => Ok(place),
+            State::Joined => Err("409 already joined"),
+        }
+    }
+
+    fn check_room(&self) -> Result<(), Refusal> {
+        if self.rows.len() < self.limits.events { Ok(()) } else { Err("413 events full") }
+    }
+
+    fn known(&self, event: u64) -> &Tree {
+        if event == 0 { &ZERO } else { &self.rows[event as usize - 1].tree }
+    }
+
+    fn add_id(&mut self, id: Id) -> usize {
+        self.ids.push(id);
+        self.ids.len() - 1
+    }
+
+    fn add(&mut self, row: Row) -> u64 {
+        self.rows.push(row);
+        self.rows.len() as u64
+    }
+
+    /// Adds an event with which the task of this place takes nothing in and keeps its id.
+    fn add_alone(&mut self, place: usize, task_name: Name, kind: Kind, name: Option<Name>) -> u64 {
+        let task = self.tasks[place];
+        let tree = self.known(task.last).event(&self.ids[task.id]);
+        let preds = [task.last, 0];
+        let last = self.add(Row { task: task_name, kind, name, preds, tree, id: task.id });
+        self.tasks[place].last = last;
+        last
+    }
+
+    fn local(&mut self, name: Name) -> Result<u64, Refusal> {
+        let place = self.live(&name)?;
+        self.check_room()?;
+        Ok(self.add_alone(place, name, Kind::Local, None))
+    }
+
+    fn end(&mut self, name: Name) -> Result<u64, Refusal> {
+        let place = self.live(&name)?;
+        self.check_room()?;
+        self.tasks[place].state = State::Ended;
+        Ok(self.add_alone(place, name, Kind::End, None))
+    }
+
+    fn send(&mut self, name: Name, message: Name) -> Result<u64, Refusal> {
+        let place = self.live(&name)?;
+        let sent = self.rows.len() as u64 + 1;
+        let is_full = self.rows.len() >= self.limits.events;
+        let are_full = self.messages.len() >= self.limits.messages;
+        match self.messages.entry(message) {
+            Entry::Occupied(_) => return Err("406 message exists"),
+            Entry::Vacant(_) if are_full => return Err("415 messages full"),
+            Entry::Vacant(_) if is_full => return Err("413 events full"),
+            Entry::Vacant(entry) => entry.insert(Message { sent, received: 0 }),
+        };
+        Ok(self.add_alone(place, name, Kind::Send, Some(message)))
+    }
+
+    fn receive(&mut self, name: Name, message: Name) -> Result<u64, Refusal> {
+        let place = self.live(&name)?;
+        let received = self.rows.len() as u64 + 1;
+        let is_full = self.rows.len() >= self.limits.events;
+        let sent = match self.messages.get_mut(&message) {
+            None => return Err("405 no message"),
+            Some(message) if message.received != 0 => return Err("407 already received"),
+            Some(_) if is_full => return Err("413 events full"),
+            Some(message) => {
+                message.received = received;
+                message.sent
             }
-            _ => writeln!(out, "400 line"),
-        },
-        ["count"] => writeln!(out, "200 {} 1 0", tenant.rows.len()),
-        _ => writeln!(out, "400 line"),
+        };
+        let task = self.tasks[place];
+        let tree = self.known(task.last).join(0, self.known(sent), 0).event(&self.ids[task.id]);
+        let preds = preds(task.last, sent);
+        let last = self.add(Row { task: name, kind: Kind::Recv, name: Some(message), preds, tree, id: task.id });
+        self.tasks[place].last = last;
+        Ok(last)
+    }
+
+    fn spawn(&mut self, name: Name, child: Name) -> Result<u64, Refusal> {
+        let place = self.live(&name)?;
+        let started = self.tasks.len();
+        let is_full = self.rows.len() >= self.limits.events;
+        match self.places.entry(child) {
+            Entry::Occupied(_) => return Err("402 task exists"),
+            Entry::Vacant(_) if started >= self.limits.tasks => return Err("414 tasks full"),
+            Entry::Vacant(_) if is_full => return Err("413 events full"),
+            Entry::Vacant(entry) => entry.insert(started),
+        };
+        let task = self.tasks[place];
+        let tree = self.known(task.last).event(&self.ids[task.id]);
+        let (kept, given) = self.ids[task.id].split();
+        let (kept, given) = (self.add_id(kept), self.add_id(given));
+        let preds = [task.last, 0];
+        let last = self.add(Row { task: name, kind: Kind::Spawn, name: Some(child), preds, tree, id: kept });
+        self.tasks.push(Task { state: State::Live, last, id: given });
+        self.tasks[place] = Task { last, id: kept, ..task };
+        Ok(last)
+    }
+
+    fn join(&mut self, name: Name, child: Name) -> Result<u64, Refusal> {
+        let place = self.live(&name)?;
+        let other = self.ended(&child)?;
+        self.check_room()?;
+        let (task, joined) = (self.tasks[place], self.tasks[other]);
+        let id = self.ids[task.id].sum(&self.ids[joined.id]);
+        let tree = self.known(task.last).join(0, self.known(joined.last), 0).event(&id);
+        let id = self.add_id(id);
+        let preds = preds(task.last, joined.last);
+        let last = self.add(Row { task: name, kind: Kind::Join, name: Some(child), preds, tree, id });
+        self.tasks[place] = Task { last, id, ..task };
+        self.tasks[other].state = State::Joined;
+        Ok(last)
+    }
+
+    fn row(&self, event: u64) -> Result<&Row, Refusal> {
+        (event as usize).checked_sub(1).and_then(|place| self.rows.get(place)).ok_or("404 no event")
+    }
+
+    /// Does the request, and writes the reply where it is accepted.
+    fn answer(&mut self, request: Request, out: &mut Vec<u8>) -> Result<(), Refusal> {
+        let event = match request {
+            Request::Local(task) => self.local(task)?,
+            Request::Spawn(task, child) => self.spawn(task, child)?,
+            Request::Send(task, message) => self.send(task, message)?,
+            Request::Recv(task, message) => self.receive(task, message)?,
+            Request::End(task) => self.end(task)?,
+            Request::Join(task, child) => self.join(task, child)?,
+            Request::Order(first, second) => return self.tell_order(first, second, out),
+            Request::Past(event) => return self.tell_standing(event, (true, false), out),
+            Request::Concurrent(event) => return self.tell_standing(event, (false, false), out),
+            Request::Event(event) => return self.tell_event(event, out),
+            Request::Stamp(event) => return self.tell_stamp(event, out),
+            Request::Task(task) => return self.tell_task(task, out),
+            Request::Message(message) => return self.tell_message(message, out),
+            Request::Count => return self.tell_count(out),
+        };
+        out.extend_from_slice(b"201 ");
+        write_number(out, event);
+        Ok(())
+    }
+
+    fn tell_order(&self, first: u64, second: u64, out: &mut Vec<u8>) -> Result<(), Refusal> {
+        let (first, second) = (self.row(first)?, self.row(second)?);
+        out.extend_from_slice(b"200 ");
+        out.extend_from_slice(first.tree.order(&second.tree).as_bytes());
+        Ok(())
+    }
+
+    /// Tells the events of which the trees stand so to the tree of this one.
+    fn tell_standing(&self, event: u64, asked: (bool, bool), out: &mut Vec<u8>) -> Result<(), Refusal> {
+        let tree = &self.row(event)?.tree;
+        out.extend_from_slice(b"200 ");
+        let start = out.len();
+        let mut count = 0;
+        for (place, row) in self.rows.iter().enumerate() {
+            if row.tree.stands(tree) == asked {
+                out.push(b' ');
+                write_number(out, place as u64 + 1);
+                count += 1;
+            }
+        }
+        let end = out.len();
+        write_number(out, count);
+        let digits = out.len() - end;
+        out[start..].rotate_right(digits);
+        Ok(())
+    }
+
+    fn tell_event(&self, event: u64, out: &mut Vec<u8>) -> Result<(), Refusal> {
+        let row = self.row(event)?;
+        out.extend_from_slice(match row.kind {
+            Kind::Local => b"200 local ",
+            Kind::Spawn => b"200 spawn ",
+            Kind::Send => b"200 send ",
+            Kind::Recv => b"200 recv ",
+            Kind::End => b"200 end ",
+            Kind::Join => b"200 join ",
+        });
+        row.task.write(out);
+        out.push(b' ');
+        match &row.name {
+            Some(name) => name.write(out),
+            None => out.push(b'-'),
+        }
+        out.push(b' ');
+        write_list(out, &row.preds);
+        Ok(())
+    }
+
+    fn tell_stamp(&self, event: u64, out: &mut Vec<u8>) -> Result<(), Refusal> {
+        let row = self.row(event)?;
+        out.extend_from_slice(b"200 ");
+        write_stamp(&self.ids[row.id], &row.tree, out);
+        Ok(())
+    }
+
+    fn tell_task(&self, name: Name, out: &mut Vec<u8>) -> Result<(), Refusal> {
+        let task = self.tasks[self.place(&name)?];
+        out.extend_from_slice(match task.state {
+            State::Live => b"200 live ",
+            State::Ended => b"200 ended ",
+            State::Joined => b"200 joined ",
+        });
+        write_number(out, task.last);
+        Ok(())
+    }
+
+    fn tell_message(&self, name: Name, out: &mut Vec<u8>) -> Result<(), Refusal> {
+        let message = self.messages.get(&name).ok_or("405 no message")?;
+        out.extend_from_slice(b"200 ");
+        write_number(out, message.sent);
+        out.push(b' ');
+        write_list(out, &[message.received]);
+        Ok(())
+    }
+
+    fn tell_count(&self, out: &mut Vec<u8>) -> Result<(), Refusal> {
+        out.extend_from_slice(b"200 ");
+        write_number(out, self.rows.len() as u64);
+        out.push(b' ');
+        write_number(out, self.tasks.len() as u64);
+        out.push(b' ');
+        write_number(out, self.messages.len() as u64);
+        Ok(())
     }
 }
 
-fn main() -> std::io::Result<()> {
-    let mut tenants: HashMap<String, Tenant> = std::env::args().skip(1).map(|name| (name, Tenant::default())).collect();
-    let mut input = BufReader::with_capacity(65536, stdin().lock());
-    let mut out = BufWriter::with_capacity(65536, stdout().lock());
-    let mut line = String::new();
-    while input.read_line(&mut line)? > 0 {
-        let mut words = line.trim_end_matches('\n').split(' ');
-        let name = words.next().unwrap_or("");
-        match tenants.get_mut(name) {
-            Some(tenant) => {
-                write!(out, "{name} ")?;
-                let mut rest = [""; 4];
-                let mut count = 0;
-                for word in words {
-                    if count < rest.len() {
-                        rest[count] = word;
-                    }
-                    count += 1;
-                }
-                answer(tenant, &rest[..count.min(rest.len())], &mut out)?;
-            }
-            None => writeln!(out, "? 420 no tenant")?,
-        }
-        line.clear();
+fn reply(tenants: &mut [(Name, Tenant)], line: &[u8], out: &mut Vec<u8>) {
+    if line.len() > MOST_BYTES {
+        return out.extend_from_slice(b"? 400 line\n");
     }
-    out.flush()
+    let (word, rest) = split_first(line);
+    let Some(name) = Name::read(word) else {
+        return out.extend_from_slice(b"? 400 line\n");
+    };
+    let Some((_, tenant)) = tenants.iter_mut().find(|(other, _)| *other == name) else {
+        return out.extend_from_slice(b"? 420 no tenant\n");
+    };
+    out.extend_from_slice(word);
+    out.push(b' ');
+    let outcome = match rest.and_then(Request::read) {
+        Some(request) => tenant.answer(request, out),
+        None => Err("400 line"),
+    };
+    if let Err(refusal) = outcome {
+        out.extend_from_slice(refusal.as_bytes());
+    }
+    out.push(b'\n');
+}
+
+fn tenants_of_words() -> Vec<(Name, Tenant)> {
+    let mut limits = Limits { events: 4096, tasks: 512, messages: 2048 };
+    let mut names = Vec::new();
+    let mut words = std::env::args().skip(1);
+    while let Some(word) = words.next() {
+        let mut limit = || words.next().and_then(|number| number.parse().ok()).expect("a number");
+        match word.as_str() {
+            "--events" => limits.events = limit(),
+            "--tasks" => limits.tasks = limit(),
+            "--messages" => limits.messages = limit(),
+            _ => names.push(Name::read(word.as_bytes()).expect("a name")),
+        }
+    }
+    names.into_iter().map(|name| (name, Tenant::new(limits))).collect()
+}
+
+fn without_return(piece: &[u8]) -> &[u8] {
+    piece.strip_suffix(b"\r").unwrap_or(piece)
+}
+
+fn main() -> IoResult<()> {
+    let mut tenants = tenants_of_words();
+    let mut input = BufReader::with_capacity(ROOM, stdin().lock());
+    let mut output = stdout().lock();
+    // Replies are gathered here. It grows only where a stamp or a list is longer than what is free of it.
+    let mut out = Vec::with_capacity(2 * ROOM);
+    let mut divided = Vec::new();
+    loop {
+        let bytes = input.fill_buf()?;
+        if bytes.is_empty() {
+            break;
+        }
+        if let Some(at) = bytes.iter().position(|byte| *byte == b'\n') {
+            reply(&mut tenants, without_return(&bytes[..at]), &mut out);
+            input.consume(at + 1);
+        } else {
+            divided.clear();
+            input.read_until(b'\n', &mut divided)?;
+            let line = divided.strip_suffix(b"\n").map_or(divided.as_slice(), without_return);
+            reply(&mut tenants, line, &mut out);
+        }
+        if out.len() >= ROOM {
+            output.write_all(&out)?;
+            out.clear();
+        }
+    }
+    output.write_all(&out)?;
+    output.flush()
 }
