@@ -11,6 +11,7 @@ mod into_writer;
 mod line;
 mod line_reader;
 mod log;
+mod pieces;
 mod read_fault;
 mod reply;
 mod request;

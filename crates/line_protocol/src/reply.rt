@@ -1,12 +1,12 @@
 //! Replies, written without memory.
 ghost use Rattle.std.specs.Prelude.{◌≡◌, ◌≤◌, ◌<◌, ◌++◌, OnOk, OnErr, decimal, codes, IsTrue};
-ghost use Rattle.trace_types.specs.Text.{reply_text, order_text, state_text};
+ghost use Rattle.trace_types.specs.Text.{reply_text, order_text, state_text, kind_text, name_text, list_text};
 ghost use Rattle.trace_types.specs.Code.{code_number, code_text};
 ghost use Rattle.line_protocol.specs.Writing.{WritesFront, IsWriteFault, Writes, Spends};
 
+use crate::pieces::{write_list, write_number, write_piece, write_pieces, write_two_numbers};
 use crate::{Sink, Stop, WriteFault};
-use itoa::Buffer;
-use trace_types::{Code, Order, Reply, TaskState};
+use trace_types::{Code, Kind, Name, Order, Receipts, Reply, Row, TaskState};
 
 /// How many interruptions end one call.
 const MOST_INTERRUPTIONS: u64 = 1048576;
@@ -39,8 +39,11 @@ pub fn write_reply<W: Sink>(writer: &mut W, reply: &Reply) -> Result<(), WriteFa
     match reply {
         Reply::Accepted(event) => write_number(writer, &mut patience, b"201 ", *event),
         Reply::Ordering(order) => write_pieces(writer, &mut patience, b"200 ", order_text(*order)),
+        Reply::List(events) => write_list(writer, &mut patience, b"200 ", events.as_slice()),
+        Reply::Event(row) => write_event(writer, &mut patience, row),
         Reply::Stamp(text) => write_pieces(writer, &mut patience, b"200 ", text.as_bytes()),
         Reply::Task(state, last) => write_task(writer, &mut patience, *state, *last),
+        Reply::Message(sent, receipts) => write_message(writer, &mut patience, *sent, receipts),
         Reply::Count(events, tasks, messages) => {
             write_count(writer, &mut patience, *events, *tasks, *messages)
         }
@@ -91,6 +94,61 @@ fn state_text(state: TaskState) -> &'static [u8]
     }
 }
 
+/// The word for the kind of a report.
+fn kind_text(kind: Kind) -> &'static [u8]
+    ensures { result.now ≡ kind_text kind }
+{
+    match kind {
+        Kind::Local => b"local",
+        Kind::Spawn => b"spawn",
+        Kind::Send => b"send",
+        Kind::Recv => b"recv",
+        Kind::End => b"end",
+        Kind::Join => b"join",
+    }
+}
+
+/// The name, or `-` where there is none.
+fn name_text(name: &Option<Name>) -> &[u8]
+    ensures { result.now ≡ name_text name.now }
+{
+    match name {
+        Some(name) => name.as_bytes(),
+        None => b"-",
+    }
+}
+
+/// Writes a row: the kind, the task, the name or `-`, and the predecessors.
+fn write_event<W: Sink>(writer: &mut W, patience: &mut u64, row: &Row) -> Result<(), WriteFault>
+    requires { 0 < patience.old }
+    ensures written { Writes (W.taken writer.old) (W.taken writer.new) result
+        ((codes "200 " ++ kind_text row.now.kind)
+        ++ (((codes " " ++ row.now.task) ++ (codes " " ++ name_text row.now.name)) ++ (codes " " ++ list_text row.now.preds))) }
+    ensures spent { Spends (W.failures writer.old) (W.failures writer.new)
+        (W.interruptions writer.old) (W.interruptions writer.new) patience.old patience.new result }
+{
+    write_pieces(writer, patience, b"200 ", kind_text(row.kind))?;
+    write_names(writer, patience, &row.task, &row.name)?;
+    write_list(writer, patience, b" ", row.preds.as_slice())
+}
+
+/// Writes the task and the name or `-`, each after a blank.
+fn write_names<W: Sink>(
+    writer: &mut W,
+    patience: &mut u64,
+    task: &Name,
+    name: &Option<Name>,
+) -> Result<(), WriteFault>
+    requires { 0 < patience.old }
+    ensures written { Writes (W.taken writer.old) (W.taken writer.new) result
+        ((codes " " ++ task.now) ++ (codes " " ++ name_text name.now)) }
+    ensures spent { Spends (W.failures writer.old) (W.failures writer.new)
+        (W.interruptions writer.old) (W.interruptions writer.new) patience.old patience.new result }
+{
+    write_pieces(writer, patience, b" ", task.as_bytes())?;
+    write_pieces(writer, patience, b" ", name_text(name))
+}
+
 /// Writes the state and the last event of a task.
 fn write_task<W: Sink>(
     writer: &mut W,
@@ -106,6 +164,23 @@ fn write_task<W: Sink>(
 {
     write_pieces(writer, patience, b"200 ", state_text(state))?;
     write_number(writer, patience, b" ", last)
+}
+
+/// Writes the event that sent a message, and the receipts.
+fn write_message<W: Sink>(
+    writer: &mut W,
+    patience: &mut u64,
+    sent: u64,
+    receipts: &Receipts,
+) -> Result<(), WriteFault>
+    requires { 0 < patience.old }
+    ensures written { Writes (W.taken writer.old) (W.taken writer.new) result
+        ((codes "200 " ++ decimal sent) ++ (codes " " ++ list_text receipts.now)) }
+    ensures spent { Spends (W.failures writer.old) (W.failures writer.new)
+        (W.interruptions writer.old) (W.interruptions writer.new) patience.old patience.new result }
+{
+    write_number(writer, patience, b"200 ", sent)?;
+    write_list(writer, patience, b" ", receipts.as_slice())
 }
 
 /// Writes the three numbers of a count.
@@ -126,23 +201,6 @@ fn write_count<W: Sink>(
     write_two_numbers(writer, patience, tasks, messages)
 }
 
-/// Writes two numbers, each after a blank.
-fn write_two_numbers<W: Sink>(
-    writer: &mut W,
-    patience: &mut u64,
-    first: u64,
-    second: u64,
-) -> Result<(), WriteFault>
-    requires { 0 < patience.old }
-    ensures written { Writes (W.taken writer.old) (W.taken writer.new) result
-        ((codes " " ++ decimal first) ++ (codes " " ++ decimal second)) }
-    ensures spent { Spends (W.failures writer.old) (W.failures writer.new)
-        (W.interruptions writer.old) (W.interruptions writer.new) patience.old patience.new result }
-{
-    write_number(writer, patience, b" ", first)?;
-    write_number(writer, patience, b" ", second)
-}
-
 /// Writes a code's number and its words.
 fn write_refusal<W: Sink>(writer: &mut W, patience: &mut u64, code: Code) -> Result<(), WriteFault>
     requires { 0 < patience.old }
@@ -153,59 +211,4 @@ fn write_refusal<W: Sink>(writer: &mut W, patience: &mut u64, code: Code) -> Res
 {
     write_number(writer, patience, b"", code.number())?;
     write_pieces(writer, patience, b" ", code.text().as_bytes())
-}
-
-/// Writes a text and a number after it.
-fn write_number<W: Sink>(
-    writer: &mut W,
-    patience: &mut u64,
-    text: &[u8],
-    number: u64,
-) -> Result<(), WriteFault>
-    requires { 0 < patience.old }
-    ensures written { Writes (W.taken writer.old) (W.taken writer.new) result (text.now ++ decimal number) }
-    ensures spent { Spends (W.failures writer.old) (W.failures writer.new)
-        (W.interruptions writer.old) (W.interruptions writer.new) patience.old patience.new result }
-{
-    let mut digits = Buffer::new();
-    write_pieces(writer, patience, text, digits.format(number).as_bytes())
-}
-
-/// Writes two texts.
-fn write_pieces<W: Sink>(
-    writer: &mut W,
-    patience: &mut u64,
-    first: &[u8],
-    second: &[u8],
-) -> Result<(), WriteFault>
-    requires { 0 < patience.old }
-    ensures written { Writes (W.taken writer.old) (W.taken writer.new) result (first.now ++ second.now) }
-    ensures spent { Spends (W.failures writer.old) (W.failures writer.new)
-        (W.interruptions writer.old) (W.interruptions writer.new) patience.old patience.new result }
-{
-    write_piece(writer, patience, first)?;
-    write_piece(writer, patience, second)
-}
-
-/// Writes a text; an interrupted write is tried again as long as there is patience.
-fn write_piece<W: Sink>(writer: &mut W, patience: &mut u64, piece: &[u8]) -> Result<(), WriteFault>
-    requires { 0 < patience.old }
-    ensures written { Writes (W.taken writer.old) (W.taken writer.new) result piece.now }
-    ensures spent { Spends (W.failures writer.old) (W.failures writer.new)
-        (W.interruptions writer.old) (W.interruptions writer.new) patience.old patience.new result }
-{
-    let mut rest = piece;
-    while !rest.is_empty() {
-        match writer.write_some(rest) {
-            Ok(0) | Err(Stop::Failed) => return Err(WriteFault),
-            Ok(count) => rest = &rest[count..],
-            Err(Stop::Interrupted) => {
-                *patience -= 1;
-                if *patience == 0 {
-                    return Err(WriteFault);
-                }
-            }
-        }
-    }
-    Ok(())
 }

@@ -28,6 +28,12 @@ fn read_arguments(keyword: &[u8], arguments: &[u8]) -> Option<Request>
     } else if is_word(keyword, b"spawn") {
         let (task, child) = two_names(arguments)?;
         Some(Request::Spawn(task, child))
+    } else if is_word(keyword, b"send") {
+        let (task, message) = two_names(arguments)?;
+        Some(Request::Send(task, message))
+    } else if is_word(keyword, b"recv") {
+        let (task, message) = two_names(arguments)?;
+        Some(Request::Recv(task, message))
     } else if is_word(keyword, b"end") {
         Some(Request::End(only_name(arguments)?))
     } else if is_word(keyword, b"join") {
@@ -36,10 +42,18 @@ fn read_arguments(keyword: &[u8], arguments: &[u8]) -> Option<Request>
     } else if is_word(keyword, b"order") {
         let (first, second) = two_numbers(arguments)?;
         Some(Request::Order(first, second))
+    } else if is_word(keyword, b"past") {
+        Some(Request::Past(only_number(arguments)?))
+    } else if is_word(keyword, b"concurrent") {
+        Some(Request::Concurrent(only_number(arguments)?))
+    } else if is_word(keyword, b"event") {
+        Some(Request::Event(only_number(arguments)?))
     } else if is_word(keyword, b"stamp") {
         Some(Request::Stamp(only_number(arguments)?))
     } else if is_word(keyword, b"task") {
         Some(Request::Task(only_name(arguments)?))
+    } else if is_word(keyword, b"message") {
+        Some(Request::Message(only_name(arguments)?))
     } else {
         None
     }

@@ -14,9 +14,8 @@ use Rattle.trace_types.specs.Tenant.{AreLegal}
 use Rattle.trace_types.specs.Id.{Id}
 use Rattle.trace_types.specs.EventTree.{EventTree}
 use Rattle.trace_types.specs.declared.row.Row.{Row}
-use Rattle.tenant_ledger.specs.Ledger.{IsTask, IsStamp, IsKept}
+use Rattle.tenant_ledger.specs.Ledger.{IsTask, IsPlace, IsKept}
 use Rattle.tenant_ledger.specs.declared.book.Task.{Task}
-use Rattle.tenant_ledger.specs.declared.book.Kept.{Kept}
 use Rattle.tenant_ledger.proofs.Events.{tree_of-older}
 use Rattle.tenant_ledger.proofs.Reaching.{new_event}
 
@@ -53,40 +52,37 @@ stamp_of-older : (row : Row) (earlier : History) (event : ℕ) → event ≢ new
     → (stamp_of tree_clock (row ∷ earlier) event).0 ≡ (stamp_of tree_clock earlier event).0
 stamp_of-older row earlier event older = ap (λ (stamp : Id × EventTree). stamp.0) (cond-false (eqb event (new_event earlier)) _ _ (ne_eqb event (new_event earlier) older))
 
--- the newest row's stamp
-new_stamp : (ids' : List Id) (row : Row) (earlier : History) (new : Kept) (event : ℕ) → event ≡ new_event earlier
-    → new.tree ≡ tree_of tree_clock (row ∷ earlier) (new_event earlier) → slice_get ids' new.id ≡ Some (id_of tree_clock (row ∷ earlier) row.task)
-    → IsStamp ids' (row ∷ earlier) event (Some new)
-new_stamp ids' row earlier new event is tree id =
-    subst (λ number. IsStamp ids' (row ∷ earlier) number (Some new)) (sym is) (tree, id ∙ ap Some (sym (stamp_of-new row earlier)))
+-- the place of the newest row's id
+new_place : (ids' : List Id) (row : Row) (earlier : History) (place event : ℕ) → event ≡ new_event earlier
+    → slice_get ids' place ≡ Some (id_of tree_clock (row ∷ earlier) row.task) → IsPlace ids' (row ∷ earlier) event (Some place)
+new_place ids' row earlier place event is there =
+    subst (λ number. IsPlace ids' (row ∷ earlier) number (Some place)) (sym is) (there ∙ ap Some (sym (stamp_of-new row earlier)))
 
--- the stamps of the events before it stay
-older_stamp : (ids ids' : List Id) (row : Row) (earlier : History) (kept : List Kept) (new : Kept) (event place : ℕ) → Stay ids ids' → event ≢ new_event earlier
-    → IsStamp ids earlier event (slice_get kept place) → IsStamp ids' (row ∷ earlier) event (slice_get (kept ++ new ∷ []) place)
-older_stamp ids ids' row earlier kept new event place stay older = at (slice_get kept place) refl
+-- the places of the events before it stay
+older_place : (ids ids' : List Id) (row : Row) (earlier : History) (places : List ℕ) (new event at : ℕ) → Stay ids ids' → event ≢ new_event earlier
+    → IsPlace ids earlier event (slice_get places at) → IsPlace ids' (row ∷ earlier) event (slice_get (places ++ new ∷ []) at)
+older_place ids ids' row earlier places new event at stay older = by (slice_get places at) refl
   where
-    at : (found : Option Kept) → slice_get kept place ≡ found → IsStamp ids earlier event found → IsStamp ids' (row ∷ earlier) event (slice_get (kept ++ new ∷ []) place)
-    at None is stamp = absurd stamp
-    at (Some stamp) is right =
-        subst (IsStamp ids' (row ∷ earlier) event) (sym (slice_get-longer kept (new ∷ []) place stamp is)) (
-          right.0 ∙ sym (tree_of-older tree_clock row earlier event older),
-          stay stamp.id _ right.1 ∙ ap Some (sym (stamp_of-older row earlier event older)),
-        )
+    by : (found : Option ℕ) → slice_get places at ≡ found → IsPlace ids earlier event found → IsPlace ids' (row ∷ earlier) event (slice_get (places ++ new ∷ []) at)
+    by None is right = absurd right
+    by (Some place) is right =
+        subst (IsPlace ids' (row ∷ earlier) event) (sym (slice_get-longer places (new ∷ []) at place is))
+        (stay place _ right ∙ ap Some (sym (stamp_of-older row earlier event older)))
 
 -- what is asked of what is kept with one more row
-pub record IsNext (limits : Limits) (rows : List Row) (ids : List Id) (row : Row) (new : Kept) (ids' : List Id) (task_of' : Text → Option Task) (count' : ℕ) : Type 0 where
+pub record IsNext (limits : Limits) (rows : List Row) (ids : List Id) (row : Row) (tree : EventTree) (place : ℕ) (ids' : List Id) (task_of' : Text → Option Task) (count' : ℕ) : Type 0 where
   pub legal : AreLegal limits (rows ++ row ∷ [])
   pub few : length rows < limits.events
   pub small : limits.events ≤ 16384
-  pub tree : new.tree ≡ tree_of tree_clock (row ∷ history_of rows) (new_event (history_of rows))
-  pub id : slice_get ids' new.id ≡ Some (id_of tree_clock (row ∷ history_of rows) row.task)
+  pub tree_is : tree ≡ tree_of tree_clock (row ∷ history_of rows) (new_event (history_of rows))
+  pub place_is : slice_get ids' place ≡ Some (id_of tree_clock (row ∷ history_of rows) row.task)
   pub stay : Stay ids ids'
   pub tasks : (name : Text) → IsTask ids' (row ∷ history_of rows) name (task_of' name)
   pub counted : count' ≡ task_count (row ∷ history_of rows)
 
-module _ (limits : Limits) (rows : List Row) (kept : List Kept) (ids : List Id) (task_of : Text → Option Task) (count : ℕ)
-    (row : Row) (new : Kept) (ids' : List Id) (task_of' : Text → Option Task) (count' : ℕ)
-    (before : IsKept limits rows kept ids task_of count) (next : IsNext limits rows ids row new ids' task_of' count') where
+module _ (limits : Limits) (rows : List Row) (trees : List EventTree) (places : List ℕ) (ids : List Id) (task_of : Text → Option Task) (count : ℕ)
+    (row : Row) (tree : EventTree) (place : ℕ) (ids' : List Id) (task_of' : Text → Option Task) (count' : ℕ)
+    (before : IsKept limits rows trees places ids task_of count) (next : IsNext limits rows ids row tree place ids' task_of' count') where
   longer : history_of (rows ++ row ∷ []) ≡ row ∷ history_of rows
   longer = reverse-append rows (row ∷ [])
 
@@ -96,25 +92,40 @@ module _ (limits : Limits) (rows : List Row) (kept : List Kept) (ids : List Id) 
   new_number : new_event (history_of rows) ≡ suc (length rows)
   new_number = ap suc (length-reverse rows)
 
-  stamps : (event : ℕ) → 0 < event → event ≤ suc (length rows) → IsStamp ids' (row ∷ history_of rows) event (slice_get (kept ++ new ∷ []) (event - 1))
-  stamps event positive within = elim (cases_eq event (new_event (history_of rows))) [
+  trees_are : (event : ℕ) → 0 < event → event ≤ suc (length rows) → slice_get (trees ++ tree ∷ []) (event - 1) ≡ Some (tree_of tree_clock (row ∷ history_of rows) event)
+  trees_are event positive within = elim (cases_eq event (new_event (history_of rows))) [
     | inl is ↦
-        let last : length kept ≡ event - 1 = omega (arith, is, new_number, before.one_each) in
-        subst (IsStamp ids' (row ∷ history_of rows) event) (sym (ap (slice_get (kept ++ new ∷ [])) (sym last) ∙ slice_get-added kept new))
-        (new_stamp ids' row (history_of rows) new event is next.tree next.id)
+        let last : length trees ≡ event - 1 = omega (arith, is, new_number, before.one_tree) in
+        ap (slice_get (trees ++ tree ∷ [])) (sym last) ∙ slice_get-added trees tree
+        ∙ ap Some (next.tree_is ∙ ap (tree_of tree_clock (row ∷ history_of rows)) (sym is))
     | inr older ↦
         let among : event ≤ length rows = omega (arith, within, older, new_number) in
-        older_stamp ids ids' row (history_of rows) kept new event (event - 1) next.stay older (before.stamps event positive among)
+        slice_get-longer trees (tree ∷ []) (event - 1) _ (before.trees_are event positive among)
+        ∙ ap Some (sym (tree_of-older tree_clock row (history_of rows) event older))
   ]
 
-  pub keeps_one_more : IsKept limits (rows ++ row ∷ []) (kept ++ new ∷ []) ids' task_of' count'
+  places_are : (event : ℕ) → 0 < event → event ≤ suc (length rows) → IsPlace ids' (row ∷ history_of rows) event (slice_get (places ++ place ∷ []) (event - 1))
+  places_are event positive within = elim (cases_eq event (new_event (history_of rows))) [
+    | inl is ↦
+        let last : length places ≡ event - 1 = omega (arith, is, new_number, before.one_place) in
+        subst (IsPlace ids' (row ∷ history_of rows) event) (sym (ap (slice_get (places ++ place ∷ [])) (sym last) ∙ slice_get-added places place))
+        (new_place ids' row (history_of rows) place event is next.place_is)
+    | inr older ↦
+        let among : event ≤ length rows = omega (arith, within, older, new_number) in
+        older_place ids ids' row (history_of rows) places place event (event - 1) next.stay older (before.places_are event positive among)
+  ]
+
+  pub keeps_one_more : IsKept limits (rows ++ row ∷ []) (trees ++ tree ∷ []) (places ++ place ∷ []) ids' task_of' count'
   keeps_one_more = record {
     legal = next.legal;
     few = omega (arith, one_longer, next.few);
     small = omega (arith, one_longer, next.few, next.small);
-    one_each = length-append kept (new ∷ []) ∙ omega (arith, one_longer, before.one_each);
-    stamps = λ event positive within.
-        subst (λ history. IsStamp ids' history event (slice_get (kept ++ new ∷ []) (event - 1))) (sym longer) (stamps event positive (omega (arith, within, one_longer)));
+    one_tree = length-append trees (tree ∷ []) ∙ omega (arith, one_longer, before.one_tree);
+    one_place = length-append places (place ∷ []) ∙ omega (arith, one_longer, before.one_place);
+    trees_are = λ event positive within.
+        trees_are event positive (omega (arith, within, one_longer)) ∙ ap (λ history. Some (tree_of tree_clock history event)) (sym longer);
+    places_are = λ event positive within.
+        subst (λ history. IsPlace ids' history event (slice_get (places ++ place ∷ []) (event - 1))) (sym longer) (places_are event positive (omega (arith, within, one_longer)));
     tasks = λ name. subst (λ history. IsTask ids' history name (task_of' name)) (sym longer) (next.tasks name);
     counted = next.counted ∙ ap task_count (sym longer);
   }

@@ -81,7 +81,7 @@ module _ {book : Book} {name child : Text} {task joined : Task} (has : Has Live 
       let history = history_in book in
       let bounded : maximum known ≤ length history =
       omega (arith, ap maximum (known_is_joined own taken known own_is taken_is known_is), known_before_maximum-le row history (legal_history book has.is)) in
-      omega (arith, bounded, length-reverse book.rows.items, has.is.small)
+      omega (arith, bounded, length-reverse book.rows.items, has.is.kept.small)
 
   id_of-acting : id_of tree_clock (row ∷ history_in book) name ≡ acting_id tree_clock (history_in book) row
   id_of-acting = cond-true (is_same name name) _ _ (is_same-itself name)
@@ -102,7 +102,7 @@ module _ {book : Book} {name child : Text} {task joined : Task} (has : Has Live 
       (small : book.limits.events ≤ 16384) where
     legal : AreLegal book.limits (book.rows.items ++ row ∷ [])
     legal = AreLegal-push book.limits book.rows.items (request.Join name child) row (written, child_written)
-        (rw (live.known, live.unended, ended.known, ended.ended, ended.unjoined, has_room book.limits book.rows.items few) refl) refl has.is.legal
+        (rw (live.known, live.unended, ended.known, ended.ended, ended.unjoined, has_room book.limits book.rows.items few) refl) refl has.is.kept.legal
 
     -- what is kept with the row
     pub join_is_next : (own taken id : Id) (own_tree taken_tree known tree : EventTree) (ids' : List Id) (place : ℕ) (mid task_of' : Text → Option Task) (last mid_count count' : ℕ)
@@ -112,7 +112,7 @@ module _ {book : Book} {name child : Text} {task joined : Task} (has : Has Live 
         → Puts (task_in book) name (record { state = task.state; last = last; id = place }) mid
         → Puts mid child (record { state = Joined; last = joined.last; id = joined.id }) task_of'
         → mid_count ≡ index_map_len book.tasks + cond (is_some (task_in book name)) 0 1 → count' ≡ mid_count + cond (is_some (mid child)) 0 1
-        → IsNext book.limits book.rows.items book.ids.items row (record { tree = tree; id = place }) ids' task_of' count'
+        → IsNext book.limits book.rows.items book.ids.items row tree place ids' task_of' count'
     join_is_next own taken id own_tree taken_tree known tree ids' place mid task_of' last mid_count count' own_is taken_is id_is own_tree_is taken_tree_is known_is tree_is stay there number
         puts_acting puts_child mid_count_is count_is =
         let history = history_in book in
@@ -126,11 +126,11 @@ module _ {book : Book} {name child : Text} {task joined : Task} (has : Has Live 
           legal = legal;
           few = few;
           small = small;
-          tree = tree_is_new row history id known tree tree_is id_is_acting (known_is_joined own_tree taken_tree known own_tree_is taken_tree_is known_is);
-          id = at_place;
+          tree_is = tree_is_new row history id known tree tree_is id_is_acting (known_is_joined own_tree taken_tree known own_tree_is taken_tree_is known_is);
+          place_is = at_place;
           stay = stay;
-          tasks = tasks_after book.ids.items ids' row history child (task_in book) task_of' acting_after child_after stay has.is.tasks
-              (both_put row name child (task_in book) mid task_of' acting_after child_after refl (λ other not_named. not_named) differ (differ_back name child differ)
+          tasks = tasks_after book.ids.items ids' row history child (task_in book) task_of' acting_after child_after stay has.is.kept.tasks
+              (both_put row history name child (task_in book) mid task_of' acting_after child_after refl (λ other not_named. not_named) differ (differ_back name child differ)
               (inr (puts_acting, puts_child)))
               (acting_is_task row history ids' task.state last place live.known state_is last_is at_place)
               (child_is_task ids');
@@ -138,5 +138,5 @@ module _ {book : Book} {name child : Text} {task joined : Task} (has : Has Live 
               let had_acting = count_of-known (index_map_len book.tasks) mid_count (task_in book name) task has.found mid_count_is in
               let had_child : mid child ≡ Some joined = puts_acting child ∙ (cond-false (is_same name child) _ _ differ ∙ has_child.found) in
               let no_more = count_of-known mid_count count' (mid child) joined had_child count_is in
-              omega (arith, no_more, had_acting, has.is.counted, task_count-more row history);
+              omega (arith, no_more, had_acting, has.is.kept.counted, task_count-more row history);
         }

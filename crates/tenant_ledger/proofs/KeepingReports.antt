@@ -11,7 +11,7 @@ use Rattle.trace_types.specs.Id.{Id, Zero}
 use Rattle.trace_types.specs.EventTree.{EventTree, maximum}
 use Rattle.trace_types.specs.declared.row.Row.{Row}
 use Rattle.trace_types.specs.declared.row.Kind.{Kind}
-use Rattle.trace_types.specs.declared.row.Kind.TheVariants.{Local, Spawn, End, Join}
+use Rattle.trace_types.specs.declared.row.Kind.TheVariants.{Local, Spawn, Send, Recv, End, Join}
 use Rattle.trace_types.specs.declared.task_state.TaskState.{TaskState}
 use Rattle.trace_types.specs.declared.task_state.TaskState.TheVariants.{Live, Ended, Joined}
 use Rattle.trace_types.proofs.Names.{is_same_iff}
@@ -36,6 +36,8 @@ joins_no_unknown : (task : Text) (kind : Kind) (name : Option Text) (preds : Lis
     → is_known earlier other ≡ false → joins other (record { task = task; kind = kind; name = name; preds = preds }) ≡ false
 joins_no_unknown task Local name preds earlier other allowed unknown = refl
 joins_no_unknown task Spawn name preds earlier other allowed unknown = refl
+joins_no_unknown task Send name preds earlier other allowed unknown = refl
+joins_no_unknown task Recv name preds earlier other allowed unknown = refl
 joins_no_unknown task End name preds earlier other allowed unknown = refl
 joins_no_unknown task Join None preds earlier other allowed unknown = absurd allowed
 joins_no_unknown task Join (Some child) preds earlier other allowed unknown = false_from_ne_true (is_same child other) λ same.
@@ -84,10 +86,10 @@ abbrev pub history_in : Book → History
 history_in book = history_of book.rows.items
 
 pub legal_history : (book : Book) → IsBook book → IsLegal (history_in book)
-legal_history book is = IsLegal_from_AreLegal book.limits book.rows.items is.legal
+legal_history book is = IsLegal_from_AreLegal book.limits book.rows.items is.kept.legal
 
 pub unknown_task : (book : Book) → IsBook book → (name : Text) → task_in book name ≡ None → is_known (history_in book) name ≡ false
-unknown_task book is name none = subst (IsTask book.ids.items (history_in book) name) none (is.tasks name)
+unknown_task book is name none = subst (IsTask book.ids.items (history_in book) name) none (is.kept.tasks name)
 
 -- the number that the next event has
 pub newest : (book : Book) (event : ℕ) → event ≡ length book.rows.items + 1 → event ≡ suc (length (history_in book))
@@ -101,7 +103,7 @@ pub record Has (state : TaskState) (book : Book) (name : Text) (task : Task) : T
 
 module _ {state : TaskState} {book : Book} {name : Text} {task : Task} (has : Has state book name task) where
   is_task : IsTask book.ids.items (history_in book) name (Some task)
-  is_task = subst (IsTask book.ids.items (history_in book) name) has.found (has.is.tasks name)
+  is_task = subst (IsTask book.ids.items (history_in book) name) has.found (has.is.kept.tasks name)
 
   pub last-le : task.last ≤ length book.rows.items
   last-le = omega (arith, is_task.2, last_event-le (history_in book) name, length-reverse book.rows.items)
@@ -115,7 +117,7 @@ module _ {state : TaskState} {book : Book} {name : Text} {task : Task} (has : Ha
   pub known_fits : (known : EventTree) → known ≡ tree_of tree_clock (history_in book) task.last → maximum known + 1 < 18446744073709551616
   known_fits known known_is =
       let bounded : maximum known ≤ task.last = omega (arith, ap maximum known_is, maximum_of-le (history_in book) (legal_history book has.is) task.last) in
-      omega (arith, bounded, last-le, has.is.small)
+      omega (arith, bounded, last-le, has.is.kept.small)
 
 module _ {book : Book} {name : Text} {task : Task} (has : Has Live book name task) where
   pub live_task : IsLiveTask (history_in book) book.ids.items name task

@@ -7,7 +7,7 @@ use Rattle.trace_types.specs.Clock.{Clock}
 use Rattle.trace_types.specs.Stamps.{id_of, id_at, id_kept, id_given, of_named}
 use Rattle.trace_types.specs.declared.row.Row.{Row}
 use Rattle.trace_types.specs.declared.row.Kind.{Kind}
-use Rattle.trace_types.specs.declared.row.Kind.TheVariants.{Local, End}
+use Rattle.trace_types.specs.declared.row.Kind.TheVariants.{Local, Send, Recv, End}
 use Rattle.trace_types.proofs.Names.{is_same_iff, differ_by_test}
 use Rattle.tenant_ledger.specs.ClockLaws.{ClockLaws, OwnsSome}
 use Rattle.tenant_ledger.specs.Legal.{IsLive}
@@ -22,9 +22,15 @@ pub record KeepsIds {Id Tree : Type 0} (clock : Clock Id Tree) (kind : Kind) : T
   pub given : (own named : Id) → id_given clock kind own named ≡ named
   pub starts_none : starts_task kind ≡ false
 
--- a local report and an end are such
+-- a local report, an end and what is done with messages are such
 pub local_keeps_ids : {Id Tree : Type 0} (clock : Clock Id Tree) → KeepsIds clock Local
 local_keeps_ids clock = record { at = λ own named. refl; kept = λ own named. refl; given = λ own named. refl; starts_none = refl }
+
+pub send_keeps_ids : {Id Tree : Type 0} (clock : Clock Id Tree) → KeepsIds clock Send
+send_keeps_ids clock = record { at = λ own named. refl; kept = λ own named. refl; given = λ own named. refl; starts_none = refl }
+
+pub receive_keeps_ids : {Id Tree : Type 0} (clock : Clock Id Tree) → KeepsIds clock Recv
+receive_keeps_ids clock = record { at = λ own named. refl; kept = λ own named. refl; given = λ own named. refl; starts_none = refl }
 
 pub end_keeps_ids : {Id Tree : Type 0} (clock : Clock Id Tree) → KeepsIds clock End
 end_keeps_ids clock = record { at = λ own named. refl; kept = λ own named. refl; given = λ own named. refl; starts_none = refl }

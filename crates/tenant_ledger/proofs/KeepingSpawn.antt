@@ -43,11 +43,11 @@ module _ {book : Book} {name : Text} {task : Task} (has : Has Live book name tas
 
   not_full : has_all_tasks book.limits (history_in book) ≡ false
   not_full = false_from_ne_true (has_all_tasks book.limits (history_in book)) λ full.
-      omega (arith, leb-true book.limits.tasks (task_count (history_in book)) full, has.is.counted, few_tasks)
+      omega (arith, leb-true book.limits.tasks (task_count (history_in book)) full, has.is.kept.counted, few_tasks)
 
   legal : AreLegal book.limits (book.rows.items ++ row ∷ [])
   legal = AreLegal-push book.limits book.rows.items (request.Spawn name child) row (written, child_written)
-      (rw (live.known, live.unended, is_new, not_full, has_room book.limits book.rows.items few) refl) refl has.is.legal
+      (rw (live.known, live.unended, is_new, not_full, has_room book.limits book.rows.items few) refl) refl has.is.kept.legal
 
   -- the row of the report
   pub spawn_row : record { task = name; kind = Spawn; name = Some child; preds = increasing task.last 0 } ≡ row
@@ -79,7 +79,7 @@ module _ {book : Book} {name : Text} {task : Task} (has : Has Live book name tas
       → last ≡ length book.rows.items + 1 → Puts (task_in book) child (record { state = Live; last = last; id = given_place }) mid
       → Puts mid name (record { state = task.state; last = last; id = kept_place }) task_of'
       → mid_count ≡ index_map_len book.tasks + cond (is_some (task_in book child)) 0 1 → count' ≡ mid_count + cond (is_some (mid name)) 0 1
-      → IsNext book.limits book.rows.items book.ids.items row (record { tree = tree; id = kept_place }) ids' task_of' count'
+      → IsNext book.limits book.rows.items book.ids.items row tree kept_place ids' task_of' count'
   spawn_is_next id known tree parts ids' kept_place given_place mid task_of' last mid_count count' id_is known_is tree_is parts_are stay kept_there given_there number puts_child puts_acting
       mid_count_is count_is =
       let history = history_in book in
@@ -95,11 +95,11 @@ module _ {book : Book} {name : Text} {task : Task} (has : Has Live book name tas
         legal = legal;
         few = few;
         small = small;
-        tree = tree_is_new row history id known tree tree_is id_is (known_is ∙ ap (tree_of tree_clock history) live.last);
-        id = place;
+        tree_is = tree_is_new row history id known tree tree_is id_is (known_is ∙ ap (tree_of tree_clock history) live.last);
+        place_is = place;
         stay = stay;
-        tasks = tasks_after book.ids.items ids' row history child (task_in book) task_of' acting_after child_after stay has.is.tasks
-            (both_put row name child (task_in book) mid task_of' acting_after child_after refl (λ other not_named. not_named) differ (differ_back name child differ)
+        tasks = tasks_after book.ids.items ids' row history child (task_in book) task_of' acting_after child_after stay has.is.kept.tasks
+            (both_put row history name child (task_in book) mid task_of' acting_after child_after refl (λ other not_named. not_named) differ (differ_back name child differ)
             (inl (puts_child, puts_acting)))
             (acting_is_task row history ids' task.state last kept_place live.known state_is last_is place)
             (child_is_task ids' last given_place last_is given_is);
@@ -107,5 +107,5 @@ module _ {book : Book} {name : Text} {task : Task} (has : Has Live book name tas
             let one_more = count_of-new (index_map_len book.tasks) mid_count (task_in book child) none mid_count_is in
             let had_acting : mid name ≡ Some task = puts_child name ∙ (cond-false (is_same child name) _ _ (differ_back name child differ) ∙ has.found) in
             let no_more = count_of-known mid_count count' (mid name) task had_acting count_is in
-            omega (arith, no_more, one_more, has.is.counted, task_count-more row history);
+            omega (arith, no_more, one_more, has.is.kept.counted, task_count-more row history);
       }

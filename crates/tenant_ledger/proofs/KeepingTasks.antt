@@ -44,30 +44,38 @@ module _ (row : Row) (earlier : History) where
   pub task_count-more : task_count (row ∷ earlier) ≡ task_count earlier + cond (starts_task row.kind) 1 0
   task_count-more = let sums = sum_by-append (λ (r : Row). cond (starts_task r.kind) 1 0) (row ∷ []) earlier in omega (arith, sums)
 
-  -- a row says nothing of a task that neither acts nor is named
-  module _ (task : Text) (not_acting : is_same row.task task ≡ false) (not_named : names row task ≡ false) where
-    not_started : starts task row ≡ false
-    not_started = and_right (starts_task row.kind) (names row task) not_named
+  -- The row leaves the task as it was: it is not of the task, and neither starts it nor takes it in.
+  pub record IsBystander (task : Text) : Type 0 where
+    pub not_acting : is_same row.task task ≡ false
+    pub not_started : starts task row ≡ false
+    pub not_taken_in : joins task row ≡ false
+    pub same_id : id_of tree_clock (row ∷ earlier) task ≡ id_of tree_clock earlier task
 
+  -- so it is with a task that neither acts nor is named
+  pub unnamed_is_bystander : (task : Text) → is_same row.task task ≡ false → names row task ≡ false → IsBystander task
+  unnamed_is_bystander task not_acting not_named = record {
+    not_acting = not_acting;
+    not_started = and_right (starts_task row.kind) (names row task) not_named;
+    not_taken_in = and_right (joins_task row.kind) (names row task) not_named;
+    same_id = cond-false (is_same row.task task) _ _ not_acting ∙ cond-false (names row task) _ _ not_named;
+  }
+
+  module _ (task : Text) (stands_by : IsBystander task) where
     is_known-bystander : is_known (row ∷ earlier) task ≡ is_known earlier task
-    is_known-bystander = rw not_started refl
+    is_known-bystander = rw stands_by.not_started refl
 
     state_of-bystander : state_of (row ∷ earlier) task ≡ state_of earlier task
     state_of-bystander =
-        let not_ended : ends task row ≡ false = and_right (ends_task row.kind) (is_same row.task task) not_acting in
-        let not_taken_in : joins task row ≡ false = and_right (joins_task row.kind) (names row task) not_named in
-        rw (not_taken_in, not_ended) refl
-
-    id_of-bystander : id_of tree_clock (row ∷ earlier) task ≡ id_of tree_clock earlier task
-    id_of-bystander = cond-false (is_same row.task task) _ _ not_acting ∙ cond-false (names row task) _ _ not_named
+        let not_ended : ends task row ≡ false = and_right (ends_task row.kind) (is_same row.task task) stands_by.not_acting in
+        rw (stands_by.not_taken_in, not_ended) refl
 
     bystander_stays : (ids ids' : List Id) → Stay ids ids' → (found : Option Task) → IsTask ids earlier task found → IsTask ids' (row ∷ earlier) task found
     bystander_stays ids ids' stay None unknown = is_known-bystander ∙ unknown
     bystander_stays ids ids' stay (Some found) right = (
       is_known-bystander ∙ right.0,
       right.1 ∙ sym state_of-bystander,
-      right.2 ∙ sym (last_event-bystander row earlier task not_acting not_started),
-      λ unjoined. stay found.id _ (right.3 unjoined) ∙ ap Some (sym id_of-bystander),
+      right.2 ∙ sym (last_event-bystander row earlier task stands_by.not_acting stands_by.not_started),
+      λ unjoined. stay found.id _ (right.3 unjoined) ∙ ap Some (sym stands_by.same_id),
     )
 
   -- what is to be kept of the acting task
@@ -85,15 +93,15 @@ pub puts_at : (task_of : Text → Option Task) (name : Text) (task : Task) (task
 puts_at task_of name task task_of' puts = puts name ∙ cond-true (is_same name name) _ _ (is_same-itself name)
 
 -- what is kept of two tasks after the row, and that of any other what was kept
-pub record Replaces (named : Text) (row : Row) (task_of task_of' : Text → Option Task) (acting other : Task) : Type 0 where
+pub record Replaces (named : Text) (row : Row) (earlier : History) (task_of task_of' : Text → Option Task) (acting other : Task) : Type 0 where
   pub at_acting : task_of' row.task ≡ Some acting
   pub at_named : task_of' named ≡ Some other
   pub elsewhere : (task : Text) → is_same row.task task ≡ false → is_same named task ≡ false → task_of' task ≡ task_of task
-  pub only_named : (task : Text) → is_same named task ≡ false → names row task ≡ false
+  pub bystanders : (task : Text) → is_same row.task task ≡ false → is_same named task ≡ false → IsBystander row earlier task
 
 -- so what is kept of each task is right
 pub tasks_after : (ids ids' : List Id) (row : Row) (earlier : History) (named : Text) (task_of task_of' : Text → Option Task) (acting other : Task)
-    → Stay ids ids' → ((task : Text) → IsTask ids earlier task (task_of task)) → Replaces named row task_of task_of' acting other
+    → Stay ids ids' → ((task : Text) → IsTask ids earlier task (task_of task)) → Replaces named row earlier task_of task_of' acting other
     → IsTask ids' (row ∷ earlier) row.task (Some acting) → IsTask ids' (row ∷ earlier) named (Some other)
     → (task : Text) → IsTask ids' (row ∷ earlier) task (task_of' task)
 tasks_after ids ids' row earlier named task_of task_of' acting other stay before replaces of_acting of_named =
@@ -102,28 +110,28 @@ tasks_after ids ids' row earlier named task_of task_of' acting other stay before
     (subst (IsTask ids' (row ∷ earlier) named) (sym replaces.at_named) of_named)
     λ task not_acting not_named.
     subst (IsTask ids' (row ∷ earlier) task) (sym (replaces.elsewhere task not_acting not_named))
-    (bystander_stays row earlier task not_acting (replaces.only_named task not_named) ids ids' stay (task_of task) (before task))
+    (bystander_stays row earlier task (replaces.bystanders task not_acting not_named) ids ids' stay (task_of task) (before task))
 
 -- two tasks that the row speaks of are kept, one after the other
-pub both_put : (row : Row) (acting named : Text) (task_of mid task_of' : Text → Option Task) (one other : Task) → row.task ≡ acting
+pub both_put : (row : Row) (earlier : History) (acting named : Text) (task_of mid task_of' : Text → Option Task) (one other : Task) → row.task ≡ acting
     → ((task : Text) → is_same named task ≡ false → names row task ≡ false) → is_same acting named ≡ false → is_same named acting ≡ false
     → (Puts task_of named other mid × Puts mid acting one task_of') ⊎ (Puts task_of acting one mid × Puts mid named other task_of')
-    → Replaces named row task_of task_of' one other
-both_put row acting named task_of mid task_of' one other acts only_named differ differ_too (inl puts) = record {
+    → Replaces named row earlier task_of task_of' one other
+both_put row earlier acting named task_of mid task_of' one other acts only_named differ differ_too (inl puts) = record {
   at_acting = ap task_of' acts ∙ puts_at mid acting one task_of' puts.1;
   at_named = puts.1 named ∙ (cond-false (is_same acting named) _ _ differ ∙ puts_at task_of named other mid puts.0);
   elsewhere = λ task not_acting not_named.
       puts.1 task ∙ (cond-false (is_same acting task) _ _ (ap (λ name. is_same name task) (sym acts) ∙ not_acting)
       ∙ (puts.0 task ∙ cond-false (is_same named task) _ _ not_named));
-  only_named = only_named;
+  bystanders = λ task not_acting not_named. unnamed_is_bystander row earlier task not_acting (only_named task not_named);
 }
-both_put row acting named task_of mid task_of' one other acts only_named differ differ_too (inr puts) = record {
+both_put row earlier acting named task_of mid task_of' one other acts only_named differ differ_too (inr puts) = record {
   at_acting = ap task_of' acts ∙ (puts.1 acting ∙ (cond-false (is_same named acting) _ _ differ_too ∙ puts_at task_of acting one mid puts.0));
   at_named = puts_at mid named other task_of' puts.1;
   elsewhere = λ task not_acting not_named.
       puts.1 task ∙ (cond-false (is_same named task) _ _ not_named
       ∙ (puts.0 task ∙ cond-false (is_same acting task) _ _ (ap (λ name. is_same name task) (sym acts) ∙ not_acting)));
-  only_named = only_named;
+  bystanders = λ task not_acting not_named. unnamed_is_bystander row earlier task not_acting (only_named task not_named);
 }
 
 -- a task that is kept anew is not one more

@@ -3,14 +3,14 @@ use Rattle.std.proofs.Common.{◌≡◌, Bool, false, List, [], ◌∷◌, ◌++
 use Rattle.std.proofs.lemmas.Bool.{cases_Bool, not-false, cond-true, cond-false}
 use Rattle.std.proofs.lemmas.List.{reverse-append}
 use Rattle.trace_types.specs.Limits.{Limits}
-use Rattle.trace_types.specs.Rows.{history_of, is_known, is_ended}
+use Rattle.trace_types.specs.Rows.{history_of, is_known, is_ended, is_sent}
 use Rattle.trace_types.specs.Refusal.{first_code, refusals, refusal_of}
 use Rattle.trace_types.specs.Tenant.{Tenant, fresh, row_after, step_unless, step, after, AreLegal}
 use Rattle.trace_types.specs.declared.code.Code.{Code}
 use Rattle.trace_types.specs.declared.row.Row.{Row}
 use Rattle.trace_types.specs.declared.row.Kind.TheVariants as kind
 use Rattle.trace_types.specs.declared.request.Request.{Request}
-use Rattle.trace_types.specs.declared.request.Request.TheVariants.{Local, Spawn, End, Join, Order, Stamp, Task, Count}
+use Rattle.trace_types.specs.declared.request.Request.TheVariants.{Local, Spawn, Send, Recv, End, Join, Order, Past, Concurrent, Event, Stamp, Task, Message, Count}
 use Rattle.tenant_ledger.specs.Legal.{Allows, IsLegal}
 
 -- no test holds
@@ -39,6 +39,13 @@ legal_unless_refused tenant (Local task) legal (known, (live, others)) =
 legal_unless_refused tenant (Spawn task child) legal (known, (live, (new, others))) =
     let history = history_of tenant.rows in
     legal_more tenant.rows (row_after history task kind.Spawn (Some child)) ((not-false (is_known history task) known, live), new) legal
+legal_unless_refused tenant (Send task message) legal (known, (live, (new, others))) =
+    let history = history_of tenant.rows in
+    legal_more tenant.rows (row_after history task kind.Send (Some message)) ((not-false (is_known history task) known, live), new) legal
+legal_unless_refused tenant (Recv task message) legal (known, (live, (sent, (not_received, others)))) =
+    let history = history_of tenant.rows in
+    legal_more tenant.rows (row_after history task kind.Recv (Some message))
+    ((not-false (is_known history task) known, live), not-false (is_sent history message) sent, not_received) legal
 legal_unless_refused tenant (End task) legal (known, (live, others)) =
     let history = history_of tenant.rows in
     legal_more tenant.rows (row_after history task kind.End None) (not-false (is_known history task) known, live) legal
@@ -47,8 +54,12 @@ legal_unless_refused tenant (Join task child) legal (known, (live, (child_known,
     legal_more tenant.rows (row_after history task kind.Join (Some child))
     ((not-false (is_known history task) known, live), not-false (is_known history child) child_known, not-false (is_ended history child) child_ended, not_joined) legal
 legal_unless_refused tenant (Order a b) legal none = legal
+legal_unless_refused tenant (Past event) legal none = legal
+legal_unless_refused tenant (Concurrent event) legal none = legal
+legal_unless_refused tenant (Event event) legal none = legal
 legal_unless_refused tenant (Stamp event) legal none = legal
 legal_unless_refused tenant (Task task) legal none = legal
+legal_unless_refused tenant (Message message) legal none = legal
 legal_unless_refused tenant Count legal none = legal
 
 legal_after_step : (tenant : Tenant) (request : Request) → IsLegal (history_of tenant.rows) → IsLegal (history_of (step tenant request).1.rows)

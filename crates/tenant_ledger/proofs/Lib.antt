@@ -8,6 +8,7 @@ pub mod KeepingAlone
 pub mod KeepingBook
 pub mod KeepingJoin
 pub mod KeepingLegal
+pub mod KeepingMessages
 pub mod KeepingReports
 pub mod KeepingRows
 pub mod KeepingSpawn
@@ -15,6 +16,7 @@ pub mod KeepingTasks
 pub mod Legality
 pub mod NamingRows
 pub mod OneMore
+pub mod Listing
 pub mod Ordering
 pub mod Reaching
 pub mod Spawning

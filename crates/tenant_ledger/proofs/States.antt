@@ -7,7 +7,7 @@ use Rattle.std.proofs.lemmas.Bool.{false≢true, or_cases, cond_both}
 use Rattle.trace_types.specs.Name.{Text}
 use Rattle.trace_types.specs.Rows.{History, history_of, joins, ends, is_known, is_ended, is_joined, state_of}
 use Rattle.trace_types.specs.declared.row.Kind.{Kind}
-use Rattle.trace_types.specs.declared.row.Kind.TheVariants.{Local, Spawn, End, Join}
+use Rattle.trace_types.specs.declared.row.Kind.TheVariants.{Local, Spawn, Send, Recv, End, Join}
 use Rattle.trace_types.specs.declared.task_state.TaskState.{TaskState}
 use Rattle.trace_types.specs.declared.task_state.TaskState.TheVariants as state
 use Rattle.trace_types.proofs.Names.{is_same_iff}
@@ -22,6 +22,8 @@ joined_was_ended : (earlier : History) (acting : Text) (kind : Kind) (name : Opt
     → joins task (record { task = acting; kind = kind; name = name; preds = preds }) ≡ true → is_ended earlier task ≡ true
 joined_was_ended earlier acting Local name preds task allowed joins_it = absurd (false≢true joins_it)
 joined_was_ended earlier acting Spawn name preds task allowed joins_it = absurd (false≢true joins_it)
+joined_was_ended earlier acting Send name preds task allowed joins_it = absurd (false≢true joins_it)
+joined_was_ended earlier acting Recv name preds task allowed joins_it = absurd (false≢true joins_it)
 joined_was_ended earlier acting End name preds task allowed joins_it = absurd (false≢true joins_it)
 joined_was_ended earlier acting Join None preds task allowed joins_it = absurd allowed
 joined_was_ended earlier acting Join (Some child) preds task allowed joins_it =
@@ -51,17 +53,17 @@ state_is_at history task legal =
 module _ (book : Book) (is : IsBook book) (name : Text) where
   -- a task that the book has is known
   pub known_in : (task : Task) → task_in book name ≡ Some task → is_known (history_of book.rows.items) name ≡ true
-  known_in task found = (subst (IsTask book.ids.items (history_of book.rows.items) name) found (is.tasks name)).0
+  known_in task found = (subst (IsTask book.ids.items (history_of book.rows.items) name) found (is.kept.tasks name)).0
 
   -- and is as far as the book says
   pub is_at_in : (task : Task) → task_in book name ≡ Some task → (state : TaskState) → task.state ≡ state → IsAt (history_of book.rows.items) name state
   is_at_in task found state state_is =
-      let kept = subst (IsTask book.ids.items (history_of book.rows.items) name) found (is.tasks name) in
-      subst (IsAt (history_of book.rows.items) name) (sym kept.1 ∙ state_is) (state_is_at (history_of book.rows.items) name (IsLegal_from_AreLegal book.limits book.rows.items is.legal))
+      let kept = subst (IsTask book.ids.items (history_of book.rows.items) name) found (is.kept.tasks name) in
+      subst (IsAt (history_of book.rows.items) name) (sym kept.1 ∙ state_is) (state_is_at (history_of book.rows.items) name (IsLegal_from_AreLegal book.limits book.rows.items is.kept.legal))
 
   -- the book has the tasks that are known
   pub has_known : is_some (task_in book name) ≡ is_known (history_of book.rows.items) name
-  has_known = by (task_in book name) (is.tasks name)
+  has_known = by (task_in book name) (is.kept.tasks name)
     where
       by : (found : Option Task) → IsTask book.ids.items (history_of book.rows.items) name found → is_some found ≡ is_known (history_of book.rows.items) name
       by None unknown = sym unknown

@@ -6,7 +6,7 @@ use Rattle.trace_types.specs.Name.{Text, is_same, root}
 use Rattle.trace_types.specs.Rows.{History, newest, is_of, starts, ends, last_event, is_known, is_ended}
 use Rattle.trace_types.specs.declared.row.Row.{Row}
 use Rattle.trace_types.specs.declared.row.Kind.{Kind}
-use Rattle.trace_types.specs.declared.row.Kind.TheVariants.{Local, Spawn, End, Join}
+use Rattle.trace_types.specs.declared.row.Kind.TheVariants.{Local, Spawn, Send, Recv, End, Join}
 use Rattle.trace_types.proofs.Names.{is_same_iff}
 use Rattle.tenant_ledger.specs.Legal.{IsLive, Allows, IsLegal}
 
@@ -15,6 +15,10 @@ pub live_from_Allows : (history : History) (task : Text) (kind : Kind) (name : O
 live_from_Allows history task Local name allowed = allowed
 live_from_Allows history task Spawn None allowed = absurd allowed
 live_from_Allows history task Spawn (Some child) allowed = allowed.0
+live_from_Allows history task Send None allowed = absurd allowed
+live_from_Allows history task Send (Some message) allowed = allowed.0
+live_from_Allows history task Recv None allowed = absurd allowed
+live_from_Allows history task Recv (Some message) allowed = allowed.0
 live_from_Allows history task End name allowed = allowed
 live_from_Allows history task Join None allowed = absurd allowed
 live_from_Allows history task Join (Some child) allowed = allowed.0

@@ -7,15 +7,15 @@ use Rattle.trace_types.specs.Clock.{Clock}
 use Rattle.trace_types.specs.Stamps.{id_of}
 use Rattle.trace_types.specs.declared.row.Row.{Row}
 use Rattle.trace_types.specs.declared.row.Kind.{Kind}
-use Rattle.trace_types.specs.declared.row.Kind.TheVariants.{Local, Spawn, End, Join}
+use Rattle.trace_types.specs.declared.row.Kind.TheVariants.{Local, Spawn, Send, Recv, End, Join}
 use Rattle.trace_types.proofs.Names.{is_same_iff}
 use Rattle.tenant_ledger.specs.ClockLaws.{ClockLaws, OwnsSome}
 use Rattle.tenant_ledger.specs.Legal.{IsLive, Allows, IsLegal}
 use Rattle.tenant_ledger.specs.Invariant.{holds, Invariant}
 use Rattle.tenant_ledger.proofs.Events.{event_bounds}
 use Rattle.tenant_ledger.proofs.OneMore.{IsInOrder, keeps_invariant}
-use Rattle.tenant_ledger.proofs.Gathered.{gathers_alone}
-use Rattle.tenant_ledger.proofs.KeepingRows.{local_keeps_ids, end_keeps_ids, keeping_row_in_order}
+use Rattle.tenant_ledger.proofs.Gathered.{gathers_alone, gathers_joined}
+use Rattle.tenant_ledger.proofs.KeepingRows.{local_keeps_ids, send_keeps_ids, receive_keeps_ids, end_keeps_ids, keeping_row_in_order}
 use Rattle.tenant_ledger.proofs.Spawning.{spawning_row_in_order}
 use Rattle.tenant_ledger.proofs.Joining.{joining_row_in_order}
 
@@ -60,6 +60,14 @@ module _ {Id Tree : Type 0} {clock : Clock Id Tree} {Point : Type 0} {IsNormalId
   allowed_row_in_order task Spawn None preds earlier before legal allowed = absurd allowed
   allowed_row_in_order task Spawn (Some child) preds earlier before legal allowed =
       spawning_row_in_order laws task child preds earlier before allowed.0 allowed.1 legal
+  allowed_row_in_order task Send None preds earlier before legal allowed = absurd allowed
+  allowed_row_in_order task Send (Some message) preds earlier before legal allowed =
+      let row : Row = record { task = task; kind = Send; name = Some message; preds = preds } in
+      keeping_row_in_order laws row earlier before (send_keeps_ids clock) allowed.0 (gathers_alone laws row earlier before refl refl)
+  allowed_row_in_order task Recv None preds earlier before legal allowed = absurd allowed
+  allowed_row_in_order task Recv (Some message) preds earlier before legal allowed =
+      let row : Row = record { task = task; kind = Recv; name = Some message; preds = preds } in
+      keeping_row_in_order laws row earlier before (receive_keeps_ids clock) allowed.0 (gathers_joined laws row earlier before refl)
   allowed_row_in_order task End name preds earlier before legal allowed =
       let row : Row = record { task = task; kind = End; name = name; preds = preds } in
       keeping_row_in_order laws row earlier before (end_keeps_ids clock) allowed (gathers_alone laws row earlier before refl refl)

@@ -3,12 +3,13 @@ use Rattle.std.specs.Prelude.{◌≡◌, ◌≢◌, ℕ, ◌+◌, ◌-◌, ◌�
 use Rattle.indexmap.specs.IndexMap.{get, index_map_len, spare}
 use Rattle.trace_types.specs.Name.{Text, is_same}
 use Rattle.trace_types.specs.Limits.{Limits}
-use Rattle.trace_types.specs.Rows.{History, history_of, is_known, state_of, last_event, task_count}
+use Rattle.trace_types.specs.Rows.{History, history_of, is_known, state_of, last_event, is_sent, send_event, receipts, task_count, message_count}
 use Rattle.trace_types.specs.Refusal.{first_code}
 use Rattle.trace_types.specs.Clock.{tree_clock}
 use Rattle.trace_types.specs.Stamps.{id_of, tree_of, stamp_of}
 use Rattle.trace_types.specs.Tenant.{Tenant, AreLegal, with_row}
 use Rattle.trace_types.specs.Id.{Id}
+use Rattle.trace_types.specs.EventTree.{EventTree}
 use Rattle.trace_types.specs.declared.row.Row.{Row}
 use Rattle.trace_types.specs.declared.code.Code.{Code}
 use Rattle.trace_types.specs.declared.task_state.TaskState.{TaskState}
@@ -18,9 +19,14 @@ use Rattle.trace_types.specs.declared.row.Kind.TheVariants.{Local, End}
 use Rattle.trace_types.specs.declared.memory.Memory.{Memory}
 use Rattle.trace_types.specs.declared.reply.Reply.{Reply}
 use Rattle.trace_types.specs.declared.reply.Reply.TheVariants as reply
+use Rattle.trace_types.specs.declared.code.Code.TheVariants.{NoEvent, NoMemory}
+use Rattle.trace_query.specs.declared.query_fault.QueryFault.{QueryFault}
+use Rattle.trace_query.specs.declared.query_fault.QueryFault.TheVariants as fault
 use Rattle.tenant_ledger.specs.declared.book.Book.{Book}
 use Rattle.tenant_ledger.specs.declared.book.Task.{Task}
-use Rattle.tenant_ledger.specs.declared.book.Kept.{Kept}
+use Rattle.message_book.specs.Book.{entry_of}
+use Rattle.message_book.specs.Book as message_book
+use Rattle.message_book.specs.declared.entry.Entry.{Entry}
 
 -- what is kept of a name: nothing where there is no such task; of a joined task the id is not told
 abbrev pub IsTask : List Id → History → Text → Option Task → Type 0
@@ -29,19 +35,32 @@ IsTask ids history name (Some task) =
     (is_known history name ≡ true) × (task.state ≡ state_of history name) × (task.last ≡ last_event history name)
     × (task.state ≢ Joined → slice_get ids task.id ≡ Some (id_of tree_clock history name))
 
--- what is kept of an event: its stamp
-abbrev pub IsStamp : List Id → History → ℕ → Option Kept → Type 0
-IsStamp ids history event None = ⊥
-IsStamp ids history event (Some kept) =
-    (kept.tree ≡ tree_of tree_clock history event) × (slice_get ids kept.id ≡ Some (stamp_of tree_clock history event).0)
+-- what is kept of an event beside its tree: the place of its task's id after it
+abbrev pub IsPlace : List Id → History → ℕ → Option ℕ → Type 0
+IsPlace ids history event None = ⊥
+IsPlace ids history event (Some place) = slice_get ids place ≡ Some (stamp_of tree_clock history event).0
+
+-- what is kept of a message: nothing where none of this name was sent
+abbrev pub IsMessage : History → Text → Option Entry → Type 0
+IsMessage history name None = is_sent history name ≡ false
+IsMessage history name (Some entry) =
+    (is_sent history name ≡ true) × (entry.sent ≡ send_event history name) × (entry.receipts ≡ receipts history name)
+
+-- what is kept of the messages
+pub record AreMessages (limits : Limits) (history : History) (messages : message_book.Book) : Type 0 where
+  pub limit : messages.limit ≡ limits.messages
+  pub entries : (name : Text) → IsMessage history name (entry_of messages.messages name)
+  pub counted : length messages.messages ≡ message_count history
 
 -- what is kept beside these rows
-pub record IsKept (limits : Limits) (rows : List Row) (kept : List Kept) (ids : List Id) (task_of : Text → Option Task) (count : ℕ) : Type 0 where
+pub record IsKept (limits : Limits) (rows : List Row) (trees : List EventTree) (places : List ℕ) (ids : List Id) (task_of : Text → Option Task) (count : ℕ) : Type 0 where
   pub legal : AreLegal limits rows
   pub few : length rows ≤ limits.events
   pub small : length rows ≤ 16384
-  pub one_each : length kept ≡ length rows
-  pub stamps : (event : ℕ) → 0 < event → event ≤ length rows → IsStamp ids (history_of rows) event (slice_get kept (event - 1))
+  pub one_tree : length trees ≡ length rows
+  pub one_place : length places ≡ length rows
+  pub trees_are : (event : ℕ) → 0 < event → event ≤ length rows → slice_get trees (event - 1) ≡ Some (tree_of tree_clock (history_of rows) event)
+  pub places_are : (event : ℕ) → 0 < event → event ≤ length rows → IsPlace ids (history_of rows) event (slice_get places (event - 1))
   pub tasks : (name : Text) → IsTask ids (history_of rows) name (task_of name)
   pub counted : count ≡ task_count (history_of rows)
 
@@ -50,8 +69,9 @@ abbrev pub task_in : Book → Text → Option Task
 task_in book name = get is_same book.tasks name
 
 -- the book is kept for its rows
-abbrev pub IsBook : Book → Type 0
-IsBook book = IsKept book.limits book.rows.items book.kept.items book.ids.items (task_in book) (index_map_len book.tasks)
+pub record IsBook (book : Book) : Type 0 where
+  pub kept : IsKept book.limits book.rows.items book.trees.items book.places.items book.ids.items (task_in book) (index_map_len book.tasks)
+  pub messages : AreMessages book.limits (history_of book.rows.items) book.messages
 
 -- the tenant whose book it is
 abbrev pub tenant_of : Book → Tenant
@@ -65,7 +85,8 @@ Decides refusals (Err code) = (others : List (Bool × Code)) → first_code (ref
 -- there is room for an event, for two ids and for so many new tasks
 pub record HasRoom (book : Book) (new_tasks : ℕ) : Type 0 where
   pub rows : vec_len book.rows < vec_capacity book.rows
-  pub kept : vec_len book.kept < vec_capacity book.kept
+  pub trees : vec_len book.trees < vec_capacity book.trees
+  pub places : vec_len book.places < vec_capacity book.places
   pub ids : vec_len book.ids + 2 ≤ vec_capacity book.ids
   pub tasks : new_tasks ≤ spare book.tasks
 
@@ -73,9 +94,11 @@ pub record HasRoom (book : Book) (new_tasks : ℕ) : Type 0 where
 pub record HaveTheSame (old new : Book) : Type 0 where
   pub limits : new.limits ≡ old.limits
   pub rows : new.rows.items ≡ old.rows.items
-  pub kept : new.kept.items ≡ old.kept.items
+  pub trees : new.trees.items ≡ old.trees.items
+  pub places : new.places.items ≡ old.places.items
   pub ids : new.ids.items ≡ old.ids.items
   pub tasks : new.tasks.entries ≡ old.tasks.entries
+  pub messages : new.messages ≡ old.messages
 
 -- a report of this kind about itself leaves its task in this state
 abbrev pub LeavesState : Kind → TaskState → Type 0
@@ -90,3 +113,8 @@ Adds (Err memory) old row new = IsBook new × (tenant_of new ≡ tenant_of old)
 abbrev pub reply_of : Result ℕ Code → Reply
 reply_of (Ok event) = reply.Accepted event
 reply_of (Err code) = reply.Refused code
+
+-- the code with which a query about events is refused
+abbrev pub code_of : QueryFault → Code
+code_of fault.Unknown = NoEvent
+code_of fault.Memory = NoMemory

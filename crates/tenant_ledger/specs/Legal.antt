@@ -1,19 +1,23 @@
 -- What each accepted row says of the rows before it: what its report was not refused for.
 use Rattle.std.specs.Prelude.{◌≡◌, false, IsTrue, [], ◌∷◌, Option, Some, None}
 use Rattle.trace_types.specs.Name.{Text}
-use Rattle.trace_types.specs.Rows.{History, is_known, is_ended, is_joined}
+use Rattle.trace_types.specs.Rows.{History, is_known, is_ended, is_joined, is_sent, is_received}
 use Rattle.trace_types.specs.declared.row.Kind.{Kind}
-use Rattle.trace_types.specs.declared.row.Kind.TheVariants.{Local, Spawn, End, Join}
+use Rattle.trace_types.specs.declared.row.Kind.TheVariants.{Local, Spawn, Send, Recv, End, Join}
 
 -- the task is known and has not ended
 abbrev pub IsLive : History → Text → Type 0
 IsLive history task = IsTrue (is_known history task) × (is_ended history task ≡ false)
 
--- after these rows a report of this kind is not refused for its tasks
+-- after these rows a report of this kind is not refused for its tasks or its message
 abbrev pub Allows : History → Text → Kind → Option Text → Type 0
 Allows history task Local name = IsLive history task
 Allows history task Spawn None = ⊥
 Allows history task Spawn (Some child) = IsLive history task × (is_known history child ≡ false)
+Allows history task Send None = ⊥
+Allows history task Send (Some message) = IsLive history task × (is_sent history message ≡ false)
+Allows history task Recv None = ⊥
+Allows history task Recv (Some message) = IsLive history task × IsTrue (is_sent history message) × (is_received history message ≡ false)
 Allows history task End name = IsLive history task
 Allows history task Join None = ⊥
 Allows history task Join (Some child) =

@@ -2,19 +2,21 @@
 ghost use Rattle.std.specs.Prelude.{◌≡◌, ◌≢◌, ◌+◌, ◌-◌, ◌<◌, ◌≤◌, ◌∷◌, [], true, IfOk, OnErr, OnOk, IfErr, IsTrue, Some, None, length, not, slice_get, vec_len, vec_capacity, ◌++◌, if◌then◌else◌, is_some};
 ghost use Rattle.indexmap.specs.IndexMap.{index_map_len, spare};
 ghost use Rattle.trace_types.specs.Name.{Text as Characters, is_name, is_same};
-ghost use Rattle.trace_types.specs.Rows.{history_of, is_event, is_known, is_ended, is_joined};
+ghost use Rattle.trace_types.specs.Rows.{history_of, is_event, is_known, is_ended, is_joined, is_sent, is_received, send_event};
 ghost use Rattle.trace_types.specs.Reachability.{increasing};
-ghost use Rattle.trace_types.specs.Refusal.{has_all_events, has_all_tasks};
+ghost use Rattle.trace_types.specs.Refusal.{has_all_events, has_all_tasks, has_all_messages};
 ghost use Rattle.trace_types.specs.Clock.{tree_clock};
 ghost use Rattle.trace_types.specs.Stamps.{tree_of, stamp_text_of};
 ghost use Rattle.trace_types.specs.Tenant.{fresh, Steps, row_after};
 ghost use Rattle.trace_types.specs.EventTree.{Leaf};
 ghost use Rattle.trace_types.specs.declared.request.Request.TheVariants as request;
+ghost use Rattle.message_book.specs.Book.{refusal_of_send, refusal_of_receive, entry_of};
 ghost use Rattle.tenant_ledger.specs.Ledger.{IsBook, HasRoom, HaveTheSame, task_in, tenant_of, Decides, LeavesState, Adds, reply_of};
 
 use event_tree::EvTree;
 use id_tree::IdTree;
 use indexmap::IndexMap;
+use message_book::{Entry, MessageBook};
 use stamp_codec::{Stamp, write_stamp};
 use std::alloc::Global;
 use trace_types::{Code, Kind, Limits, Memory, Name, Preds, Row, TaskState, Text};
@@ -25,20 +27,14 @@ pub(crate) struct Book {
     pub(crate) limits: Limits,
     pub(crate) rows: Vec<Row>,
     alloc: Global,
-    /// What is kept of each event, in the order of the events.
-    kept: Vec<Kept>,
+    /// What each event knows, in the order of the events.
+    trees: Vec<EvTree>,
+    /// The place of the id of each event's task after it, in the order of the events.
+    places: Vec<usize>,
     /// Each id that some task has or had.
     ids: Vec<IdTree>,
     tasks: IndexMap<Name, Task>,
-}
-
-/// What is kept of an event.
-#[derive(Drop)]
-struct Kept {
-    /// What the event knows.
-    tree: EvTree,
-    /// The place of its task's id after it.
-    id: usize,
+    messages: MessageBook,
 }
 
 /// A task that was started.
@@ -70,9 +66,11 @@ impl Book {
             limits,
             rows: Vec::new(alloc),
             alloc,
-            kept: Vec::new(alloc),
+            trees: Vec::new(alloc),
+            places: Vec::new(alloc),
             ids,
             tasks,
+            messages: MessageBook::new(alloc, limits.messages())?,
         })
     }
 
@@ -89,19 +87,37 @@ impl Book {
         self.tasks.len() as u64
     }
 
+    /// How many messages there are.
+    pub(crate) fn message_count(&self) -> u64
+        ensures { result ≡ length self.now.messages.messages }
+    {
+        self.messages.message_count()
+    }
+
     pub(crate) fn is_event(&self, event: u64) -> bool
         ensures { result ≡ is_event (history_of self.now.rows.items) event }
     {
         0 < event && event <= self.event_count()
     }
 
+    /// What each event knows, in the order of the events.
+    pub(crate) fn trees(&self) -> &[EvTree]
+        ensures { result.now ≡ self.now.trees.items }
+    {
+        &self.trees
+    }
+
+    pub(crate) fn alloc(&self) -> Global {
+        self.alloc
+    }
+
     /// The tree that is kept of the event.
-    pub(crate) fn tree(&self, event: u64) -> &EvTree
+    fn tree(&self, event: u64) -> &EvTree
         requires book { IsBook self.now }
         requires event { is_event (history_of self.now.rows.items) event ≡ true }
         ensures { result.now ≡ tree_of tree_clock (history_of self.now.rows.items) event }
     {
-        &self.kept[event as usize - 1].tree
+        &self.trees[event as usize - 1]
     }
 
     /// The text of the event's stamp.
@@ -110,10 +126,10 @@ impl Book {
         requires event { is_event (history_of self.now.rows.items) event ≡ true }
         ensures { IfOk result (λ text. text ≡ stamp_text_of (history_of self.now.rows.items) event) }
     {
-        let kept = &self.kept[event as usize - 1];
+        let place = self.places[event as usize - 1];
         let stamp = Stamp {
-            id: self.ids[kept.id].share(self.alloc)?,
-            tree: kept.tree.share(self.alloc)?,
+            id: self.ids[place].share(self.alloc)?,
+            tree: self.tree(event).share(self.alloc)?,
         };
         Ok(Text::from(write_stamp(self.alloc, &stamp)?))
     }
@@ -126,6 +142,17 @@ impl Book {
         match self.tasks.get(name) {
             Some(task) => Ok(*task),
             None => Err(Code::NoTask),
+        }
+    }
+
+    /// What is kept of the message of this name; `NoMessage` where none was sent.
+    pub(crate) fn message(&self, name: &Name) -> Result<&Entry, Code>
+        ensures ok { IfOk result (λ entry. entry_of self.now.messages.messages name.now ≡ Some entry.now) }
+        ensures err { IfErr result (λ code. (code ≡ Code.NoMessage) × (entry_of self.now.messages.messages name.now ≡ None)) }
+    {
+        match self.messages.find(name) {
+            Some(entry) => Ok(entry),
+            None => Err(Code::NoMessage),
         }
     }
 
@@ -176,6 +203,27 @@ impl Book {
         }
     }
 
+    /// Refuses a message that was sent, and one message more at the limit.
+    fn check_message(&self, name: &Name) -> Result<(), Code>
+        requires { IsBook self.now }
+        ensures may { OnOk result (refusal_of_send self.now.messages name.now ≡ None) }
+        ensures decides { Decides ((is_sent (history_of self.now.rows.items) name.now, Code.MessageExists)
+            ∷ (has_all_messages self.now.limits (history_of self.now.rows.items), Code.MessagesFull) ∷ []) result }
+    {
+        self.messages.check_send(name)
+    }
+
+    /// The event that sent the message, where the message may be received; else `NoMessage` or `AlreadyReceived`.
+    fn sent_message(&self, name: &Name) -> Result<u64, Code>
+        requires { IsBook self.now }
+        ensures may { OnOk result (refusal_of_receive self.now.messages name.now ≡ None) }
+        ensures sent { IfOk result (λ event. event ≡ send_event (history_of self.now.rows.items) name.now) }
+        ensures decides { Decides ((not (is_sent (history_of self.now.rows.items) name.now), Code.NoMessage)
+            ∷ (is_received (history_of self.now.rows.items) name.now, Code.AlreadyReceived) ∷ []) result }
+    {
+        self.messages.check_receive(name)
+    }
+
     /// Refuses one event more at the limit.
     fn check_room(&self) -> Result<(), Code>
         ensures room { OnOk result (length self.now.rows.items < self.now.limits.events) }
@@ -197,6 +245,30 @@ impl Book {
         let task = self.live_task(&name)?;
         self.check_room()?;
         Ok(self.alone(name, Kind::Local, task, TaskState::Live)?)
+    }
+
+    /// Reports that the task sends the message.
+    pub(crate) fn send(&mut self, name: Name, message: Name) -> Result<u64, Code>
+        requires { IsBook self.old }
+        ensures book { IsBook self.new }
+        ensures steps { Steps (tenant_of self.old) (request.Send name message) (reply_of result) (tenant_of self.new) }
+    {
+        let task = self.live_task(&name)?;
+        self.check_message(&message)?;
+        self.check_room()?;
+        Ok(self.sent(name, message, task)?)
+    }
+
+    /// Reports that the task receives the message.
+    pub(crate) fn receive(&mut self, name: Name, message: Name) -> Result<u64, Code>
+        requires { IsBook self.old }
+        ensures book { IsBook self.new }
+        ensures steps { Steps (tenant_of self.old) (request.Recv name message) (reply_of result) (tenant_of self.new) }
+    {
+        let task = self.live_task(&name)?;
+        let sent = self.sent_message(&message)?;
+        self.check_room()?;
+        Ok(self.received(name, message, task, sent)?)
     }
 
     /// Reports that the task ends; its id stays with it.
@@ -256,6 +328,62 @@ impl Book {
         let last = self.add(row, tree, task.id);
         let id = task.id;
         self.put(name, Task { state, last, id });
+        Ok(last)
+    }
+
+    /// Adds the event with which the task sends the message.
+    fn sent(&mut self, name: Name, message: Name, task: Task) -> Result<u64, Memory>
+        requires book { IsBook self.old }
+        requires task { task_in self.old name ≡ Some task }
+        requires live { task.state ≡ TaskState.Live }
+        requires message { refusal_of_send self.old.messages message ≡ None }
+        requires room { length self.old.rows.items < self.old.limits.events }
+        ensures { Adds result self.old (row_after (history_of self.old.rows.items) name Kind.Send (Some message)) self.new }
+    {
+        self.few_events();
+        can_be_written(&name);
+        can_be_written(&message);
+        let row = self.next_row(name, Kind::Send, Some(message), task.last, 0);
+        let start = EvTree::leaf(0);
+        let tree = EvTree::event(
+            self.alloc,
+            &self.ids[task.id],
+            self.known(task.last, &start),
+        )?;
+        self.reserve(0)?;
+        let next = self.event_count() + 1;
+        if self.messages.send(message, next).is_err() {
+            return Err(Memory);
+        }
+        let last = self.add(row, tree, task.id);
+        self.put(name, Task { last, ..task });
+        Ok(last)
+    }
+
+    /// Adds the event with which the task receives the message that the event `sent` sent.
+    fn received(&mut self, name: Name, message: Name, task: Task, sent: u64) -> Result<u64, Memory>
+        requires book { IsBook self.old }
+        requires task { task_in self.old name ≡ Some task }
+        requires live { task.state ≡ TaskState.Live }
+        requires message { refusal_of_receive self.old.messages message ≡ None }
+        requires sent { sent ≡ send_event (history_of self.old.rows.items) message }
+        requires room { length self.old.rows.items < self.old.limits.events }
+        ensures { Adds result self.old (row_after (history_of self.old.rows.items) name Kind.Recv (Some message)) self.new }
+    {
+        self.few_events();
+        can_be_written(&name);
+        can_be_written(&message);
+        let row = self.next_row(name, Kind::Recv, Some(message), task.last, sent);
+        let start = EvTree::leaf(0);
+        let known = self
+            .known(task.last, &start)
+            .join(self.alloc, self.known(sent, &start))?;
+        let tree = EvTree::event(self.alloc, &self.ids[task.id], &known)?;
+        self.reserve(0)?;
+        let next = self.event_count() + 1;
+        self.messages.receive(&message, next).unwrap();
+        let last = self.add(row, tree, task.id);
+        self.put(name, Task { last, ..task });
         Ok(last)
     }
 
@@ -360,7 +488,8 @@ impl Book {
         ensures room { OnOk result (HasRoom self.new tasks) }
     {
         self.rows.reserve(1)?;
-        self.kept.reserve(1)?;
+        self.trees.reserve(1)?;
+        self.places.reserve(1)?;
         self.ids.reserve(2)?;
         self.tasks.reserve(tasks)?;
         Ok(())
@@ -380,16 +509,19 @@ impl Book {
     }
 
     /// Adds an event, for which there is room, and gives its number.
-    fn add(&mut self, row: Row, tree: EvTree, id: usize) -> u64
+    fn add(&mut self, row: Row, tree: EvTree, place: usize) -> u64
         requires rows { vec_len self.old.rows < vec_capacity self.old.rows }
-        requires kept { vec_len self.old.kept < vec_capacity self.old.kept }
+        requires trees { vec_len self.old.trees < vec_capacity self.old.trees }
+        requires places { vec_len self.old.places < vec_capacity self.old.places }
         ensures event { result ≡ length self.old.rows.items + 1 }
         ensures rows { self.new.rows.items ≡ self.old.rows.items ++ row ∷ [] }
-        ensures kept { self.new.kept.items ≡ self.old.kept.items ++ record { tree = tree; id = id } ∷ [] }
-        ensures others { self.new ≡ record self.old { rows = self.new.rows; kept = self.new.kept } }
+        ensures trees { self.new.trees.items ≡ self.old.trees.items ++ tree ∷ [] }
+        ensures places { self.new.places.items ≡ self.old.places.items ++ place ∷ [] }
+        ensures others { self.new ≡ record self.old { rows = self.new.rows; trees = self.new.trees; places = self.new.places } }
     {
         self.rows.push(row).unwrap();
-        self.kept.push(Kept { tree, id }).unwrap();
+        self.trees.push(tree).unwrap();
+        self.places.push(place).unwrap();
         self.event_count()
     }
 

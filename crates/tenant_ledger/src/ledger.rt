@@ -1,18 +1,19 @@
 //! The ledger of one tenant.
-ghost use Rattle.std.specs.Prelude.{◌≡◌, true, IfOk};
+ghost use Rattle.std.specs.Prelude.{◌≡◌, true, IfOk, IfErr};
 ghost use Rattle.trace_types.specs.Rows.{history_of, is_event};
 ghost use Rattle.trace_types.specs.Reachability.{order_of};
 ghost use Rattle.trace_types.specs.Clock.{tree_clock};
 ghost use Rattle.trace_types.specs.Stamps.{tree_of};
 ghost use Rattle.trace_types.specs.Tenant.{fresh, Steps, Answers, AreLegal, reply_to_view};
 ghost use Rattle.event_tree.specs.Comparison.{StandsAs};
-ghost use Rattle.tenant_ledger.specs.Ledger.{reply_of};
+ghost use Rattle.tenant_ledger.specs.Ledger.{reply_of, code_of};
 
 use crate::book::Book;
 use crate::laws;
 use std::alloc::Global;
 use std::marker::Model;
-use trace_types::{Code, Limits, Memory, Name, Reply, Request, Row};
+use trace_query::{Plain, QueryFault, concurrent_with, order, past};
+use trace_types::{Code, Limits, Memory, Name, Numbers, Reply, Request, Row};
 
 /// What one tenant has reported.
 #[derive(Drop)]
@@ -72,35 +73,53 @@ impl Ledger {
     /// Takes one request: an accepted report is the tenant's next event, and a query is answered.
     ///
     /// A request is refused with the first code that applies of those that `refusals` of `trace_types` has for it, and
-    /// last with `NoMemory` (507), where a request for memory was refused: a report or `stamp`. A refused request
-    /// changes nothing.
+    /// last with `NoMemory` (507), where a request for memory was refused: a report, `past`, `concurrent` or `stamp`. A
+    /// refused request changes nothing.
     pub fn report(&mut self, request: &Request) -> Reply
         ensures { Steps self.old request.now result self.new }
     {
         match *request {
             Request::Local(task) => accepted(self.book.local(task)),
             Request::Spawn(task, child) => accepted(self.book.spawn(task, child)),
+            Request::Send(task, message) => accepted(self.book.send(task, message)),
+            Request::Recv(task, message) => accepted(self.book.receive(task, message)),
             Request::End(task) => accepted(self.book.end(task)),
             Request::Join(task, child) => accepted(self.book.join(task, child)),
-            Request::Order(..) | Request::Stamp(_) | Request::Task(_) | Request::Count => {
-                self.ask(request)
-            }
+            Request::Order(..)
+            | Request::Past(_)
+            | Request::Concurrent(_)
+            | Request::Event(_)
+            | Request::Stamp(_)
+            | Request::Task(_)
+            | Request::Message(_)
+            | Request::Count => self.ask(request),
         }
     }
 
-    /// Answers a query as [`Ledger::report`] does, and refuses every report with `ViewOnly` (410). Only `stamp` takes
-    /// memory, and may be refused with `NoMemory` (507).
+    /// Answers a query as [`Ledger::report`] does, and refuses every report with `ViewOnly` (410). Only `past`,
+    /// `concurrent` and `stamp` take memory, and may be refused with `NoMemory` (507).
     pub fn ask(&self, request: &Request) -> Reply
         ensures { Answers self.now request.now result }
     {
         match *request {
-            Request::Local(_) | Request::Spawn(..) | Request::End(_) | Request::Join(..) => {
-                Reply::Refused(Code::ViewOnly)
-            }
+            Request::Local(_)
+            | Request::Spawn(..)
+            | Request::Send(..)
+            | Request::Recv(..)
+            | Request::End(_)
+            | Request::Join(..) => Reply::Refused(Code::ViewOnly),
             Request::Order(first, second) => self.order(first, second),
+            Request::Past(event) => self.past(event),
+            Request::Concurrent(event) => self.concurrent_with(event),
+            Request::Event(event) => self.event(event),
             Request::Stamp(event) => self.stamp(event),
             Request::Task(name) => self.task(&name),
-            Request::Count => Reply::Count(self.book.event_count(), self.book.task_count(), 0),
+            Request::Message(name) => self.message(&name),
+            Request::Count => Reply::Count(
+                self.book.event_count(),
+                self.book.task_count(),
+                self.book.message_count(),
+            ),
         }
     }
 
@@ -108,10 +127,34 @@ impl Ledger {
     fn order(&self, first: u64, second: u64) -> Reply
         ensures { result ≡ reply_to_view self.now (Request.Order first second) }
     {
-        if !self.book.is_event(first) || !self.book.is_event(second) {
+        match order(&Plain, self.book.trees(), first, second) {
+            Ok(order) => Reply::Ordering(order),
+            Err(fault) => Reply::Refused(code_of(fault)),
+        }
+    }
+
+    /// The other events that reach the event, by the trees kept for them.
+    fn past(&self, event: u64) -> Reply
+        ensures { Answers self.now (Request.Past event) result }
+    {
+        listed(past(&Plain, self.book.alloc(), self.book.trees(), event))
+    }
+
+    /// The events that neither reach the event nor are reached from it, by the trees kept for them.
+    fn concurrent_with(&self, event: u64) -> Reply
+        ensures { Answers self.now (Request.Concurrent event) result }
+    {
+        listed(concurrent_with(&Plain, self.book.alloc(), self.book.trees(), event))
+    }
+
+    /// The row of the event.
+    fn event(&self, event: u64) -> Reply
+        ensures { result ≡ reply_to_view self.now (Request.Event event) }
+    {
+        if !self.book.is_event(event) {
             return Reply::Refused(Code::NoEvent);
         }
-        Reply::Ordering(self.book.tree(first).order(self.book.tree(second)))
+        Reply::Event(self.book.rows[event as usize - 1].share())
     }
 
     /// The stamp of the event.
@@ -135,6 +178,37 @@ impl Ledger {
             Ok(task) => Reply::Task(task.state, task.last),
             Err(code) => Reply::Refused(code),
         }
+    }
+
+    /// The send and the receipts of the message.
+    fn message(&self, name: &Name) -> Reply
+        ensures { result ≡ reply_to_view self.now (Request.Message name.now) }
+    {
+        match self.book.message(name) {
+            Ok(entry) => Reply::Message(entry.sent, entry.receipts.share()),
+            Err(code) => Reply::Refused(code),
+        }
+    }
+}
+
+/// The reply that gives these events.
+fn listed(found: Result<Vec<u64>, QueryFault>) -> Reply
+    ensures events { IfOk found (λ events. result ≡ Reply.List events.items) }
+    ensures fault { IfErr found (λ fault. result ≡ Reply.Refused (code_of fault)) }
+{
+    match found {
+        Ok(events) => Reply::List(Numbers::from(events)),
+        Err(fault) => Reply::Refused(code_of(fault)),
+    }
+}
+
+/// The code with which a query about events is refused.
+fn code_of(fault: QueryFault) -> Code
+    ensures { result ≡ code_of fault }
+{
+    match fault {
+        QueryFault::Unknown => Code::NoEvent,
+        QueryFault::Memory => Code::NoMemory,
     }
 }
 

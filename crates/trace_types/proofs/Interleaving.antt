@@ -7,8 +7,8 @@ use Rattle.std.proofs.lemmas.List.{map-append, get_or-set_same, get_or-set_other
 use Rattle.std.proofs.lemmas.List.Elements.{filter-append}
 use Rattle.std.proofs.lemmas.Option.{same_Some, slice_get-get_or}
 use Rattle.trace_types.specs.Limits.{Limits}
-use Rattle.trace_types.specs.Tenant.{Tenant, Steps, step, step_unless, after, replies, fresh, MayLackMemory, with_row, answer_to}
-use Rattle.trace_types.specs.Rows.{History, history_of}
+use Rattle.trace_types.specs.Tenant.{Tenant, Steps, step, step_unless, after, replies, fresh, MayLackMemory, with_row, row_reply, answer_to}
+use Rattle.trace_types.specs.Rows.{History, history_of, row_of}
 use Rattle.trace_types.specs.Refusal.{refusals, first_code, refusal_of}
 use Rattle.trace_types.specs.Interleaving.{Call, calls_of, kept, tenant_after, last, due_reply, MayBeMarked}
 use Rattle.trace_types.specs.World.{World, StepsOne, IsAfter, IsDue, tells_want, call_with}
@@ -16,7 +16,7 @@ use Rattle.trace_types.specs.declared.code.Code.{Code}
 use Rattle.trace_types.specs.declared.code.Code.TheVariants.{NoMemory}
 use Rattle.trace_types.specs.declared.row.Row.{Row}
 use Rattle.trace_types.specs.declared.request.Request.{Request}
-use Rattle.trace_types.specs.declared.request.Request.TheVariants.{Local, Spawn, End, Join, Order, Stamp, Task, Count}
+use Rattle.trace_types.specs.declared.request.Request.TheVariants.{Local, Spawn, Send, Recv, End, Join, Order, Past, Concurrent, Event, Stamp, Task, Message, Count}
 use Rattle.trace_types.specs.declared.reply.Reply.{Reply}
 use Rattle.trace_types.specs.declared.reply.Reply.TheVariants.{Refused}
 
@@ -113,21 +113,37 @@ is_other_code refusal = not (tells_want (Refused refusal.1))
 all_other_codes : (limits : Limits) (history : History) (request : Request) → list_all is_other_code (refusals limits history request) ≡ true
 all_other_codes limits history (Local task) = refl
 all_other_codes limits history (Spawn task child) = refl
+all_other_codes limits history (Send task message) = refl
+all_other_codes limits history (Recv task message) = refl
 all_other_codes limits history (End task) = refl
 all_other_codes limits history (Join task child) = refl
 all_other_codes limits history (Order a b) = refl
+all_other_codes limits history (Past event) = refl
+all_other_codes limits history (Concurrent event) = refl
+all_other_codes limits history (Event event) = refl
 all_other_codes limits history (Stamp event) = refl
 all_other_codes limits history (Task task) = refl
+all_other_codes limits history (Message message) = refl
 all_other_codes limits history Count = refl
+
+tells_want-row_reply : (found : Option Row) → tells_want (row_reply found) ≡ false
+tells_want-row_reply None = refl
+tells_want-row_reply (Some row) = refl
 
 tells_want-answer_to : (history : History) (request : Request) → tells_want (answer_to history request).0 ≡ false
 tells_want-answer_to history (Local task) = refl
 tells_want-answer_to history (Spawn task child) = refl
+tells_want-answer_to history (Send task message) = refl
+tells_want-answer_to history (Recv task message) = refl
 tells_want-answer_to history (End task) = refl
 tells_want-answer_to history (Join task child) = refl
 tells_want-answer_to history (Order a b) = refl
+tells_want-answer_to history (Past event) = refl
+tells_want-answer_to history (Concurrent event) = refl
+tells_want-answer_to history (Event event) = tells_want-row_reply (row_of history event)
 tells_want-answer_to history (Stamp event) = refl
 tells_want-answer_to history (Task task) = refl
+tells_want-answer_to history (Message message) = refl
 tells_want-answer_to history Count = refl
 
 tells_want-step_unless : (tenant : Tenant) (request : Request) (refusals : List (Bool × Code)) → list_all is_other_code refusals ≡ true → tells_want (step_unless (first_code refusals) tenant request).0 ≡ false

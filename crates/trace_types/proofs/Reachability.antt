@@ -5,11 +5,11 @@ use Rattle.std.proofs.lemmas.Bool.{false≢true, eq-eqb, ne_eqb, eqb-true, eqb-f
 use Rattle.std.proofs.lemmas.List.Elements.{All-from_recursion, All-contains}
 use Rattle.std.proofs.lemmas.List.Folds.{list_any_at}
 use Rattle.trace_types.specs.Name.{Text}
-use Rattle.trace_types.specs.Rows.{History, newest, is_of, starts, last_event}
+use Rattle.trace_types.specs.Rows.{History, newest, is_of, starts, sends, last_event}
 use Rattle.trace_types.specs.Reachability.{event_or_none, increasing, second_event, predecessors, predecessors_of, LeadsBack, Reaches, reaches}
 use Rattle.trace_types.specs.declared.row.Row.{Row}
 use Rattle.trace_types.specs.declared.row.Kind.{Kind}
-use Rattle.trace_types.specs.declared.row.Kind.TheVariants.{Local, Spawn, End, Join}
+use Rattle.trace_types.specs.declared.row.Kind.TheVariants.{Local, Spawn, Send, Recv, End, Join}
 
 pub newest-le : (test : Row → Bool) (history : History) → newest test history ≤ length history
 newest-le test [] = omega arith
@@ -25,6 +25,9 @@ last_event-le history task =
 pub second_event-le : (history : History) (kind : Kind) (name : Option Text) → second_event history kind name ≤ length history
 second_event-le history Local name = omega arith
 second_event-le history Spawn name = omega arith
+second_event-le history Send name = omega arith
+second_event-le history Recv None = omega arith
+second_event-le history Recv (Some name) = newest-le (sends name) history
 second_event-le history End name = omega arith
 second_event-le history Join None = omega arith
 second_event-le history Join (Some name) = last_event-le history name

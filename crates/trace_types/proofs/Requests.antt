@@ -10,7 +10,7 @@ use Rattle.trace_types.proofs.Names.{is_same_iff}
 use Rattle.trace_types.proofs.NumberTexts.{number_of_iff, list_all-decimal}
 use Rattle.trace_types.proofs.Words.{IsOneWord, IsOneWord-from_test, words-append, words_one, joined, joined-words}
 use Rattle.trace_types.specs.declared.request.Request.{Request}
-use Rattle.trace_types.specs.declared.request.Request.TheVariants.{Local, Spawn, End, Join, Order, Stamp, Task, Count}
+use Rattle.trace_types.specs.declared.request.Request.TheVariants.{Local, Spawn, Send, Recv, End, Join, Order, Past, Concurrent, Event, Stamp, Task, Message, Count}
 
 option_map_some : {A B : Type 0} (f : A → B) (o : Option A) (y : B) → option_map f o ≡ Some y → (x : A) × (o ≡ Some x) × (f x ≡ y)
 option_map_some f None y is = absurd (none-some y is)
@@ -90,12 +90,29 @@ IsSpelledBy-names make key keyword arguments request spelled is reads =
     let two = spelled found.0 found.1 found.3 found.4 in
     (subst CanBeWritten found.5 two.0, ap₂ (λ k more. joined (k ∷ more)) is found.2 ∙ two.1 ∙ ap request_text found.5)
 
+-- a keyword and one number
+IsSpelledBy-number : (make : ℕ → Request) (key keyword : Text) (arguments : List Text) (request : Request)
+    → ((n : ℕ) → IsNumber n → IsSpelledBy (key ∷ decimal n ∷ []) (make n))
+    → keyword ≡ key → with_number make arguments ≡ Some request → IsSpelledBy (keyword ∷ arguments) request
+IsSpelledBy-number make key keyword arguments request spelled is reads =
+    let found = with_number_some make arguments request reads in
+    let one = spelled found.0 found.2 in
+    (subst CanBeWritten found.3 one.0, ap₂ (λ k more. joined (k ∷ more)) is found.1 ∙ one.1 ∙ ap request_text found.3)
+
 IsSpelledBy-local : (keyword : Text) (arguments : List Text) (request : Request) → keyword ≡ codes "local" → with_name Local arguments ≡ Some request → IsSpelledBy (keyword ∷ arguments) request
 IsSpelledBy-local keyword arguments request = IsSpelledBy-name Local (codes "local") keyword arguments request (λ name named. (named, refl))
 
 IsSpelledBy-spawn : (keyword : Text) (arguments : List Text) (request : Request) → keyword ≡ codes "spawn" → with_names Spawn arguments ≡ Some request → IsSpelledBy (keyword ∷ arguments) request
 IsSpelledBy-spawn keyword arguments request =
     IsSpelledBy-names Spawn (codes "spawn") keyword arguments request (λ a b first second. ((first, second), sym (append_assoc (codes "spawn " ++ a) (codes " ") b)))
+
+IsSpelledBy-send : (keyword : Text) (arguments : List Text) (request : Request) → keyword ≡ codes "send" → with_names Send arguments ≡ Some request → IsSpelledBy (keyword ∷ arguments) request
+IsSpelledBy-send keyword arguments request =
+    IsSpelledBy-names Send (codes "send") keyword arguments request (λ a b first second. ((first, second), sym (append_assoc (codes "send " ++ a) (codes " ") b)))
+
+IsSpelledBy-recv : (keyword : Text) (arguments : List Text) (request : Request) → keyword ≡ codes "recv" → with_names Recv arguments ≡ Some request → IsSpelledBy (keyword ∷ arguments) request
+IsSpelledBy-recv keyword arguments request =
+    IsSpelledBy-names Recv (codes "recv") keyword arguments request (λ a b first second. ((first, second), sym (append_assoc (codes "recv " ++ a) (codes " ") b)))
 
 IsSpelledBy-end : (keyword : Text) (arguments : List Text) (request : Request) → keyword ≡ codes "end" → with_name End arguments ≡ Some request → IsSpelledBy (keyword ∷ arguments) request
 IsSpelledBy-end keyword arguments request = IsSpelledBy-name End (codes "end") keyword arguments request (λ name named. (named, refl))
@@ -104,13 +121,23 @@ IsSpelledBy-join : (keyword : Text) (arguments : List Text) (request : Request) 
 IsSpelledBy-join keyword arguments request =
     IsSpelledBy-names Join (codes "join") keyword arguments request (λ a b first second. ((first, second), sym (append_assoc (codes "join " ++ a) (codes " ") b)))
 
+IsSpelledBy-past : (keyword : Text) (arguments : List Text) (request : Request) → keyword ≡ codes "past" → with_number Past arguments ≡ Some request → IsSpelledBy (keyword ∷ arguments) request
+IsSpelledBy-past keyword arguments request = IsSpelledBy-number Past (codes "past") keyword arguments request (λ n small. (small, refl))
+
+IsSpelledBy-concurrent : (keyword : Text) (arguments : List Text) (request : Request) → keyword ≡ codes "concurrent" → with_number Concurrent arguments ≡ Some request → IsSpelledBy (keyword ∷ arguments) request
+IsSpelledBy-concurrent keyword arguments request = IsSpelledBy-number Concurrent (codes "concurrent") keyword arguments request (λ n small. (small, refl))
+
+IsSpelledBy-event : (keyword : Text) (arguments : List Text) (request : Request) → keyword ≡ codes "event" → with_number Event arguments ≡ Some request → IsSpelledBy (keyword ∷ arguments) request
+IsSpelledBy-event keyword arguments request = IsSpelledBy-number Event (codes "event") keyword arguments request (λ n small. (small, refl))
+
 IsSpelledBy-stamp : (keyword : Text) (arguments : List Text) (request : Request) → keyword ≡ codes "stamp" → with_number Stamp arguments ≡ Some request → IsSpelledBy (keyword ∷ arguments) request
-IsSpelledBy-stamp keyword arguments request is reads =
-    let found = with_number_some Stamp arguments request reads in
-    (subst CanBeWritten found.3 found.2, ap₂ (λ k more. joined (k ∷ more)) is found.1 ∙ ap request_text found.3)
+IsSpelledBy-stamp keyword arguments request = IsSpelledBy-number Stamp (codes "stamp") keyword arguments request (λ n small. (small, refl))
 
 IsSpelledBy-task : (keyword : Text) (arguments : List Text) (request : Request) → keyword ≡ codes "task" → with_name Task arguments ≡ Some request → IsSpelledBy (keyword ∷ arguments) request
 IsSpelledBy-task keyword arguments request = IsSpelledBy-name Task (codes "task") keyword arguments request (λ name named. (named, refl))
+
+IsSpelledBy-message : (keyword : Text) (arguments : List Text) (request : Request) → keyword ≡ codes "message" → with_name Message arguments ≡ Some request → IsSpelledBy (keyword ∷ arguments) request
+IsSpelledBy-message keyword arguments request = IsSpelledBy-name Message (codes "message") keyword arguments request (λ name named. (named, refl))
 
 IsSpelledBy-order : (keyword : Text) (arguments : List Text) (request : Request) → keyword ≡ codes "order" → with_numbers Order arguments ≡ Some request → IsSpelledBy (keyword ∷ arguments) request
 IsSpelledBy-order keyword arguments request is reads =
@@ -139,13 +166,19 @@ IsSpelledBy-from_reading [] request reads = absurd (none-some request reads)
 IsSpelledBy-from_reading (keyword ∷ arguments) request reads =
     IsSpelledBy-at_keyword (codes "local") keyword arguments request _ _ (IsSpelledBy-local keyword arguments request)
     (IsSpelledBy-at_keyword (codes "spawn") keyword arguments request _ _ (IsSpelledBy-spawn keyword arguments request)
+    (IsSpelledBy-at_keyword (codes "send") keyword arguments request _ _ (IsSpelledBy-send keyword arguments request)
+    (IsSpelledBy-at_keyword (codes "recv") keyword arguments request _ _ (IsSpelledBy-recv keyword arguments request)
     (IsSpelledBy-at_keyword (codes "end") keyword arguments request _ _ (IsSpelledBy-end keyword arguments request)
     (IsSpelledBy-at_keyword (codes "join") keyword arguments request _ _ (IsSpelledBy-join keyword arguments request)
     (IsSpelledBy-at_keyword (codes "order") keyword arguments request _ _ (IsSpelledBy-order keyword arguments request)
+    (IsSpelledBy-at_keyword (codes "past") keyword arguments request _ _ (IsSpelledBy-past keyword arguments request)
+    (IsSpelledBy-at_keyword (codes "concurrent") keyword arguments request _ _ (IsSpelledBy-concurrent keyword arguments request)
+    (IsSpelledBy-at_keyword (codes "event") keyword arguments request _ _ (IsSpelledBy-event keyword arguments request)
     (IsSpelledBy-at_keyword (codes "stamp") keyword arguments request _ _ (IsSpelledBy-stamp keyword arguments request)
     (IsSpelledBy-at_keyword (codes "task") keyword arguments request _ _ (IsSpelledBy-task keyword arguments request)
+    (IsSpelledBy-at_keyword (codes "message") keyword arguments request _ _ (IsSpelledBy-message keyword arguments request)
     (IsSpelledBy-at_keyword (codes "count") keyword arguments request _ _ (IsSpelledBy-count keyword arguments request)
-    (λ none. absurd (none-some request none)))))))))
+    (λ none. absurd (none-some request none)))))))))))))))
     reads
 
 -- ---- what is spelled is read
@@ -166,23 +199,42 @@ words_of_names : (a b : Text) → IsTrue (is_name a) → IsTrue (is_name b) → 
 words_of_names a b first second = words-append a b (IsOneWord-from_name a first) ∙ ap (λ more. a ∷ more) (words_of_name b second)
 
 request_of-request_text : (request : Request) → CanBeWritten request → request_of (request_text request) ≡ Some request
-request_of-request_text (Local task) named =
-    ap (λ arguments. request_of_words (codes "local" ∷ arguments)) (words_of_name task named) ∙ ap (option_map Local) (name_of_name task named)
-request_of-request_text (Spawn task child) named =
-    ap request_of (append_assoc (codes "spawn " ++ task) (codes " ") child)
-    ∙ ap (λ arguments. request_of_words (codes "spawn" ∷ arguments)) (words_of_names task child named.0 named.1)
-    ∙ ap₂ (λ a b. option_map (λ (names : Text × Text). Spawn names.0 names.1) (both a b)) (name_of_name task named.0) (name_of_name child named.1)
-request_of-request_text (End task) named =
-    ap (λ arguments. request_of_words (codes "end" ∷ arguments)) (words_of_name task named) ∙ ap (option_map End) (name_of_name task named)
-request_of-request_text (Join task child) named =
-    ap request_of (append_assoc (codes "join " ++ task) (codes " ") child)
-    ∙ ap (λ arguments. request_of_words (codes "join" ∷ arguments)) (words_of_names task child named.0 named.1)
-    ∙ ap₂ (λ a b. option_map (λ (names : Text × Text). Join names.0 names.1) (both a b)) (name_of_name task named.0) (name_of_name child named.1)
+request_of-request_text (Local name) named =
+    ap (λ arguments. request_of_words (codes "local" ∷ arguments)) (words_of_name name named) ∙ ap (option_map Local) (name_of_name name named)
+request_of-request_text (Spawn task name) named =
+    ap request_of (append_assoc (codes "spawn " ++ task) (codes " ") name)
+    ∙ ap (λ arguments. request_of_words (codes "spawn" ∷ arguments)) (words_of_names task name named.0 named.1)
+    ∙ ap₂ (λ a b. option_map (λ (names : Text × Text). Spawn names.0 names.1) (both a b)) (name_of_name task named.0) (name_of_name name named.1)
+request_of-request_text (Send task name) named =
+    ap request_of (append_assoc (codes "send " ++ task) (codes " ") name)
+    ∙ ap (λ arguments. request_of_words (codes "send" ∷ arguments)) (words_of_names task name named.0 named.1)
+    ∙ ap₂ (λ a b. option_map (λ (names : Text × Text). Send names.0 names.1) (both a b)) (name_of_name task named.0) (name_of_name name named.1)
+request_of-request_text (Recv task name) named =
+    ap request_of (append_assoc (codes "recv " ++ task) (codes " ") name)
+    ∙ ap (λ arguments. request_of_words (codes "recv" ∷ arguments)) (words_of_names task name named.0 named.1)
+    ∙ ap₂ (λ a b. option_map (λ (names : Text × Text). Recv names.0 names.1) (both a b)) (name_of_name task named.0) (name_of_name name named.1)
+request_of-request_text (End name) named =
+    ap (λ arguments. request_of_words (codes "end" ∷ arguments)) (words_of_name name named) ∙ ap (option_map End) (name_of_name name named)
+request_of-request_text (Join task name) named =
+    ap request_of (append_assoc (codes "join " ++ task) (codes " ") name)
+    ∙ ap (λ arguments. request_of_words (codes "join" ∷ arguments)) (words_of_names task name named.0 named.1)
+    ∙ ap₂ (λ a b. option_map (λ (names : Text × Text). Join names.0 names.1) (both a b)) (name_of_name task named.0) (name_of_name name named.1)
+request_of-request_text (Past event) small =
+    ap (λ arguments. request_of_words (codes "past" ∷ arguments)) (words_one (decimal event) (IsOneWord-decimal event small))
+    ∙ ap (option_map Past) ((number_of_iff (decimal event) event).1 (small, refl))
+request_of-request_text (Concurrent event) small =
+    ap (λ arguments. request_of_words (codes "concurrent" ∷ arguments)) (words_one (decimal event) (IsOneWord-decimal event small))
+    ∙ ap (option_map Concurrent) ((number_of_iff (decimal event) event).1 (small, refl))
+request_of-request_text (Event event) small =
+    ap (λ arguments. request_of_words (codes "event" ∷ arguments)) (words_one (decimal event) (IsOneWord-decimal event small))
+    ∙ ap (option_map Event) ((number_of_iff (decimal event) event).1 (small, refl))
 request_of-request_text (Stamp event) small =
     ap (λ arguments. request_of_words (codes "stamp" ∷ arguments)) (words_one (decimal event) (IsOneWord-decimal event small))
     ∙ ap (option_map Stamp) ((number_of_iff (decimal event) event).1 (small, refl))
-request_of-request_text (Task task) named =
-    ap (λ arguments. request_of_words (codes "task" ∷ arguments)) (words_of_name task named) ∙ ap (option_map Task) (name_of_name task named)
+request_of-request_text (Task name) named =
+    ap (λ arguments. request_of_words (codes "task" ∷ arguments)) (words_of_name name named) ∙ ap (option_map Task) (name_of_name name named)
+request_of-request_text (Message name) named =
+    ap (λ arguments. request_of_words (codes "message" ∷ arguments)) (words_of_name name named) ∙ ap (option_map Message) (name_of_name name named)
 request_of-request_text (Order a b) small =
     ap request_of (append_assoc (codes "order " ++ decimal a) (codes " ") (decimal b))
     ∙ ap (λ arguments. request_of_words (codes "order" ∷ arguments))

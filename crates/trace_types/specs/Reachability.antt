@@ -1,10 +1,10 @@
 -- Happened-before (Lamport 1978) in the graph of one tenant's events: reachability along predecessors.
-use Rattle.std.specs.Prelude.{◌≡◌, ℕ, suc, Bool, ◌||◌, List, [], ◌∷◌, length, if◌then◌else◌, ◌==◌, nat_lt, Option, Some, None, Contains}
+use Rattle.std.specs.Prelude.{◌≡◌, ℕ, suc, Bool, ◌||◌, List, [], ◌∷◌, length, if◌then◌else◌, ◌==◌, nat_lt, not, ◌&&◌, filter, Option, Some, None, Contains}
 use Rattle.std.specs.List.{list_any}
 use Rattle.trace_types.specs.Name.{Text}
-use Rattle.trace_types.specs.Rows.{History, last_event}
+use Rattle.trace_types.specs.Rows.{History, last_event, send_event, events}
 use Rattle.trace_types.specs.declared.row.Kind.{Kind}
-use Rattle.trace_types.specs.declared.row.Kind.TheVariants.{Local, Spawn, End, Join}
+use Rattle.trace_types.specs.declared.row.Kind.TheVariants.{Local, Spawn, Send, Recv, End, Join}
 use Rattle.trace_types.specs.declared.order.Order.{Order}
 use Rattle.trace_types.specs.declared.order.Order.TheVariants.{Same, Before, After, Concurrent}
 
@@ -25,10 +25,18 @@ abbrev pub last_of_named : History → Option Text → ℕ
 last_of_named history None = 0
 last_of_named history (Some name) = last_event history name
 
--- the event beside the acting task's last one that a report of this kind follows, or 0: for a join the joined task's last
+-- the event that sent the message that is named, or 0
+abbrev pub send_of_named : History → Option Text → ℕ
+send_of_named history None = 0
+send_of_named history (Some name) = send_event history name
+
+-- the event beside the acting task's last one that a report of this kind follows, or 0:
+-- for a receive the message's send, for a join the joined task's last
 abbrev pub second_event : History → Kind → Option Text → ℕ
 second_event history Local name = 0
 second_event history Spawn name = 0
+second_event history Send name = 0
+second_event history Recv name = send_of_named history name
 second_event history End name = 0
 second_event history Join name = last_of_named history name
 
@@ -65,3 +73,11 @@ order_of history a b =
     if a == b then Same
     else if reaches history a b then Before
     else if reaches history b a then After else Concurrent
+
+-- the other events that reach the event, increasing
+abbrev pub past_of : History → ℕ → List ℕ
+past_of history event = filter (λ other. not (other == event) && reaches history other event) (events history)
+
+-- the events that do not reach the event and are not reached from it, increasing
+abbrev pub concurrent_with : History → ℕ → List ℕ
+concurrent_with history event = filter (λ other. not (reaches history other event) && not (reaches history event other)) (events history)

@@ -3,7 +3,7 @@ use Rattle.std.specs.Prelude.{ℕ, ◌+◌, ◌-◌, ◌*◌, Bool, ◌&&◌, �
 use Rattle.std.specs.List.{list_all}
 use Rattle.trace_types.specs.Name.{Text, is_same, is_name, is_between}
 use Rattle.trace_types.specs.declared.request.Request.{Request}
-use Rattle.trace_types.specs.declared.request.Request.TheVariants.{Local, Spawn, End, Join, Order, Stamp, Task, Count}
+use Rattle.trace_types.specs.declared.request.Request.TheVariants.{Local, Spawn, Send, Recv, End, Join, Order, Past, Concurrent, Event, Stamp, Task, Message, Count}
 
 -- the byte at the front of the first word
 abbrev pub onto : ℕ → List Text → List Text
@@ -78,11 +78,17 @@ request_of_words [] = None
 request_of_words (keyword ∷ arguments) =
     if is_same keyword (codes "local") then with_name Local arguments
     else if is_same keyword (codes "spawn") then with_names Spawn arguments
+    else if is_same keyword (codes "send") then with_names Send arguments
+    else if is_same keyword (codes "recv") then with_names Recv arguments
     else if is_same keyword (codes "end") then with_name End arguments
     else if is_same keyword (codes "join") then with_names Join arguments
     else if is_same keyword (codes "order") then with_numbers Order arguments
+    else if is_same keyword (codes "past") then with_number Past arguments
+    else if is_same keyword (codes "concurrent") then with_number Concurrent arguments
+    else if is_same keyword (codes "event") then with_number Event arguments
     else if is_same keyword (codes "stamp") then with_number Stamp arguments
     else if is_same keyword (codes "task") then with_name Task arguments
+    else if is_same keyword (codes "message") then with_name Message arguments
     else if is_same keyword (codes "count") then with_nothing Count arguments
     else None
 

@@ -1,11 +1,11 @@
 -- What the accepted rows of one tenant say, found by search. A history is the rows, the newest first,
 -- so the event number of its first row is the length of the history.
-use Rattle.std.specs.Prelude.{ℕ, suc, ◌+◌, Bool, true, false, ◌||◌, ◌&&◌, List, [], ◌∷◌, length, reverse, Option, Some, None, if◌then◌else◌, ◌==◌, nat_lt, count_by}
-use Rattle.std.specs.List.{list_any}
+use Rattle.std.specs.Prelude.{ℕ, suc, ◌+◌, Bool, true, false, ◌||◌, ◌&&◌, List, [], ◌∷◌, ◌++◌, length, reverse, Option, Some, None, if◌then◌else◌, ◌==◌, nat_lt, count_by}
+use Rattle.std.specs.List.{list_any, range_with_len}
 use Rattle.trace_types.specs.Name.{Text, is_same, root}
 use Rattle.trace_types.specs.declared.row.Row.{Row}
 use Rattle.trace_types.specs.declared.row.Kind.{Kind}
-use Rattle.trace_types.specs.declared.row.Kind.TheVariants.{Local, Spawn, End, Join}
+use Rattle.trace_types.specs.declared.row.Kind.TheVariants.{Local, Spawn, Send, Recv, End, Join}
 use Rattle.trace_types.specs.declared.task_state.TaskState.{TaskState}
 use Rattle.trace_types.specs.declared.task_state.TaskState.TheVariants.{Live, Ended, Joined}
 
@@ -20,6 +20,8 @@ history_of rows = reverse rows
 abbrev pub starts_task : Kind → Bool
 starts_task Local = false
 starts_task Spawn = true
+starts_task Send = false
+starts_task Recv = false
 starts_task End = false
 starts_task Join = false
 
@@ -27,6 +29,8 @@ starts_task Join = false
 abbrev pub ends_task : Kind → Bool
 ends_task Local = false
 ends_task Spawn = false
+ends_task Send = false
+ends_task Recv = false
 ends_task End = true
 ends_task Join = false
 
@@ -34,6 +38,8 @@ ends_task Join = false
 abbrev pub joins_task : Kind → Bool
 joins_task Local = false
 joins_task Spawn = false
+joins_task Send = false
+joins_task Recv = false
 joins_task End = false
 joins_task Join = true
 
@@ -41,8 +47,19 @@ joins_task Join = true
 abbrev pub sends_message : Kind → Bool
 sends_message Local = false
 sends_message Spawn = false
+sends_message Send = true
+sends_message Recv = false
 sends_message End = false
 sends_message Join = false
+
+-- whether a report of this kind receives the message that it names
+abbrev pub receives_message : Kind → Bool
+receives_message Local = false
+receives_message Spawn = false
+receives_message Send = false
+receives_message Recv = true
+receives_message End = false
+receives_message Join = false
 
 -- whether the row names the task or message beside its acting task
 abbrev pub names : Row → Text → Bool
@@ -64,6 +81,14 @@ ends task row = ends_task row.kind && is_same row.task task
 abbrev pub joins : Text → Row → Bool
 joins task row = joins_task row.kind && names row task
 
+-- whether the row is the report that sent the message
+abbrev pub sends : Text → Row → Bool
+sends message row = sends_message row.kind && names row message
+
+-- whether the row is a report that received the message
+abbrev pub receives : Text → Row → Bool
+receives message row = receives_message row.kind && names row message
+
 -- whether the row is an event of the task
 abbrev pub is_of : Text → Row → Bool
 is_of task row = is_same row.task task
@@ -80,6 +105,14 @@ is_ended history task = list_any (ends task) history
 abbrev pub is_joined : History → Text → Bool
 is_joined history task = list_any (joins task) history
 
+-- some row sent the message
+abbrev pub is_sent : History → Text → Bool
+is_sent history message = list_any (sends message) history
+
+-- some row received it
+abbrev pub is_received : History → Text → Bool
+is_received history message = list_any (receives message) history
+
 -- how far the task has come
 abbrev pub state_of : History → Text → TaskState
 state_of history task = if is_joined history task then Joined else if is_ended history task then Ended else Live
@@ -92,6 +125,25 @@ newest test (row ∷ earlier) = if test row then suc (length earlier) else newes
 -- the newest event of the task, else the event that started it, else 0
 abbrev pub last_event : History → Text → ℕ
 last_event history task = if newest (is_of task) history == 0 then newest (starts task) history else newest (is_of task) history
+
+-- the event that sent the message, or 0
+abbrev pub send_event : History → Text → ℕ
+send_event history message = newest (sends message) history
+
+-- the events that received the message, increasing
+abbrev pub receipts : History → Text → List ℕ
+receipts [] message = []
+receipts (row ∷ earlier) message =
+    if receives message row then receipts earlier message ++ suc (length earlier) ∷ [] else receipts earlier message
+
+-- the row of the event, where there is one
+abbrev pub row_of : History → ℕ → Option Row
+row_of [] event = None
+row_of (row ∷ earlier) event = if event == suc (length earlier) then Some row else row_of earlier event
+
+-- the events, increasing
+abbrev pub events : History → List ℕ
+events history = range_with_len 1 (length history)
 
 -- whether there is an event of this number
 abbrev pub is_event : History → ℕ → Bool

@@ -7,7 +7,7 @@ use Rattle.trace_types.specs.Clock.{Clock, tree_clock}
 use Rattle.trace_types.specs.StampText.{stamp_text}
 use Rattle.trace_types.specs.declared.row.Row.{Row}
 use Rattle.trace_types.specs.declared.row.Kind.{Kind}
-use Rattle.trace_types.specs.declared.row.Kind.TheVariants.{Local, Spawn, End, Join}
+use Rattle.trace_types.specs.declared.row.Kind.TheVariants.{Local, Spawn, Send, Recv, End, Join}
 
 -- what is found of the task that a row names, if it names one
 abbrev pub of_named : {A : Type 0} → A → (Text → A) → Option Text → A
@@ -18,6 +18,8 @@ of_named nothing found (Some name) = found name
 abbrev pub takes_in : Kind → Bool
 takes_in Local = false
 takes_in Spawn = false
+takes_in Send = false
+takes_in Recv = true
 takes_in End = false
 takes_in Join = true
 
@@ -26,6 +28,8 @@ module _ {Id Tree : Type 0} (clock : Clock Id Tree) where
   abbrev pub id_at : Kind → Id → Id → Id
   id_at Local own named = own
   id_at Spawn own named = own
+  id_at Send own named = own
+  id_at Recv own named = own
   id_at End own named = own
   id_at Join own named = clock.sum own named
 
@@ -33,6 +37,8 @@ module _ {Id Tree : Type 0} (clock : Clock Id Tree) where
   abbrev pub id_kept : Kind → Id → Id → Id
   id_kept Local own named = own
   id_kept Spawn own named = (clock.split own).0
+  id_kept Send own named = own
+  id_kept Recv own named = own
   id_kept End own named = own
   id_kept Join own named = clock.sum own named
 
@@ -40,6 +46,8 @@ module _ {Id Tree : Type 0} (clock : Clock Id Tree) where
   abbrev pub id_given : Kind → Id → Id → Id
   id_given Local own named = named
   id_given Spawn own named = (clock.split own).1
+  id_given Send own named = named
+  id_given Recv own named = named
   id_given End own named = named
   id_given Join own named = clock.nobody
 

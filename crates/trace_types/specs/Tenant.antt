@@ -3,18 +3,18 @@ use Rattle.std.specs.Prelude.{◌≡◌, suc, Bool, true, false, not, IsTrue, Li
 use Rattle.std.specs.List.{AllByRecursion}
 use Rattle.trace_types.specs.Name.{Text}
 use Rattle.trace_types.specs.Limits.{Limits}
-use Rattle.trace_types.specs.Rows.{History, history_of, state_of, last_event, task_count, message_count}
+use Rattle.trace_types.specs.Rows.{History, history_of, state_of, last_event, send_event, receipts, row_of, task_count, message_count}
 use Rattle.trace_types.specs.Stamps.{stamp_text_of}
-use Rattle.trace_types.specs.Reachability.{predecessors, order_of}
+use Rattle.trace_types.specs.Reachability.{predecessors, order_of, past_of, concurrent_with}
 use Rattle.trace_types.specs.Refusal.{refusal_of}
 use Rattle.trace_types.specs.Text.{CanBeWritten}
 use Rattle.trace_types.specs.declared.code.Code.{Code}
-use Rattle.trace_types.specs.declared.code.Code.TheVariants.{NoMemory, ViewOnly}
+use Rattle.trace_types.specs.declared.code.Code.TheVariants.{NoEvent, NoMemory, ViewOnly}
 use Rattle.trace_types.specs.declared.row.Row.{Row}
 use Rattle.trace_types.specs.declared.row.Kind.{Kind}
 use Rattle.trace_types.specs.declared.row.Kind.TheVariants as kind
 use Rattle.trace_types.specs.declared.request.Request.{Request}
-use Rattle.trace_types.specs.declared.request.Request.TheVariants.{Local, Spawn, End, Join, Order, Stamp, Task, Count}
+use Rattle.trace_types.specs.declared.request.Request.TheVariants.{Local, Spawn, Send, Recv, End, Join, Order, Past, Concurrent, Event, Stamp, Task, Message, Count}
 use Rattle.trace_types.specs.declared.reply.Reply.{Reply}
 use Rattle.trace_types.specs.declared.reply.Reply.TheVariants as reply
 
@@ -35,15 +35,26 @@ row_after history task kind name = record { task = task; kind = kind; name = nam
 abbrev pub accepted : History → Text → Kind → Option Text → Reply × Option Row
 accepted history task kind name = (reply.Accepted (suc (length history)), Some (row_after history task kind name))
 
+-- the answer that gives a row
+abbrev pub row_reply : Option Row → Reply
+row_reply None = reply.Refused NoEvent
+row_reply (Some row) = reply.Event row
+
 -- what a request that is not refused is answered, and the row that it adds where it is a report
 abbrev pub answer_to : History → Request → Reply × Option Row
 answer_to history (Local task) = accepted history task kind.Local None
 answer_to history (Spawn task child) = accepted history task kind.Spawn (Some child)
+answer_to history (Send task message) = accepted history task kind.Send (Some message)
+answer_to history (Recv task message) = accepted history task kind.Recv (Some message)
 answer_to history (End task) = accepted history task kind.End None
 answer_to history (Join task child) = accepted history task kind.Join (Some child)
 answer_to history (Order a b) = (reply.Ordering (order_of history a b), None)
+answer_to history (Past event) = (reply.List (past_of history event), None)
+answer_to history (Concurrent event) = (reply.List (concurrent_with history event), None)
+answer_to history (Event event) = (row_reply (row_of history event), None)
 answer_to history (Stamp event) = (reply.Stamp (stamp_text_of history event), None)
 answer_to history (Task task) = (reply.Task (state_of history task) (last_event history task), None)
+answer_to history (Message message) = (reply.Message (send_event history message) (receipts history message), None)
 answer_to history Count = (reply.Count (length history) (task_count history) (message_count history), None)
 
 -- the tenant with one row more, where there is one
@@ -80,11 +91,17 @@ AreLegal limits rows =
 abbrev pub is_report : Request → Bool
 is_report (Local task) = true
 is_report (Spawn task child) = true
+is_report (Send task message) = true
+is_report (Recv task message) = true
 is_report (End task) = true
 is_report (Join task child) = true
 is_report (Order a b) = false
+is_report (Past event) = false
+is_report (Concurrent event) = false
+is_report (Event event) = false
 is_report (Stamp event) = false
 is_report (Task task) = false
+is_report (Message message) = false
 is_report Count = false
 
 -- the reply where reports are not taken
@@ -95,11 +112,17 @@ reply_to_view tenant request = if is_report request then reply.Refused ViewOnly 
 abbrev pub may_lack_memory : Request → Bool
 may_lack_memory (Local task) = true
 may_lack_memory (Spawn task child) = true
+may_lack_memory (Send task message) = true
+may_lack_memory (Recv task message) = true
 may_lack_memory (End task) = true
 may_lack_memory (Join task child) = true
 may_lack_memory (Order a b) = false
+may_lack_memory (Past event) = true
+may_lack_memory (Concurrent event) = true
+may_lack_memory (Event event) = false
 may_lack_memory (Stamp event) = true
 may_lack_memory (Task task) = false
+may_lack_memory (Message message) = false
 may_lack_memory Count = false
 
 -- Want of memory may be the answer: the request may lack memory, and is not refused.

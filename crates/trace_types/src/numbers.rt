@@ -1,10 +1,12 @@
 //! A list of numbers.
-ghost use Rattle.std.specs.Prelude.{◌≡◌};
+ghost use Rattle.std.specs.Prelude.{◌≡◌, nat_eq};
+ghost use Rattle.std.specs.Cmp.{partial_equiv_from_equiv};
+ghost use Rattle.std.specs.Cmp.Lexicographic.{pointwise, nat_list_eq_equiv};
 
 use std::marker::Model;
 
 /// A list of event numbers. A contract sees the list.
-#[derive(Drop)]
+#[derive(Debug, Drop)]
 pub struct Numbers {
     items: Vec<u64>,
 }
@@ -39,6 +41,20 @@ impl From<Vec<u64>> for Numbers {
     fn from(items: Vec<u64>) -> Numbers {
         Numbers { items }
     }
+}
+
+impl PartialEq for Numbers {
+    ghost eq = { pointwise nat_eq };
+
+    ghost laws = { partial_equiv_from_equiv nat_list_eq_equiv };
+
+    fn eq(&self, other: &Numbers) -> bool {
+        self.as_slice() == other.as_slice()
+    }
+}
+
+impl Eq for Numbers {
+    ghost laws = { nat_list_eq_equiv };
 }
 
 #[cfg(test)]

@@ -1,5 +1,7 @@
 //! The predecessors of an event.
-ghost use Rattle.std.specs.Prelude.{◌≡◌, ◌≤◌, length};
+ghost use Rattle.std.specs.Prelude.{◌≡◌, ◌≤◌, length, nat_eq};
+ghost use Rattle.std.specs.Cmp.{partial_equiv_from_equiv};
+ghost use Rattle.std.specs.Cmp.Lexicographic.{pointwise, nat_list_eq_equiv};
 
 use smallvec::SmallVec;
 use std::alloc::Global;
@@ -8,7 +10,7 @@ use std::marker::Model;
 /// The predecessors of an event: at most two event numbers, which lie in the value itself.
 ///
 /// A contract sees the list of them.
-#[derive(Drop)]
+#[derive(Debug, Drop)]
 pub struct Preds {
     events: SmallVec<u64, 2>,
 }
@@ -47,6 +49,20 @@ impl Preds {
     {
         Preds::of(*self.events.allocator(), self.as_slice())
     }
+}
+
+impl PartialEq for Preds {
+    ghost eq = { pointwise nat_eq };
+
+    ghost laws = { partial_equiv_from_equiv nat_list_eq_equiv };
+
+    fn eq(&self, other: &Preds) -> bool {
+        self.as_slice() == other.as_slice()
+    }
+}
+
+impl Eq for Preds {
+    ghost laws = { nat_list_eq_equiv };
 }
 
 #[cfg(test)]

@@ -10,6 +10,10 @@ pub enum Kind {
     Local,
     /// The task started a new one, which is named.
     Spawn,
+    /// The task sent a message, which is named.
+    Send,
+    /// The task received a message, which is named.
+    Recv,
     /// The task ended.
     End,
     /// The task took in an ended one, which is named.
@@ -17,7 +21,7 @@ pub enum Kind {
 }
 
 /// An accepted report, which is one event. Event k is the k-th row of its tenant, from 1.
-#[derive(Drop)]
+#[derive(Debug, Drop, PartialEq, Eq)]
 pub struct Row {
     /// The acting task.
     pub task: Name,

@@ -42,9 +42,13 @@ impl Counts {
         match reply {
             Reply::Accepted(_) => self.accepted += 1,
             Reply::Refused(_) => self.refused += 1,
-            Reply::Ordering(_) | Reply::Stamp(_) | Reply::Task(..) | Reply::Count(..) => {
-                self.answered += 1;
-            }
+            Reply::Ordering(_)
+            | Reply::List(_)
+            | Reply::Event(_)
+            | Reply::Stamp(_)
+            | Reply::Task(..)
+            | Reply::Message(..)
+            | Reply::Count(..) => self.answered += 1,
         }
     }
 }

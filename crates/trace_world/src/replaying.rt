@@ -47,6 +47,8 @@ pub fn replay<T, R: Source, W: Sink>(
         };
         answer.write(writer)?;
         counts.count(&answer.reply);
+        // Dropped by a call, so that the loop goes back by one way, whatever the reply owns.
+        drop(answer);
     }
     flush(writer)?;
     Ok(counts)

@@ -1,7 +1,7 @@
 use super::*;
 use std::process::Abort;
 use std::test::Fail;
-use trace_types::{Kind, Order, TaskState};
+use trace_types::{Kind, Order, Preds, Receipts, TaskState, Text};
 
 fn name(rt: &impl Abort, text: &str) -> Name {
     Name::read(text.as_bytes()).expect(rt, text)
@@ -13,6 +13,14 @@ fn local(rt: &impl Abort, task: &str) -> Request {
 
 fn spawn(rt: &impl Abort, task: &str, child: &str) -> Request {
     Request::Spawn(name(rt, task), name(rt, child))
+}
+
+fn send(rt: &impl Abort, task: &str, message: &str) -> Request {
+    Request::Send(name(rt, task), name(rt, message))
+}
+
+fn recv(rt: &impl Abort, task: &str, message: &str) -> Request {
+    Request::Recv(name(rt, task), name(rt, message))
 }
 
 fn end(rt: &impl Abort, task: &str) -> Request {
@@ -30,7 +38,12 @@ fn task(rt: &impl Abort, task: &str) -> Request {
 fn is_query(request: Request) -> bool {
     !matches!(
         request,
-        Request::Local(_) | Request::Spawn(..) | Request::End(_) | Request::Join(..)
+        Request::Local(_)
+            | Request::Spawn(..)
+            | Request::Send(..)
+            | Request::Recv(..)
+            | Request::End(_)
+            | Request::Join(..)
     )
 }
 
@@ -157,6 +170,128 @@ fn a_report_is_refused_with_the_first_code_that_is_due(rt: HostRuntime) -> Resul
 }
 
 #[test]
+fn a_stamp_is_the_id_of_the_task_and_what_the_event_knows(rt: HostRuntime) -> Result<(), Fail> {
+    let mut ledger = Ledger::new(rt.alloc(), Limits::default())?;
+    for report in family(&rt).iter() {
+        let _ = ledger.report(report);
+    }
+    for (event, stamp) in [
+        (5, "[(0,(1,0));(1,0,(1,1,0))]"),
+        (6, "[(1,(0,1));(2,1,(0,0,1))]"),
+        (7, "[1;4]"),
+    ] {
+        let text = Text::from(stamp.as_bytes().to_vec(rt.alloc())?);
+        assert_eq!(rt; ledger.ask(&Request::Stamp(event)), Reply::Stamp(text));
+    }
+    Ok(())
+}
+
+/// `root` starts `a`, which sends `m`; `root` receives it after an event of its own.
+fn talk(rt: &impl Abort) -> [Request; 6] {
+    [
+        local(rt, "root"),
+        spawn(rt, "root", "a"),
+        local(rt, "a"),
+        local(rt, "root"),
+        send(rt, "a", "m"),
+        recv(rt, "root", "m"),
+    ]
+}
+
+/// The events of a reply that gives a list.
+fn listed(reply: &Reply) -> Option<&[u64]> {
+    match reply {
+        Reply::List(events) => Some(events.as_slice()),
+        _ => None,
+    }
+}
+
+#[test]
+fn a_message_carries_what_its_send_knows(rt: HostRuntime) -> Result<(), Fail> {
+    let mut ledger = Ledger::new(rt.alloc(), Limits::default())?;
+    for (report, event) in talk(&rt).iter().zip([1, 2, 3, 4, 5, 6]) {
+        assert_eq!(rt; ledger.report(report), Reply::Accepted(event));
+    }
+    for (query, events) in [
+        (Request::Past(6), &[1, 2, 3, 4, 5][..]),
+        (Request::Past(1), &[]),
+        (Request::Concurrent(4), &[3, 5]),
+        (Request::Concurrent(6), &[]),
+    ] {
+        assert_eq!(rt; listed(&ledger.report(&query)), Some(events), "{query:?}");
+        assert_eq!(rt; listed(&ledger.ask(&query)), Some(events), "{query:?}");
+    }
+    for (query, reply) in [
+        (Request::Order(3, 6), Reply::Ordering(Order::Before)),
+        (Request::Order(4, 5), Reply::Ordering(Order::Concurrent)),
+        (Request::Past(7), Reply::Refused(Code::NoEvent)),
+        (Request::Concurrent(0), Reply::Refused(Code::NoEvent)),
+        (Request::Event(7), Reply::Refused(Code::NoEvent)),
+        (Request::Count, Reply::Count(6, 2, 1)),
+    ] {
+        assert_eq!(rt; ledger.report(&query), reply, "{query:?}");
+        assert_eq!(rt; ledger.ask(&query), reply, "a view of {query:?}");
+    }
+    Ok(())
+}
+
+#[test]
+fn an_event_and_a_message_are_told_as_they_were_reported(rt: HostRuntime) -> Result<(), Fail> {
+    let mut ledger = Ledger::new(rt.alloc(), Limits::default())?;
+    for report in talk(&rt).iter() {
+        let _ = ledger.report(report);
+    }
+    let mut receipts = Receipts::none(rt.alloc());
+    receipts.add(6);
+    let message = Request::Message(name(&rt, "m"));
+    assert_eq!(rt; ledger.ask(&message), Reply::Message(5, receipts));
+    let unknown = Request::Message(name(&rt, "q"));
+    assert_eq!(rt; ledger.ask(&unknown), Reply::Refused(Code::NoMessage));
+    let row = Row {
+        task: Name::root(),
+        kind: Kind::Recv,
+        name: Name::read(b"m"),
+        preds: Preds::of(rt.alloc(), &[4, 5]),
+    };
+    assert_eq!(rt; ledger.ask(&Request::Event(6)), Reply::Event(row));
+    Ok(())
+}
+
+#[test]
+fn a_send_or_receive_is_refused_with_the_first_code_that_is_due(
+    rt: HostRuntime,
+) -> Result<(), Fail> {
+    let limits = Limits::read(4, 2, 1).ok_or("limits")?;
+    let mut ledger = Ledger::new(rt.alloc(), limits)?;
+    for (request, reply) in [
+        (recv(&rt, "root", "m"), Reply::Refused(Code::NoMessage)),
+        (send(&rt, "a", "m"), Reply::Refused(Code::NoTask)),
+        (send(&rt, "root", "m"), Reply::Accepted(1)),
+        (send(&rt, "root", "m"), Reply::Refused(Code::MessageExists)),
+        (send(&rt, "root", "n"), Reply::Refused(Code::MessagesFull)),
+        (recv(&rt, "root", "n"), Reply::Refused(Code::NoMessage)),
+        (recv(&rt, "root", "m"), Reply::Accepted(2)),
+        (
+            recv(&rt, "root", "m"),
+            Reply::Refused(Code::AlreadyReceived),
+        ),
+        (spawn(&rt, "root", "m"), Reply::Accepted(3)),
+        (end(&rt, "m"), Reply::Accepted(4)),
+        (send(&rt, "m", "n"), Reply::Refused(Code::TaskEnded)),
+        (recv(&rt, "m", "n"), Reply::Refused(Code::TaskEnded)),
+        (
+            recv(&rt, "root", "m"),
+            Reply::Refused(Code::AlreadyReceived),
+        ),
+        (local(&rt, "root"), Reply::Refused(Code::EventsFull)),
+        (Request::Count, Reply::Count(4, 2, 1)),
+    ] {
+        assert_eq!(rt; ledger.report(&request), reply, "{request:?}");
+    }
+    Ok(())
+}
+
+#[test]
 fn each_row_follows_the_row_before_it_and_no_other(rt: HostRuntime) -> Result<(), Fail> {
     let mut ledger = Ledger::new(rt.alloc(), Limits::default())?;
     let report = local(&rt, "root");
@@ -206,5 +341,20 @@ fn a_spawn_or_join_that_finds_no_memory_changes_nothing(rt: HostRuntime) -> Resu
         assert_eq!(rt; reply, Reply::Accepted(event), "{report:?}");
     }
     assert_eq!(rt; ledger.ask(&Request::Count), Reply::Count(7, 3, 0));
+    Ok(())
+}
+
+/// It passes also where an allocation fails once the ledger is made.
+#[test]
+fn a_send_or_receive_that_finds_no_memory_changes_nothing(rt: HostRuntime) -> Result<(), Fail> {
+    let mut ledger = Ledger::new(rt.alloc(), Limits::default())?;
+    for (report, event) in talk(&rt).iter().zip([1, 2, 3, 4, 5, 6]) {
+        let mut reply = ledger.report(report);
+        if reply == Reply::Refused(Code::NoMemory) {
+            reply = ledger.report(report);
+        }
+        assert_eq!(rt; reply, Reply::Accepted(event), "{report:?}");
+    }
+    assert_eq!(rt; ledger.ask(&Request::Count), Reply::Count(6, 2, 1));
     Ok(())
 }

@@ -91,10 +91,13 @@ impl Write for Output {
     }
 }
 
-/// A world of one tenant, `x`, that may have so many events and tasks.
-fn world_of_x(alloc: Global, events: u64, tasks: u64) -> Result<World, Fail> {
+/// The limits that stand where none are asked for.
+const DEFAULTS: (u64, u64, u64) = (4096, 512, 2048);
+
+/// A world of one tenant, `x`, that may have so many events, tasks and messages.
+fn world_of_x(alloc: Global, (events, tasks, messages): (u64, u64, u64)) -> Result<World, Fail> {
     let name = Name::read(b"x").ok_or("no name")?;
-    let limits = Limits::read(events, tasks, 2048).ok_or("no limits")?;
+    let limits = Limits::read(events, tasks, messages).ok_or("no limits")?;
     Ok(World::new(alloc, &[name], limits)?)
 }
 
@@ -142,14 +145,14 @@ fn odd_lines(alloc: Global) -> Result<Vec<u8>, Fail> {
 /// The replies to these lines, however they come and go.
 fn answers<R: Abort + AllocGlobal>(
     rt: &R,
-    (events, tasks): (u64, u64),
+    limits: (u64, u64, u64),
     input: &[u8],
     want: &str,
     counts: Counts,
 ) -> Result<(), Fail> {
     for reader in [Pace::AT_ONCE, Pace::BYTE_BY_BYTE] {
         for writer in [Pace::AT_ONCE, Pace::BYTE_BY_BYTE] {
-            let mut world = world_of_x(rt.alloc(), events, tasks)?;
+            let mut world = world_of_x(rt.alloc(), limits)?;
             let run = replay_bytes(rt, &mut world, input, reader, writer)?;
             assert_eq!(rt; run.text.as_str(), want);
             assert_eq!(rt; run.outcome, Ok(counts), "on {want}");
@@ -161,7 +164,7 @@ fn answers<R: Abort + AllocGlobal>(
 
 #[test]
 fn empty_input_has_empty_output(rt: HostRuntime) -> Result<(), Fail> {
-    answers(&rt, (4096, 512), b"", "", Counts::none())
+    answers(&rt, DEFAULTS, b"", "", Counts::none())
 }
 
 #[test]
@@ -174,13 +177,13 @@ fn a_line_that_is_no_request_is_refused_in_its_place(rt: HostRuntime) -> Result<
         answered: 1,
         refused: 6,
     };
-    answers(&rt, (4096, 512), &odd_lines(rt.alloc())?, want, counts)
+    answers(&rt, DEFAULTS, &odd_lines(rt.alloc())?, want, counts)
 }
 
 #[test]
 fn requests_get_the_replies_of_their_tenant(rt: HostRuntime) -> Result<(), Fail> {
     let input =
-        b"x local root\nx local root\nx order 1 2\nx order 2 1\nx order 3 1\nx local q\nx send root m\n";
+        b"x local root\nx local root\nx order 1 2\nx order 2 1\nx order 3 1\nx local q\nx sent root m\n";
     let want =
         "x 201 1\nx 201 2\nx 200 before\nx 200 after\nx 404 no event\nx 401 no task\nx 400 line\n";
     let counts = Counts {
@@ -189,7 +192,7 @@ fn requests_get_the_replies_of_their_tenant(rt: HostRuntime) -> Result<(), Fail>
         answered: 2,
         refused: 3,
     };
-    answers(&rt, (4096, 512), input, want, counts)
+    answers(&rt, DEFAULTS, input, want, counts)
 }
 
 #[test]
@@ -203,7 +206,7 @@ fn no_event_is_accepted_above_the_limit(rt: HostRuntime) -> Result<(), Fail> {
     };
     answers(
         &rt,
-        (2, 512),
+        (2, 512, 2048),
         input,
         "x 201 1\nx 201 2\nx 413 events full\n",
         counts,
@@ -225,7 +228,7 @@ fn tasks_come_and_go_and_are_ordered_by_what_they_know(rt: HostRuntime) -> Resul
         answered: 11,
         refused: 0,
     };
-    answers(&rt, (4096, 512), input, want, counts)
+    answers(&rt, DEFAULTS, input, want, counts)
 }
 
 #[test]
@@ -241,7 +244,7 @@ fn equal_costs_grow_to_the_right(rt: HostRuntime) -> Result<(), Fail> {
         answered: 4,
         refused: 0,
     };
-    answers(&rt, (4096, 512), input, want, counts)
+    answers(&rt, DEFAULTS, input, want, counts)
 }
 
 #[test]
@@ -254,7 +257,7 @@ fn a_refused_spawn_or_report_of_an_ended_task_changes_nothing(rt: HostRuntime) -
         answered: 2,
         refused: 2,
     };
-    answers(&rt, (4096, 1), input, want, counts)
+    answers(&rt, (4096, 1, 2048), input, want, counts)
 }
 
 #[test]
@@ -271,7 +274,51 @@ fn each_refusal_of_a_join_or_spawn_is_the_first_that_is_due(rt: HostRuntime) -> 
         answered: 1,
         refused: 11,
     };
-    answers(&rt, (3, 512), input, want, counts)
+    answers(&rt, (3, 512, 2048), input, want, counts)
+}
+
+#[test]
+fn messages_and_lists_are_answered_by_the_graph(rt: HostRuntime) -> Result<(), Fail> {
+    let input = b"x local root\nx stamp 1\nx spawn root a\nx stamp 2\nx local a\nx local root\n\
+        x order 3 4\nx stamp 3\nx stamp 4\nx send a m\nx stamp 5\nx order 4 5\nx recv root m\n\
+        x stamp 6\nx past 6\nx end a\nx task a\nx join root a\nx stamp 7\nx stamp 8\nx task a\n\
+        x concurrent 4\nx concurrent 6\nx order 5 5\nx order 8 1\nx event 1\nx event 6\n\
+        x message m\nx recv root m\nx join root a\nx local a\nx join root q\nx spawn root a\n\
+        x join root root\nx count\nx order 0 1\nx order 9 1\nx order 01 1\nx past 1\n\
+        x message q\nx recv root q\n";
+    let want =
+        "x 201 1\nx 200 [1;1]\nx 201 2\nx 200 [(1,0);2]\nx 201 3\nx 201 4\nx 200 concurrent\n\
+        x 200 [(0,1);(2,0,1)]\nx 200 [(1,0);(2,1,0)]\nx 201 5\nx 200 [(0,1);(2,0,2)]\n\
+        x 200 concurrent\nx 201 6\nx 200 [(1,0);4]\nx 200 5 1 2 3 4 5\nx 201 7\nx 200 ended 7\n\
+        x 201 8\nx 200 [(0,1);(2,0,3)]\nx 200 [1;5]\nx 200 joined 7\nx 200 3 3 5 7\nx 200 1 7\n\
+        x 200 same\nx 200 after\nx 200 local root - 0\nx 200 recv root m 2 4 5\nx 200 5 1 6\n\
+        x 407 already received\nx 409 already joined\nx 403 task ended\nx 401 no task\n\
+        x 402 task exists\nx 408 not ended\nx 200 8 2 1\nx 404 no event\nx 404 no event\n\
+        x 400 line\nx 200 0\nx 405 no message\nx 405 no message\n";
+    let counts = Counts {
+        lines: 41,
+        accepted: 8,
+        answered: 22,
+        refused: 11,
+    };
+    answers(&rt, DEFAULTS, input, want, counts)
+}
+
+#[test]
+fn a_message_to_its_sender_has_one_predecessor_and_messages_have_a_limit(
+    rt: HostRuntime,
+) -> Result<(), Fail> {
+    let input =
+        b"x send root m\nx recv root m\nx event 2\nx stamp 2\nx send root m\nx send root n\n";
+    let want = "x 201 1\nx 201 2\nx 200 recv root m 1 1\nx 200 [1;2]\nx 406 message exists\n\
+        x 415 messages full\n";
+    let counts = Counts {
+        lines: 6,
+        accepted: 2,
+        answered: 2,
+        refused: 2,
+    };
+    answers(&rt, (4096, 512, 1), input, want, counts)
 }
 
 /// What a replay leaves that a fault cut short, and what the tenant counts afterwards.
@@ -283,7 +330,7 @@ fn stops<R: Abort + AllocGlobal>(
     want: &str,
     count: &str,
 ) -> Result<(), Fail> {
-    let mut world = world_of_x(rt.alloc(), 4096, 512)?;
+    let mut world = world_of_x(rt.alloc(), DEFAULTS)?;
     let input = b"x local root\nx local root\n";
     let cut = replay_bytes(rt, &mut world, input, reader, writer)?;
     assert_eq!(rt; cut.outcome, Err(fault));

@@ -101,31 +101,6 @@ loop-lines-preserved g c =
       refused = rw c.count.ensures (omega (arith, before.refused, one_if-le (is_refused c.match-branch-3.answer.reply)));
     }
 
-pub loop-lines-preserved-in_ok-write : goal.loop-lines-preserved-in_ok-write
-loop-lines-preserved-in_ok-write g c =
-    let at = goal.at.loop-lines-preserved-in_ok-write g c in
-    let answered = answered g at.After-write in
-    let before = c.loop-lines.invariant in
-    let step = c.in_ok-next_line.ensures in
-    let wrote = c.in_ok-write.ensures in
-    let less : work_left c.next_line.new.self < work_left c.loop-lines.lines =
-    elim c.match-branch-3.branch [
-      | in-TooLong w ↦ subst (LeavesLess c.loop-lines.lines c.next_line.new.self) w.in-TooLong.is step.work
-      | in-Whole w ↦ subst (LeavesLess c.loop-lines.lines c.next_line.new.self) w.in-Whole.is step.work
-    ] in
-    record {
-      follows = rw c.count.ensures (Follows-line answered.line _ _ before.follows answered.gives (gives_no_more g at.After-next_line) answered.answers wrote.ok);
-      ended = told g at.After-next_line;
-      failures = omega (arith, step.failures, before.failures);
-      reads = omega (arith, before.reads, step.reads);
-      write_failures = omega (arith, before.write_failures, wrote.no_failure);
-      interruptions = omega (arith, before.interruptions, wrote.interruptions);
-      room = rw c.count.ensures (omega (arith, before.room, less));
-      accepted = rw c.count.ensures (omega (arith, before.accepted, one_if-le (is_accepted c.match-branch-3.answer.reply)));
-      answered = rw c.count.ensures (omega (arith, before.answered, one_if-le (is_answered c.match-branch-3.answer.reply)));
-      refused = rw c.count.ensures (omega (arith, before.refused, one_if-le (is_refused c.match-branch-3.answer.reply)));
-    }
-
 pub returns-in_err-flush-clause-fault : goal.returns-in_err-flush-clause-fault
 returns-in_err-flush-clause-fault g c =
     let at = goal.at.returns-in_err-flush-clause-fault g c in

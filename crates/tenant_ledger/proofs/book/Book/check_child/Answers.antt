@@ -19,7 +19,7 @@ returns-then-task_count-tasks-clause-decides c =
     let unknown : is_known (history_of book.rows.items) c.args.name.now ≡ false =
     sym (has_known book c.requires c.args.name.now) ∙ sym c.contains_key.ensures ∙ c.if-contains_key.false in
     let full : has_all_tasks book.limits (history_of book.rows.items) ≡ true =
-    grind (arith, nat_tests, c.if-task_count-tasks.true, c.tasks.ensures, c.task_count.ensures, c.requires.counted) in
+    grind (arith, nat_tests, c.if-task_count-tasks.true, c.tasks.ensures, c.task_count.ensures, c.requires.kept.counted) in
     λ others. rw (unknown, full) refl
 
 pub returns-else-task_count-tasks-clause-decides :
@@ -29,5 +29,5 @@ returns-else-task_count-tasks-clause-decides c =
     let unknown : is_known (history_of book.rows.items) c.args.name.now ≡ false =
     sym (has_known book c.requires c.args.name.now) ∙ sym c.contains_key.ensures ∙ c.if-contains_key.false in
     let room : has_all_tasks book.limits (history_of book.rows.items) ≡ false =
-    grind (arith, nat_tests, c.if-task_count-tasks.false, c.tasks.ensures, c.task_count.ensures, c.requires.counted) in
+    grind (arith, nat_tests, c.if-task_count-tasks.false, c.tasks.ensures, c.task_count.ensures, c.requires.kept.counted) in
     λ others. rw (unknown, room) refl

@@ -1,4 +1,4 @@
-use Rattle.std.proofs.Common.{◌≡◌, ◌≤◌, ◌∷◌, [], Some, length, ◌++◌, sym, ap, ◌∙◌, arith, vec_capacity}
+use Rattle.std.proofs.Common.{refl, ◌≡◌, ◌≤◌, ◌∷◌, [], Some, length, ◌++◌, sym, ap, ◌∙◌, arith, vec_capacity}
 use Rattle.std.proofs.lemmas.List.{length-append}
 use Rattle.std.proofs.lemmas.Option.{slice_get_within}
 use Rattle.indexmap.specs.IndexMap.{index_map_len}
@@ -7,10 +7,11 @@ use Rattle.trace_types.specs.Rows.{history_of}
 use Rattle.trace_types.specs.Tenant.{row_after}
 use Rattle.trace_types.specs.declared.row.Kind.TheVariants.{Spawn}
 use Rattle.trace_types.specs.declared.task_state.TaskState.TheVariants.{Live}
+use Rattle.tenant_ledger.specs.declared.book.Book.{Book}
 use Rattle.tenant_ledger.specs.Ledger.{task_in, HasRoom}
-use Rattle.tenant_ledger.specs.declared.book.Kept.{Kept}
 use Rattle.tenant_ledger.proofs.Keeping.{stay-added, id-added}
 use Rattle.tenant_ledger.proofs.KeepingBook.{WasAdded, same_at_reserve, same_then_id, same_at_put, same_then_put, event_number, ids_same, first_put, first_count, adds_event}
+use Rattle.tenant_ledger.proofs.KeepingMessages.{messages_after}
 use Rattle.tenant_ledger.proofs.KeepingReports.{Has, last-le, live_id_some, known_fits, live_task, live_id}
 use Rattle.tenant_ledger.proofs.KeepingSpawn.{spawn_row, spawn_is_next}
 use Rattle.tenant_ledger.proofs.book.Book.forked.Goals as goal
@@ -55,12 +56,12 @@ returns c =
     let kept = c.in_ok-kept.kept in
     let given = c.in_ok-kept.given in
     let has : Has Live old c.args.name c.args.task = record { is = c.requires.book; found = c.requires.task; state_is = c.requires.live } in
-    let stamp : Kept = record { tree = c.in_ok-tree.tree; id = c.add_id-kept.result } in
-    let was : WasAdded old with_ids c.add-last.new.self new c.next_row-row.result stamp c.add-last.result = record {
+    let was : WasAdded old with_ids c.add-last.new.self new c.next_row-row.result c.in_ok-tree.tree c.add_id-kept.result c.add-last.result = record {
       before = same_then_id (same_then_id (same_at_reserve c.reserve.ensures.same) c.add_id-kept.ensures.others) c.add_id-given.ensures.others;
       is = c.add-last.ensures.others;
       rows = c.add-last.ensures.rows;
-      kept = c.add-last.ensures.kept;
+      trees = c.add-last.ensures.trees;
+      places = c.add-last.ensures.places;
       number = c.add-last.ensures.event;
       after = same_then_put (same_at_put c.add-last.new.self with_child c.put.ensures.others) (same_at_put with_child new c.put-2.ensures.others);
     } in
@@ -81,3 +82,4 @@ returns c =
     (λ place id there. stay_second place id (stay_first place id there)) (stay_second c.add_id-kept.result kept kept_there) given_there (event_number was)
     (first_put was c.args.child _ with_child c.put.ensures.tasks) c.put-2.ensures.tasks
     (first_count was c.args.child (index_map_len with_child.tasks) c.put.ensures.count) c.put-2.ensures.count)
+    (messages_after old with_ids (ap (λ (b : Book). b.messages) c.add_id-given.ensures.others ∙ (ap (λ (b : Book). b.messages) c.add_id-kept.ensures.others ∙ c.reserve.ensures.same.messages)) (row_after (history_of old.rows.items) c.args.name Spawn (Some c.args.child)) refl refl c.requires.book)

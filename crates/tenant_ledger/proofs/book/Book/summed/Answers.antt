@@ -1,14 +1,15 @@
-use Rattle.std.proofs.Common.{◌≡◌, ◌∷◌, [], Some, length, ◌++◌, ap, ◌∙◌}
+use Rattle.std.proofs.Common.{refl, ◌≡◌, ◌∷◌, [], Some, length, ◌++◌, ap, ◌∙◌}
 use Rattle.indexmap.specs.IndexMap.{index_map_len}
 use Rattle.trace_types.specs.Rows.{history_of}
 use Rattle.trace_types.specs.Tenant.{row_after}
 use Rattle.trace_types.specs.declared.row.Kind.TheVariants.{Join}
 use Rattle.trace_types.specs.declared.task_state.TaskState.TheVariants.{Live, Ended}
+use Rattle.tenant_ledger.specs.declared.book.Book.{Book}
 use Rattle.tenant_ledger.specs.Ledger.{task_in}
-use Rattle.tenant_ledger.specs.declared.book.Kept.{Kept}
 use Rattle.tenant_ledger.proofs.Keeping.{stay-added, id-added}
 use Rattle.tenant_ledger.proofs.KeepingBook.{WasAdded, same_at_reserve, same_then_id, same_at_put, same_then_put, event_number, ids_same, first_put, first_count, adds_event}
 use Rattle.tenant_ledger.proofs.KeepingJoin.{join_row, disjoint_ids, sum_some, joined_fits, join_is_next}
+use Rattle.tenant_ledger.proofs.KeepingMessages.{messages_after}
 use Rattle.tenant_ledger.proofs.KeepingReports.{Has, last-le, live_id, ended_id}
 use Rattle.tenant_ledger.proofs.book.Book.summed.Goals as goal
 
@@ -53,12 +54,12 @@ returns c =
     let id = c.in_ok-id.id in
     let has : Has Live old c.args.name c.args.task = record { is = c.requires.book; found = c.requires.task; state_is = c.requires.live } in
     let has_child : Has Ended old c.args.child c.args.joined = record { is = c.requires.book; found = c.requires.child; state_is = c.requires.ended } in
-    let stamp : Kept = record { tree = c.in_ok-tree.tree; id = c.add_id-id.result } in
-    let was : WasAdded old c.add_id-id.new.self c.add-last.new.self new c.next_row-row.result stamp c.add-last.result = record {
+    let was : WasAdded old c.add_id-id.new.self c.add-last.new.self new c.next_row-row.result c.in_ok-tree.tree c.add_id-id.result c.add-last.result = record {
       before = same_then_id (same_at_reserve c.reserve.ensures.same) c.add_id-id.ensures.others;
       is = c.add-last.ensures.others;
       rows = c.add-last.ensures.rows;
-      kept = c.add-last.ensures.kept;
+      trees = c.add-last.ensures.trees;
+      places = c.add-last.ensures.places;
       number = c.add-last.ensures.event;
       after = same_then_put (same_at_put c.add-last.new.self with_acting c.put.ensures.others) (same_at_put with_acting new c.put-2.ensures.others);
     } in
@@ -74,3 +75,4 @@ returns c =
     (id-added old.ids.items new.ids.items id c.add_id-id.result new_ids (c.add_id-id.ensures.place ∙ ap length c.reserve.ensures.same.ids)) (event_number was)
     (first_put was c.args.name _ with_acting c.put.ensures.tasks) c.put-2.ensures.tasks
     (first_count was c.args.name (index_map_len with_acting.tasks) c.put.ensures.count) c.put-2.ensures.count)
+    (messages_after old c.add_id-id.new.self (ap (λ (b : Book). b.messages) c.add_id-id.ensures.others ∙ c.reserve.ensures.same.messages) (row_after (history_of old.rows.items) c.args.name Join (Some c.args.child)) refl refl c.requires.book)

@@ -9,6 +9,7 @@ pub returns-in-Count : goal.returns-in-Count
 returns-in-Count c =
     let events = c.event_count.result in
     let tasks = c.task_count.result in
-    let same = subst (λ (tenant : Tenant). reply.Count events tasks 0 ≡ reply_to_view tenant request.Count) c.self.view_is
-    (counted c.self.inside.book events tasks c.self.invariant c.event_count.ensures c.task_count.ensures) in
+    let messages = c.message_count.result in
+    let same = subst (λ (tenant : Tenant). reply.Count events tasks messages ≡ reply_to_view tenant request.Count) c.self.view_is
+    (counted c.self.inside.book events tasks messages c.self.invariant c.event_count.ensures c.task_count.ensures c.message_count.ensures) in
     rw c.in-Count.is (inl same)

@@ -1,0 +1,116 @@
+//! Texts and numbers, written piece by piece.
+ghost use Rattle.std.specs.Prelude.{◌<◌, ◌++◌, decimal, codes};
+ghost use Rattle.trace_types.specs.Text.{numbers_text, list_text};
+ghost use Rattle.line_protocol.specs.Writing.{Writes, Spends};
+
+use crate::{Sink, Stop, WriteFault};
+use itoa::Buffer;
+
+/// Writes a text and a list after it: how many numbers there are, and the numbers.
+pub(crate) fn write_list<W: Sink>(
+    writer: &mut W,
+    patience: &mut u64,
+    text: &[u8],
+    numbers: &[u64],
+) -> Result<(), WriteFault>
+    requires { 0 < patience.old }
+    ensures written { Writes (W.taken writer.old) (W.taken writer.new) result (text.now ++ list_text numbers.now) }
+    ensures spent { Spends (W.failures writer.old) (W.failures writer.new)
+        (W.interruptions writer.old) (W.interruptions writer.new) patience.old patience.new result }
+{
+    write_number(writer, patience, text, numbers.len() as u64)?;
+    write_numbers(writer, patience, numbers)
+}
+
+/// Writes numbers, each after a blank.
+fn write_numbers<W: Sink>(
+    writer: &mut W,
+    patience: &mut u64,
+    numbers: &[u64],
+) -> Result<(), WriteFault>
+    requires { 0 < patience.old }
+    ensures written { Writes (W.taken writer.old) (W.taken writer.new) result (numbers_text numbers.now) }
+    ensures spent { Spends (W.failures writer.old) (W.failures writer.new)
+        (W.interruptions writer.old) (W.interruptions writer.new) patience.old patience.new result }
+{
+    for number in numbers {
+        write_number(writer, patience, b" ", *number)?;
+    }
+    Ok(())
+}
+
+/// Writes two numbers, each after a blank.
+pub(crate) fn write_two_numbers<W: Sink>(
+    writer: &mut W,
+    patience: &mut u64,
+    first: u64,
+    second: u64,
+) -> Result<(), WriteFault>
+    requires { 0 < patience.old }
+    ensures written { Writes (W.taken writer.old) (W.taken writer.new) result
+        ((codes " " ++ decimal first) ++ (codes " " ++ decimal second)) }
+    ensures spent { Spends (W.failures writer.old) (W.failures writer.new)
+        (W.interruptions writer.old) (W.interruptions writer.new) patience.old patience.new result }
+{
+    write_number(writer, patience, b" ", first)?;
+    write_number(writer, patience, b" ", second)
+}
+
+/// Writes a text and a number after it.
+pub(crate) fn write_number<W: Sink>(
+    writer: &mut W,
+    patience: &mut u64,
+    text: &[u8],
+    number: u64,
+) -> Result<(), WriteFault>
+    requires { 0 < patience.old }
+    ensures written { Writes (W.taken writer.old) (W.taken writer.new) result (text.now ++ decimal number) }
+    ensures spent { Spends (W.failures writer.old) (W.failures writer.new)
+        (W.interruptions writer.old) (W.interruptions writer.new) patience.old patience.new result }
+{
+    let mut digits = Buffer::new();
+    write_pieces(writer, patience, text, digits.format(number).as_bytes())
+}
+
+/// Writes two texts.
+pub(crate) fn write_pieces<W: Sink>(
+    writer: &mut W,
+    patience: &mut u64,
+    first: &[u8],
+    second: &[u8],
+) -> Result<(), WriteFault>
+    requires { 0 < patience.old }
+    ensures written { Writes (W.taken writer.old) (W.taken writer.new) result (first.now ++ second.now) }
+    ensures spent { Spends (W.failures writer.old) (W.failures writer.new)
+        (W.interruptions writer.old) (W.interruptions writer.new) patience.old patience.new result }
+{
+    write_piece(writer, patience, first)?;
+    write_piece(writer, patience, second)
+}
+
+/// Writes a text; an interrupted write is tried again as long as there is patience.
+pub(crate) fn write_piece<W: Sink>(
+    writer: &mut W,
+    patience: &mut u64,
+    piece: &[u8],
+) -> Result<(), WriteFault>
+    requires { 0 < patience.old }
+    ensures written { Writes (W.taken writer.old) (W.taken writer.new) result piece.now }
+    ensures spent { Spends (W.failures writer.old) (W.failures writer.new)
+        (W.interruptions writer.old) (W.interruptions writer.new) patience.old patience.new result }
+{
+    let mut rest = piece;
+    while !rest.is_empty() {
+        match writer.write_some(rest) {
+            Ok(0) | Err(Stop::Failed) => return Err(WriteFault),
+            Ok(count) => rest = &rest[count..],
+            Err(Stop::Interrupted) => {
+                *patience -= 1;
+                if *patience == 0 {
+                    return Err(WriteFault);
+                }
+            }
+        }
+    }
+    Ok(())
+}

@@ -1,0 +1,63 @@
+-- The book of one tenant's messages: what it has, what a send and a receipt do to it, and when they are refused.
+use Rattle.std.specs.Prelude.{ℕ, Bool, false, not, List, [], ◌∷◌, ◌++◌, length, map, Option, Some, None, is_some, if◌then◌else◌, nat_le, nat_lt}
+use Rattle.std.specs.List.{IsDistinct}
+use Rattle.trace_types.specs.Name.{Text, is_same}
+use Rattle.trace_types.specs.Refusal.{first_code}
+use Rattle.trace_types.specs.declared.code.Code.{Code}
+use Rattle.trace_types.specs.declared.code.Code.TheVariants.{NoMessage, MessageExists, AlreadyReceived, MessagesFull}
+use Rattle.message_book.specs.declared.entry.Entry.{Entry}
+
+-- the name of each message and what the book has of it, in the order in which they were sent
+abbrev pub Messages : Type 0
+Messages = List (Text × Entry)
+
+-- A book's whole state: how many messages it may have, and those that it has.
+pub record Book : Type 0 where
+  pub limit : ℕ
+  pub messages : Messages
+
+-- no two messages have one name
+abbrev pub AreNamedOnce : Messages → Type 0
+AreNamedOnce messages = IsDistinct is_same (map (λ message. message.0) messages)
+
+-- what the book has of the message of this name
+abbrev pub entry_of : Messages → Text → Option Entry
+entry_of [] name = None
+entry_of (message ∷ later) name = if is_same name message.0 then Some message.1 else entry_of later name
+
+-- whether the message was received
+abbrev pub has_receipt : Option Entry → Bool
+has_receipt None = false
+has_receipt (Some entry) = nat_lt 0 (length entry.receipts)
+
+-- the messages with one more, which this event sent and none has received
+abbrev pub with_message : Text → ℕ → Messages → Messages
+with_message name event messages = messages ++ (name, record { sent = event; receipts = [] }) ∷ []
+
+-- what the book has of a message with one receipt more, at the end
+abbrev pub entry_with_receipt : ℕ → Entry → Entry
+entry_with_receipt event entry = record entry { receipts = entry.receipts ++ event ∷ [] }
+
+-- the messages, of which the one of this name has one receipt more
+abbrev pub with_receipt : Text → ℕ → Messages → Messages
+with_receipt name event [] = []
+with_receipt name event (message ∷ later) =
+    if is_same name message.0 then (message.0, entry_with_receipt event message.1) ∷ later else message ∷ with_receipt name event later
+
+-- what a send is refused for, each with the test for it, in the order in which they are looked at
+abbrev pub refusals_of_send : Book → Text → List (Bool × Code)
+refusals_of_send book name =
+    (is_some (entry_of book.messages name), MessageExists) ∷ (nat_le book.limit (length book.messages), MessagesFull) ∷ []
+
+-- what a receipt is refused for
+abbrev pub refusals_of_receive : Book → Text → List (Bool × Code)
+refusals_of_receive book name =
+    (not (is_some (entry_of book.messages name)), NoMessage) ∷ (has_receipt (entry_of book.messages name), AlreadyReceived) ∷ []
+
+-- the code with which a send is refused, want of memory aside
+abbrev pub refusal_of_send : Book → Text → Option Code
+refusal_of_send book name = first_code (refusals_of_send book name)
+
+-- the code with which a receipt is refused
+abbrev pub refusal_of_receive : Book → Text → Option Code
+refusal_of_receive book name = first_code (refusals_of_receive book name)

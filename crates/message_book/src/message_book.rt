@@ -1,0 +1,138 @@
+//! The book of one tenant's messages.
+ghost use Rattle.std.specs.Prelude.{◌≡◌, ◌≤◌, [], length, None, Some, IfOk, IfErr, OnErr, OnOk, IsOkAnd, unwrap_or};
+ghost use Rattle.std.specs.Option.{option_copied, option_map};
+ghost use Rattle.std.specs.Result.{result_err};
+ghost use Rattle.message_book.specs.Book.{AreNamedOnce, entry_of, with_message, with_receipt, refusal_of_send, refusal_of_receive};
+
+use crate::Entry;
+use indexmap::IndexMap;
+use std::alloc::Global;
+use std::marker::Model;
+use trace_types::{Code, Memory, Name, Receipts};
+
+/// The messages of one tenant, each found by its name.
+///
+/// A contract sees the limit, and the messages in the order in which they were sent. A refused call changes nothing.
+#[derive(Drop)]
+pub struct MessageBook {
+    limit: u64,
+    messages: IndexMap<Name, Entry>,
+}
+
+impl Model for MessageBook {
+    ghost use Rattle.std.specs.Prelude.{◌≤◌, length};
+    ghost use Rattle.message_book.specs.Book.{Book};
+
+    ghost Value = { Book };
+
+    ghost view = { λ b. record { limit = b.limit; messages = b.messages.entries } };
+
+    ghost invariant = { λ b. length b.messages.entries ≤ b.limit };
+}
+
+impl MessageBook {
+    /// The book of a tenant that has sent nothing and may send so many messages. It takes no memory yet.
+    pub fn new(alloc: Global, limit: u64) -> Result<MessageBook, Memory>
+        ensures { IsOkAnd result (λ book. book ≡ record { limit = limit; messages = [] }) }
+    {
+        Ok(MessageBook {
+            limit,
+            messages: IndexMap::new(alloc),
+        })
+    }
+
+    /// How many messages there are: never more than the limit, and no two of one name.
+    pub fn message_count(&self) -> u64
+        ensures count { result ≡ length self.now.messages }
+        ensures few { result ≤ self.now.limit }
+        ensures once { AreNamedOnce self.now.messages }
+    {
+        self.messages.len() as u64
+    }
+
+    /// What the book has of the message of this name. It takes no memory.
+    pub fn find(&self, name: &Name) -> Option<&Entry>
+        ensures { option_copied result ≡ entry_of self.now.messages name.now }
+    {
+        self.messages.get(name)
+    }
+
+    /// The code with which [`MessageBook::send`] would refuse the message, want of memory aside: `MessageExists` (406)
+    /// where there is a message of this name, then `MessagesFull` (415) at the limit. It takes no memory.
+    pub fn check_send(&self, name: &Name) -> Result<(), Code>
+        ensures { result_err result ≡ refusal_of_send self.now name.now }
+    {
+        if self.find(name).is_some() {
+            Err(Code::MessageExists)
+        } else if self.message_count() >= self.limit {
+            Err(Code::MessagesFull)
+        } else {
+            Ok(())
+        }
+    }
+
+    /// Adds a message that this event sends.
+    ///
+    /// It is refused as [`MessageBook::check_send`] says, and last with `NoMemory` (507), where a request for memory was
+    /// refused.
+    pub fn send(&mut self, name: Name, event: u64) -> Result<(), Code>
+        ensures allowed { OnOk result (refusal_of_send self.old name ≡ None) }
+        ensures ok { OnOk result (self.new ≡ record self.old { messages = with_message name event self.old.messages }) }
+        ensures code { IfErr result (λ code. code ≡ unwrap_or (refusal_of_send self.old name) Code.NoMemory) }
+        ensures err { OnErr result (self.new ≡ self.old) }
+    {
+        self.check_send(&name)?;
+        Ok(self.add(name, event)?)
+    }
+
+    /// The event that sent the message of this name, where it can be received: else `NoMessage` (405) where there is no
+    /// such message, and `AlreadyReceived` (407) where it has a receipt. It takes no memory.
+    pub fn check_receive(&self, name: &Name) -> Result<u64, Code>
+        ensures code { result_err result ≡ refusal_of_receive self.now name.now }
+        ensures sent { IfOk result (λ event. option_map (λ entry. entry.sent) (entry_of self.now.messages name.now) ≡ Some event) }
+    {
+        match self.find(name) {
+            None => Err(Code::NoMessage),
+            Some(entry) if entry.receipts.as_slice().is_empty() => Ok(entry.sent),
+            Some(_) => Err(Code::AlreadyReceived),
+        }
+    }
+
+    /// Adds the receipt of a message by this event.
+    ///
+    /// It is refused exactly as [`MessageBook::check_receive`] says. It takes no memory.
+    pub fn receive(&mut self, name: &Name, event: u64) -> Result<(), Code>
+        ensures code { result_err result ≡ refusal_of_receive self.old name.now }
+        ensures ok { OnOk result (self.new ≡ record self.old { messages = with_receipt name.now event self.old.messages }) }
+        ensures err { OnErr result (self.new ≡ self.old) }
+    {
+        self.check_receive(name)?;
+        self.add_receipt(name, event);
+        Ok(())
+    }
+
+    /// Adds a message that can be sent.
+    fn add(&mut self, name: Name, event: u64) -> Result<(), Memory>
+        requires { refusal_of_send self.old name ≡ None }
+        ensures ok { OnOk result (self.new ≡ record self.old { messages = with_message name event self.old.messages }) }
+        ensures err { OnErr result (self.new ≡ self.old) }
+    {
+        let receipts = Receipts::none(*self.messages.allocator());
+        let entry = Entry {
+            sent: event,
+            receipts,
+        };
+        self.messages.insert(name, entry)?;
+        Ok(())
+    }
+
+    /// Adds the receipt of a message that can be received.
+    fn add_receipt(&mut self, name: &Name, event: u64)
+        requires { refusal_of_receive self.old name.now ≡ None }
+        ensures { self.new ≡ record self.old { messages = with_receipt name.now event self.old.messages } }
+    {
+        if let Some(entry) = self.messages.get_mut(name) {
+            entry.receipts.add(event);
+        }
+    }
+}

@@ -1,0 +1,207 @@
+-- The lists that are told by comparing the kept trees are those of the graph, and so is the row of an event.
+use Rattle.std.proofs.Common.{◌≡◌, ℕ, suc, ◌-◌, ◌<◌, ◌≤◌, true, false, not, ◌&&◌, IsTrue, eqb, ltb, List, [], ◌∷◌, ◌++◌, length, get_or, slice_get, reverse, Some, Result, Ok, Err, IfOk, IfErr, refl, sym, ap, ◌∙◌, subst, inl, inr, arith}
+use Rattle.std.specs.List.{filter, range_with_len}
+use Rattle.std.proofs.lemmas.Bool.{cases_Bool, and_parts, cases_eq, eq-eqb, ne_eqb, eqb-true, or_left, cond-true, cond-false}
+use Rattle.std.proofs.lemmas.List.{length-reverse, reverse-append, reverse-reverse}
+use Rattle.std.proofs.lemmas.Option.{get_or_from_slice_get, slice_get-get_or, slice_get_read}
+use Rattle.trace_query.specs.Compared.{is_order}
+use Rattle.trace_query.specs.Queries.{tree_at, order_between, others_standing, fault_due}
+use Rattle.trace_query.specs.Queries as query
+use Rattle.trace_query.specs.Laws.{Tells}
+use Rattle.trace_query.proofs.ComparedTrees.{tree_order_stands}
+use Rattle.trace_query.proofs.Told.{told_by_orders}
+use Rattle.trace_types.specs.Rows.{History, history_of, is_event, row_of, events}
+use Rattle.trace_types.specs.Reachability.{reaches, order_of, past_of, concurrent_with}
+use Rattle.trace_types.specs.EventTree.{EventTree, Leaf}
+use Rattle.trace_types.specs.Clock.{tree_clock}
+use Rattle.trace_types.specs.Stamps.{tree_of}
+use Rattle.trace_types.specs.declared.order.Order.{Order}
+use Rattle.trace_types.specs.declared.order.Order.TheVariants.{Same, Before, Concurrent}
+use Rattle.trace_types.specs.declared.row.Row.{Row}
+use Rattle.trace_types.proofs.Reachability.{reaches_newest, reaches_earlier}
+use Rattle.trace_types.specs.Tenant.{is_report, MayLackMemory, Answers, reply_to_view}
+use Rattle.trace_types.specs.declared.code.Code.TheVariants.{NoEvent}
+use Rattle.trace_types.specs.declared.reply.Reply.{Reply}
+use Rattle.trace_types.specs.declared.reply.Reply.TheVariants as reply
+use Rattle.trace_types.specs.declared.request.Request.{Request}
+use Rattle.trace_types.specs.declared.request.Request.TheVariants as request
+use Rattle.trace_query.specs.declared.query_fault.QueryFault.{QueryFault}
+use Rattle.trace_query.specs.declared.query_fault.QueryFault.TheVariants.{Unknown}
+use Rattle.event_tree.specs.Comparison.{StandsAs}
+use Rattle.tenant_ledger.specs.Ledger.{IsBook, tenant_of, code_of}
+use Rattle.tenant_ledger.specs.declared.book.Book.{Book}
+use Rattle.tenant_ledger.proofs.Answering.{ordered}
+use Rattle.tenant_ledger.proofs.Events.{event_bounds}
+use Rattle.tenant_ledger.proofs.Keeping.{slice_get-longer, slice_get-added}
+use Rattle.tenant_ledger.proofs.Legality.{IsLegal_from_AreLegal}
+use Rattle.tenant_ledger.proofs.Ordering.{stands_as_ordered}
+
+-- each event reaches itself
+reaches_itself : (history : History) (event : ℕ) → reaches history event event ≡ true
+reaches_itself [] event = eq-eqb event event refl
+reaches_itself (row ∷ earlier) event = elim (cases_eq event (suc (length earlier))) [
+  | inl last ↦ reaches_newest row earlier event event last ∙ or_left (eqb event event) _ (eq-eqb event event refl)
+  | inr older ↦ reaches_earlier row earlier event event older ∙ reaches_itself earlier event
+]
+
+-- an event is in the past of another one where it is another one and reaches it
+in_past : (history : History) (event other : ℕ) → is_order Before (order_of history other event) ≡ (not (eqb other event) && reaches history other event)
+in_past history event other = elim (cases_Bool (eqb other event)) [
+  | inl same ↦ rw same refl
+  | inr differ ↦ elim (cases_Bool (reaches history other event)) [
+    | inl forth ↦ rw (differ, forth) refl
+    | inr not_forth ↦ elim (cases_Bool (reaches history event other)) [
+      | inl back ↦ rw (differ, not_forth, back) refl
+      | inr not_back ↦ rw (differ, not_forth, not_back) refl
+    ]
+  ]
+]
+
+-- and concurrent with it where neither reaches the other
+is_concurrent : (history : History) (event other : ℕ)
+    → is_order Concurrent (order_of history other event) ≡ (not (reaches history other event) && not (reaches history event other))
+is_concurrent history event other = elim (cases_Bool (eqb other event)) [
+  | inl same ↦
+      let itself : reaches history other event ≡ true = ap (λ e. reaches history e event) (eqb-true other event same) ∙ reaches_itself history event in
+      rw (same, itself) refl
+  | inr differ ↦ elim (cases_Bool (reaches history other event)) [
+    | inl forth ↦ rw (differ, forth) refl
+    | inr not_forth ↦ elim (cases_Bool (reaches history event other)) [
+      | inl back ↦ rw (differ, not_forth, back) refl
+      | inr not_back ↦ rw (differ, not_forth, not_back) refl
+    ]
+  ]
+]
+
+module _ (book : Book) (is : IsBook book) where
+  abbrev pub history : History
+  history = history_of book.rows.items
+
+  abbrev pub trees : List EventTree
+  trees = book.trees.items
+
+  as_many : length trees ≡ length history
+  as_many = is.kept.one_tree ∙ sym (length-reverse book.rows.items)
+
+  -- an event by the trees is one by the rows
+  pub same_events : (event : ℕ) → query.is_event trees event ≡ is_event history event
+  same_events event = ap (λ n. ltb 0 event && ltb event (suc n)) as_many
+
+  -- the tree that is kept of an event is what it knows
+  pub tree_is_kept : (event : ℕ) → IsTrue (is_event history event) → tree_at trees event ≡ tree_of tree_clock history event
+  tree_is_kept event event_is =
+      let bounds = event_bounds history event event_is in
+      let within : event ≤ length book.rows.items = omega (arith, bounds.1, length-reverse book.rows.items) in
+      get_or_from_slice_get trees (event - 1) (tree_of tree_clock history event) (Leaf 0) (is.kept.trees_are event bounds.0 within)
+
+  -- the trees tell the order of the events
+  pub trees_tell : Tells trees (order_of history)
+  trees_tell first second first_is second_is =
+      let one_is : IsTrue (is_event history first) = sym (same_events first) ∙ first_is in
+      let other_is : IsTrue (is_event history second) = sym (same_events second) ∙ second_is in
+      rw (tree_is_kept first one_is, tree_is_kept second other_is)
+      (stands_as_ordered history (IsLegal_from_AreLegal book.limits book.rows.items is.kept.legal) first second one_is other_is)
+
+  told : (wanted : Order) → is_order wanted Same ≡ false → (event : ℕ) → IsTrue (query.is_event trees event)
+      → others_standing wanted trees event ≡ filter (λ other. is_order wanted (order_of history other event)) (events history)
+  told wanted differs event event_is =
+      told_by_orders wanted differs trees (order_of history) trees_tell event event_is
+      ∙ ap (λ n. filter (λ other. is_order wanted (order_of history other event)) (range_with_len 1 n)) as_many
+
+  -- so the lists are those of the graph
+  pub past_told : (event : ℕ) → IsTrue (query.is_event trees event) → query.past_of trees event ≡ past_of history event
+  past_told event event_is = told Before refl event event_is ∙ (λ i. filter (λ other. in_past history event other i) (events history))
+
+  pub concurrent_told : (event : ℕ) → IsTrue (query.is_event trees event) → query.concurrent_of trees event ≡ concurrent_with history event
+  concurrent_told event event_is = told Concurrent refl event event_is ∙ (λ i. filter (λ other. is_concurrent history event other i) (events history))
+
+module _ (book : Book) (is : IsBook book) {V : Type 0} (items : V → List ℕ) (event : ℕ) (found : Result V QueryFault) (answer : Reply)
+    (known : IfOk found (λ _. query.is_event book.trees.items event ≡ true))
+    (fault : IfErr found (λ refusal. refusal ≡ fault_due book.trees.items event))
+    (listed : IfOk found (λ value. answer ≡ reply.List (items value))) (refused : IfErr found (λ refusal. answer ≡ reply.Refused (code_of refusal))) where
+  -- a list of events that is told by the trees is answered as it is due
+  list_answered : (asked : Request) (graph list : List ℕ) → (IsTrue (query.is_event book.trees.items event) → list ≡ graph)
+      → (is_event (history_of book.rows.items) event ≡ true → (reply.List graph ≡ reply_to_view (tenant_of book) asked) × IsTrue (not (is_report asked)) × MayLackMemory (tenant_of book) asked)
+      → (is_event (history_of book.rows.items) event ≡ false → reply.Refused NoEvent ≡ reply_to_view (tenant_of book) asked)
+      → IfOk found (λ value. items value ≡ list) → Answers (tenant_of book) asked answer
+  list_answered asked graph list told due none events = by found known fault listed refused events
+    where
+      by : (outcome : Result V QueryFault) → IfOk outcome (λ _. query.is_event book.trees.items event ≡ true)
+          → IfErr outcome (λ refusal. refusal ≡ fault_due book.trees.items event) → IfOk outcome (λ value. answer ≡ reply.List (items value))
+          → IfErr outcome (λ refusal. answer ≡ reply.Refused (code_of refusal)) → IfOk outcome (λ value. items value ≡ list) → Answers (tenant_of book) asked answer
+      by (Ok value) known fault listed refused events =
+          inl (listed ∙ ap reply.List (events ∙ told known) ∙ (due (sym (same_events book is event) ∙ known)).0)
+      by (Err refusal) known fault listed refused events = elim (cases_Bool (query.is_event book.trees.items event)) [
+        | inl there ↦
+            let given = due (sym (same_events book is event) ∙ there) in
+            inr (given.1, given.2, refused ∙ ap (λ f. reply.Refused (code_of f)) (fault ∙ cond-true (query.is_event book.trees.items event) _ _ there))
+        | inr nowhere ↦
+            inl (refused ∙ ap (λ f. reply.Refused (code_of f)) (fault ∙ cond-false (query.is_event book.trees.items event) _ _ nowhere)
+            ∙ none (sym (same_events book is event) ∙ nowhere))
+      ]
+
+  pub past_answered : IfOk found (λ value. items value ≡ query.past_of book.trees.items event) → Answers (tenant_of book) (request.Past event) answer
+  past_answered =
+      list_answered (request.Past event) (past_of (history_of book.rows.items) event) (query.past_of book.trees.items event) (past_told book is event)
+      (λ there. (rw there refl, refl, (refl, rw there refl))) (λ nowhere. rw nowhere refl)
+
+  pub concurrent_answered : IfOk found (λ value. items value ≡ query.concurrent_of book.trees.items event) → Answers (tenant_of book) (request.Concurrent event) answer
+  concurrent_answered =
+      list_answered (request.Concurrent event) (concurrent_with (history_of book.rows.items) event) (query.concurrent_of book.trees.items event) (concurrent_told book is event)
+      (λ there. (rw there refl, refl, (refl, rw there refl))) (λ nowhere. rw nowhere refl)
+
+-- the order that was found
+abbrev order_found : Result Order QueryFault → Order
+order_found (Ok order) = order
+order_found (Err fault) = Same
+
+-- an order that is told by the trees is answered as it is due
+pub order_answered : (book : Book) → IsBook book → (first second : ℕ) (order : Order) → Ok order ≡ query.order_due book.trees.items first second
+    → reply.Ordering order ≡ reply_to_view (tenant_of book) (request.Order first second)
+order_answered book is first second order told =
+    let trees = book.trees.items in
+    elim (cases_Bool (query.is_event trees first && query.is_event trees second)) [
+      | inl there ↦
+          let parts = and_parts (query.is_event trees first) (query.is_event trees second) there in
+          let first_is : is_event (history book is) first ≡ true = sym (same_events book is first) ∙ parts.0 in
+          let second_is : is_event (history book is) second ≡ true = sym (same_events book is second) ∙ parts.1 in
+          let compared : Ok order ≡ Ok (order_between trees first second) = told ∙ cond-true (query.is_event trees first && query.is_event trees second) _ _ there in
+          let is_compared : order ≡ order_between trees first second = ap order_found compared in
+          let stands : StandsAs (order_between trees first second) (tree_at trees first) (tree_at trees second) = tree_order_stands (tree_at trees first) (tree_at trees second) in
+          ordered book first second order is first_is second_is
+          (subst (λ o. StandsAs o (tree_of tree_clock (history book is) first) (tree_of tree_clock (history book is) second)) (sym is_compared)
+          (subst (λ tree. StandsAs (order_between trees first second) tree (tree_of tree_clock (history book is) second)) (tree_is_kept book is first first_is)
+          (subst (StandsAs (order_between trees first second) (tree_at trees first)) (tree_is_kept book is second second_is) stands)))
+      | inr nowhere ↦
+          let clash : Ok order ≡ Err Unknown = told ∙ cond-false (query.is_event trees first && query.is_event trees second) _ _ nowhere in cc
+    ]
+
+-- the row of an event stands in the list of rows
+row_of_place : (history : History) (event : ℕ) → 0 < event → event ≤ length history → row_of history event ≡ slice_get (reverse history) (event - 1)
+row_of_place [] event positive within = absurd (omega (arith, positive, within))
+row_of_place (row ∷ earlier) event positive within =
+    let turned : reverse (row ∷ earlier) ≡ reverse earlier ++ row ∷ [] = reverse-append (row ∷ []) earlier in
+    let is_newest = eqb event (suc (length earlier)) in
+    elim (cases_eq event (suc (length earlier))) [
+      | inl last ↦
+          let place : length (reverse earlier) ≡ event - 1 = omega (arith, last, length-reverse earlier) in
+          cond-true is_newest _ _ (eq-eqb event (suc (length earlier)) last)
+          ∙ sym (ap (λ rows. slice_get rows (event - 1)) turned ∙ ap (slice_get (reverse earlier ++ row ∷ [])) (sym place) ∙ slice_get-added (reverse earlier) row)
+      | inr older ↦
+          let before : event ≤ length earlier = omega (arith, within, older) in
+          let inside : event - 1 < length (reverse earlier) = omega (arith, positive, before, length-reverse earlier) in
+          let there = slice_get-get_or (reverse earlier) (event - 1) row inside in
+          cond-false is_newest _ _ (ne_eqb event (suc (length earlier)) older)
+          ∙ row_of_place earlier event positive before ∙ there
+          ∙ sym (ap (λ rows. slice_get rows (event - 1)) turned ∙ slice_get-longer (reverse earlier) (row ∷ []) (event - 1) _ there)
+    ]
+
+-- so the row that stands there is that of the event
+pub row_is_kept : (rows : List Row) (event : ℕ) (row : Row) → is_event (history_of rows) event ≡ true → row ≡ get_or rows (event - 1) row
+    → row_of (history_of rows) event ≡ Some row
+row_is_kept rows event row event_is row_is =
+    let bounds = event_bounds (history_of rows) event event_is in
+    let inside : event - 1 < length rows = omega (arith, bounds.0, bounds.1, length-reverse rows) in
+    row_of_place (history_of rows) event bounds.0 bounds.1
+    ∙ ap (λ found. slice_get found (event - 1)) (reverse-reverse rows)
+    ∙ slice_get_read rows (length rows) (event - 1) row refl inside row_is

@@ -1,0 +1,73 @@
+use Rattle.std.proofs.Common.{◌≡◌, suc, ◌+◌, false, cond, List, ◌∷◌, Some, length, refl, sym, ap, ◌∙◌, subst, arith}
+use Rattle.std.proofs.lemmas.List.{length-reverse}
+use Rattle.indexmap.specs.IndexMap.{index_map_len}
+use Rattle.message_book.specs.Book.{with_message}
+use Rattle.message_book.specs.Book.{Book as Messages}
+use Rattle.trace_types.specs.Name.{is_same}
+use Rattle.trace_types.specs.declared.row.Row.{Row}
+use Rattle.trace_types.specs.Rows.{History, history_of, is_sent}
+use Rattle.trace_types.specs.Refusal.{has_all_messages}
+use Rattle.trace_types.specs.Tenant.{row_after}
+use Rattle.trace_types.specs.declared.row.Kind.TheVariants.{Send}
+use Rattle.trace_types.specs.declared.task_state.TaskState.TheVariants.{Live}
+use Rattle.tenant_ledger.specs.declared.book.Book.{Book}
+use Rattle.tenant_ledger.specs.Ledger.{AreMessages, task_in}
+use Rattle.tenant_ledger.proofs.KeepingAlone.{LeavesAlone, send_leaves_alone, alone_row, alone_is_next, send_knows}
+use Rattle.tenant_ledger.proofs.KeepingBook.{WasAdded, same_at_reserve, same_then_messages, same_at_put, event_number, ids_same, first_put, first_count, adds_event}
+use Rattle.tenant_ledger.proofs.KeepingMessages.{done, may_be_sent, messages_sent}
+use Rattle.tenant_ledger.proofs.KeepingReports.{Has, legal_history, last-le, live_task, live_id_some, known_fits}
+use Rattle.tenant_ledger.proofs.book.Book.sent.Goals as goal
+
+pub known-requires-clause-event : goal.known-requires-clause-event
+known-requires-clause-event c =
+    let has : Has Live c.args.self.now c.args.name c.args.task = record { is = c.requires.book; found = c.requires.task; state_is = c.requires.live } in
+    last-le has
+
+pub event-requires-clause-some : goal.event-requires-clause-some
+event-requires-clause-some c =
+    let has : Has Live c.args.self.now c.args.name c.args.task = record { is = c.requires.book; found = c.requires.task; state_is = c.requires.live } in
+    live_id_some has c.index.result.now c.index.ensures
+
+pub event-requires-clause-fits : goal.event-requires-clause-fits
+event-requires-clause-fits c =
+    let has : Has Live c.args.self.now c.args.name c.args.task = record { is = c.requires.book; found = c.requires.task; state_is = c.requires.live } in
+    known_fits has c.known.result.now c.known.ensures
+
+pub returns : goal.returns
+returns c =
+    let old = c.args.self.now in
+    let new = c.put.new.self in
+    let history : History = history_of old.rows.items in
+    let message = c.args.message in
+    let has : Has Live c.args.self.now c.args.name c.args.task = record { is = c.requires.book; found = c.requires.task; state_is = c.requires.live } in
+    let may : (is_sent history message ≡ false) × (has_all_messages old.limits history ≡ false) =
+    may_be_sent old.limits history old.messages c.requires.book.messages message c.requires.message in
+    let alone : LeavesAlone old.limits old.rows.items c.args.name Send (Some message) Live =
+    send_leaves_alone old.limits old.rows.items old.ids.items c.args.name c.args.task c.can_be_written.ensures c.requires.room (live_task has) c.requires.book.kept.legal
+    message c.can_be_written-2.ensures may.0 may.1 in
+    let base : Book = record c.reserve.new.self { messages = c.send.new.self } in
+    let was : WasAdded old base c.add-last.new.self new c.next_row-row.result c.in_ok-tree.tree c.args.task.id c.add-last.result = record {
+      before = same_then_messages (same_at_reserve c.reserve.ensures.same) refl;
+      is = c.add-last.ensures.others;
+      rows = c.add-last.ensures.rows;
+      trees = c.add-last.ensures.trees;
+      places = c.add-last.ensures.places;
+      number = c.add-last.ensures.event;
+      after = same_at_put c.add-last.new.self new c.put.ensures.others;
+    } in
+    let event = c.event_count-next.result + 1 in
+    let number : event ≡ suc (length history) =
+    omega (arith, c.event_count-next.ensures, ap (λ (rows : List Row). length rows) c.reserve.ensures.same.rows, length-reverse old.rows.items) in
+    let kept = done c.send.result _ (sym c.is_err.ensures.value ∙ c.if-is_err.false) c.send.ensures.ok in
+    let sent_one : base.messages ≡ record old.messages { messages = with_message message event old.messages.messages } =
+    kept ∙ ap (λ (messages : Messages). record messages { messages = with_message message event messages.messages }) c.reserve.ensures.same.messages in
+    let is_right = messages_sent old.limits c.args.name message (row_after history c.args.name Send (Some message)).preds history old.messages event number
+    c.requires.book.messages (legal_history old c.requires.book) may.0 in
+    adds_event was (row_after history c.args.name Send (Some message)) c.requires.book
+    (c.next_row-row.ensures ∙ alone_row has Send (Some message) Live alone c.requires.room c.few_events.ensures 0 refl)
+    (alone_is_next has Send (Some message) Live alone c.requires.room c.few_events.ensures
+    c.index.result.now c.known.result.now c.in_ok-tree.tree new.ids.items (task_in new) c.add-last.result (index_map_len new.tasks)
+    c.index.ensures (c.known.ensures ∙ send_knows has message) c.in_ok-tree.ensures (ids_same was ∙ c.reserve.ensures.same.ids) (event_number was)
+    (λ other. first_put was c.args.name _ new c.put.ensures.tasks other ∙ ap (λ s. cond (is_same c.args.name other) (Some (record { state = s; last = c.add-last.result; id = c.args.task.id })) (task_in old other)) c.requires.live)
+    (first_count was c.args.name (index_map_len new.tasks) c.put.ensures.count))
+    (subst (AreMessages old.limits (row_after history c.args.name Send (Some message) ∷ history)) (sym sent_one) is_right)

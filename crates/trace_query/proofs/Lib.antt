@@ -1,0 +1,5 @@
+pub mod ComparedTrees
+pub mod Gathered
+pub mod Listed
+pub mod Told
+pub mod Vectors

@@ -1,0 +1,49 @@
+-- What queries about the order of events are due, from the list of the events' trees: event k has the k-th, from 1.
+use Rattle.std.specs.Prelude.{ℕ, suc, ◌-◌, Bool, not, ◌&&◌, List, length, ◌==◌, nat_lt, if◌then◌else◌, Result, Ok, Err}
+use Rattle.std.specs.List.{slice_index_or, filter, range_with_len}
+use Rattle.trace_types.specs.EventTree.{EventTree, Leaf}
+use Rattle.trace_types.specs.declared.order.Order.{Order}
+use Rattle.trace_types.specs.declared.order.Order.TheVariants.{Before, Concurrent}
+use Rattle.trace_query.specs.Compared.{tree_order, is_order}
+use Rattle.trace_query.specs.declared.query_fault.QueryFault.{QueryFault}
+use Rattle.trace_query.specs.declared.query_fault.QueryFault.TheVariants.{Unknown, Memory}
+
+-- whether there is an event of this number
+abbrev pub is_event : List EventTree → ℕ → Bool
+is_event trees event = nat_lt 0 event && nat_lt event (suc (length trees))
+
+-- the events, increasing: from 1 to the number of trees
+abbrev pub events_of : List EventTree → List ℕ
+events_of trees = range_with_len 1 (length trees)
+
+-- the tree of the event; of no event it is not asked
+abbrev pub tree_at : List EventTree → ℕ → EventTree
+tree_at trees event = slice_index_or trees (event - 1) (Leaf 0)
+
+-- how the tree of the first event stands to that of the second
+abbrev pub order_between : List EventTree → ℕ → ℕ → Order
+order_between trees first second = tree_order (tree_at trees first) (tree_at trees second)
+
+-- whether the first event is another one than the second, and stands so to it
+abbrev pub is_other_standing : Order → List EventTree → ℕ → ℕ → Bool
+is_other_standing wanted trees first second = not (first == second) && is_order wanted (order_between trees first second)
+
+-- the events that are another one than the event, and stand so to it
+abbrev pub others_standing : Order → List EventTree → ℕ → List ℕ
+others_standing wanted trees event = filter (λ other. is_other_standing wanted trees other event) (events_of trees)
+
+-- the other events before the event
+abbrev pub past_of : List EventTree → ℕ → List ℕ
+past_of trees event = others_standing Before trees event
+
+-- the other events that are neither before the event nor after it
+abbrev pub concurrent_of : List EventTree → ℕ → List ℕ
+concurrent_of trees event = others_standing Concurrent trees event
+
+-- what is answered when the order of two events is asked for
+abbrev pub order_due : List EventTree → ℕ → ℕ → Result Order QueryFault
+order_due trees first second = if is_event trees first && is_event trees second then Ok (order_between trees first second) else Err Unknown
+
+-- why a list is refused for this event, if it is
+abbrev pub fault_due : List EventTree → ℕ → QueryFault
+fault_due trees event = if is_event trees event then Memory else Unknown

@@ -1,0 +1,23 @@
+//! Queries about the order of events, answered by comparing the event trees that are kept for them.
+//!
+//! The one contract: [`order`], [`past`] and [`concurrent_with`] give exactly what `specs/Queries.antt` defines over the list
+//! of the kept trees, of which event k has the k-th. Nothing else of the events is known here. How two kept trees are
+//! compared is left to a [`Compare`]; `specs/Compared.antt` defines what it has to answer, and [`laws`] says what the
+//! definitions mean.
+#![tactic(auto)]
+
+mod compare;
+pub mod laws;
+mod meant;
+mod plain;
+mod queries;
+mod query_fault;
+
+pub use compare::Compare;
+pub use meant::Meant;
+pub use plain::Plain;
+pub use queries::{concurrent_with, order, past};
+pub use query_fault::QueryFault;
+
+#[cfg(test)]
+mod tests;

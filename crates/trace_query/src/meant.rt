@@ -1,0 +1,14 @@
+//! Values that stand for event trees.
+ghost use Rattle.trace_types.specs.EventTree.{EventTree};
+
+use event_tree::EvTree;
+
+/// A value that stands for an event tree, in whatever form that is kept.
+pub trait Meant {
+    // the event tree for which it stands
+    ghost tree: { Self → EventTree };
+}
+
+impl Meant for EvTree {
+    ghost tree = { λ tree. tree };
+}
