@@ -10,7 +10,7 @@
 pub use fault::StampFault;
 pub use reading::read_stamp;
 pub use stamp::Stamp;
-pub use writing::write_stamp;
+pub use writing::{write_parts, write_stamp};
 
 mod bounds;
 mod building;

@@ -1,5 +1,6 @@
 //! The text of a stamp.
 ghost use Rattle.std.specs.Prelude.{◌≡◌, ◌++◌, decimal, IfOk};
+ghost use Rattle.trace_types.specs.StampText.{stamp_text as text_of_parts};
 ghost use Rattle.stamp_codec.specs.StampText.{id_text, tree_text, stamp_text};
 
 use crate::Stamp;
@@ -13,11 +14,18 @@ use trace_types::Memory;
 pub fn write_stamp(alloc: Global, stamp: &Stamp) -> Result<Vec<u8>, Memory>
     ensures { IfOk result (λ text. text.items ≡ stamp_text stamp.now) }
 {
+    write_parts(alloc, &stamp.id, &stamp.tree)
+}
+
+/// The text of the stamp that has this id and this tree.
+pub fn write_parts(alloc: Global, id: &IdTree, tree: &EvTree) -> Result<Vec<u8>, Memory>
+    ensures { IfOk result (λ text. text.items ≡ text_of_parts id.now tree.now) }
+{
     let mut text = Vec::new(alloc);
     text.push(b'[')?;
-    write_id(&mut text, &stamp.id)?;
+    write_id(&mut text, id)?;
     text.push(b';')?;
-    write_tree(&mut text, &stamp.tree)?;
+    write_tree(&mut text, tree)?;
     text.push(b']')?;
     Ok(text)
 }
