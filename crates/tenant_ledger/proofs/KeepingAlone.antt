@@ -1,6 +1,6 @@
 -- A report by which each task keeps its id: what is kept with its row is right.
 use Rattle.indexmap.specs.IndexMap.{index_map_len}
-use Rattle.std.proofs.Common.{◌≡◌, ℕ, ◌+◌, ◌<◌, ◌≤◌, true, false, cond, IsTrue, List, [], ◌∷◌, ◌++◌, length, slice_get, get_or, Option, Some, None, is_some, refl, sym, ap, ◌∙◌, subst, inl, inr, arith}
+use Rattle.std.proofs.Common.{◌≡◌, ℕ, ◌+◌, ◌<◌, ◌≤◌, true, false, cond, IsTrue, List, [], ◌∷◌, ◌++◌, length, slice_get, map, Option, Some, None, is_some, refl, sym, ap, ◌∙◌, subst, inl, inr, arith}
 use Rattle.std.proofs.lemmas.List.{length-reverse}
 use Rattle.std.proofs.lemmas.Bool.{cond-true, cond-false, cond_both, and_left, or_left}
 use Rattle.trace_types.specs.Name.{Text, is_same, is_name}
@@ -21,7 +21,7 @@ use Rattle.trace_types.specs.declared.task_state.TaskState.{TaskState}
 use Rattle.trace_types.specs.declared.task_state.TaskState.TheVariants.{Live, Ended}
 use Rattle.trace_types.specs.declared.request.Request.TheVariants as request
 use Rattle.trace_types.proofs.Names.{is_same-itself}
-use Rattle.tenant_ledger.specs.Ledger.{IsTask, LeavesState, task_in}
+use Rattle.tenant_ledger.specs.Ledger.{IsTask, LeavesState, task_in, ids_in}
 use Rattle.tenant_ledger.specs.declared.book.Book.{Book}
 use Rattle.tenant_ledger.specs.declared.book.Task.{Task}
 use Rattle.tenant_ledger.proofs.Consequences.{known_before_maximum-le}
@@ -106,10 +106,10 @@ module _ (limits : Limits) (rows : List Row) (ids : List Id) (name : Text) (task
   leaves_alone kind state (inl is) = subst (λ k. LeavesAlone limits rows name k None state) (sym is.0) (subst (LeavesAlone limits rows name Local None) (sym is.1) local_leaves_alone)
   leaves_alone kind state (inr is) = subst (λ k. LeavesAlone limits rows name k None state) (sym is.0) (subst (LeavesAlone limits rows name End None) (sym is.1) end_leaves_alone)
 
-module _ {book : Book} {name : Text} {task : Task} (has : Has Live book name task) (kind : Kind) (named : Option Text) (state : TaskState)
+module _ {S I K : Type 0} {meant : K → EventTree} {meant_id : I → Id} {book : Book S I K} {name : Text} {task : Task} (has : Has meant meant_id Live book name task) (kind : Kind) (named : Option Text) (state : TaskState)
     (alone : LeavesAlone book.limits book.rows.items name kind named state)
     (few : length book.rows.items < book.limits.events) (small : book.limits.events ≤ 16384) where
-  live : IsLiveTask (history_in book) book.ids.items name task
+  live : IsLiveTask (history_in book) (ids_in meant_id book) name task
   live = live_task has
 
   -- its next row
@@ -120,11 +120,11 @@ module _ {book : Book} {name : Text} {task : Task} (has : Has Live book name tas
       ∙ ap (λ event. record { task = name; kind = kind; name = named; preds = increasing (last_event (history_in book) name) event }) is
 
   -- what is kept with it
-  pub alone_is_next : (id : Id) (known tree : EventTree) (ids' : List Id) (task_of' : Text → Option Task) (last count' : ℕ) → id ≡ get_or book.ids.items task.id id
+  pub alone_is_next : (id : Id) (known tree : EventTree) (ids' : List Id) (task_of' : Text → Option Task) (last count' : ℕ) → slice_get (map meant_id book.ids.items) task.id ≡ Some id
       → known ≡ known_before_new tree_clock (row_after (history_in book) name kind named) (history_in book) → tree ≡ tree_clock.event id known
-      → ids' ≡ book.ids.items → last ≡ length book.rows.items + 1 → Puts (task_in book) name (record { state = state; last = last; id = task.id }) task_of'
+      → ids' ≡ (ids_in meant_id book) → last ≡ length book.rows.items + 1 → Puts (task_in book) name (record { state = state; last = last; id = task.id }) task_of'
       → count' ≡ index_map_len book.tasks + cond (is_some (task_in book name)) 0 1
-      → IsNext book.limits book.rows.items book.ids.items (row_after (history_in book) name kind named) tree task.id ids' task_of' count'
+      → IsNext book.limits book.rows.items (ids_in meant_id book) (row_after (history_in book) name kind named) tree task.id ids' task_of' count'
   alone_is_next id known tree ids' task_of' last count' at_place known_is tree_is ids_are number puts count_is =
       let history = history_in book in
       let last_is = newest book last number in
@@ -134,16 +134,16 @@ module _ {book : Book} {name : Text} {task : Task} (has : Has Live book name tas
       let own = id_of tree_clock history name in
       let taken = of_named tree_clock.nobody (id_of tree_clock history) named in
       let same_id : id_of tree_clock (row ∷ history) name ≡ own = cond-true (is_same name name) _ _ (is_same-itself name) ∙ alone.keeps.kept own taken in
-      let place : slice_get book.ids.items task.id ≡ Some (id_of tree_clock (row ∷ history) name) = live.id ∙ ap Some (sym same_id) in
-      let of_name : IsTask book.ids.items (row ∷ history) name (Some after) = acting_is_task row history book.ids.items state last task.id live.known alone.state_is last_is place in
-      subst (λ ids. IsNext book.limits book.rows.items book.ids.items row tree task.id ids task_of' count') (sym ids_are) (record {
+      let place : slice_get (ids_in meant_id book) task.id ≡ Some (id_of tree_clock (row ∷ history) name) = live.id ∙ ap Some (sym same_id) in
+      let of_name : IsTask (ids_in meant_id book) (row ∷ history) name (Some after) = acting_is_task row history (ids_in meant_id book) state last task.id live.known alone.state_is last_is place in
+      subst (λ ids. IsNext book.limits book.rows.items (ids_in meant_id book) row tree task.id ids task_of' count') (sym ids_are) (record {
         legal = alone.legal;
         few = few;
         small = small;
         tree_is = tree_is_new row history id known tree tree_is (live_id has id at_place ∙ sym (alone.keeps.at own taken)) known_is;
         place_is = place;
         stay = λ place id there. there;
-        tasks = tasks_after book.ids.items book.ids.items row history name (task_in book) task_of' after after (λ place id there. there) has.is.kept.tasks
+        tasks = tasks_after (ids_in meant_id book) (ids_in meant_id book) row history name (task_in book) task_of' after after (λ place id there. there) has.is.kept.tasks
             (record {
               at_acting = at_name;
               at_named = at_name;
@@ -156,7 +156,7 @@ module _ {book : Book} {name : Text} {task : Task} (has : Has Live book name tas
       })
 
 -- a report about itself follows its task's last event alone
-pub leaves_state_second : (book : Book) (kind : Kind) (state : TaskState) → LeavesState kind state → 0 ≡ second_event (history_in book) kind None
+pub leaves_state_second : {S I K : Type 0} (book : Book S I K) (kind : Kind) (state : TaskState) → LeavesState kind state → 0 ≡ second_event (history_in book) kind None
 leaves_state_second book kind state (inl is) = subst (λ k. 0 ≡ second_event (history_in book) k None) (sym is.0) refl
 leaves_state_second book kind state (inr is) = subst (λ k. 0 ≡ second_event (history_in book) k None) (sym is.0) refl
 
@@ -165,7 +165,7 @@ pub leaves_state_messages : (kind : Kind) (state : TaskState) → LeavesState ki
 leaves_state_messages kind state (inl is) = subst (λ k. (sends_message k ≡ false) × (receives_message k ≡ false)) (sym is.0) (refl, refl)
 leaves_state_messages kind state (inr is) = subst (λ k. (sends_message k ≡ false) × (receives_message k ≡ false)) (sym is.0) (refl, refl)
 
-module _ {book : Book} {name : Text} {task : Task} (has : Has Live book name task) where
+module _ {S I K : Type 0} {meant : K → EventTree} {meant_id : I → Id} {book : Book S I K} {name : Text} {task : Task} (has : Has meant meant_id Live book name task) where
   -- what is known before it is what its task knew
   pub alone_knows : (kind : Kind) (state : TaskState) → LeavesState kind state
       → tree_of tree_clock (history_in book) task.last ≡ known_before_new tree_clock (row_after (history_in book) name kind None) (history_in book)

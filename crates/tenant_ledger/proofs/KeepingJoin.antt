@@ -19,7 +19,7 @@ use Rattle.trace_types.specs.declared.task_state.TaskState.TheVariants.{Live, En
 use Rattle.trace_types.specs.declared.request.Request.TheVariants as request
 use Rattle.trace_types.proofs.Names.{is_same-itself, differ_by_test}
 use Rattle.tenant_ledger.specs.Legal.{IsLegal}
-use Rattle.tenant_ledger.specs.Ledger.{IsTask, task_in}
+use Rattle.tenant_ledger.specs.Ledger.{IsTask, task_in, ids_in}
 use Rattle.tenant_ledger.specs.declared.book.Book.{Book}
 use Rattle.tenant_ledger.specs.declared.book.Task.{Task}
 use Rattle.tenant_ledger.proofs.Consequences.{ids_are_disjoint, acting_id_is_not_Zero, known_before_maximum-le}
@@ -30,11 +30,11 @@ use Rattle.tenant_ledger.proofs.KeepingLegal.{AreLegal-push, has_room}
 use Rattle.tenant_ledger.proofs.KeepingTasks.{state_of-live, state_of-joined, known_stays, task_count-more, acting_is_task, Puts, both_put, tasks_after, count_of-known}
 use Rattle.tenant_ledger.proofs.KeepingReports.{differ_back, tree_is_new, IsLiveTask, IsEndedTask, history_in, legal_history, newest, Has, live_task, ended_task}
 
-module _ {book : Book} {name child : Text} {task joined : Task} (has : Has Live book name task) (has_child : Has Ended book child joined) where
+module _ {S I K : Type 0} {meant : K → EventTree} {meant_id : I → Id} {book : Book S I K} {name child : Text} {task joined : Task} (has : Has meant meant_id Live book name task) (has_child : Has meant meant_id Ended book child joined) where
   abbrev row : Row
   row = row_after (history_in book) name Join (Some child)
 
-  live : IsLiveTask (history_in book) book.ids.items name task
+  live : IsLiveTask (history_in book) (ids_in meant_id book) name task
   live = live_task has
 
   ended : IsEndedTask (history_in book) child joined
@@ -108,11 +108,11 @@ module _ {book : Book} {name child : Text} {task joined : Task} (has : Has Live 
     pub join_is_next : (own taken id : Id) (own_tree taken_tree known tree : EventTree) (ids' : List Id) (place : ℕ) (mid task_of' : Text → Option Task) (last mid_count count' : ℕ)
         → own ≡ id_of tree_clock (history_in book) name → taken ≡ id_of tree_clock (history_in book) child → id ≡ sum own taken
         → own_tree ≡ tree_of tree_clock (history_in book) task.last → taken_tree ≡ tree_of tree_clock (history_in book) joined.last → known ≡ join own_tree taken_tree
-        → tree ≡ tree_clock.event id known → Stay book.ids.items ids' → slice_get ids' place ≡ Some id → last ≡ length book.rows.items + 1
+        → tree ≡ tree_clock.event id known → Stay (ids_in meant_id book) ids' → slice_get ids' place ≡ Some id → last ≡ length book.rows.items + 1
         → Puts (task_in book) name (record { state = task.state; last = last; id = place }) mid
         → Puts mid child (record { state = Joined; last = joined.last; id = joined.id }) task_of'
         → mid_count ≡ index_map_len book.tasks + cond (is_some (task_in book name)) 0 1 → count' ≡ mid_count + cond (is_some (mid child)) 0 1
-        → IsNext book.limits book.rows.items book.ids.items row tree place ids' task_of' count'
+        → IsNext book.limits book.rows.items (ids_in meant_id book) row tree place ids' task_of' count'
     join_is_next own taken id own_tree taken_tree known tree ids' place mid task_of' last mid_count count' own_is taken_is id_is own_tree_is taken_tree_is known_is tree_is stay there number
         puts_acting puts_child mid_count_is count_is =
         let history = history_in book in
@@ -129,7 +129,7 @@ module _ {book : Book} {name child : Text} {task joined : Task} (has : Has Live 
           tree_is = tree_is_new row history id known tree tree_is id_is_acting (known_is_joined own_tree taken_tree known own_tree_is taken_tree_is known_is);
           place_is = at_place;
           stay = stay;
-          tasks = tasks_after book.ids.items ids' row history child (task_in book) task_of' acting_after child_after stay has.is.kept.tasks
+          tasks = tasks_after (ids_in meant_id book) ids' row history child (task_in book) task_of' acting_after child_after stay has.is.kept.tasks
               (both_put row history name child (task_in book) mid task_of' acting_after child_after refl (λ other not_named. not_named) differ (differ_back name child differ)
               (inr (puts_acting, puts_child)))
               (acting_is_task row history ids' task.state last place live.known state_is last_is at_place)

@@ -19,6 +19,8 @@ use Rattle.trace_types.specs.declared.row.Row.{Row}
 use Rattle.trace_types.specs.declared.row.Kind.{Kind}
 use Rattle.trace_types.specs.declared.row.Kind.TheVariants.{Local, Spawn, Send, Recv, End, Join}
 use Rattle.trace_types.proofs.Names.{is_same_iff}
+use Rattle.trace_types.specs.EventTree.{EventTree}
+use Rattle.trace_types.specs.Id.{Id}
 use Rattle.tenant_ledger.specs.Ledger.{IsMessage, AreMessages, IsBook}
 use Rattle.tenant_ledger.specs.declared.book.Book.{Book}
 use Rattle.tenant_ledger.specs.Legal.{Allows, IsLegal}
@@ -230,8 +232,8 @@ pub is_full : (limits : Limits) (history : History) (messages : message_book.Boo
 is_full limits history messages are = λ i. nat_le (are.limit i) (are.counted i)
 
 -- so it is in a book with the same messages
-pub messages_after : (old base : Book) → base.messages ≡ old.messages → (row : Row) → sends_message row.kind ≡ false → receives_message row.kind ≡ false
-    → IsBook old → AreMessages old.limits (row ∷ history_of old.rows.items) base.messages
+pub messages_after : {S I K : Type 0} {meant : K → EventTree} {meant_id : I → Id} (old base : Book S I K) → base.messages ≡ old.messages → (row : Row) → sends_message row.kind ≡ false → receives_message row.kind ≡ false
+    → IsBook meant meant_id old → AreMessages old.limits (row ∷ history_of old.rows.items) base.messages
 messages_after old base same row sends_none receives_none is =
     subst (AreMessages old.limits (row ∷ history_of old.rows.items)) (sym same)
     (messages_stay old.limits row (history_of old.rows.items) old.messages sends_none receives_none is.messages)

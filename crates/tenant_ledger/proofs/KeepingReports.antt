@@ -1,8 +1,8 @@
 -- What is kept with the next row of each kind of report is right.
-use Rattle.std.proofs.Common.{◌≡◌, ◌≢◌, ℕ, suc, ◌+◌, ◌<◌, ◌≤◌, true, false, List, [], ◌∷◌, length, slice_get, get_or, Option, Some, None, refl, sym, ap, ◌∙◌, subst, arith}
+use Rattle.std.proofs.Common.{◌≡◌, ◌≢◌, ℕ, suc, ◌+◌, ◌<◌, ◌≤◌, true, false, List, [], ◌∷◌, length, slice_get, map, Option, Some, None, refl, sym, ap, ◌∙◌, subst, arith}
 use Rattle.std.proofs.lemmas.Bool.{false≢true, and_right, false_from_ne_true}
-use Rattle.std.proofs.lemmas.List.{length-reverse}
-use Rattle.std.proofs.lemmas.Option.{get_or_from_slice_get}
+use Rattle.std.proofs.lemmas.List.{length-reverse, length-map}
+use Rattle.std.proofs.lemmas.Option.{same_Some, slice_get_within}
 use Rattle.trace_types.specs.Name.{Text, is_same}
 use Rattle.trace_types.specs.Rows.{History, history_of, is_known, is_ended, is_joined, last_event, ends, ends_task, joins}
 use Rattle.trace_types.specs.Clock.{tree_clock}
@@ -17,7 +17,7 @@ use Rattle.trace_types.specs.declared.task_state.TaskState.TheVariants.{Live, En
 use Rattle.trace_types.proofs.Names.{is_same_iff}
 use Rattle.trace_types.proofs.Reachability.{last_event-le}
 use Rattle.tenant_ledger.specs.Legal.{IsLive, Allows, IsLegal}
-use Rattle.tenant_ledger.specs.Ledger.{IsTask, IsBook, task_in}
+use Rattle.tenant_ledger.specs.Ledger.{IsTask, IsBook, task_in, ids_in, with_seed}
 use Rattle.tenant_ledger.specs.declared.book.Book.{Book}
 use Rattle.tenant_ledger.specs.declared.book.Task.{Task}
 use Rattle.tenant_ledger.proofs.Consequences.{live_id_is_not_Zero, maximum_of-le}
@@ -81,37 +81,51 @@ pub record IsEndedTask (history : History) (name : Text) (task : Task) : Type 0 
   pub unjoined : is_joined history name ≡ false
   pub last : task.last ≡ last_event history name
 
+-- what stands among ids stands there with the seed
+pub seeded_place : (ids : List Id) (place : ℕ) (id : Id) → slice_get ids place ≡ Some id → slice_get (with_seed ids) place ≡ Some id
+seeded_place [] place id there = absurd (omega (arith, slice_get_within [] place id there))
+seeded_place (first ∷ ids) place id there = there
+
+-- where there is an id, the seed is among them
+pub with_seed-some : (ids : List Id) → 0 < length ids → with_seed ids ≡ ids
+with_seed-some [] some = absurd (omega (arith, some))
+with_seed-some (first ∷ ids) some = refl
+
+pub seeded_ids : {I : Type 0} (meant_id : I → Id) (ids : List I) → 0 < length ids → with_seed (map meant_id ids) ≡ map meant_id ids
+seeded_ids meant_id ids some = with_seed-some (map meant_id ids) (omega (arith, some, length-map ids meant_id))
+
 -- the rows of the book, the newest first
-abbrev pub history_in : Book → History
+abbrev pub history_in : {S I K : Type 0} → Book S I K → History
 history_in book = history_of book.rows.items
 
-pub legal_history : (book : Book) → IsBook book → IsLegal (history_in book)
+pub legal_history : {S I K : Type 0} {meant : K → EventTree} {meant_id : I → Id} (book : Book S I K) → IsBook meant meant_id book → IsLegal (history_in book)
 legal_history book is = IsLegal_from_AreLegal book.limits book.rows.items is.kept.legal
 
-pub unknown_task : (book : Book) → IsBook book → (name : Text) → task_in book name ≡ None → is_known (history_in book) name ≡ false
-unknown_task book is name none = subst (IsTask book.ids.items (history_in book) name) none (is.kept.tasks name)
+pub unknown_task : {S I K : Type 0} {meant : K → EventTree} {meant_id : I → Id} (book : Book S I K) → IsBook meant meant_id book → (name : Text) → task_in book name ≡ None → is_known (history_in book) name ≡ false
+unknown_task {meant_id = meant_id} book is name none = subst (IsTask (ids_in meant_id book) (history_in book) name) none (is.kept.tasks name)
 
 -- the number that the next event has
-pub newest : (book : Book) (event : ℕ) → event ≡ length book.rows.items + 1 → event ≡ suc (length (history_in book))
+pub newest : {S I K : Type 0} (book : Book S I K) (event : ℕ) → event ≡ length book.rows.items + 1 → event ≡ suc (length (history_in book))
 newest book event number = omega (arith, number, length-reverse book.rows.items)
 
 -- the book has the task, in this state
-pub record Has (state : TaskState) (book : Book) (name : Text) (task : Task) : Type 0 where
-  pub is : IsBook book
+pub record Has {S I K : Type 0} (meant : K → EventTree) (meant_id : I → Id) (state : TaskState) (book : Book S I K) (name : Text) (task : Task) : Type 0 where
+  pub is : IsBook meant meant_id book
   pub found : task_in book name ≡ Some task
   pub state_is : task.state ≡ state
 
-module _ {state : TaskState} {book : Book} {name : Text} {task : Task} (has : Has state book name task) where
-  is_task : IsTask book.ids.items (history_in book) name (Some task)
-  is_task = subst (IsTask book.ids.items (history_in book) name) has.found (has.is.kept.tasks name)
+module _ {S I K : Type 0} {meant : K → EventTree} {meant_id : I → Id} {state : TaskState} {book : Book S I K} {name : Text} {task : Task} (has : Has meant meant_id state book name task) where
+  is_task : IsTask (ids_in meant_id book) (history_in book) name (Some task)
+  is_task = subst (IsTask (ids_in meant_id book) (history_in book) name) has.found (has.is.kept.tasks name)
 
   pub last-le : task.last ≤ length book.rows.items
   last-le = omega (arith, is_task.2, last_event-le (history_in book) name, length-reverse book.rows.items)
 
-  -- the id that stands at its place
-  pub own_id : state ≢ Joined → (id : Id) → id ≡ get_or book.ids.items task.id id → id ≡ id_of tree_clock (history_in book) name
+  -- the id that is kept at its place
+  pub own_id : state ≢ Joined → (id : Id) → slice_get (map meant_id book.ids.items) task.id ≡ Some id → id ≡ id_of tree_clock (history_in book) name
   own_id other id at_place =
-      at_place ∙ get_or_from_slice_get book.ids.items task.id (id_of tree_clock (history_in book) name) id (is_task.3 (λ joined. other (sym has.state_is ∙ joined)))
+      let kept = is_task.3 (λ joined. other (sym has.state_is ∙ joined)) in
+      same_Some id (id_of tree_clock (history_in book) name) (sym (seeded_place (map meant_id book.ids.items) task.id id at_place) ∙ kept)
 
   -- an event may be made of what the task knows
   pub known_fits : (known : EventTree) → known ≡ tree_of tree_clock (history_in book) task.last → maximum known + 1 < 18446744073709551616
@@ -119,8 +133,8 @@ module _ {state : TaskState} {book : Book} {name : Text} {task : Task} (has : Ha
       let bounded : maximum known ≤ task.last = omega (arith, ap maximum known_is, maximum_of-le (history_in book) (legal_history book has.is) task.last) in
       omega (arith, bounded, last-le, has.is.kept.small)
 
-module _ {book : Book} {name : Text} {task : Task} (has : Has Live book name task) where
-  pub live_task : IsLiveTask (history_in book) book.ids.items name task
+module _ {S I K : Type 0} {meant : K → EventTree} {meant_id : I → Id} {book : Book S I K} {name : Text} {task : Task} (has : Has meant meant_id Live book name task) where
+  pub live_task : IsLiveTask (history_in book) (ids_in meant_id book) name task
   live_task = record {
     known = (is_task has).0;
     unended = (is_at_in book has.is name task has.found Live has.state_is).0;
@@ -129,14 +143,14 @@ module _ {book : Book} {name : Text} {task : Task} (has : Has Live book name tas
     id = (is_task has).3 (λ joined. let clash : Live ≡ Joined = sym has.state_is ∙ joined in cc);
   }
 
-  pub live_id : (id : Id) → id ≡ get_or book.ids.items task.id id → id ≡ id_of tree_clock (history_in book) name
+  pub live_id : (id : Id) → slice_get (map meant_id book.ids.items) task.id ≡ Some id → id ≡ id_of tree_clock (history_in book) name
   live_id = own_id has (λ clash. cc)
 
-  pub live_id_some : (id : Id) → id ≡ get_or book.ids.items task.id id → id ≢ Zero
+  pub live_id_some : (id : Id) → slice_get (map meant_id book.ids.items) task.id ≡ Some id → id ≢ Zero
   live_id_some id at_place zero =
       live_id_is_not_Zero (history_in book) (legal_history book has.is) name (live_task.known, live_task.unended) (sym (live_id id at_place) ∙ zero)
 
-module _ {book : Book} {name : Text} {task : Task} (has : Has Ended book name task) where
+module _ {S I K : Type 0} {meant : K → EventTree} {meant_id : I → Id} {book : Book S I K} {name : Text} {task : Task} (has : Has meant meant_id Ended book name task) where
   pub ended_task : IsEndedTask (history_in book) name task
   ended_task = record {
     known = (is_task has).0;
@@ -145,5 +159,5 @@ module _ {book : Book} {name : Text} {task : Task} (has : Has Ended book name ta
     last = (is_task has).2;
   }
 
-  pub ended_id : (id : Id) → id ≡ get_or book.ids.items task.id id → id ≡ id_of tree_clock (history_in book) name
+  pub ended_id : (id : Id) → slice_get (map meant_id book.ids.items) task.id ≡ Some id → id ≡ id_of tree_clock (history_in book) name
   ended_id = own_id has (λ clash. cc)

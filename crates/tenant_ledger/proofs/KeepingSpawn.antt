@@ -17,7 +17,7 @@ use Rattle.trace_types.specs.declared.row.Kind.TheVariants.{Spawn}
 use Rattle.trace_types.specs.declared.task_state.TaskState.TheVariants.{Live}
 use Rattle.trace_types.specs.declared.request.Request.TheVariants as request
 use Rattle.trace_types.proofs.Names.{is_same-itself}
-use Rattle.tenant_ledger.specs.Ledger.{IsTask, task_in}
+use Rattle.tenant_ledger.specs.Ledger.{IsTask, task_in, ids_in}
 use Rattle.tenant_ledger.specs.declared.book.Book.{Book}
 use Rattle.tenant_ledger.specs.declared.book.Task.{Task}
 use Rattle.tenant_ledger.proofs.Tasks.{last_event-started, live_is_not_unknown, unknown_has_no_event}
@@ -26,13 +26,13 @@ use Rattle.tenant_ledger.proofs.KeepingLegal.{AreLegal-push, has_room}
 use Rattle.tenant_ledger.proofs.KeepingTasks.{state_of-live, started_is_known, task_count-more, acting_is_task, Puts, both_put, tasks_after, count_of-known, count_of-new}
 use Rattle.tenant_ledger.proofs.KeepingReports.{differ_back, unknown_is_not_joined, unknown_has_not_ended, tree_is_new, IsLiveTask, history_in, legal_history, unknown_task, newest, Has, live_task}
 
-module _ {book : Book} {name : Text} {task : Task} (has : Has Live book name task) (child : Text)
+module _ {S I K : Type 0} {meant : K → EventTree} {meant_id : I → Id} {book : Book S I K} {name : Text} {task : Task} (has : Has meant meant_id Live book name task) (child : Text)
     (none : task_in book child ≡ None) (written : IsTrue (is_name name)) (child_written : IsTrue (is_name child))
     (few : length book.rows.items < book.limits.events) (few_tasks : index_map_len book.tasks < book.limits.tasks) (small : book.limits.events ≤ 16384) where
   abbrev row : Row
   row = row_after (history_in book) name Spawn (Some child)
 
-  live : IsLiveTask (history_in book) book.ids.items name task
+  live : IsLiveTask (history_in book) (ids_in meant_id book) name task
   live = live_task has
 
   is_new : is_known (history_in book) child ≡ false
@@ -75,11 +75,11 @@ module _ {book : Book} {name : Text} {task : Task} (has : Has Live book name tas
   -- what is kept with the row
   pub spawn_is_next : (id : Id) (known tree : EventTree) (parts : Id × Id) (ids' : List Id) (kept_place given_place : ℕ) (mid task_of' : Text → Option Task) (last mid_count count' : ℕ)
       → id ≡ id_of tree_clock (history_in book) name → known ≡ tree_of tree_clock (history_in book) task.last → tree ≡ tree_clock.event id known
-      → parts ≡ split id → Stay book.ids.items ids' → slice_get ids' kept_place ≡ Some parts.0 → slice_get ids' given_place ≡ Some parts.1
+      → parts ≡ split id → Stay (ids_in meant_id book) ids' → slice_get ids' kept_place ≡ Some parts.0 → slice_get ids' given_place ≡ Some parts.1
       → last ≡ length book.rows.items + 1 → Puts (task_in book) child (record { state = Live; last = last; id = given_place }) mid
       → Puts mid name (record { state = task.state; last = last; id = kept_place }) task_of'
       → mid_count ≡ index_map_len book.tasks + cond (is_some (task_in book child)) 0 1 → count' ≡ mid_count + cond (is_some (mid name)) 0 1
-      → IsNext book.limits book.rows.items book.ids.items row tree kept_place ids' task_of' count'
+      → IsNext book.limits book.rows.items (ids_in meant_id book) row tree kept_place ids' task_of' count'
   spawn_is_next id known tree parts ids' kept_place given_place mid task_of' last mid_count count' id_is known_is tree_is parts_are stay kept_there given_there number puts_child puts_acting
       mid_count_is count_is =
       let history = history_in book in
@@ -98,7 +98,7 @@ module _ {book : Book} {name : Text} {task : Task} (has : Has Live book name tas
         tree_is = tree_is_new row history id known tree tree_is id_is (known_is ∙ ap (tree_of tree_clock history) live.last);
         place_is = place;
         stay = stay;
-        tasks = tasks_after book.ids.items ids' row history child (task_in book) task_of' acting_after child_after stay has.is.kept.tasks
+        tasks = tasks_after (ids_in meant_id book) ids' row history child (task_in book) task_of' acting_after child_after stay has.is.kept.tasks
             (both_put row history name child (task_in book) mid task_of' acting_after child_after refl (λ other not_named. not_named) differ (differ_back name child differ)
             (inl (puts_child, puts_acting)))
             (acting_is_task row history ids' task.state last kept_place live.known state_is last_is place)

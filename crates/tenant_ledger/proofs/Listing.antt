@@ -28,7 +28,8 @@ use Rattle.trace_types.specs.declared.request.Request.TheVariants as request
 use Rattle.trace_query.specs.declared.query_fault.QueryFault.{QueryFault}
 use Rattle.trace_query.specs.declared.query_fault.QueryFault.TheVariants.{Unknown}
 use Rattle.event_tree.specs.Comparison.{StandsAs}
-use Rattle.tenant_ledger.specs.Ledger.{IsBook, tenant_of, code_of}
+use Rattle.trace_types.specs.Id.{Id}
+use Rattle.tenant_ledger.specs.Ledger.{IsBook, tenant_of, code_of, trees_in}
 use Rattle.tenant_ledger.specs.declared.book.Book.{Book}
 use Rattle.tenant_ledger.proofs.Answering.{ordered}
 use Rattle.tenant_ledger.proofs.Events.{event_bounds}
@@ -73,12 +74,12 @@ is_concurrent history event other = elim (cases_Bool (eqb other event)) [
   ]
 ]
 
-module _ (book : Book) (is : IsBook book) where
+module _ {S I K : Type 0} {meant : K → EventTree} {meant_id : I → Id} (book : Book S I K) (is : IsBook meant meant_id book) where
   abbrev pub history : History
   history = history_of book.rows.items
 
   abbrev pub trees : List EventTree
-  trees = book.trees.items
+  trees = (trees_in meant book)
 
   as_many : length trees ≡ length history
   as_many = is.kept.one_tree ∙ sym (length-reverse book.rows.items)
@@ -115,39 +116,39 @@ module _ (book : Book) (is : IsBook book) where
   pub concurrent_told : (event : ℕ) → IsTrue (query.is_event trees event) → query.concurrent_of trees event ≡ concurrent_with history event
   concurrent_told event event_is = told Concurrent refl event event_is ∙ (λ i. filter (λ other. is_concurrent history event other i) (events history))
 
-module _ (book : Book) (is : IsBook book) {V : Type 0} (items : V → List ℕ) (event : ℕ) (found : Result V QueryFault) (answer : Reply)
-    (known : IfOk found (λ _. query.is_event book.trees.items event ≡ true))
-    (fault : IfErr found (λ refusal. refusal ≡ fault_due book.trees.items event))
+module _ {S I K : Type 0} {meant : K → EventTree} {meant_id : I → Id} (book : Book S I K) (is : IsBook meant meant_id book) {V : Type 0} (items : V → List ℕ) (event : ℕ) (found : Result V QueryFault) (answer : Reply)
+    (known : IfOk found (λ _. query.is_event (trees_in meant book) event ≡ true))
+    (fault : IfErr found (λ refusal. refusal ≡ fault_due (trees_in meant book) event))
     (listed : IfOk found (λ value. answer ≡ reply.List (items value))) (refused : IfErr found (λ refusal. answer ≡ reply.Refused (code_of refusal))) where
   -- a list of events that is told by the trees is answered as it is due
-  list_answered : (asked : Request) (graph list : List ℕ) → (IsTrue (query.is_event book.trees.items event) → list ≡ graph)
+  list_answered : (asked : Request) (graph list : List ℕ) → (IsTrue (query.is_event (trees_in meant book) event) → list ≡ graph)
       → (is_event (history_of book.rows.items) event ≡ true → (reply.List graph ≡ reply_to_view (tenant_of book) asked) × IsTrue (not (is_report asked)) × MayLackMemory (tenant_of book) asked)
       → (is_event (history_of book.rows.items) event ≡ false → reply.Refused NoEvent ≡ reply_to_view (tenant_of book) asked)
       → IfOk found (λ value. items value ≡ list) → Answers (tenant_of book) asked answer
   list_answered asked graph list told due none events = by found known fault listed refused events
     where
-      by : (outcome : Result V QueryFault) → IfOk outcome (λ _. query.is_event book.trees.items event ≡ true)
-          → IfErr outcome (λ refusal. refusal ≡ fault_due book.trees.items event) → IfOk outcome (λ value. answer ≡ reply.List (items value))
+      by : (outcome : Result V QueryFault) → IfOk outcome (λ _. query.is_event (trees_in meant book) event ≡ true)
+          → IfErr outcome (λ refusal. refusal ≡ fault_due (trees_in meant book) event) → IfOk outcome (λ value. answer ≡ reply.List (items value))
           → IfErr outcome (λ refusal. answer ≡ reply.Refused (code_of refusal)) → IfOk outcome (λ value. items value ≡ list) → Answers (tenant_of book) asked answer
       by (Ok value) known fault listed refused events =
           inl (listed ∙ ap reply.List (events ∙ told known) ∙ (due (sym (same_events book is event) ∙ known)).0)
-      by (Err refusal) known fault listed refused events = elim (cases_Bool (query.is_event book.trees.items event)) [
+      by (Err refusal) known fault listed refused events = elim (cases_Bool (query.is_event (trees_in meant book) event)) [
         | inl there ↦
             let given = due (sym (same_events book is event) ∙ there) in
-            inr (given.1, given.2, refused ∙ ap (λ f. reply.Refused (code_of f)) (fault ∙ cond-true (query.is_event book.trees.items event) _ _ there))
+            inr (given.1, given.2, refused ∙ ap (λ f. reply.Refused (code_of f)) (fault ∙ cond-true (query.is_event (trees_in meant book) event) _ _ there))
         | inr nowhere ↦
-            inl (refused ∙ ap (λ f. reply.Refused (code_of f)) (fault ∙ cond-false (query.is_event book.trees.items event) _ _ nowhere)
+            inl (refused ∙ ap (λ f. reply.Refused (code_of f)) (fault ∙ cond-false (query.is_event (trees_in meant book) event) _ _ nowhere)
             ∙ none (sym (same_events book is event) ∙ nowhere))
       ]
 
-  pub past_answered : IfOk found (λ value. items value ≡ query.past_of book.trees.items event) → Answers (tenant_of book) (request.Past event) answer
+  pub past_answered : IfOk found (λ value. items value ≡ query.past_of (trees_in meant book) event) → Answers (tenant_of book) (request.Past event) answer
   past_answered =
-      list_answered (request.Past event) (past_of (history_of book.rows.items) event) (query.past_of book.trees.items event) (past_told book is event)
+      list_answered (request.Past event) (past_of (history_of book.rows.items) event) (query.past_of (trees_in meant book) event) (past_told book is event)
       (λ there. (rw there refl, refl, (refl, rw there refl))) (λ nowhere. rw nowhere refl)
 
-  pub concurrent_answered : IfOk found (λ value. items value ≡ query.concurrent_of book.trees.items event) → Answers (tenant_of book) (request.Concurrent event) answer
+  pub concurrent_answered : IfOk found (λ value. items value ≡ query.concurrent_of (trees_in meant book) event) → Answers (tenant_of book) (request.Concurrent event) answer
   concurrent_answered =
-      list_answered (request.Concurrent event) (concurrent_with (history_of book.rows.items) event) (query.concurrent_of book.trees.items event) (concurrent_told book is event)
+      list_answered (request.Concurrent event) (concurrent_with (history_of book.rows.items) event) (query.concurrent_of (trees_in meant book) event) (concurrent_told book is event)
       (λ there. (rw there refl, refl, (refl, rw there refl))) (λ nowhere. rw nowhere refl)
 
 -- the order that was found
@@ -156,10 +157,10 @@ order_found (Ok order) = order
 order_found (Err fault) = Same
 
 -- an order that is told by the trees is answered as it is due
-pub order_answered : (book : Book) → IsBook book → (first second : ℕ) (order : Order) → Ok order ≡ query.order_due book.trees.items first second
+pub order_answered : {S I K : Type 0} {meant : K → EventTree} {meant_id : I → Id} (book : Book S I K) → IsBook meant meant_id book → (first second : ℕ) (order : Order) → Ok order ≡ query.order_due (trees_in meant book) first second
     → reply.Ordering order ≡ reply_to_view (tenant_of book) (request.Order first second)
-order_answered book is first second order told =
-    let trees = book.trees.items in
+order_answered {meant = meant} book is first second order told =
+    let trees = (trees_in meant book) in
     elim (cases_Bool (query.is_event trees first && query.is_event trees second)) [
       | inl there ↦
           let parts = and_parts (query.is_event trees first) (query.is_event trees second) there in

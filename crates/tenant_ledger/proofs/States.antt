@@ -11,10 +11,12 @@ use Rattle.trace_types.specs.declared.row.Kind.TheVariants.{Local, Spawn, Send, 
 use Rattle.trace_types.specs.declared.task_state.TaskState.{TaskState}
 use Rattle.trace_types.specs.declared.task_state.TaskState.TheVariants as state
 use Rattle.trace_types.proofs.Names.{is_same_iff}
+use Rattle.trace_types.specs.EventTree.{EventTree}
+use Rattle.trace_types.specs.Id.{Id}
 use Rattle.tenant_ledger.specs.declared.book.Book.{Book}
 use Rattle.tenant_ledger.specs.declared.book.Task.{Task}
 use Rattle.tenant_ledger.specs.Legal.{Allows, IsLegal}
-use Rattle.tenant_ledger.specs.Ledger.{IsBook, IsTask, task_in}
+use Rattle.tenant_ledger.specs.Ledger.{IsBook, IsTask, task_in, ids_in}
 use Rattle.tenant_ledger.proofs.Legality.{IsLegal_from_AreLegal}
 
 -- a task that a row may take in has ended
@@ -50,21 +52,21 @@ state_is_at history task legal =
     cond_both (is_joined history task) _ _ (IsAt history task) (λ joined. (joined_has_ended history task legal joined, joined))
     λ not_joined. cond_both (is_ended history task) _ _ (IsAt history task) (λ ended. (ended, not_joined)) (λ not_ended. (not_ended, not_joined))
 
-module _ (book : Book) (is : IsBook book) (name : Text) where
+module _ {S I K : Type 0} {meant : K → EventTree} {meant_id : I → Id} (book : Book S I K) (is : IsBook meant meant_id book) (name : Text) where
   -- a task that the book has is known
   pub known_in : (task : Task) → task_in book name ≡ Some task → is_known (history_of book.rows.items) name ≡ true
-  known_in task found = (subst (IsTask book.ids.items (history_of book.rows.items) name) found (is.kept.tasks name)).0
+  known_in task found = (subst (IsTask (ids_in meant_id book) (history_of book.rows.items) name) found (is.kept.tasks name)).0
 
   -- and is as far as the book says
   pub is_at_in : (task : Task) → task_in book name ≡ Some task → (state : TaskState) → task.state ≡ state → IsAt (history_of book.rows.items) name state
   is_at_in task found state state_is =
-      let kept = subst (IsTask book.ids.items (history_of book.rows.items) name) found (is.kept.tasks name) in
+      let kept = subst (IsTask (ids_in meant_id book) (history_of book.rows.items) name) found (is.kept.tasks name) in
       subst (IsAt (history_of book.rows.items) name) (sym kept.1 ∙ state_is) (state_is_at (history_of book.rows.items) name (IsLegal_from_AreLegal book.limits book.rows.items is.kept.legal))
 
   -- the book has the tasks that are known
   pub has_known : is_some (task_in book name) ≡ is_known (history_of book.rows.items) name
   has_known = by (task_in book name) (is.kept.tasks name)
     where
-      by : (found : Option Task) → IsTask book.ids.items (history_of book.rows.items) name found → is_some found ≡ is_known (history_of book.rows.items) name
+      by : (found : Option Task) → IsTask (ids_in meant_id book) (history_of book.rows.items) name found → is_some found ≡ is_known (history_of book.rows.items) name
       by None unknown = sym unknown
       by (Some task) kept = sym kept.0

@@ -1,5 +1,5 @@
 -- What a ledger keeps beside the rows.
-use Rattle.std.specs.Prelude.{◌≡◌, ◌≢◌, ℕ, ◌+◌, ◌-◌, ◌≤◌, ◌<◌, true, false, Bool, List, ◌++◌, ◌⊎◌, length, Option, Some, None, Result, Ok, Err, slice_get, vec_len, vec_capacity}
+use Rattle.std.specs.Prelude.{◌≡◌, ◌≢◌, ℕ, ◌+◌, ◌-◌, ◌≤◌, ◌<◌, true, false, Bool, List, [], ◌∷◌, ◌++◌, ◌⊎◌, length, map, Option, Some, None, Result, Ok, Err, slice_get, vec_len, vec_capacity}
 use Rattle.indexmap.specs.IndexMap.{get, index_map_len, spare}
 use Rattle.trace_types.specs.Name.{Text, is_same}
 use Rattle.trace_types.specs.Limits.{Limits}
@@ -8,7 +8,7 @@ use Rattle.trace_types.specs.Refusal.{first_code}
 use Rattle.trace_types.specs.Clock.{tree_clock}
 use Rattle.trace_types.specs.Stamps.{id_of, tree_of, stamp_of}
 use Rattle.trace_types.specs.Tenant.{Tenant, AreLegal, with_row}
-use Rattle.trace_types.specs.Id.{Id}
+use Rattle.trace_types.specs.Id.{Id, One}
 use Rattle.trace_types.specs.EventTree.{EventTree}
 use Rattle.trace_types.specs.declared.row.Row.{Row}
 use Rattle.trace_types.specs.declared.code.Code.{Code}
@@ -64,17 +64,30 @@ pub record IsKept (limits : Limits) (rows : List Row) (trees : List EventTree) (
   pub tasks : (name : Text) → IsTask ids (history_of rows) name (task_of name)
   pub counted : count ≡ task_count (history_of rows)
 
+-- the ids that are kept: until the first is, that of `root`, which has every point
+abbrev pub with_seed : List Id → List Id
+with_seed [] = One ∷ []
+with_seed (first ∷ ids) = first ∷ ids
+
+-- the ids and the trees that the book has, each as what it means
+abbrev pub ids_in : {S I K : Type 0} → (I → Id) → Book S I K → List Id
+ids_in id book = with_seed (map id book.ids.items)
+
+abbrev pub trees_in : {S I K : Type 0} → (K → EventTree) → Book S I K → List EventTree
+trees_in tree book = map tree book.trees.items
+
 -- the task that the book has under the name
-abbrev pub task_in : Book → Text → Option Task
+abbrev pub task_in : {S I K : Type 0} → Book S I K → Text → Option Task
 task_in book name = get is_same book.tasks name
 
 -- the book is kept for its rows
-pub record IsBook (book : Book) : Type 0 where
-  pub kept : IsKept book.limits book.rows.items book.trees.items book.places.items book.ids.items (task_in book) (index_map_len book.tasks)
+pub record IsBook {S I K : Type 0} (tree : K → EventTree) (id : I → Id) (book : Book S I K) : Type 0 where
+  pub kept : IsKept book.limits book.rows.items (trees_in tree book) book.places.items (ids_in id book) (task_in book) (index_map_len book.tasks)
   pub messages : AreMessages book.limits (history_of book.rows.items) book.messages
+  pub seeded : 0 < length book.rows.items → 0 < length book.ids.items
 
 -- the tenant whose book it is
-abbrev pub tenant_of : Book → Tenant
+abbrev pub tenant_of : {S I K : Type 0} → Book S I K → Tenant
 tenant_of book = record { limits = book.limits; rows = book.rows.items }
 
 -- A refusal is the first of these; where there is none, none of these applies.
@@ -83,7 +96,7 @@ Decides refusals (Ok value) = (others : List (Bool × Code)) → first_code (ref
 Decides refusals (Err code) = (others : List (Bool × Code)) → first_code (refusals ++ others) ≡ Some code
 
 -- there is room for an event, for two ids and for so many new tasks
-pub record HasRoom (book : Book) (new_tasks : ℕ) : Type 0 where
+pub record HasRoom {S I K : Type 0} (book : Book S I K) (new_tasks : ℕ) : Type 0 where
   pub rows : vec_len book.rows < vec_capacity book.rows
   pub trees : vec_len book.trees < vec_capacity book.trees
   pub places : vec_len book.places < vec_capacity book.places
@@ -91,7 +104,7 @@ pub record HasRoom (book : Book) (new_tasks : ℕ) : Type 0 where
   pub tasks : new_tasks ≤ spare book.tasks
 
 -- both have the same in them
-pub record HaveTheSame (old new : Book) : Type 0 where
+pub record HaveTheSame {S I K : Type 0} (old new : Book S I K) : Type 0 where
   pub limits : new.limits ≡ old.limits
   pub rows : new.rows.items ≡ old.rows.items
   pub trees : new.trees.items ≡ old.trees.items
@@ -105,9 +118,9 @@ abbrev pub LeavesState : Kind → TaskState → Type 0
 LeavesState kind state = ((kind ≡ Local) × (state ≡ Live)) ⊎ ((kind ≡ End) × (state ≡ Ended))
 
 -- The row was added as the next event; or there was no memory, and the tenant is as it was.
-abbrev pub Adds : Result ℕ Memory → Book → Row → Book → Type 0
-Adds (Ok event) old row new = IsBook new × (tenant_of new ≡ with_row (tenant_of old) (Some row)) × (event ≡ length old.rows.items + 1)
-Adds (Err memory) old row new = IsBook new × (tenant_of new ≡ tenant_of old)
+abbrev pub Adds : {S I K : Type 0} → (K → EventTree) → (I → Id) → Result ℕ Memory → Book S I K → Row → Book S I K → Type 0
+Adds tree id (Ok event) old row new = IsBook tree id new × (tenant_of new ≡ with_row (tenant_of old) (Some row)) × (event ≡ length old.rows.items + 1)
+Adds tree id (Err memory) old row new = IsBook tree id new × (tenant_of new ≡ tenant_of old)
 
 -- the reply to a report
 abbrev pub reply_of : Result ℕ Code → Reply

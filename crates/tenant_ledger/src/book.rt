@@ -1,5 +1,5 @@
 //! What a ledger keeps.
-ghost use Rattle.std.specs.Prelude.{◌≡◌, ◌≢◌, ◌+◌, ◌-◌, ◌<◌, ◌≤◌, ◌∷◌, [], true, IfOk, OnErr, OnOk, IfErr, IsTrue, Some, None, length, not, slice_get, vec_len, vec_capacity, ◌++◌, if◌then◌else◌, is_some};
+ghost use Rattle.std.specs.Prelude.{◌≡◌, ◌+◌, ◌-◌, ◌<◌, ◌≤◌, ◌∷◌, [], true, IfOk, OnOk, IfErr, IsTrue, Some, None, length, not, slice_get, vec_len, vec_capacity, ◌++◌, if◌then◌else◌, is_some, map};
 ghost use Rattle.indexmap.specs.IndexMap.{index_map_len, spare};
 ghost use Rattle.trace_types.specs.Name.{Text as Characters, is_name, is_same};
 ghost use Rattle.trace_types.specs.Rows.{history_of, is_event, is_known, is_ended, is_joined, is_sent, is_received, send_event};
@@ -13,26 +13,28 @@ ghost use Rattle.trace_types.specs.declared.request.Request.TheVariants as reque
 ghost use Rattle.message_book.specs.Book.{refusal_of_send, refusal_of_receive, entry_of};
 ghost use Rattle.tenant_ledger.specs.Ledger.{IsBook, HasRoom, HaveTheSame, task_in, tenant_of, Decides, LeavesState, Adds, reply_of};
 
+use crate::share::{MeantId, Share};
 use event_tree::EvTree;
 use id_tree::IdTree;
 use indexmap::IndexMap;
 use message_book::{Entry, MessageBook};
-use stamp_codec::{Stamp, write_stamp};
+use stamp_codec::write_parts;
 use std::alloc::Global;
+use trace_query::Meant;
 use trace_types::{Code, Kind, Limits, Memory, Name, Preds, Row, TaskState, Text};
 
 /// The rows, and what is kept beside them.
 #[derive(Drop)]
-pub(crate) struct Book {
+pub(crate) struct Book<S: Share> {
     pub(crate) limits: Limits,
     pub(crate) rows: Vec<Row>,
     alloc: Global,
     /// What each event knows, in the order of the events.
-    trees: Vec<EvTree>,
+    trees: Vec<S::Kept>,
     /// The place of the id of each event's task after it, in the order of the events.
     places: Vec<usize>,
-    /// Each id that some task has or had.
-    ids: Vec<IdTree>,
+    /// Each id that some task has or had. That of `root` is kept with the first accepted report.
+    ids: Vec<S::Id>,
     tasks: IndexMap<Name, Task>,
     messages: MessageBook,
 }
@@ -47,14 +49,12 @@ pub(crate) struct Task {
     id: usize,
 }
 
-impl Book {
+impl<S: Share> Book<S> {
     /// The book of a tenant that has reported nothing: it has the task `root`.
-    pub(crate) fn new(alloc: Global, limits: Limits) -> Result<Book, Memory>
-        ensures book { IfOk result IsBook }
+    pub(crate) fn new(alloc: Global, limits: Limits) -> Result<Book<S>, Memory>
+        ensures book { IfOk result (IsBook S.Kept.tree S.Id.id) }
         ensures fresh { IfOk result (λ book. tenant_of book ≡ fresh limits) }
     {
-        let mut ids = Vec::new(alloc);
-        ids.push(IdTree::one())?;
         let mut tasks = IndexMap::new(alloc);
         let root = Task {
             state: TaskState::Live,
@@ -68,7 +68,7 @@ impl Book {
             alloc,
             trees: Vec::new(alloc),
             places: Vec::new(alloc),
-            ids,
+            ids: Vec::new(alloc),
             tasks,
             messages: MessageBook::new(alloc, limits.messages())?,
         })
@@ -101,37 +101,45 @@ impl Book {
     }
 
     /// What each event knows, in the order of the events.
-    pub(crate) fn trees(&self) -> &[EvTree]
+    pub(crate) fn trees(&self) -> &[S::Kept]
         ensures { result.now ≡ self.now.trees.items }
     {
         &self.trees
     }
 
-    pub(crate) fn alloc(&self) -> Global {
+    /// What the book allocates from.
+    pub(crate) fn alloc(&self) -> Global
+        ensures { result ≡ self.now.alloc }
+    {
         self.alloc
     }
 
     /// The tree that is kept of the event.
     fn tree(&self, event: u64) -> &EvTree
-        requires book { IsBook self.now }
+        requires book { IsBook S.Kept.tree S.Id.id self.now }
         requires event { is_event (history_of self.now.rows.items) event ≡ true }
         ensures { result.now ≡ tree_of tree_clock (history_of self.now.rows.items) event }
     {
-        &self.trees[event as usize - 1]
+        S::tree_value(&self.trees[event as usize - 1])
+    }
+
+    /// The id that is kept at the place.
+    fn id(&self, place: usize) -> &IdTree
+        requires { place < length self.now.ids.items }
+        ensures { slice_get (map S.Id.id self.now.ids.items) place ≡ Some result.now }
+    {
+        S::id_value(&self.ids[place])
     }
 
     /// The text of the event's stamp.
     pub(crate) fn stamp_text(&self, event: u64) -> Result<Text, Memory>
-        requires book { IsBook self.now }
+        requires book { IsBook S.Kept.tree S.Id.id self.now }
         requires event { is_event (history_of self.now.rows.items) event ≡ true }
         ensures { IfOk result (λ text. text ≡ stamp_text_of (history_of self.now.rows.items) event) }
     {
         let place = self.places[event as usize - 1];
-        let stamp = Stamp {
-            id: self.ids[place].share(self.alloc)?,
-            tree: self.tree(event).share(self.alloc)?,
-        };
-        Ok(Text::from(write_stamp(self.alloc, &stamp)?))
+        let text = write_parts(self.alloc, self.id(place), self.tree(event))?;
+        Ok(Text::from(text))
     }
 
     /// The task of this name; `NoTask` where there is none.
@@ -158,7 +166,7 @@ impl Book {
 
     /// The task, where it may report; else `NoTask` or `TaskEnded`.
     fn live_task(&self, name: &Name) -> Result<Task, Code>
-        requires { IsBook self.now }
+        requires { IsBook S.Kept.tree S.Id.id self.now }
         ensures task { IfOk result (λ task. (task_in self.now name.now ≡ Some task) × (task.state ≡ TaskState.Live)) }
         ensures decides { Decides ((not (is_known (history_of self.now.rows.items) name.now), Code.NoTask)
             ∷ (is_ended (history_of self.now.rows.items) name.now, Code.TaskEnded) ∷ []) result }
@@ -172,7 +180,7 @@ impl Book {
 
     /// The task, where it may be joined; else `NoTask`, `NotEnded` or `AlreadyJoined`.
     fn ended_task(&self, name: &Name) -> Result<Task, Code>
-        requires { IsBook self.now }
+        requires { IsBook S.Kept.tree S.Id.id self.now }
         ensures task { IfOk result (λ task. (task_in self.now name.now ≡ Some task) × (task.state ≡ TaskState.Ended)) }
         ensures decides { Decides ((not (is_known (history_of self.now.rows.items) name.now), Code.NoTask)
             ∷ (not (is_ended (history_of self.now.rows.items) name.now), Code.NotEnded)
@@ -188,7 +196,7 @@ impl Book {
 
     /// Refuses one task more at the limit, and a task that exists.
     fn check_child(&self, name: &Name) -> Result<(), Code>
-        requires { IsBook self.now }
+        requires { IsBook S.Kept.tree S.Id.id self.now }
         ensures child { OnOk result (task_in self.now name.now ≡ None) }
         ensures few { OnOk result (index_map_len self.now.tasks < self.now.limits.tasks) }
         ensures decides { Decides ((is_known (history_of self.now.rows.items) name.now, Code.TaskExists)
@@ -205,7 +213,7 @@ impl Book {
 
     /// Refuses a message that was sent, and one message more at the limit.
     fn check_message(&self, name: &Name) -> Result<(), Code>
-        requires { IsBook self.now }
+        requires { IsBook S.Kept.tree S.Id.id self.now }
         ensures may { OnOk result (refusal_of_send self.now.messages name.now ≡ None) }
         ensures decides { Decides ((is_sent (history_of self.now.rows.items) name.now, Code.MessageExists)
             ∷ (has_all_messages self.now.limits (history_of self.now.rows.items), Code.MessagesFull) ∷ []) result }
@@ -215,7 +223,7 @@ impl Book {
 
     /// The event that sent the message, where the message may be received; else `NoMessage` or `AlreadyReceived`.
     fn sent_message(&self, name: &Name) -> Result<u64, Code>
-        requires { IsBook self.now }
+        requires { IsBook S.Kept.tree S.Id.id self.now }
         ensures may { OnOk result (refusal_of_receive self.now.messages name.now ≡ None) }
         ensures sent { IfOk result (λ event. event ≡ send_event (history_of self.now.rows.items) name.now) }
         ensures decides { Decides ((not (is_sent (history_of self.now.rows.items) name.now), Code.NoMessage)
@@ -237,138 +245,188 @@ impl Book {
     }
 
     /// Reports that the task did something by itself, and gives the event.
-    pub(crate) fn local(&mut self, name: Name) -> Result<u64, Code>
-        requires { IsBook self.old }
-        ensures book { IsBook self.new }
+    pub(crate) fn local<T>(&mut self, rt: &T, share: &S, name: Name) -> Result<u64, Code>
+        requires { IsBook S.Kept.tree S.Id.id self.old }
+        ensures book { IsBook S.Kept.tree S.Id.id self.new }
         ensures steps { Steps (tenant_of self.old) (request.Local name) (reply_of result) (tenant_of self.new) }
     {
         let task = self.live_task(&name)?;
         self.check_room()?;
-        Ok(self.alone(name, Kind::Local, task, TaskState::Live)?)
+        self.seed(rt, share)?;
+        Ok(self.alone(rt, share, name, Kind::Local, task, TaskState::Live)?)
     }
 
     /// Reports that the task sends the message.
-    pub(crate) fn send(&mut self, name: Name, message: Name) -> Result<u64, Code>
-        requires { IsBook self.old }
-        ensures book { IsBook self.new }
+    pub(crate) fn send<T>(
+        &mut self,
+        rt: &T,
+        share: &S,
+        name: Name,
+        message: Name,
+    ) -> Result<u64, Code>
+        requires { IsBook S.Kept.tree S.Id.id self.old }
+        ensures book { IsBook S.Kept.tree S.Id.id self.new }
         ensures steps { Steps (tenant_of self.old) (request.Send name message) (reply_of result) (tenant_of self.new) }
     {
         let task = self.live_task(&name)?;
         self.check_message(&message)?;
         self.check_room()?;
-        Ok(self.sent(name, message, task)?)
+        self.seed(rt, share)?;
+        Ok(self.sent(rt, share, name, message, task)?)
     }
 
     /// Reports that the task receives the message.
-    pub(crate) fn receive(&mut self, name: Name, message: Name) -> Result<u64, Code>
-        requires { IsBook self.old }
-        ensures book { IsBook self.new }
+    pub(crate) fn receive<T>(
+        &mut self,
+        rt: &T,
+        share: &S,
+        name: Name,
+        message: Name,
+    ) -> Result<u64, Code>
+        requires { IsBook S.Kept.tree S.Id.id self.old }
+        ensures book { IsBook S.Kept.tree S.Id.id self.new }
         ensures steps { Steps (tenant_of self.old) (request.Recv name message) (reply_of result) (tenant_of self.new) }
     {
         let task = self.live_task(&name)?;
         let sent = self.sent_message(&message)?;
         self.check_room()?;
-        Ok(self.received(name, message, task, sent)?)
+        self.seed(rt, share)?;
+        Ok(self.received(rt, share, name, message, task, sent)?)
     }
 
     /// Reports that the task ends; its id stays with it.
-    pub(crate) fn end(&mut self, name: Name) -> Result<u64, Code>
-        requires { IsBook self.old }
-        ensures book { IsBook self.new }
+    pub(crate) fn end<T>(&mut self, rt: &T, share: &S, name: Name) -> Result<u64, Code>
+        requires { IsBook S.Kept.tree S.Id.id self.old }
+        ensures book { IsBook S.Kept.tree S.Id.id self.new }
         ensures steps { Steps (tenant_of self.old) (request.End name) (reply_of result) (tenant_of self.new) }
     {
         let task = self.live_task(&name)?;
         self.check_room()?;
-        Ok(self.alone(name, Kind::End, task, TaskState::Ended)?)
+        self.seed(rt, share)?;
+        Ok(self.alone(rt, share, name, Kind::End, task, TaskState::Ended)?)
     }
 
     /// Reports that the task starts `child`.
-    pub(crate) fn spawn(&mut self, name: Name, child: Name) -> Result<u64, Code>
-        requires { IsBook self.old }
-        ensures book { IsBook self.new }
+    pub(crate) fn spawn<T>(
+        &mut self,
+        rt: &T,
+        share: &S,
+        name: Name,
+        child: Name,
+    ) -> Result<u64, Code>
+        requires { IsBook S.Kept.tree S.Id.id self.old }
+        ensures book { IsBook S.Kept.tree S.Id.id self.new }
         ensures steps { Steps (tenant_of self.old) (request.Spawn name child) (reply_of result) (tenant_of self.new) }
     {
         let task = self.live_task(&name)?;
         self.check_child(&child)?;
         self.check_room()?;
-        Ok(self.forked(name, child, task)?)
+        self.seed(rt, share)?;
+        Ok(self.forked(rt, share, name, child, task)?)
     }
 
     /// Reports that the task takes in `child`, which has ended.
-    pub(crate) fn join(&mut self, name: Name, child: Name) -> Result<u64, Code>
-        requires { IsBook self.old }
-        ensures book { IsBook self.new }
+    pub(crate) fn join<T>(
+        &mut self,
+        rt: &T,
+        share: &S,
+        name: Name,
+        child: Name,
+    ) -> Result<u64, Code>
+        requires { IsBook S.Kept.tree S.Id.id self.old }
+        ensures book { IsBook S.Kept.tree S.Id.id self.new }
         ensures steps { Steps (tenant_of self.old) (request.Join name child) (reply_of result) (tenant_of self.new) }
     {
         let task = self.live_task(&name)?;
         let joined = self.ended_task(&child)?;
         self.check_room()?;
-        Ok(self.summed(name, child, task, joined)?)
+        self.seed(rt, share)?;
+        Ok(self.summed(rt, share, name, child, task, joined)?)
     }
 
     /// Adds an event of a task that keeps its id, and leaves the task in this state.
-    fn alone(&mut self, name: Name, kind: Kind, task: Task, state: TaskState) -> Result<u64, Memory>
-        requires book { IsBook self.old }
+    fn alone<T>(
+        &mut self,
+        rt: &T,
+        share: &S,
+        name: Name,
+        kind: Kind,
+        task: Task,
+        state: TaskState,
+    ) -> Result<u64, Memory>
+        requires book { IsBook S.Kept.tree S.Id.id self.old }
+        requires seeded { 0 < length self.old.ids.items }
         requires task { task_in self.old name ≡ Some task }
         requires live { task.state ≡ TaskState.Live }
         requires kind { LeavesState kind state }
         requires room { length self.old.rows.items < self.old.limits.events }
-        ensures { Adds result self.old (row_after (history_of self.old.rows.items) name kind None) self.new }
+        ensures { Adds S.Kept.tree S.Id.id result self.old (row_after (history_of self.old.rows.items) name kind None) self.new }
     {
         self.few_events();
         can_be_written(&name);
         let row = self.next_row(name, kind, None, task.last, 0);
         let start = EvTree::leaf(0);
-        let tree = EvTree::event(
-            self.alloc,
-            &self.ids[task.id],
-            self.known(task.last, &start),
-        )?;
+        let tree = EvTree::event(self.alloc, self.id(task.id), self.known(task.last, &start))?;
+        let stored = share.keep_tree(rt, tree)?;
         self.reserve(0)?;
-        let last = self.add(row, tree, task.id);
+        let last = self.add(row, stored, task.id);
         let id = task.id;
         self.put(name, Task { state, last, id });
         Ok(last)
     }
 
     /// Adds the event with which the task sends the message.
-    fn sent(&mut self, name: Name, message: Name, task: Task) -> Result<u64, Memory>
-        requires book { IsBook self.old }
+    fn sent<T>(
+        &mut self,
+        rt: &T,
+        share: &S,
+        name: Name,
+        message: Name,
+        task: Task,
+    ) -> Result<u64, Memory>
+        requires book { IsBook S.Kept.tree S.Id.id self.old }
+        requires seeded { 0 < length self.old.ids.items }
         requires task { task_in self.old name ≡ Some task }
         requires live { task.state ≡ TaskState.Live }
         requires message { refusal_of_send self.old.messages message ≡ None }
         requires room { length self.old.rows.items < self.old.limits.events }
-        ensures { Adds result self.old (row_after (history_of self.old.rows.items) name Kind.Send (Some message)) self.new }
+        ensures { Adds S.Kept.tree S.Id.id result self.old (row_after (history_of self.old.rows.items) name Kind.Send (Some message)) self.new }
     {
         self.few_events();
         can_be_written(&name);
         can_be_written(&message);
         let row = self.next_row(name, Kind::Send, Some(message), task.last, 0);
         let start = EvTree::leaf(0);
-        let tree = EvTree::event(
-            self.alloc,
-            &self.ids[task.id],
-            self.known(task.last, &start),
-        )?;
+        let tree = EvTree::event(self.alloc, self.id(task.id), self.known(task.last, &start))?;
+        let stored = share.keep_tree(rt, tree)?;
         self.reserve(0)?;
         let next = self.event_count() + 1;
         if self.messages.send(message, next).is_err() {
             return Err(Memory);
         }
-        let last = self.add(row, tree, task.id);
+        let last = self.add(row, stored, task.id);
         self.put(name, Task { last, ..task });
         Ok(last)
     }
 
     /// Adds the event with which the task receives the message that the event `sent` sent.
-    fn received(&mut self, name: Name, message: Name, task: Task, sent: u64) -> Result<u64, Memory>
-        requires book { IsBook self.old }
+    fn received<T>(
+        &mut self,
+        rt: &T,
+        share: &S,
+        name: Name,
+        message: Name,
+        task: Task,
+        sent: u64,
+    ) -> Result<u64, Memory>
+        requires book { IsBook S.Kept.tree S.Id.id self.old }
+        requires seeded { 0 < length self.old.ids.items }
         requires task { task_in self.old name ≡ Some task }
         requires live { task.state ≡ TaskState.Live }
         requires message { refusal_of_receive self.old.messages message ≡ None }
         requires sent { sent ≡ send_event (history_of self.old.rows.items) message }
         requires room { length self.old.rows.items < self.old.limits.events }
-        ensures { Adds result self.old (row_after (history_of self.old.rows.items) name Kind.Recv (Some message)) self.new }
+        ensures { Adds S.Kept.tree S.Id.id result self.old (row_after (history_of self.old.rows.items) name Kind.Recv (Some message)) self.new }
     {
         self.few_events();
         can_be_written(&name);
@@ -378,40 +436,48 @@ impl Book {
         let known = self
             .known(task.last, &start)
             .join(self.alloc, self.known(sent, &start))?;
-        let tree = EvTree::event(self.alloc, &self.ids[task.id], &known)?;
+        let tree = EvTree::event(self.alloc, self.id(task.id), &known)?;
+        let stored = share.keep_tree(rt, tree)?;
         self.reserve(0)?;
         let next = self.event_count() + 1;
         self.messages.receive(&message, next).unwrap();
-        let last = self.add(row, tree, task.id);
+        let last = self.add(row, stored, task.id);
         self.put(name, Task { last, ..task });
         Ok(last)
     }
 
     /// Adds the event with which the task starts `child`.
-    fn forked(&mut self, name: Name, child: Name, task: Task) -> Result<u64, Memory>
-        requires book { IsBook self.old }
+    fn forked<T>(
+        &mut self,
+        rt: &T,
+        share: &S,
+        name: Name,
+        child: Name,
+        task: Task,
+    ) -> Result<u64, Memory>
+        requires book { IsBook S.Kept.tree S.Id.id self.old }
+        requires seeded { 0 < length self.old.ids.items }
         requires task { task_in self.old name ≡ Some task }
         requires live { task.state ≡ TaskState.Live }
         requires child { task_in self.old child ≡ None }
         requires few { index_map_len self.old.tasks < self.old.limits.tasks }
         requires room { length self.old.rows.items < self.old.limits.events }
-        ensures { Adds result self.old (row_after (history_of self.old.rows.items) name Kind.Spawn (Some child)) self.new }
+        ensures { Adds S.Kept.tree S.Id.id result self.old (row_after (history_of self.old.rows.items) name Kind.Spawn (Some child)) self.new }
     {
         self.few_events();
         can_be_written(&name);
         can_be_written(&child);
         let row = self.next_row(name, Kind::Spawn, Some(child), task.last, 0);
         let start = EvTree::leaf(0);
-        let tree = EvTree::event(
-            self.alloc,
-            &self.ids[task.id],
-            self.known(task.last, &start),
-        )?;
-        let (kept, given) = self.ids[task.id].split(self.alloc)?;
+        let tree = EvTree::event(self.alloc, self.id(task.id), self.known(task.last, &start))?;
+        let (kept, given) = self.id(task.id).split(self.alloc)?;
+        let stored = share.keep_tree(rt, tree)?;
+        let kept_id = share.keep_id(rt, kept)?;
+        let given_id = share.keep_id(rt, given)?;
         self.reserve(1)?;
-        let kept = self.add_id(kept);
-        let given = self.add_id(given);
-        let last = self.add(row, tree, kept);
+        let kept = self.add_id(kept_id);
+        let given = self.add_id(given_id);
+        let last = self.add(row, stored, kept);
         let started = Task {
             state: TaskState::Live,
             last,
@@ -424,28 +490,39 @@ impl Book {
     }
 
     /// Adds the event with which the task takes in `child`.
-    fn summed(&mut self, name: Name, child: Name, task: Task, joined: Task) -> Result<u64, Memory>
-        requires book { IsBook self.old }
+    fn summed<T>(
+        &mut self,
+        rt: &T,
+        share: &S,
+        name: Name,
+        child: Name,
+        task: Task,
+        joined: Task,
+    ) -> Result<u64, Memory>
+        requires book { IsBook S.Kept.tree S.Id.id self.old }
+        requires seeded { 0 < length self.old.ids.items }
         requires task { task_in self.old name ≡ Some task }
         requires live { task.state ≡ TaskState.Live }
         requires child { task_in self.old child ≡ Some joined }
         requires ended { joined.state ≡ TaskState.Ended }
         requires room { length self.old.rows.items < self.old.limits.events }
-        ensures { Adds result self.old (row_after (history_of self.old.rows.items) name Kind.Join (Some child)) self.new }
+        ensures { Adds S.Kept.tree S.Id.id result self.old (row_after (history_of self.old.rows.items) name Kind.Join (Some child)) self.new }
     {
         self.few_events();
         can_be_written(&name);
         can_be_written(&child);
         let row = self.next_row(name, Kind::Join, Some(child), task.last, joined.last);
-        let id = self.ids[task.id].sum(self.alloc, &self.ids[joined.id])?;
+        let id = self.id(task.id).sum(self.alloc, self.id(joined.id))?;
         let start = EvTree::leaf(0);
         let known = self
             .known(task.last, &start)
             .join(self.alloc, self.known(joined.last, &start))?;
         let tree = EvTree::event(self.alloc, &id, &known)?;
+        let stored = share.keep_tree(rt, tree)?;
+        let sum_id = share.keep_id(rt, id)?;
         self.reserve(0)?;
-        let id = self.add_id(id);
-        let last = self.add(row, tree, id);
+        let id = self.add_id(sum_id);
+        let last = self.add(row, stored, id);
         self.put(name, Task { last, id, ..task });
         let state = TaskState::Joined;
         self.put(child, Task { state, ..joined });
@@ -474,12 +551,26 @@ impl Book {
 
     /// What the event knows; before any event that is `start`.
     fn known<'a>(&'a self, event: u64, start: &'a EvTree) -> &'a EvTree
-        requires book { IsBook self.now }
+        requires book { IsBook S.Kept.tree S.Id.id self.now }
         requires event { event ≤ length self.now.rows.items }
         requires start { start.now ≡ Leaf 0 }
         ensures { result.now ≡ tree_of tree_clock (history_of self.now.rows.items) event }
     {
         if event == 0 { start } else { self.tree(event) }
+    }
+
+    /// Keeps the id of `root`, unless that was done. It changes nothing else.
+    fn seed<T>(&mut self, rt: &T, share: &S) -> Result<(), Memory>
+        requires { IsBook S.Kept.tree S.Id.id self.old }
+        ensures book { IsBook S.Kept.tree S.Id.id self.new }
+        ensures seeded { OnOk result (0 < length self.new.ids.items) }
+        ensures others { self.new ≡ record self.old { ids = self.new.ids } }
+    {
+        if self.ids.is_empty() {
+            let id = share.keep_id(rt, IdTree::one())?;
+            self.ids.push(id)?;
+        }
+        Ok(())
     }
 
     /// Makes room for one event, for its ids and for so many new tasks. It changes nothing else.
@@ -496,7 +587,7 @@ impl Book {
     }
 
     /// Adds an id, for which there is room, and gives its place.
-    fn add_id(&mut self, id: IdTree) -> usize
+    fn add_id(&mut self, id: S::Id) -> usize
         requires { vec_len self.old.ids < vec_capacity self.old.ids }
         ensures place { result ≡ length self.old.ids.items }
         ensures ids { self.new.ids.items ≡ self.old.ids.items ++ id ∷ [] }
@@ -509,7 +600,7 @@ impl Book {
     }
 
     /// Adds an event, for which there is room, and gives its number.
-    fn add(&mut self, row: Row, tree: EvTree, place: usize) -> u64
+    fn add(&mut self, row: Row, tree: S::Kept, place: usize) -> u64
         requires rows { vec_len self.old.rows < vec_capacity self.old.rows }
         requires trees { vec_len self.old.trees < vec_capacity self.old.trees }
         requires places { vec_len self.old.places < vec_capacity self.old.places }

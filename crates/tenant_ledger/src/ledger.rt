@@ -9,19 +9,20 @@ ghost use Rattle.event_tree.specs.Comparison.{StandsAs};
 ghost use Rattle.tenant_ledger.specs.Ledger.{reply_of, code_of};
 
 use crate::book::Book;
-use crate::laws;
+use crate::share::{MeantId, Share, Through};
+use crate::{PlainShare, laws};
 use std::alloc::Global;
 use std::marker::Model;
-use trace_query::{Plain, QueryFault, concurrent_with, order, past};
+use trace_query::{Compare, Meant, QueryFault, concurrent_with, order, past};
 use trace_types::{Code, Limits, Memory, Name, Numbers, Reply, Request, Row};
 
-/// What one tenant has reported.
+/// What one tenant has reported. Its ids and trees are kept by a share, the same in each call.
 #[derive(Drop)]
-pub struct Ledger {
-    book: Book,
+pub struct Ledger<S: Share = PlainShare> {
+    book: Book<S>,
 }
 
-impl Model for Ledger {
+impl<S: Share> Model for Ledger<S> {
     ghost use Rattle.trace_types.specs.Tenant.{Tenant};
     ghost use Rattle.tenant_ledger.specs.Ledger.{IsBook, tenant_of};
 
@@ -29,12 +30,12 @@ impl Model for Ledger {
 
     ghost view = { λ l. tenant_of l.book };
 
-    ghost invariant = { λ l. IsBook l.book };
+    ghost invariant = { λ l. IsBook S.Kept.tree S.Id.id l.book };
 }
 
-impl Ledger {
+impl<S: Share> Ledger<S> {
     /// The ledger of a tenant that has reported nothing.
-    pub fn new(alloc: Global, limits: Limits) -> Result<Ledger, Memory>
+    pub fn new(alloc: Global, limits: Limits) -> Result<Ledger<S>, Memory>
         ensures ledger { IfOk result (λ ledger. ledger ≡ fresh limits) }
     {
         Ok(Ledger {
@@ -75,16 +76,16 @@ impl Ledger {
     /// A request is refused with the first code that applies of those that `refusals` of `trace_types` has for it, and
     /// last with `NoMemory` (507), where a request for memory was refused: a report, `past`, `concurrent` or `stamp`. A
     /// refused request changes nothing.
-    pub fn report(&mut self, request: &Request) -> Reply
+    pub fn report<T>(&mut self, rt: &T, share: &S, request: &Request) -> Reply
         ensures { Steps self.old request.now result self.new }
     {
         match *request {
-            Request::Local(task) => accepted(self.book.local(task)),
-            Request::Spawn(task, child) => accepted(self.book.spawn(task, child)),
-            Request::Send(task, message) => accepted(self.book.send(task, message)),
-            Request::Recv(task, message) => accepted(self.book.receive(task, message)),
-            Request::End(task) => accepted(self.book.end(task)),
-            Request::Join(task, child) => accepted(self.book.join(task, child)),
+            Request::Local(task) => accepted(self.book.local(rt, share, task)),
+            Request::Spawn(task, child) => accepted(self.book.spawn(rt, share, task, child)),
+            Request::Send(task, message) => accepted(self.book.send(rt, share, task, message)),
+            Request::Recv(task, message) => accepted(self.book.receive(rt, share, task, message)),
+            Request::End(task) => accepted(self.book.end(rt, share, task)),
+            Request::Join(task, child) => accepted(self.book.join(rt, share, task, child)),
             Request::Order(..)
             | Request::Past(_)
             | Request::Concurrent(_)
@@ -92,13 +93,13 @@ impl Ledger {
             | Request::Stamp(_)
             | Request::Task(_)
             | Request::Message(_)
-            | Request::Count => self.ask(request),
+            | Request::Count => self.ask(&Through { rt, share }, request),
         }
     }
 
     /// Answers a query as [`Ledger::report`] does, and refuses every report with `ViewOnly` (410). Only `past`,
     /// `concurrent` and `stamp` take memory, and may be refused with `NoMemory` (507).
-    pub fn ask(&self, request: &Request) -> Reply
+    pub fn ask<C: Compare<Kept = S::Kept>>(&self, compare: &C, request: &Request) -> Reply
         ensures { Answers self.now request.now result }
     {
         match *request {
@@ -108,9 +109,9 @@ impl Ledger {
             | Request::Recv(..)
             | Request::End(_)
             | Request::Join(..) => Reply::Refused(Code::ViewOnly),
-            Request::Order(first, second) => self.order(first, second),
-            Request::Past(event) => self.past(event),
-            Request::Concurrent(event) => self.concurrent_with(event),
+            Request::Order(first, second) => self.order(compare, first, second),
+            Request::Past(event) => self.past(compare, event),
+            Request::Concurrent(event) => self.concurrent_with(compare, event),
             Request::Event(event) => self.event(event),
             Request::Stamp(event) => self.stamp(event),
             Request::Task(name) => self.task(&name),
@@ -124,27 +125,27 @@ impl Ledger {
     }
 
     /// How the first event stands to the second, by the trees kept for them.
-    fn order(&self, first: u64, second: u64) -> Reply
+    fn order<C: Compare<Kept = S::Kept>>(&self, compare: &C, first: u64, second: u64) -> Reply
         ensures { result ≡ reply_to_view self.now (Request.Order first second) }
     {
-        match order(&Plain, self.book.trees(), first, second) {
+        match order(compare, self.book.trees(), first, second) {
             Ok(order) => Reply::Ordering(order),
             Err(fault) => Reply::Refused(code_of(fault)),
         }
     }
 
     /// The other events that reach the event, by the trees kept for them.
-    fn past(&self, event: u64) -> Reply
+    fn past<C: Compare<Kept = S::Kept>>(&self, compare: &C, event: u64) -> Reply
         ensures { Answers self.now (Request.Past event) result }
     {
-        listed(past(&Plain, self.book.alloc(), self.book.trees(), event))
+        listed(past(compare, self.book.alloc(), self.book.trees(), event))
     }
 
     /// The events that neither reach the event nor are reached from it, by the trees kept for them.
-    fn concurrent_with(&self, event: u64) -> Reply
+    fn concurrent_with<C: Compare<Kept = S::Kept>>(&self, compare: &C, event: u64) -> Reply
         ensures { Answers self.now (Request.Concurrent event) result }
     {
-        listed(concurrent_with(&Plain, self.book.alloc(), self.book.trees(), event))
+        listed(concurrent_with(compare, self.book.alloc(), self.book.trees(), event))
     }
 
     /// The row of the event.

@@ -7,5 +7,9 @@
 mod book;
 pub mod laws;
 mod ledger;
+mod plain_share;
+mod share;
 
 pub use ledger::Ledger;
+pub use plain_share::PlainShare;
+pub use share::{MeantId, Share};

@@ -6,7 +6,7 @@ ghost use Rattle.trace_types.specs.World.{StepsOne, IsAfter, IsDue};
 
 use std::alloc::Global;
 use std::marker::Model;
-use tenant_ledger::Ledger;
+use tenant_ledger::{Ledger, PlainShare};
 use trace_types::{Limits, Memory, Name, Reply, Request, WorldFault};
 
 /// All tenants: their names, the limits that each of them has by itself, and what each has reported.
@@ -82,15 +82,14 @@ impl World {
         ensures step { StepsOne self.old tenant request.now result self.new }
         ensures due { IsDue self.old tenant request.now result self.new }
     {
-        let _ = rt;
-        self.report(tenant, request)
+        self.report(rt, tenant, request)
     }
 
-    fn report(&mut self, tenant: usize, request: &Request) -> Reply
+    fn report<R>(&mut self, rt: &R, tenant: usize, request: &Request) -> Reply
         requires { tenant < length self.old.tenants }
         ensures { StepsOne self.old tenant request.now result self.new }
     {
-        self.ledgers[tenant].report(request)
+        self.ledgers[tenant].report(rt, &PlainShare, request)
     }
 }
 

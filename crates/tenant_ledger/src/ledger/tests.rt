@@ -1,4 +1,7 @@
 use super::*;
+use event_tree::EvTree;
+use id_tree::IdTree;
+use std::cell::Cell;
 use std::process::Abort;
 use std::test::Fail;
 use trace_types::{Kind, Order, Preds, Receipts, TaskState, Text};
@@ -49,7 +52,7 @@ fn is_query(request: Request) -> bool {
 
 #[test]
 fn one_task_is_answered_by_its_own_events_in_their_order(rt: HostRuntime) -> Result<(), Fail> {
-    let mut ledger = Ledger::new(rt.alloc(), Limits::default())?;
+    let mut ledger = Ledger::<PlainShare>::new(rt.alloc(), Limits::default())?;
     for (request, reply) in [
         (Request::Count, Reply::Count(0, 1, 0)),
         (local(&rt, "root"), Reply::Accepted(1)),
@@ -63,13 +66,17 @@ fn one_task_is_answered_by_its_own_events_in_their_order(rt: HostRuntime) -> Res
         (local(&rt, "q"), Reply::Refused(Code::NoTask)),
         (Request::Count, Reply::Count(2, 1, 0)),
     ] {
-        assert_eq!(rt; ledger.report(&request), reply, "{request:?}");
+        assert_eq!(rt;
+            ledger.report(&rt, &PlainShare, &request),
+            reply,
+            "{request:?}"
+        );
         let asked = if is_query(request) {
             reply
         } else {
             Reply::Refused(Code::ViewOnly)
         };
-        assert_eq!(rt; ledger.ask(&request), asked, "{request:?}");
+        assert_eq!(rt; ledger.ask(&PlainShare, &request), asked, "{request:?}");
     }
     Ok(())
 }
@@ -77,7 +84,7 @@ fn one_task_is_answered_by_its_own_events_in_their_order(rt: HostRuntime) -> Res
 #[test]
 fn a_tenant_with_all_its_events_takes_no_more(rt: HostRuntime) -> Result<(), Fail> {
     let limits = Limits::read(2, 1, 1).ok_or("limits")?;
-    let mut ledger = Ledger::new(rt.alloc(), limits)?;
+    let mut ledger = Ledger::<PlainShare>::new(rt.alloc(), limits)?;
     for (request, reply) in [
         (local(&rt, "root"), Reply::Accepted(1)),
         (local(&rt, "root"), Reply::Accepted(2)),
@@ -85,7 +92,11 @@ fn a_tenant_with_all_its_events_takes_no_more(rt: HostRuntime) -> Result<(), Fai
         (local(&rt, "q"), Reply::Refused(Code::NoTask)),
         (Request::Count, Reply::Count(2, 1, 0)),
     ] {
-        assert_eq!(rt; ledger.report(&request), reply, "{request:?}");
+        assert_eq!(rt;
+            ledger.report(&rt, &PlainShare, &request),
+            reply,
+            "{request:?}"
+        );
     }
     Ok(())
 }
@@ -105,9 +116,12 @@ fn family(rt: &impl Abort) -> [Request; 7] {
 
 #[test]
 fn tasks_are_ordered_by_what_they_started_and_joined(rt: HostRuntime) -> Result<(), Fail> {
-    let mut ledger = Ledger::new(rt.alloc(), Limits::default())?;
+    let mut ledger = Ledger::<PlainShare>::new(rt.alloc(), Limits::default())?;
     for (report, event) in family(&rt).iter().zip([1, 2, 3, 4, 5, 6, 7]) {
-        assert_eq!(rt; ledger.report(report), Reply::Accepted(event));
+        assert_eq!(rt;
+            ledger.report(&rt, &PlainShare, report),
+            Reply::Accepted(event)
+        );
     }
     for (query, reply) in [
         (Request::Order(3, 4), Reply::Ordering(Order::Concurrent)),
@@ -121,8 +135,12 @@ fn tasks_are_ordered_by_what_they_started_and_joined(rt: HostRuntime) -> Result<
         (task(&rt, "c"), Reply::Refused(Code::NoTask)),
         (Request::Count, Reply::Count(7, 3, 0)),
     ] {
-        assert_eq!(rt; ledger.report(&query), reply, "{query:?}");
-        assert_eq!(rt; ledger.ask(&query), reply, "a view of {query:?}");
+        assert_eq!(rt; ledger.report(&rt, &PlainShare, &query), reply, "{query:?}");
+        assert_eq!(rt;
+            ledger.ask(&PlainShare, &query),
+            reply,
+            "a view of {query:?}"
+        );
     }
     Ok(())
 }
@@ -131,9 +149,9 @@ fn tasks_are_ordered_by_what_they_started_and_joined(rt: HostRuntime) -> Result<
 fn a_row_follows_the_last_events_of_its_task_and_of_the_one_it_joins(
     rt: HostRuntime,
 ) -> Result<(), Fail> {
-    let mut ledger = Ledger::new(rt.alloc(), Limits::default())?;
+    let mut ledger = Ledger::<PlainShare>::new(rt.alloc(), Limits::default())?;
     for report in family(&rt).iter() {
-        let _ = ledger.report(report);
+        let _ = ledger.report(&rt, &PlainShare, report);
     }
     let follows: [&[u64]; 7] = [&[], &[1], &[1], &[2], &[2], &[3, 4], &[5, 6]];
     assert_eq!(rt; ledger.rows().len(), follows.len());
@@ -146,7 +164,7 @@ fn a_row_follows_the_last_events_of_its_task_and_of_the_one_it_joins(
 #[test]
 fn a_report_is_refused_with_the_first_code_that_is_due(rt: HostRuntime) -> Result<(), Fail> {
     let limits = Limits::read(3, 2, 1).ok_or("limits")?;
-    let mut ledger = Ledger::new(rt.alloc(), limits)?;
+    let mut ledger = Ledger::<PlainShare>::new(rt.alloc(), limits)?;
     for (request, reply) in [
         (spawn(&rt, "root", "root"), Reply::Refused(Code::TaskExists)),
         (join(&rt, "root", "root"), Reply::Refused(Code::NotEnded)),
@@ -164,16 +182,20 @@ fn a_report_is_refused_with_the_first_code_that_is_due(rt: HostRuntime) -> Resul
         (end(&rt, "root"), Reply::Refused(Code::EventsFull)),
         (Request::Count, Reply::Count(3, 2, 0)),
     ] {
-        assert_eq!(rt; ledger.report(&request), reply, "{request:?}");
+        assert_eq!(rt;
+            ledger.report(&rt, &PlainShare, &request),
+            reply,
+            "{request:?}"
+        );
     }
     Ok(())
 }
 
 #[test]
 fn a_stamp_is_the_id_of_the_task_and_what_the_event_knows(rt: HostRuntime) -> Result<(), Fail> {
-    let mut ledger = Ledger::new(rt.alloc(), Limits::default())?;
+    let mut ledger = Ledger::<PlainShare>::new(rt.alloc(), Limits::default())?;
     for report in family(&rt).iter() {
-        let _ = ledger.report(report);
+        let _ = ledger.report(&rt, &PlainShare, report);
     }
     for (event, stamp) in [
         (5, "[(0,(1,0));(1,0,(1,1,0))]"),
@@ -181,7 +203,10 @@ fn a_stamp_is_the_id_of_the_task_and_what_the_event_knows(rt: HostRuntime) -> Re
         (7, "[1;4]"),
     ] {
         let text = Text::from(stamp.as_bytes().to_vec(rt.alloc())?);
-        assert_eq!(rt; ledger.ask(&Request::Stamp(event)), Reply::Stamp(text));
+        assert_eq!(rt;
+            ledger.ask(&PlainShare, &Request::Stamp(event)),
+            Reply::Stamp(text)
+        );
     }
     Ok(())
 }
@@ -208,9 +233,12 @@ fn listed(reply: &Reply) -> Option<&[u64]> {
 
 #[test]
 fn a_message_carries_what_its_send_knows(rt: HostRuntime) -> Result<(), Fail> {
-    let mut ledger = Ledger::new(rt.alloc(), Limits::default())?;
+    let mut ledger = Ledger::<PlainShare>::new(rt.alloc(), Limits::default())?;
     for (report, event) in talk(&rt).iter().zip([1, 2, 3, 4, 5, 6]) {
-        assert_eq!(rt; ledger.report(report), Reply::Accepted(event));
+        assert_eq!(rt;
+            ledger.report(&rt, &PlainShare, report),
+            Reply::Accepted(event)
+        );
     }
     for (query, events) in [
         (Request::Past(6), &[1, 2, 3, 4, 5][..]),
@@ -218,8 +246,16 @@ fn a_message_carries_what_its_send_knows(rt: HostRuntime) -> Result<(), Fail> {
         (Request::Concurrent(4), &[3, 5]),
         (Request::Concurrent(6), &[]),
     ] {
-        assert_eq!(rt; listed(&ledger.report(&query)), Some(events), "{query:?}");
-        assert_eq!(rt; listed(&ledger.ask(&query)), Some(events), "{query:?}");
+        assert_eq!(rt;
+            listed(&ledger.report(&rt, &PlainShare, &query)),
+            Some(events),
+            "{query:?}"
+        );
+        assert_eq!(rt;
+            listed(&ledger.ask(&PlainShare, &query)),
+            Some(events),
+            "{query:?}"
+        );
     }
     for (query, reply) in [
         (Request::Order(3, 6), Reply::Ordering(Order::Before)),
@@ -229,31 +265,44 @@ fn a_message_carries_what_its_send_knows(rt: HostRuntime) -> Result<(), Fail> {
         (Request::Event(7), Reply::Refused(Code::NoEvent)),
         (Request::Count, Reply::Count(6, 2, 1)),
     ] {
-        assert_eq!(rt; ledger.report(&query), reply, "{query:?}");
-        assert_eq!(rt; ledger.ask(&query), reply, "a view of {query:?}");
+        assert_eq!(rt; ledger.report(&rt, &PlainShare, &query), reply, "{query:?}");
+        assert_eq!(rt;
+            ledger.ask(&PlainShare, &query),
+            reply,
+            "a view of {query:?}"
+        );
     }
     Ok(())
 }
 
 #[test]
 fn an_event_and_a_message_are_told_as_they_were_reported(rt: HostRuntime) -> Result<(), Fail> {
-    let mut ledger = Ledger::new(rt.alloc(), Limits::default())?;
+    let mut ledger = Ledger::<PlainShare>::new(rt.alloc(), Limits::default())?;
     for report in talk(&rt).iter() {
-        let _ = ledger.report(report);
+        let _ = ledger.report(&rt, &PlainShare, report);
     }
     let mut receipts = Receipts::none(rt.alloc());
     receipts.add(6);
     let message = Request::Message(name(&rt, "m"));
-    assert_eq!(rt; ledger.ask(&message), Reply::Message(5, receipts));
+    assert_eq!(rt;
+        ledger.ask(&PlainShare, &message),
+        Reply::Message(5, receipts)
+    );
     let unknown = Request::Message(name(&rt, "q"));
-    assert_eq!(rt; ledger.ask(&unknown), Reply::Refused(Code::NoMessage));
+    assert_eq!(rt;
+        ledger.ask(&PlainShare, &unknown),
+        Reply::Refused(Code::NoMessage)
+    );
     let row = Row {
         task: Name::root(),
         kind: Kind::Recv,
         name: Name::read(b"m"),
         preds: Preds::of(rt.alloc(), &[4, 5]),
     };
-    assert_eq!(rt; ledger.ask(&Request::Event(6)), Reply::Event(row));
+    assert_eq!(rt;
+        ledger.ask(&PlainShare, &Request::Event(6)),
+        Reply::Event(row)
+    );
     Ok(())
 }
 
@@ -262,7 +311,7 @@ fn a_send_or_receive_is_refused_with_the_first_code_that_is_due(
     rt: HostRuntime,
 ) -> Result<(), Fail> {
     let limits = Limits::read(4, 2, 1).ok_or("limits")?;
-    let mut ledger = Ledger::new(rt.alloc(), limits)?;
+    let mut ledger = Ledger::<PlainShare>::new(rt.alloc(), limits)?;
     for (request, reply) in [
         (recv(&rt, "root", "m"), Reply::Refused(Code::NoMessage)),
         (send(&rt, "a", "m"), Reply::Refused(Code::NoTask)),
@@ -286,17 +335,24 @@ fn a_send_or_receive_is_refused_with_the_first_code_that_is_due(
         (local(&rt, "root"), Reply::Refused(Code::EventsFull)),
         (Request::Count, Reply::Count(4, 2, 1)),
     ] {
-        assert_eq!(rt; ledger.report(&request), reply, "{request:?}");
+        assert_eq!(rt;
+            ledger.report(&rt, &PlainShare, &request),
+            reply,
+            "{request:?}"
+        );
     }
     Ok(())
 }
 
 #[test]
 fn each_row_follows_the_row_before_it_and_no_other(rt: HostRuntime) -> Result<(), Fail> {
-    let mut ledger = Ledger::new(rt.alloc(), Limits::default())?;
+    let mut ledger = Ledger::<PlainShare>::new(rt.alloc(), Limits::default())?;
     let report = local(&rt, "root");
     for event in 1..4 {
-        assert_eq!(rt; ledger.report(&report), Reply::Accepted(event));
+        assert_eq!(rt;
+            ledger.report(&rt, &PlainShare, &report),
+            Reply::Accepted(event)
+        );
     }
     assert_eq!(rt; ledger.rows().len(), 3);
     for (row, preds) in ledger.rows().iter().zip([&[][..], &[1], &[2]]) {
@@ -311,17 +367,17 @@ fn each_row_follows_the_row_before_it_and_no_other(rt: HostRuntime) -> Result<()
 /// It passes also where an allocation fails once the ledger is made.
 #[test]
 fn a_report_that_finds_no_memory_counts_as_not_asked(rt: HostRuntime) -> Result<(), Fail> {
-    let mut ledger = Ledger::new(rt.alloc(), Limits::default())?;
+    let mut ledger = Ledger::<PlainShare>::new(rt.alloc(), Limits::default())?;
     let report = local(&rt, "root");
     for _ in 0..9 {
         let mut events = ledger.rows().len();
-        let reply = ledger.report(&report);
+        let reply = ledger.report(&rt, &PlainShare, &report);
         if reply != Reply::Refused(Code::NoMemory) {
             events += 1;
             assert_eq!(rt; reply, Reply::Accepted(events as u64));
         }
         assert_eq!(rt;
-            ledger.report(&Request::Count),
+            ledger.report(&rt, &PlainShare, &Request::Count),
             Reply::Count(events as u64, 1, 0)
         );
         assert_eq!(rt; ledger.rows().len(), events);
@@ -329,32 +385,144 @@ fn a_report_that_finds_no_memory_counts_as_not_asked(rt: HostRuntime) -> Result<
     Ok(())
 }
 
+/// The reply to the request, which is made again where it finds no memory.
+fn report_again<T>(rt: &T, ledger: &mut Ledger, request: &Request) -> Reply {
+    match ledger.report(rt, &PlainShare, request) {
+        Reply::Refused(Code::NoMemory) => ledger.report(rt, &PlainShare, request),
+        reply => reply,
+    }
+}
+
 /// It passes also where an allocation fails once the ledger is made.
 #[test]
 fn a_spawn_or_join_that_finds_no_memory_changes_nothing(rt: HostRuntime) -> Result<(), Fail> {
-    let mut ledger = Ledger::new(rt.alloc(), Limits::default())?;
+    let mut ledger = Ledger::<PlainShare>::new(rt.alloc(), Limits::default())?;
     for (report, event) in family(&rt).iter().zip([1, 2, 3, 4, 5, 6, 7]) {
-        let mut reply = ledger.report(report);
-        if reply == Reply::Refused(Code::NoMemory) {
-            reply = ledger.report(report);
-        }
+        let reply = report_again(&rt, &mut ledger, report);
         assert_eq!(rt; reply, Reply::Accepted(event), "{report:?}");
     }
-    assert_eq!(rt; ledger.ask(&Request::Count), Reply::Count(7, 3, 0));
+    assert_eq!(rt;
+        ledger.ask(&PlainShare, &Request::Count),
+        Reply::Count(7, 3, 0)
+    );
     Ok(())
 }
 
 /// It passes also where an allocation fails once the ledger is made.
 #[test]
 fn a_send_or_receive_that_finds_no_memory_changes_nothing(rt: HostRuntime) -> Result<(), Fail> {
-    let mut ledger = Ledger::new(rt.alloc(), Limits::default())?;
+    let mut ledger = Ledger::<PlainShare>::new(rt.alloc(), Limits::default())?;
     for (report, event) in talk(&rt).iter().zip([1, 2, 3, 4, 5, 6]) {
-        let mut reply = ledger.report(report);
-        if reply == Reply::Refused(Code::NoMemory) {
-            reply = ledger.report(report);
-        }
+        let reply = report_again(&rt, &mut ledger, report);
         assert_eq!(rt; reply, Reply::Accepted(event), "{report:?}");
     }
-    assert_eq!(rt; ledger.ask(&Request::Count), Reply::Count(6, 2, 1));
+    assert_eq!(rt;
+        ledger.ask(&PlainShare, &Request::Count),
+        Reply::Count(6, 2, 1)
+    );
+    Ok(())
+}
+
+/// The ledger after the events of `talk`.
+fn after_talk<R: Abort + AllocGlobal>(rt: &R) -> Result<Ledger, Memory> {
+    let mut ledger = Ledger::<PlainShare>::new(rt.alloc(), Limits::default())?;
+    for report in talk(rt).iter() {
+        let _ = report_again(rt, &mut ledger, report);
+    }
+    Ok(ledger)
+}
+
+/// It passes also where an allocation fails once the ledger is made.
+#[test]
+fn a_list_that_finds_no_memory_changes_nothing(rt: HostRuntime) -> Result<(), Fail> {
+    let mut ledger = after_talk(&rt)?;
+    for (query, events) in [
+        (Request::Past(6), &[1, 2, 3, 4, 5][..]),
+        (Request::Concurrent(4), &[3, 5]),
+    ] {
+        assert_eq!(rt;
+            listed(&report_again(&rt, &mut ledger, &query)),
+            Some(events),
+            "{query:?}"
+        );
+    }
+    Ok(())
+}
+
+/// The text of a reply that gives a stamp.
+fn stamped(reply: &Reply) -> Option<&[u8]> {
+    match reply {
+        Reply::Stamp(text) => Some(text.as_bytes()),
+        _ => None,
+    }
+}
+
+/// It passes also where an allocation fails once the ledger is made.
+#[test]
+fn a_stamp_that_finds_no_memory_changes_nothing(rt: HostRuntime) -> Result<(), Fail> {
+    let mut ledger = after_talk(&rt)?;
+    assert_eq!(rt;
+        stamped(&report_again(&rt, &mut ledger, &Request::Stamp(6))),
+        Some(b"[(1,0);4]".as_slice())
+    );
+    Ok(())
+}
+
+/// Keeps ids and trees as they are, and counts how often it compares two.
+#[derive(Drop)]
+struct Counting {
+    compared: Cell<u64>,
+}
+
+impl Compare for Counting {
+    type Kept = EvTree;
+
+    fn order(&self, first: &EvTree, second: &EvTree) -> Order {
+        self.compared.set(self.compared.get().wrapping_add(1));
+        first.order(second)
+    }
+}
+
+impl Share for Counting {
+    type Id = IdTree;
+
+    fn keep_id<T>(&self, _rt: &T, id: IdTree) -> Result<IdTree, Memory> {
+        Ok(id)
+    }
+
+    fn keep_tree<T>(&self, _rt: &T, tree: EvTree) -> Result<EvTree, Memory> {
+        Ok(tree)
+    }
+
+    fn id_value(kept: &IdTree) -> &IdTree {
+        kept
+    }
+
+    fn tree_value(kept: &EvTree) -> &EvTree {
+        kept
+    }
+
+    fn order_kept<T>(&self, _rt: &T, first: &EvTree, second: &EvTree) -> Order {
+        self.order(first, second)
+    }
+}
+
+#[test]
+fn comparisons_are_counted(rt: HostRuntime) -> Result<(), Fail> {
+    let share = Counting {
+        compared: Cell::new(0),
+    };
+    let mut ledger = Ledger::<Counting>::new(rt.alloc(), Limits::default())?;
+    for (report, event) in talk(&rt).iter().zip([1, 2, 3, 4, 5, 6]) {
+        assert_eq!(rt; ledger.report(&rt, &share, report), Reply::Accepted(event));
+    }
+    for query in [Request::Order(3, 4), Request::Past(6)] {
+        let before = share.compared.get();
+        let _ = ledger.report(&rt, &share, &query);
+        let between = share.compared.get();
+        assert!(rt; before < between, "{query:?}");
+        let _ = ledger.ask(&share, &query);
+        assert!(rt; between < share.compared.get(), "a view of {query:?}");
+    }
     Ok(())
 }

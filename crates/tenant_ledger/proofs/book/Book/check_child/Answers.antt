@@ -6,7 +6,7 @@ use Rattle.tenant_ledger.proofs.States.{has_known}
 use Rattle.tenant_ledger.proofs.book.Book.check_child.Goals as goal
 
 pub returns-then-contains_key-clause-decides : goal.returns-then-contains_key-clause-decides
-returns-then-contains_key-clause-decides c =
+returns-then-contains_key-clause-decides g c =
     let book = c.args.self.now in
     let known : is_known (history_of book.rows.items) c.args.name.now ≡ true =
     sym (has_known book c.requires c.args.name.now) ∙ sym c.contains_key.ensures ∙ c.if-contains_key.true in
@@ -14,7 +14,7 @@ returns-then-contains_key-clause-decides c =
 
 pub returns-then-task_count-tasks-clause-decides :
     goal.returns-then-task_count-tasks-clause-decides
-returns-then-task_count-tasks-clause-decides c =
+returns-then-task_count-tasks-clause-decides g c =
     let book = c.args.self.now in
     let unknown : is_known (history_of book.rows.items) c.args.name.now ≡ false =
     sym (has_known book c.requires c.args.name.now) ∙ sym c.contains_key.ensures ∙ c.if-contains_key.false in
@@ -24,7 +24,7 @@ returns-then-task_count-tasks-clause-decides c =
 
 pub returns-else-task_count-tasks-clause-decides :
     goal.returns-else-task_count-tasks-clause-decides
-returns-else-task_count-tasks-clause-decides c =
+returns-else-task_count-tasks-clause-decides g c =
     let book = c.args.self.now in
     let unknown : is_known (history_of book.rows.items) c.args.name.now ≡ false =
     sym (has_known book c.requires c.args.name.now) ∙ sym c.contains_key.ensures ∙ c.if-contains_key.false in

@@ -4,7 +4,7 @@ use Rattle.tenant_ledger.proofs.States.{known_in, is_at_in}
 use Rattle.tenant_ledger.proofs.book.Book.ended_task.Goals as goal
 
 pub returns-in-Joined-clause-decides : goal.returns-in-Joined-clause-decides
-returns-in-Joined-clause-decides c =
+returns-in-Joined-clause-decides g c =
     let book = c.args.self.now in
     let found = c.in_ok-task.ensures.ok in
     let at = is_at_in book c.requires c.args.name.now c.in_ok-task.task found state.Joined c.in-Joined.is in

@@ -6,6 +6,6 @@ use Rattle.tenant_ledger.proofs.Events.{tree_of-nothing}
 use Rattle.tenant_ledger.proofs.book.Book.known.Goals as goal
 
 pub returns-then-event-eq0 : goal.returns-then-event-eq0
-returns-then-event-eq0 c =
+returns-then-event-eq0 g c =
     let history = history_of c.args.self.now.rows.items in
     c.requires.start ∙ sym (tree_of-nothing tree_clock history) ∙ ap (tree_of tree_clock history) (sym c.if-event-eq0.true)

@@ -5,7 +5,7 @@ use Rattle.tenant_ledger.proofs.States.{known_in, is_at_in}
 use Rattle.tenant_ledger.proofs.book.Book.live_task.Goals as goal
 
 pub returns-in-Ended : goal.returns-in-Ended
-returns-in-Ended c =
+returns-in-Ended g c =
     let book = c.args.self.now in
     let found = c.in_ok-task.ensures.ok in
     let ended : is_ended (history_of book.rows.items) c.args.name.now ≡ true = elim c.in-Ended.is [

@@ -1,42 +1,48 @@
-use Rattle.std.proofs.Common.{◌≡◌, [], Some, None, refl, ◌∙◌}
+use Rattle.std.proofs.Common.{◌≡◌, [], Some, None, Ok, Err, refl, ◌∙◌}
 use Rattle.trace_types.specs.Refusal.{refusal_of}
 use Rattle.trace_types.specs.Rows.{history_of}
 use Rattle.trace_types.specs.declared.request.Request.TheVariants as request
 use Rattle.trace_types.specs.declared.row.Kind.TheVariants.{Send}
-use Rattle.tenant_ledger.proofs.Answering.{room, new_message, refused, added, lacked}
+use Rattle.tenant_ledger.proofs.Answering.{room, new_message, refused, adds_seeded, added, lacked, lacked_seed}
 use Rattle.tenant_ledger.proofs.book.Book.send.Goals.{In_ok-check_room}
+use Rattle.tenant_ledger.proofs.book.Book.send.Given.{Over}
 use Rattle.tenant_ledger.proofs.book.Book.send.Goals as goal
 
-not_refused : (c : In_ok-check_room) → refusal_of c.args.self.now.limits (history_of c.args.self.now.rows.items) (request.Send c.args.name c.args.message) ≡ None
-not_refused c =
+not_refused : (g : Over) (c : In_ok-check_room g) → refusal_of c.args.self.now.limits (history_of c.args.self.now.rows.items) (request.Send c.args.name c.args.message) ≡ None
+not_refused g c =
     let book = c.args.self.now in
     c.in_ok-task.ensures.decides (new_message book c.args.message) ∙ c.in_ok-check_message.ensures.decides (room book) ∙ c.in_ok-check_room.ensures.decides []
 
 pub returns-in_err-task-clause-steps : goal.returns-in_err-task-clause-steps
-returns-in_err-task-clause-steps c =
+returns-in_err-task-clause-steps g c =
     let book = c.args.self.now in
     refused book (request.Send c.args.name c.args.message) _ c.from_residual.result c.from_residual.ensures.1
     (c.in_err-task.ensures.decides (new_message book c.args.message))
 
 pub returns-in_err-check_message-clause-steps : goal.returns-in_err-check_message-clause-steps
-returns-in_err-check_message-clause-steps c =
+returns-in_err-check_message-clause-steps g c =
     let book = c.args.self.now in
     refused book (request.Send c.args.name c.args.message) _ c.from_residual-in_err-check_message.result c.from_residual-in_err-check_message.ensures.1
     (c.in_ok-task.ensures.decides (new_message book c.args.message) ∙ c.in_err-check_message.ensures.decides (room book))
 
 pub returns-in_err-check_room-clause-steps : goal.returns-in_err-check_room-clause-steps
-returns-in_err-check_room-clause-steps c =
+returns-in_err-check_room-clause-steps g c =
     let book = c.args.self.now in
     refused book (request.Send c.args.name c.args.message) _ c.from_residual-in_err-check_room.result c.from_residual-in_err-check_room.ensures.1
     (c.in_ok-task.ensures.decides (new_message book c.args.message) ∙ c.in_ok-check_message.ensures.decides (room book) ∙ c.in_err-check_room.ensures.decides [])
 
+pub returns-in_err-seed-clause-steps : goal.returns-in_err-seed-clause-steps
+returns-in_err-seed-clause-steps g c =
+    lacked_seed c.args.self.now c.seed.new.self (request.Send c.args.name c.args.message) c.from_residual-in_err-seed.result c.seed.ensures.others refl
+    c.from_residual-in_err-seed.ensures.1 (not_refused g (goal.at.returns-in_err-seed-clause-steps g c).In_ok-check_room)
+
 pub returns-in_err-sent-clause-steps : goal.returns-in_err-sent-clause-steps
-returns-in_err-sent-clause-steps c =
+returns-in_err-sent-clause-steps g c =
     lacked c.args.self.now c.sent.new.self (request.Send c.args.name c.args.message) c.args.name Send (Some c.args.message) c.in_err-sent.field-0.0
     c.from_residual-in_err-sent.result refl c.from_residual-in_err-sent.ensures.1
-    (not_refused (goal.at.returns-in_err-sent-clause-steps c).In_ok-check_room) c.in_err-sent.ensures
+    (not_refused g (goal.at.returns-in_err-sent-clause-steps g c).In_ok-check_room) (adds_seeded g.S.Kept.Meant.tree g.S.Id.MeantId.id c.args.self.now c.seed.new.self c.sent.new.self c.seed.ensures.others (Err c.in_err-sent.field-0.0) c.args.name Send (Some c.args.message) c.in_err-sent.ensures)
 
 pub returns-clause-steps : goal.returns-clause-steps
-returns-clause-steps c =
+returns-clause-steps g c =
     added c.args.self.now c.sent.new.self (request.Send c.args.name c.args.message) c.args.name Send (Some c.args.message) c.in_ok-sent.field-0 refl
-    (not_refused (goal.at.returns-clause-steps c).In_ok-check_room) c.in_ok-sent.ensures
+    (not_refused g (goal.at.returns-clause-steps g c).In_ok-check_room) (adds_seeded g.S.Kept.Meant.tree g.S.Id.MeantId.id c.args.self.now c.seed.new.self c.sent.new.self c.seed.ensures.others (Ok c.in_ok-sent.field-0) c.args.name Send (Some c.args.message) c.in_ok-sent.ensures)

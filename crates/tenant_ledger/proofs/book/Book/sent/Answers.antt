@@ -1,4 +1,4 @@
-use Rattle.std.proofs.Common.{◌≡◌, suc, ◌+◌, false, cond, List, ◌∷◌, Some, length, refl, sym, ap, ◌∙◌, subst, arith}
+use Rattle.std.proofs.Common.{map, ◌≡◌, suc, ◌+◌, false, cond, List, ◌∷◌, Some, length, refl, sym, ap, ◌∙◌, subst, arith}
 use Rattle.std.proofs.lemmas.List.{length-reverse}
 use Rattle.indexmap.specs.IndexMap.{index_map_len}
 use Rattle.message_book.specs.Book.{with_message}
@@ -11,42 +11,42 @@ use Rattle.trace_types.specs.Tenant.{row_after}
 use Rattle.trace_types.specs.declared.row.Kind.TheVariants.{Send}
 use Rattle.trace_types.specs.declared.task_state.TaskState.TheVariants.{Live}
 use Rattle.tenant_ledger.specs.declared.book.Book.{Book}
-use Rattle.tenant_ledger.specs.Ledger.{AreMessages, task_in}
+use Rattle.tenant_ledger.specs.Ledger.{ids_in, AreMessages, task_in}
 use Rattle.tenant_ledger.proofs.KeepingAlone.{LeavesAlone, send_leaves_alone, alone_row, alone_is_next, send_knows}
 use Rattle.tenant_ledger.proofs.KeepingBook.{WasAdded, same_at_reserve, same_then_messages, same_at_put, event_number, ids_same, first_put, first_count, adds_event}
 use Rattle.tenant_ledger.proofs.KeepingMessages.{done, may_be_sent, messages_sent}
-use Rattle.tenant_ledger.proofs.KeepingReports.{Has, legal_history, last-le, live_task, live_id_some, known_fits}
+use Rattle.tenant_ledger.proofs.KeepingReports.{seeded_ids, Has, legal_history, last-le, live_task, live_id_some, known_fits}
 use Rattle.tenant_ledger.proofs.book.Book.sent.Goals as goal
 
 pub known-requires-clause-event : goal.known-requires-clause-event
-known-requires-clause-event c =
-    let has : Has Live c.args.self.now c.args.name c.args.task = record { is = c.requires.book; found = c.requires.task; state_is = c.requires.live } in
+known-requires-clause-event g c =
+    let has : Has g.S.Kept.Meant.tree g.S.Id.MeantId.id Live c.args.self.now c.args.name c.args.task = record { is = c.requires.book; found = c.requires.task; state_is = c.requires.live } in
     last-le has
 
 pub event-requires-clause-some : goal.event-requires-clause-some
-event-requires-clause-some c =
-    let has : Has Live c.args.self.now c.args.name c.args.task = record { is = c.requires.book; found = c.requires.task; state_is = c.requires.live } in
-    live_id_some has c.index.result.now c.index.ensures
+event-requires-clause-some g c =
+    let has : Has g.S.Kept.Meant.tree g.S.Id.MeantId.id Live c.args.self.now c.args.name c.args.task = record { is = c.requires.book; found = c.requires.task; state_is = c.requires.live } in
+    live_id_some has c.id.result.now c.id.ensures
 
 pub event-requires-clause-fits : goal.event-requires-clause-fits
-event-requires-clause-fits c =
-    let has : Has Live c.args.self.now c.args.name c.args.task = record { is = c.requires.book; found = c.requires.task; state_is = c.requires.live } in
+event-requires-clause-fits g c =
+    let has : Has g.S.Kept.Meant.tree g.S.Id.MeantId.id Live c.args.self.now c.args.name c.args.task = record { is = c.requires.book; found = c.requires.task; state_is = c.requires.live } in
     known_fits has c.known.result.now c.known.ensures
 
 pub returns : goal.returns
-returns c =
+returns g c =
     let old = c.args.self.now in
     let new = c.put.new.self in
     let history : History = history_of old.rows.items in
     let message = c.args.message in
-    let has : Has Live c.args.self.now c.args.name c.args.task = record { is = c.requires.book; found = c.requires.task; state_is = c.requires.live } in
+    let has : Has g.S.Kept.Meant.tree g.S.Id.MeantId.id Live c.args.self.now c.args.name c.args.task = record { is = c.requires.book; found = c.requires.task; state_is = c.requires.live } in
     let may : (is_sent history message ≡ false) × (has_all_messages old.limits history ≡ false) =
     may_be_sent old.limits history old.messages c.requires.book.messages message c.requires.message in
     let alone : LeavesAlone old.limits old.rows.items c.args.name Send (Some message) Live =
-    send_leaves_alone old.limits old.rows.items old.ids.items c.args.name c.args.task c.can_be_written.ensures c.requires.room (live_task has) c.requires.book.kept.legal
+    send_leaves_alone old.limits old.rows.items (ids_in g.S.Id.MeantId.id old) c.args.name c.args.task c.can_be_written.ensures c.requires.room (live_task has) c.requires.book.kept.legal
     message c.can_be_written-2.ensures may.0 may.1 in
-    let base : Book = record c.reserve.new.self { messages = c.send.new.self } in
-    let was : WasAdded old base c.add-last.new.self new c.next_row-row.result c.in_ok-tree.tree c.args.task.id c.add-last.result = record {
+    let base : Book _ _ _ = record c.reserve.new.self { messages = c.send.new.self } in
+    let was : WasAdded old base c.add-last.new.self new c.next_row-row.result c.in_ok-stored.stored c.args.task.id c.add-last.result = record {
       before = same_then_messages (same_at_reserve c.reserve.ensures.same) refl;
       is = c.add-last.ensures.others;
       rows = c.add-last.ensures.rows;
@@ -66,8 +66,9 @@ returns c =
     adds_event was (row_after history c.args.name Send (Some message)) c.requires.book
     (c.next_row-row.ensures ∙ alone_row has Send (Some message) Live alone c.requires.room c.few_events.ensures 0 refl)
     (alone_is_next has Send (Some message) Live alone c.requires.room c.few_events.ensures
-    c.index.result.now c.known.result.now c.in_ok-tree.tree new.ids.items (task_in new) c.add-last.result (index_map_len new.tasks)
-    c.index.ensures (c.known.ensures ∙ send_knows has message) c.in_ok-tree.ensures (ids_same was ∙ c.reserve.ensures.same.ids) (event_number was)
+    c.id.result.now c.known.result.now (g.S.Kept.Meant.tree c.in_ok-stored.stored) (map g.S.Id.MeantId.id new.ids.items) (task_in new) c.add-last.result (index_map_len new.tasks)
+    c.id.ensures (c.known.ensures ∙ send_knows has message) (c.in_ok-stored.ensures ∙ c.in_ok-tree.ensures) (ap (map g.S.Id.MeantId.id) (ids_same was ∙ c.reserve.ensures.same.ids) ∙ sym (seeded_ids g.S.Id.MeantId.id old.ids.items c.requires.seeded)) (event_number was)
     (λ other. first_put was c.args.name _ new c.put.ensures.tasks other ∙ ap (λ s. cond (is_same c.args.name other) (Some (record { state = s; last = c.add-last.result; id = c.args.task.id })) (task_in old other)) c.requires.live)
     (first_count was c.args.name (index_map_len new.tasks) c.put.ensures.count))
     (subst (AreMessages old.limits (row_after history c.args.name Send (Some message) ∷ history)) (sym sent_one) is_right)
+    (omega (arith, c.requires.seeded, ap length (ids_same was ∙ c.reserve.ensures.same.ids)))

@@ -9,7 +9,7 @@ use Rattle.tenant_ledger.proofs.KeepingReports.{legal_history}
 use Rattle.tenant_ledger.proofs.book.Book.sent_message.Goals as goal
 
 pub returns-clause-decides : goal.returns-clause-decides
-returns-clause-decides c =
+returns-clause-decides g c =
     let book = c.args.self.now in
     let history = history_of book.rows.items in
     let name = c.args.name.now in

@@ -6,7 +6,7 @@ use Rattle.tenant_ledger.proofs.Answering.{counted}
 use Rattle.tenant_ledger.proofs.ledger.Ledger.ask.Goals as goal
 
 pub returns-in-Count : goal.returns-in-Count
-returns-in-Count c =
+returns-in-Count g c =
     let events = c.event_count.result in
     let tasks = c.task_count.result in
     let messages = c.message_count.result in

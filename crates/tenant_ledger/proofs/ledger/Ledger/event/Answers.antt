@@ -7,7 +7,7 @@ use Rattle.tenant_ledger.proofs.Listing.{row_is_kept}
 use Rattle.tenant_ledger.proofs.ledger.Ledger.event.Goals as goal
 
 pub returns : goal.returns
-returns c =
+returns g c =
     let book = c.self.inside.book in
     let event_is = sym c.if-not-is_event.ensures in
     subst (λ (tenant : Tenant). reply.Event c.share.result ≡ reply_to_view tenant (request.Event c.args.event)) c.self.view_is

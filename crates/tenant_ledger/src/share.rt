@@ -1,0 +1,62 @@
+//! What the tenants' ledgers share.
+ghost use Rattle.std.specs.Prelude.{◌≡◌, IfOk};
+ghost use Rattle.event_tree.specs.Comparison.{StandsAs};
+ghost use Rattle.trace_types.specs.Id.{Id};
+
+use event_tree::EvTree;
+use id_tree::IdTree;
+use trace_query::{Compare, Meant};
+use trace_types::{Memory, Order};
+
+/// Values that stand for ids, in whatever form they are kept.
+pub trait MeantId {
+    // the id for which it stands
+    ghost id: { Self → Id };
+}
+
+impl MeantId for IdTree {
+    ghost id = { λ id. id };
+}
+
+/// Keeps the ids and event trees of ledgers, and compares kept trees.
+///
+/// What is kept means what was handed in, whatever else is held.
+pub trait Share: Compare {
+    /// What is kept of an id.
+    type Id: MeantId + Drop;
+
+    /// Keeps an id. It may wait on `rt`.
+    fn keep_id<T>(&self, rt: &T, id: IdTree) -> Result<Self::Id, Memory>
+        ensures { IfOk result (λ kept. Self.Id.id kept ≡ id) };
+
+    /// Keeps an event tree. It may wait on `rt`.
+    fn keep_tree<T>(&self, rt: &T, tree: EvTree) -> Result<Self::Kept, Memory>
+        ensures { IfOk result (λ kept. Self.Kept.tree kept ≡ tree) };
+
+    /// The id that is kept. It takes no memory.
+    fn id_value(kept: &Self::Id) -> &IdTree
+        ensures { result.now ≡ Self.Id.id kept.now };
+
+    /// The tree that is kept. It takes no memory.
+    fn tree_value(kept: &Self::Kept) -> &EvTree
+        ensures { result.now ≡ Self.Kept.tree kept.now };
+
+    /// How the tree of `first` stands to that of `second`. It takes no memory, and may wait on `rt`.
+    fn order_kept<T>(&self, rt: &T, first: &Self::Kept, second: &Self::Kept) -> Order
+        ensures { StandsAs result (Self.Kept.tree first.now) (Self.Kept.tree second.now) };
+}
+
+/// Compares kept trees as a share does that may wait.
+#[derive(Drop)]
+pub(crate) struct Through<'a, T, S> {
+    pub(crate) rt: &'a T,
+    pub(crate) share: &'a S,
+}
+
+impl<T, S: Share> Compare for Through<'_, T, S> {
+    type Kept = S::Kept;
+
+    fn order(&self, first: &S::Kept, second: &S::Kept) -> Order {
+        self.share.order_kept(self.rt, first, second)
+    }
+}
