@@ -283,6 +283,7 @@ fn refill<R: Source>(
 }
 
 /// Where the bytes have their first end of line.
+#[inline(never)]
 fn first_end(bytes: &[u8]) -> Option<usize>
     ensures { result ≡ position (λ byte. byte == 10) bytes.now }
 {

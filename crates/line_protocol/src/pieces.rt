@@ -1,5 +1,5 @@
 //! Texts and numbers, written piece by piece.
-ghost use Rattle.std.specs.Prelude.{◌<◌, ◌++◌, decimal, codes};
+ghost use Rattle.std.specs.Prelude.{◌≡◌, ◌+◌, ◌<◌, ◌≤◌, ◌++◌, IfOk, OnErr, decimal, codes, length, take};
 ghost use Rattle.trace_types.specs.Text.{numbers_text, list_text};
 ghost use Rattle.line_protocol.specs.Writing.{Writes, Spends};
 
@@ -57,6 +57,7 @@ pub(crate) fn write_two_numbers<W: Sink>(
 }
 
 /// Writes a text and a number after it.
+#[inline(always)]
 pub(crate) fn write_number<W: Sink>(
     writer: &mut W,
     patience: &mut u64,
@@ -73,6 +74,7 @@ pub(crate) fn write_number<W: Sink>(
 }
 
 /// Writes two texts.
+#[inline(always)]
 pub(crate) fn write_pieces<W: Sink>(
     writer: &mut W,
     patience: &mut u64,
@@ -89,6 +91,7 @@ pub(crate) fn write_pieces<W: Sink>(
 }
 
 /// Writes a text; an interrupted write is tried again as long as there is patience.
+#[inline(always)]
 pub(crate) fn write_piece<W: Sink>(
     writer: &mut W,
     patience: &mut u64,
@@ -99,18 +102,56 @@ pub(crate) fn write_piece<W: Sink>(
     ensures spent { Spends (W.failures writer.old) (W.failures writer.new)
         (W.interruptions writer.old) (W.interruptions writer.new) patience.old patience.new result }
 {
+    let count = write_once(writer, patience, piece)?;
+    if count == piece.len() {
+        return Ok(());
+    }
+    write_rest(writer, patience, &piece[count..])
+}
+
+/// Writes what one write did not take.
+#[cold]
+#[inline(never)]
+fn write_rest<W: Sink>(writer: &mut W, patience: &mut u64, piece: &[u8]) -> Result<(), WriteFault>
+    requires { 0 < patience.old }
+    ensures written { Writes (W.taken writer.old) (W.taken writer.new) result piece.now }
+    ensures spent { Spends (W.failures writer.old) (W.failures writer.new)
+        (W.interruptions writer.old) (W.interruptions writer.new) patience.old patience.new result }
+{
     let mut rest = piece;
     while !rest.is_empty() {
-        match writer.write_some(rest) {
-            Ok(0) | Err(Stop::Failed) => return Err(WriteFault),
-            Ok(count) => rest = &rest[count..],
-            Err(Stop::Interrupted) => {
-                *patience -= 1;
-                if *patience == 0 {
-                    return Err(WriteFault);
-                }
+        let count = write_once(writer, patience, rest)?;
+        rest = &rest[count..];
+    }
+    Ok(())
+}
+
+/// Writes once, and gives how many bytes were taken; none of some where the write was interrupted.
+#[inline(always)]
+fn write_once<W: Sink>(
+    writer: &mut W,
+    patience: &mut u64,
+    piece: &[u8],
+) -> Result<usize, WriteFault>
+    requires { 0 < patience.old }
+    ensures bound { IfOk result (λ n. n ≤ length piece.now) }
+    ensures ok { IfOk result (λ n. W.taken writer.new ≡ W.taken writer.old ++ take n piece.now) }
+    ensures err { OnErr result (W.taken writer.new ≡ W.taken writer.old) }
+    ensures progress { IfOk result (λ n. 0 < length piece.now → patience.new < patience.old + n) }
+    ensures spent { Spends (W.failures writer.old) (W.failures writer.new)
+        (W.interruptions writer.old) (W.interruptions writer.new) patience.old patience.new result }
+{
+    match writer.write_some(piece) {
+        Ok(0) if !piece.is_empty() => Err(WriteFault),
+        Ok(count) => Ok(count),
+        Err(Stop::Failed) => Err(WriteFault),
+        Err(Stop::Interrupted) => {
+            *patience -= 1;
+            if *patience == 0 {
+                Err(WriteFault)
+            } else {
+                Ok(0)
             }
         }
     }
-    Ok(())
 }

@@ -26,6 +26,7 @@ pub fn write_bytes<W: Sink>(writer: &mut W, bytes: &[u8]) -> Result<(), WriteFau
 }
 
 /// Writes the reply, without its end of line.
+#[inline(never)]
 pub fn write_reply<W: Sink>(writer: &mut W, reply: &Reply) -> Result<(), WriteFault>
     ensures ok { OnOk result (W.taken writer.new ≡ W.taken writer.old ++ reply_text reply.now) }
     ensures err { OnErr result (WritesFront (W.taken writer.old) (W.taken writer.new) (reply_text reply.now)) }

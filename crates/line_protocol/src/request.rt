@@ -24,43 +24,50 @@ fn read_arguments(keyword: &[u8], arguments: &[u8]) -> Option<Request>
     ensures { result ≡ request_of_words (keyword.now ∷ words arguments.now) }
 {
     if is_word(keyword, b"local") {
-        Some(Request::Local(only_name(arguments)?))
-    } else if is_word(keyword, b"spawn") {
-        let (task, child) = two_names(arguments)?;
-        Some(Request::Spawn(task, child))
-    } else if is_word(keyword, b"send") {
-        let (task, message) = two_names(arguments)?;
-        Some(Request::Send(task, message))
-    } else if is_word(keyword, b"recv") {
-        let (task, message) = two_names(arguments)?;
-        Some(Request::Recv(task, message))
-    } else if is_word(keyword, b"end") {
-        Some(Request::End(only_name(arguments)?))
-    } else if is_word(keyword, b"join") {
-        let (task, child) = two_names(arguments)?;
-        Some(Request::Join(task, child))
-    } else if is_word(keyword, b"order") {
-        let (first, second) = two_numbers(arguments)?;
-        Some(Request::Order(first, second))
-    } else if is_word(keyword, b"past") {
-        Some(Request::Past(only_number(arguments)?))
-    } else if is_word(keyword, b"concurrent") {
-        Some(Request::Concurrent(only_number(arguments)?))
-    } else if is_word(keyword, b"event") {
-        Some(Request::Event(only_number(arguments)?))
-    } else if is_word(keyword, b"stamp") {
-        Some(Request::Stamp(only_number(arguments)?))
-    } else if is_word(keyword, b"task") {
-        Some(Request::Task(only_name(arguments)?))
-    } else if is_word(keyword, b"message") {
-        Some(Request::Message(only_name(arguments)?))
-    } else {
-        None
+        return Some(Request::Local(only_name(arguments)?));
     }
+    if is_word(keyword, b"spawn") {
+        return two_names(arguments).map(|(task, child)| Request::Spawn(task, child));
+    }
+    if is_word(keyword, b"send") {
+        return two_names(arguments).map(|(task, message)| Request::Send(task, message));
+    }
+    if is_word(keyword, b"recv") {
+        return two_names(arguments).map(|(task, message)| Request::Recv(task, message));
+    }
+    if is_word(keyword, b"end") {
+        return Some(Request::End(only_name(arguments)?));
+    }
+    if is_word(keyword, b"join") {
+        return two_names(arguments).map(|(task, child)| Request::Join(task, child));
+    }
+    if is_word(keyword, b"order") {
+        return two_numbers(arguments).map(|(first, second)| Request::Order(first, second));
+    }
+    if is_word(keyword, b"past") {
+        return Some(Request::Past(only_number(arguments)?));
+    }
+    if is_word(keyword, b"concurrent") {
+        return Some(Request::Concurrent(only_number(arguments)?));
+    }
+    if is_word(keyword, b"event") {
+        return Some(Request::Event(only_number(arguments)?));
+    }
+    if is_word(keyword, b"stamp") {
+        return Some(Request::Stamp(only_number(arguments)?));
+    }
+    if is_word(keyword, b"task") {
+        return Some(Request::Task(only_name(arguments)?));
+    }
+    if is_word(keyword, b"message") {
+        return Some(Request::Message(only_name(arguments)?));
+    }
+    None
 }
 
 /// The tenant that the line names first, and the request that the rest of it spells; `None` where the first word is
 /// no name.
+#[inline(never)]
 pub fn read_addressed(line: &[u8]) -> Option<(Name, Option<Request>)>
     ensures { result ≡ addressed_by line.now }
 {
@@ -125,6 +132,7 @@ fn split_first(bytes: &[u8]) -> (&[u8], Option<&[u8]>)
 }
 
 /// Where the bytes have their first blank.
+#[inline(never)]
 fn first_blank(bytes: &[u8]) -> Option<usize>
     ensures { result ≡ position (λ byte. byte == 32) bytes.now }
 {

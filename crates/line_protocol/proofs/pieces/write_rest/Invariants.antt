@@ -1,6 +1,6 @@
 use Rattle.std.proofs.Common.{◌≡◌, ◌+◌, ◌<◌, ◌≤◌, length}
 use Rattle.line_protocol.proofs.WritingLemmas.{Wrote}
-use Rattle.line_protocol.proofs.pieces.write_piece.Given as goal
+use Rattle.line_protocol.proofs.pieces.write_rest.Given as goal
 
 abbrev pub invariant-loop-rest : goal.invariant-loop-rest
 invariant-loop-rest g l = record {
