@@ -1,1 +1,4 @@
+mod Amounts
+mod Asking
 mod CommandLine
+mod Rows

@@ -1,24 +1,102 @@
 -- What the words of the command line ask for.
-use Rattle.std.specs.Prelude.{Bool, true, false, not, ◌&&◌, ◌==◌, List, [], ◌∷◌, length, Option, Some, None, if◌then◌else◌, codes}
-use Rattle.std.specs.List.{list_all}
-use Rattle.trace_types.specs.Name.{Text, is_same, is_name}
+use Rattle.std.specs.Prelude.{ℕ, Bool, true, false, not, ◌==◌, List, [], ◌∷◌, map, Option, Some, None, option_map, option_and_then, ◌&&◌, if◌then◌else◌, codes}
+use Rattle.std.specs.List.{filter, list_all}
+use Rattle.trace_types.specs.Limits.{Limits, default_limits}
+use Rattle.trace_types.specs.Name.{Text, is_same, is_between, is_name}
+use Rattle.trace_types.specs.Reading.{number_of}
+use Rattle.trace_world.specs.Tenants.{can_be_tenants}
+
+-- what a replay is asked for: the limits that each tenant has, and the tenants
+pub record Asked : Type 0 where
+  pub limits : Limits
+  pub tenants : List Text
+
+-- what a word is: a tenant, or the number of an option
+pub data Role : Type 0 where
+  Tenant : Role
+  Events : Role
+  Tasks : Role
+  Messages : Role
+
+-- whether two roles are the same
+abbrev pub is_role : Role → Role → Bool
+is_role Tenant Tenant = true
+is_role Events Events = true
+is_role Tasks Tasks = true
+is_role Messages Messages = true
+is_role a b = false
+
+-- a word and its role
+pub record Part : Type 0 where
+  pub role : Role
+  pub word : Text
 
 -- whether the word begins otherwise than with `-`
 abbrev pub is_plain : Text → Bool
 is_plain [] = true
 is_plain (byte ∷ bytes) = not (byte == 45)
 
--- whether the words are tenants: there is one at least, and all are plain
-abbrev pub are_plain : List Text → Bool
-are_plain [] = false
-are_plain (word ∷ words) = list_all is_plain (word ∷ words)
+-- the role of the word after this one, where this one is an option
+abbrev pub option_named : Text → Option Role
+option_named word =
+    if is_same word (codes "--events") then Some Events
+    else if is_same word (codes "--tasks") then Some Tasks
+    else if is_same word (codes "--messages") then Some Messages
+    else None
 
--- The tenants whose lines are to be replayed, where the words are `replay` and then plain words. Of words with `-` in
--- front, as those that ask for help, nothing is said here.
-abbrev pub tenants_in : List Text → Option (List Text)
-tenants_in [] = None
-tenants_in (first ∷ words) = if is_same first (codes "replay") && are_plain words then Some words else None
+-- the parts, and one before them
+abbrev pub with_part : Role → Text → Option (List Part) → Option (List Part)
+with_part role word = option_map (λ parts. record { role = role; word = word } ∷ parts)
 
--- whether these tenants are taken: there is one, and it is a name
+-- The parts of the words, where the word before them was this option. A plain word is a tenant, and the word after an
+-- option is its number. Of words with `-` in front that are no such option, as those that ask for help, nothing is said
+-- here.
+abbrev pub parts_after : Option Role → List Text → Option (List Part)
+parts_after None [] = Some []
+parts_after None (word ∷ words) =
+    if is_plain word then with_part Tenant word (parts_after None words)
+    else option_and_then (λ role. parts_after (Some role) words) (option_named word)
+parts_after (Some role) [] = None
+parts_after (Some role) (word ∷ words) = with_part role word (parts_after None words)
+
+-- the words of this role
+abbrev pub words_for : Role → List Part → List Text
+words_for role parts = map (λ part. part.word) (filter (λ part. is_role role part.role) parts)
+
+-- the number that the word spells, where it is one from 1 to this most
+abbrev pub number_up_to : ℕ → Text → Option ℕ
+number_up_to most word = option_and_then (λ number. if is_between 1 most number then Some number else None) (number_of word)
+
+-- the limit by the words of its option, which is used once at most
+abbrev pub limit_by : ℕ → ℕ → List Text → Option ℕ
+limit_by default most [] = Some default
+limit_by default most (word ∷ []) = number_up_to most word
+limit_by default most words = None
+
+-- the limits of these three numbers, where each is there
+abbrev pub limits_of : Option ℕ → Option ℕ → Option ℕ → Option Limits
+limits_of (Some events) (Some tasks) (Some messages) = Some (record { events = events; tasks = tasks; messages = messages })
+limits_of events tasks messages = None
+
+-- the limits that the parts ask for, and the default where an option is not used
+abbrev pub limits_by : List Part → Option Limits
+limits_by parts = limits_of (limit_by default_limits.events 16384 (words_for Events parts))
+    (limit_by default_limits.tasks 2048 (words_for Tasks parts)) (limit_by default_limits.messages 16384 (words_for Messages parts))
+
+-- what these limits and tenants ask for, where there is a tenant
+abbrev pub asked_with : List Text → Limits → Option Asked
+asked_with [] limits = None
+asked_with tenants limits = Some (record { limits = limits; tenants = tenants })
+
+-- what the parts ask for
+abbrev pub asked_by : List Part → Option Asked
+asked_by parts = option_and_then (asked_with (words_for Tenant parts)) (limits_by parts)
+
+-- what the words ask for, where they are `replay` and then options, each with its number, and tenants
+abbrev pub asked_in : List Text → Option Asked
+asked_in [] = None
+asked_in (first ∷ words) = if is_same first (codes "replay") then option_and_then asked_by (parts_after None words) else None
+
+-- whether these tenants are taken: they can be those of a world, and each is a name
 abbrev pub are_taken : List Text → Bool
-are_taken tenants = (length tenants == 1) && list_all is_name tenants
+are_taken tenants = can_be_tenants tenants && list_all is_name tenants

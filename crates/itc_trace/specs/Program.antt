@@ -1,7 +1,7 @@
 -- What the program did.
 use Rattle.std.specs.Prelude.{◌≡◌, ◌≢◌, ℕ, ◌+◌, ◌<◌, ◌≤◌, ◌^◌, Bool, true, false, List, ◌++◌, ◌⊎◌, map}
 use Rattle.trace_types.specs.Name.{Text}
-use Rattle.trace_types.specs.Limits.{default_limits}
+use Rattle.trace_types.specs.Limits.{Limits}
 use Rattle.trace_types.specs.Tenant.{fresh}
 use Rattle.trace_types.specs.World.{World}
 use Rattle.line_protocol.specs.Writing.{WritesFront, IsWriteFault}
@@ -12,22 +12,22 @@ use Rattle.itc_trace.specs.Fault.{line_of, fault_of_replay}
 use Rattle.itc_trace.specs.declared.fault.Fault.{Fault}
 use Rattle.itc_trace.specs.declared.fault.Fault.TheVariants.{Read, Write, TooLong}
 
--- tenants of these names that have reported nothing
-abbrev pub fresh_world : List Text → World
-fresh_world names = record { names = names; limits = default_limits; tenants = map (λ name. fresh default_limits) names }
+-- tenants of these names that have these limits and have reported nothing
+abbrev pub fresh_world : Limits → List Text → World
+fresh_world limits names = record { names = names; limits = limits; tenants = map (λ name. fresh limits) names }
 
--- All that the reader gave was replayed, from tenants of these names that had reported nothing.
-pub record ReplaysFresh (names : List Text) (given given' : List ℕ) (has_ended : Bool) (taken taken' : List ℕ) : Type 0 where
+-- All that the reader gave was replayed, from tenants of these names and limits that had reported nothing.
+pub record ReplaysFresh (limits : Limits) (names : List Text) (given given' : List ℕ) (has_ended : Bool) (taken taken' : List ℕ) : Type 0 where
   pub counts : Counts
   pub later : World
-  pub replays : Replays given given' has_ended taken taken' (fresh_world names) counts later
+  pub replays : Replays given given' has_ended taken taken' (fresh_world limits names) counts later
 
 -- A replay for such tenants was broken off by this fault.
-pub record ReplaysFreshInPart (fault : Fault) (names : List Text) (given given' : List ℕ) (has_ended : Bool) (taken taken' : List ℕ) : Type 0 where
+pub record ReplaysFreshInPart (fault : Fault) (limits : Limits) (names : List Text) (given given' : List ℕ) (has_ended : Bool) (taken taken' : List ℕ) : Type 0 where
   pub cause : ReplayFault
   pub told : fault_of_replay cause ≡ fault
   pub later : World
-  pub replays : ReplaysInPart cause given given' has_ended taken taken' (fresh_world names) later
+  pub replays : ReplaysInPart cause given given' has_ended taken taken' (fresh_world limits names) later
 
 -- one of the statuses with which the program ends
 abbrev pub IsStatus : ℕ → Type 0

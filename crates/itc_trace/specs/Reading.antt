@@ -1,9 +1,15 @@
 -- The command line as it is built, and what is read of it.
-use Rattle.std.specs.Prelude.{◌≡◌, true, List, Option, Some, Result, Ok, Err, codes, option_and_then, map, string_bytes}
-use Rattle.clap.specs.Words.{App, Row, Rule, Text, all_of, new_app, new_rule, with_rule, with_subcommand}
-use Rattle.clap.specs.declared.builder.ArgAction.TheVariants.{Append}
+use Rattle.std.specs.Prelude.{◌≡◌, ℕ, true, List, Option, Some, None, Result, Ok, Err, codes, option_and_then, if◌then◌else◌, map, string_bytes}
+use Rattle.std.specs.Option.{option_map_or}
+use Rattle.clap.specs.Words.{App, Row, Rule, Text, all_of, one_of, new_app, new_rule, with_rule, with_subcommand}
+use Rattle.clap.specs.declared.builder.ArgAction.TheVariants.{Append, Set}
+use Rattle.clap.specs.declared.builder.value_parser.ValueParser.TheVariants as parser
+use Rattle.trace_types.specs.Limits.{Limits, are_limits, default_limits}
+use Rattle.trace_types.specs.Reading.{number_of}
+use Rattle.itc_trace.specs.CommandLine.{Asked as Wanted, limits_of}
 use Rattle.itc_trace.specs.declared.words.Asked.{Asked}
 use Rattle.itc_trace.specs.declared.words.Asked.TheVariants.{Replay, Show}
+use Rattle.itc_trace.specs.declared.words.Replay.{Replay as Replays}
 use Rattle.itc_trace.specs.declared.words.Refusal.{Refusal}
 use Rattle.itc_trace.specs.declared.words.Refusal.TheVariants.{Words, Memory}
 
@@ -15,8 +21,19 @@ tenant_rule = record (new_rule (codes "TENANT")) {
   required = true;
 }
 
+-- the option of this name, whose number is one from 1 to this most
+abbrev pub limit_rule : Text → ℕ → Rule
+limit_rule name most = record (new_rule name) {
+  long = Some name;
+  action = Some Set;
+  value_names = 1;
+  parser = Some (parser.Unsigned 1 most);
+}
+
 abbrev pub replay_app : App
-replay_app = with_rule (new_app (codes "replay")) tenant_rule
+replay_app =
+    with_rule (with_rule (with_rule (with_rule (new_app (codes "replay")) (limit_rule (codes "events") 16384))
+    (limit_rule (codes "tasks") 2048)) (limit_rule (codes "messages") 16384)) tenant_rule
 
 abbrev pub bare_app : App
 bare_app = record (new_app (codes "itc_trace")) {
@@ -35,9 +52,35 @@ tenants_found = option_and_then (λ found. all_of (codes "TENANT") found.1)
 abbrev pub Finds : Option (Text × List Row) → List Text → Type 0
 Finds found tenants = (names : List Text) → tenants_found found ≡ Some names → tenants ≡ names
 
--- These tenants were read, if there was memory.
-abbrev pub Reads : List Text → Result Asked Refusal → Type 0
-Reads tenants (Ok (Replay words)) = map string_bytes words.items ≡ tenants
-Reads tenants (Ok (Show text)) = ⊥
-Reads tenants (Err (Words text)) = ⊥
-Reads tenants (Err Memory) = Unit {0}
+-- the number of the option of this name, and this one by default
+abbrev pub amount_in : Text → ℕ → List Row → Option ℕ
+amount_in name default rows = option_map_or number_of (one_of name rows) (Some default)
+
+-- the limits among what was found, where they are in their ranges
+abbrev pub limits_in : List Row → Option Limits
+limits_in rows = option_and_then (λ limits. if are_limits limits.events limits.tasks limits.messages then Some limits else None)
+    (limits_of (amount_in (codes "events") default_limits.events rows) (amount_in (codes "tasks") default_limits.tasks rows)
+    (amount_in (codes "messages") default_limits.messages rows))
+
+-- the limits among what was found of a subcommand
+abbrev pub limits_found : Option (Text × List Row) → Option Limits
+limits_found = option_and_then (λ found. limits_in found.1)
+
+-- What was found has these limits, if it has any.
+abbrev pub FindsLimits : Option (Text × List Row) → Option Limits → Type 0
+FindsLimits found result = (limits : Limits) → limits_found found ≡ Some limits → result ≡ Some limits
+
+-- What was found is what is asked for.
+abbrev pub Has : Option (Text × List Row) → Wanted → Type 0
+Has found asked = (tenants_found found ≡ Some asked.tenants) × (limits_found found ≡ Some asked.limits)
+
+-- what a replay that was read is asked for
+abbrev pub wanted_of : Replays → Wanted
+wanted_of replay = record { limits = replay.limits; tenants = map string_bytes replay.tenants.items }
+
+-- What is asked for was read, if there was memory.
+abbrev pub Reads : Wanted → Result Asked Refusal → Type 0
+Reads asked (Ok (Replay replay)) = wanted_of replay ≡ asked
+Reads asked (Ok (Show text)) = ⊥
+Reads asked (Err (Words text)) = ⊥
+Reads asked (Err Memory) = Unit {0}

@@ -1,5 +1,5 @@
 //! Why the program does not do what it was asked.
-ghost use Rattle.std.specs.Prelude.{◌≡◌, ◌++◌, OnOk};
+ghost use Rattle.std.specs.Prelude.{◌≡◌};
 ghost use Rattle.itc_trace.specs.Fault.{status_of, line_of, fault_of_world, fault_of_replay};
 ghost use Rattle.itc_trace.specs.Program.{Tells};
 
@@ -12,7 +12,7 @@ use trace_world::ReplayFault;
 pub(crate) enum Fault {
     /// The words are no text.
     Words,
-    /// A tenant's name is no name, or there is more than one tenant.
+    /// A tenant's name is no name, a tenant stands twice, or there are more than 16.
     Tenants,
     Read,
     Write,

@@ -1,5 +1,8 @@
 //! The trace collector's program: it replays lines of requests and writes the replies.
 //!
+//! `itc_trace replay [--events N] [--tasks N] [--messages N] TENANT..` serves 1 to 16 tenants, each of which has the
+//! limits for itself. `itc_trace help replay` tells more.
+//!
 //! `main` hands the words, standard input and standard output to [`program::run`], whose one contract is that of
 //! `replay` of `trace_world`, and which says how the program ends.
 #![tactic(auto)]

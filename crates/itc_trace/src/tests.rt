@@ -5,6 +5,7 @@ use std::io::{Read, Write};
 use std::test::Fail;
 
 /// What a run of the program gives: its status, what it wrote, and what it wrote as errors.
+#[derive(Drop)]
 struct Outcome {
     status: u8,
     output: Vec<u8>,
@@ -54,12 +55,103 @@ fn replies_are_those_of_the_requests(rt: HostRuntime) -> Result<(), Fail> {
     Ok(())
 }
 
+const SEVENTEEN: [&str; 18] = [
+    "replay", "a", "b", "c", "d", "e", "f", "g", "h", "i", "j", "k", "l", "m", "n", "o", "p", "q",
+];
+
+#[test]
+fn each_tenant_has_its_own_lines_and_limits(rt: HostRuntime) -> Result<(), Fail> {
+    let cases: [(&[&str], &[u8], &[u8]); 4] = [
+        (
+            &["replay", "x", "y"],
+            b"x local root\ny local root\nx spawn root a\ny spawn root a\nx stamp 2\ny order 1 2\n",
+            b"x 201 1\ny 201 1\nx 201 2\ny 201 2\nx 200 [(1,0);2]\ny 200 before\n",
+        ),
+        (
+            &["replay", "--events", "2", "x", "y"],
+            b"x local root\nx local root\nx local root\ny local root\n",
+            b"x 201 1\nx 201 2\nx 413 events full\ny 201 1\n",
+        ),
+        (
+            &["replay", "--messages", "1", "x"],
+            b"x send root m\nx recv root m\nx event 2\nx stamp 2\nx send root m\nx send root n\n",
+            b"x 201 1\nx 201 2\nx 200 recv root m 1 1\nx 200 [1;2]\nx 406 message exists\nx 415 messages full\n",
+        ),
+        (
+            &["replay", "--tasks", "1", "x"],
+            b"x spawn root a\nx end root\nx local root\nx task root\n",
+            b"x 414 tasks full\nx 201 1\nx 403 task ended\nx 200 ended 1\n",
+        ),
+    ];
+    for (words, input, want) in cases {
+        let Outcome {
+            status,
+            output,
+            errors,
+        } = run_on(&rt, words, input);
+        assert_eq!(rt; status, 0);
+        assert_eq!(rt; output.as_slice(), want);
+        assert_eq!(rt; errors.len(), 0);
+    }
+    Ok(())
+}
+
+#[test]
+fn limits_are_taken_from_their_least_to_their_most(rt: HostRuntime) {
+    let cases: [(&str, &str, u8); 12] = [
+        ("--events", "0", 2),
+        ("--events", "1", 0),
+        ("--events", "16384", 0),
+        ("--events", "16385", 2),
+        ("--tasks", "0", 2),
+        ("--tasks", "1", 0),
+        ("--tasks", "2048", 0),
+        ("--tasks", "2049", 2),
+        ("--messages", "0", 2),
+        ("--messages", "1", 0),
+        ("--messages", "16384", 0),
+        ("--messages", "16385", 2),
+    ];
+    for (option, number, want) in cases {
+        let outcome = run_on(&rt, &["replay", option, number, "x"], b"");
+        assert_eq!(rt; outcome.status, want, "{option} {number}");
+        assert_eq!(rt; outcome.errors.is_empty(), want == 0);
+    }
+}
+
+#[test]
+fn sixteen_tenants_are_taken(rt: HostRuntime) {
+    let outcome = run_on(&rt, &SEVENTEEN[..17], b"p count\n");
+    assert_eq!(rt; outcome.status, 0);
+    assert_eq!(rt; outcome.output.as_slice(), b"p 200 0 1 0\n".as_slice());
+}
+
+#[test]
+fn options_stand_anywhere_after_replay(rt: HostRuntime) {
+    let cases: [&[&str]; 3] = [
+        &["replay", "x", "--events", "1"],
+        &["replay", "x", "--events", "1", "y"],
+        &["replay", "--tasks", "7", "x", "--events=1"],
+    ];
+    for words in cases {
+        let outcome = run_on(&rt, words, b"x local root\nx local root\n");
+        assert_eq!(rt; outcome.status, 0);
+        assert_eq!(rt;
+            outcome.output.as_slice(),
+            b"x 201 1\nx 413 events full\n".as_slice()
+        );
+    }
+}
+
 #[test]
 fn bad_tenants_end_with_status_2_and_read_nothing(rt: HostRuntime) -> Result<(), Fail> {
-    let cases: [&[&str]; 3] = [
-        &["replay", "x", "y"],
+    let cases: [&[&str]; 6] = [
+        &["replay", "x", "x"],
+        &["replay", "x", "--events", "9", "y", "x"],
         &["replay", "x-y"],
+        &["replay", "x", ""],
         &["replay", "aaaaaaaaaaaaaaaaaaaaaaaaa"],
+        &SEVENTEEN,
     ];
     for words in cases {
         let Outcome {
@@ -76,7 +168,16 @@ fn bad_tenants_end_with_status_2_and_read_nothing(rt: HostRuntime) -> Result<(),
 
 #[test]
 fn words_that_are_not_understood_end_with_status_2(rt: HostRuntime) -> Result<(), Fail> {
-    let cases: [&[&str]; 4] = [&[], &["replay"], &["nonsense"], &["replay", "--no", "x"]];
+    let cases: [&[&str]; 8] = [
+        &[],
+        &["replay"],
+        &["nonsense"],
+        &["replay", "--no", "x"],
+        &["replay", "--events", "x"],
+        &["replay", "--events", "5"],
+        &["replay", "--events", "5", "--events", "6", "x"],
+        &["replay", "x", "--events"],
+    ];
     for words in cases {
         let Outcome {
             status,
@@ -101,6 +202,24 @@ fn help_goes_to_the_output_with_status_0(rt: HostRuntime) -> Result<(), Fail> {
     assert!(rt; !output.is_empty());
     assert_eq!(rt; errors.len(), 0);
     Ok(())
+}
+
+#[test]
+fn help_tells_each_option_with_its_range_and_default(rt: HostRuntime) {
+    let outcome = run_on(&rt, &["replay", "--help"], b"x count\n");
+    assert_eq!(rt; outcome.status, 0);
+    let wanted: [&[u8]; 7] = [
+        b"TENANT REQUEST",
+        b"--events <N>",
+        b"1 to 16384 [default: 4096]",
+        b"--tasks <N>",
+        b"1 to 2048 [default: 512]",
+        b"--messages <N>",
+        b"1 to 16384 [default: 2048]",
+    ];
+    for text in wanted {
+        assert!(rt; outcome.output.windows(text.len()).any(|part| part == text));
+    }
 }
 
 /// A reader and writer of which every call fails.

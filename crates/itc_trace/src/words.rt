@@ -1,21 +1,66 @@
 //! The words of the command line.
-ghost use Rattle.std.specs.Prelude.{◌≡◌, Err, map, IfOk, IfErr, IfSome, string_bytes};
-ghost use Rattle.clap.specs.Words.{app_of, kind_of, subcommand_rows_of};
-ghost use Rattle.itc_trace.specs.CommandLine.{tenants_in};
-ghost use Rattle.itc_trace.specs.Reading.{Finds, Reads, program_app};
+ghost use Rattle.std.specs.Prelude.{◌≡◌, ℕ, false, Some, Err, map, IfOk, IfErr, IfSome, string_bytes};
+ghost use Rattle.clap.specs.Words.{app_of, found_of, kind_of, rows_of, rule_of, subcommand_rows_of};
+ghost use Rattle.clap.specs.declared.builder.Command.TheViews.{out-Command as fields_of};
+ghost use Rattle.itc_trace.specs.CommandLine.{Asked as Wanted, asked_in};
+ghost use Rattle.itc_trace.specs.Reading.{Finds, FindsLimits, Has, Reads, amount_in, limit_rule, program_app, replay_app, tenant_rule};
 
+use clap::builder::ValueParser;
 use clap::error::ErrorKind;
 use clap::{Arg, ArgAction, ArgMatches, Command, Error};
 use std::alloc::{AllocError, AllocFailed, Global};
 use std::convert::AsStr;
+use trace_types::Limits;
+
+/// What help says after the commands.
+const HELP: &str = "\
+A tenant is a group of tasks whose events are ordered among themselves. Its requests report
+events, as `local root` and `send root m`, and ask about them, as `order 1 2`.
+
+Example:
+  printf 'x local root\\nx local root\\nx order 1 2\\n' | itc_trace replay x
+
+`itc_trace help replay` tells of the lines and the options.";
+
+/// What help on `replay` says after the options.
+const REPLAY_HELP: &str = "\
+Each line of standard input is TENANT REQUEST, and each line of output TENANT REPLY, in the same
+order. A reply is a code and what belongs to it: 200 and 201 tell what was done, others why not.
+
+Requests that report, and are answered 201 with the event's number:
+  local TASK, send TASK MESSAGE, recv TASK MESSAGE, spawn TASK NEW, end TASK, join TASK ENDED
+Requests that ask, and are answered 200:
+  order A B, past A, concurrent A, event A, stamp A, task TASK, message MESSAGE, count
+
+Each tenant starts with the task root, and has the limits for itself.
+
+Example:
+  printf 'x local root\\ny local root\\nx stamp 1\\n' | itc_trace replay --events 100 x y
+  x 201 1
+  y 201 1
+  x 200 [1;1]";
+
+const EVENTS_HELP: &str = "The most events of each tenant: 1 to 16384 [default: 4096]";
+
+const TASKS_HELP: &str =
+    "The most tasks that each tenant ever has, root included: 1 to 2048 [default: 512]";
+
+const MESSAGES_HELP: &str = "The most messages of each tenant: 1 to 16384 [default: 2048]";
 
 /// What the words ask for.
 #[derive(Drop)]
 pub(crate) enum Asked {
-    /// To replay lines of these tenants.
-    Replay(Vec<String>),
+    Replay(Replay),
     /// To show this text: help.
     Show(String),
+}
+
+/// A replay that is asked for.
+#[derive(Drop)]
+pub(crate) struct Replay {
+    /// The limits that each of the tenants has.
+    pub(crate) limits: Limits,
+    pub(crate) tenants: Vec<String>,
 }
 
 /// Why the words are not followed.
@@ -50,29 +95,75 @@ impl<T: Drop> From<AllocFailed<T>> for Refusal {
 fn command<'a>(alloc: Global) -> Result<Command<'a>, AllocError>
     ensures { IfOk result (λ command. app_of command ≡ program_app) }
 {
-    let tenants = Arg::new(alloc, "TENANT")
-        .help("A tenant's name: 1 to 24 letters, digits or _")
-        .required(true)
-        .num_args(1..)
-        .action(ArgAction::Append);
-    let replay = Command::new(alloc, "replay")
-        .about("Reads lines TENANT REQUEST from standard input, and writes lines TENANT REPLY")
-        .arg(tenants)?;
     Command::new(alloc, "itc_trace")
         .about("Collects the events of tasks, and answers how they are ordered")
+        .after_help(HELP)
         .no_binary_name(true)
         .subcommand_required(true)
-        .subcommand(replay)
+        .subcommand(replay_command(alloc)?)
+}
+
+/// The command `replay`.
+fn replay_command<'a>(alloc: Global) -> Result<Command<'a>, AllocError>
+    ensures app { IfOk result (λ command. app_of command ≡ replay_app) }
+    ensures local { IfOk result (λ command. (fields_of command).has_globals ≡ false) }
+{
+    Command::new(alloc, "replay")
+        .about("Replays lines of requests from standard input, and writes a line for each")
+        .after_help(REPLAY_HELP)
+        .arg(limit(alloc, "events", EVENTS_HELP, Limits::MOST_EVENTS))?
+        .arg(limit(alloc, "tasks", TASKS_HELP, Limits::MOST_TASKS))?
+        .arg(limit(alloc, "messages", MESSAGES_HELP, Limits::MOST_MESSAGES))?
+        .arg(tenants(alloc))
+}
+
+/// The argument for tenants.
+fn tenants<'a>(alloc: Global) -> Arg<'a>
+    ensures rule { rule_of result ≡ tenant_rule }
+    ensures local { result.global ≡ false }
+{
+    Arg::new(alloc, "TENANT")
+        .help("A tenant's name: 1 to 24 letters, digits or _; 1 to 16 names, none twice")
+        .required(true)
+        .num_args(1..)
+        .action(ArgAction::Append)
+}
+
+/// The option of this name for a limit, with its help, and the most that it may be.
+fn limit<'a>(alloc: Global, name: &'a str, help: &'a str, most: u64) -> Arg<'a>
+    ensures rule { rule_of result ≡ limit_rule name.entry.now most }
+    ensures local { result.global ≡ false }
+{
+    Arg::new(alloc, name)
+        .long(name)
+        .value_name("N")
+        .help(help)
+        .value_parser(ValueParser::unsigned(1, most))
+        .action(ArgAction::Set)
 }
 
 /// What the words after the program's name ask for.
+///
+/// Taken are `replay` and then, in any order, 1 or more tenants and each of the options `--events N`, `--tasks N` and
+/// `--messages N` once at most, with a whole number in its range.
 pub(crate) fn read_words<S: AsStr>(alloc: Global, words: &[S]) -> Result<Asked, Refusal>
-    // Tenants are read as they stand, and want of memory alone prevents it.
-    ensures { IfSome (tenants_in (map S.text words.now)) (λ tenants. Reads tenants result) }
+    // Limits and tenants are read as they stand, and want of memory alone prevents it.
+    ensures { IfSome (asked_in (map S.text words.now)) (λ asked. Reads asked result) }
 {
     match command(alloc)?.try_get_matches_from(words) {
-        Ok(matches) => Ok(Asked::Replay(tenants_of(alloc, &matches)?)),
+        Ok(matches) => asked_of(alloc, &matches),
         Err(error) => shown(alloc, &error),
+    }
+}
+
+/// What was found.
+fn asked_of(alloc: Global, matches: &ArgMatches) -> Result<Asked, Refusal>
+    ensures { (asked : Wanted) → Has (subcommand_rows_of matches.now) asked → Reads asked result }
+{
+    let tenants = tenants_of(alloc, matches)?;
+    match limits_of(matches) {
+        Some(limits) => Ok(Asked::Replay(Replay { limits, tenants })),
+        None => Err(Refusal::Words(String::new(alloc))),
     }
 }
 
@@ -85,6 +176,25 @@ fn tenants_of(alloc: Global, matches: &ArgMatches) -> Result<Vec<String>, Refusa
         return Ok(Vec::new(alloc));
     };
     copy_texts(alloc, replay.get_strs("TENANT").unwrap_or(&[]))
+}
+
+/// The limits that were found; `None` where one is out of its range.
+fn limits_of(matches: &ArgMatches) -> Option<Limits>
+    ensures { FindsLimits (subcommand_rows_of matches.now) result }
+{
+    let (_, replay) = matches.subcommand()?;
+    Limits::read(
+        amount_of(replay, "events", Limits::DEFAULT_EVENTS),
+        amount_of(replay, "tasks", Limits::DEFAULT_TASKS),
+        amount_of(replay, "messages", Limits::DEFAULT_MESSAGES),
+    )
+}
+
+/// The number of the option of this name, or the default where it was not used.
+fn amount_of(replay: &ArgMatches, name: &str, default: u64) -> u64
+    ensures { (number : ℕ) → amount_in name.now default (rows_of (found_of replay.now)) ≡ Some number → result ≡ number }
+{
+    replay.get_one::<u64>(name).unwrap_or(default)
 }
 
 /// Copies of the texts.

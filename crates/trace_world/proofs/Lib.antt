@@ -1,3 +1,6 @@
+mod Distinct
+mod Fresh
+mod Isolation
 mod Places
 mod Fronts
 mod Answering

@@ -2,11 +2,12 @@
 //!
 //! Its one contract is tenant isolation: whatever the tenants ask in whatever interleaving, each reply is the one that
 //! the tenant's own requests alone give, on steps (`World::step`) and on bytes (`replay`). The words are defined in
-//! `Interleaving`, `Replay` and `World` of `trace_types`, and in `Replayed` here.
+//! `Interleaving`, `Replay` and `World` of `trace_types`, and in `Replayed` here; `laws` says what they come to.
 #![tactic(auto)]
 
 mod answer;
 mod counts;
+pub mod laws;
 mod replay_fault;
 mod replaying;
 mod world;

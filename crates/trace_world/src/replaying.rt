@@ -1,5 +1,5 @@
 //! The replay of lines of many tenants.
-ghost use Rattle.std.specs.Prelude.{◌≡◌, ◌↔◌, ◌+◌, ◌<◌, ◌≤◌, ◌^◌, IfOk, IfErr, IsErrOf, ◌⊎◌, IsTrue, OnOk};
+ghost use Rattle.std.specs.Prelude.{◌≡◌, ◌↔◌, ◌+◌, ◌<◌, ◌≤◌, ◌^◌, IfOk, IfErr, IsErrOf, IsTrue, OnOk};
 ghost use Rattle.line_protocol.specs.Writing.{IsWriteFault};
 ghost use Rattle.trace_world.specs.Replayed.{Replays, ReplaysInPart};
 

@@ -1,8 +1,9 @@
 //! The tenants.
-ghost use Rattle.std.specs.Prelude.{◌≡◌, ◌≢◌, ◌↔◌, ◌<◌, [], length, map, ◌++◌, ◌∷◌, IfOk, IfSome, OnOk, IsErrOf};
+ghost use Rattle.std.specs.Prelude.{◌≡◌, ◌↔◌, ◌<◌, false, [], length, map, ◌++◌, ◌∷◌, IfOk, IfSome, OnOk, IsErrOf};
 ghost use Rattle.trace_types.specs.Tenant.{fresh};
 ghost use Rattle.trace_types.specs.Replay.{place_of};
 ghost use Rattle.trace_types.specs.World.{StepsOne, IsAfter, IsDue};
+ghost use Rattle.trace_world.specs.Tenants.{are_distinct, can_be_tenants};
 
 use std::alloc::Global;
 use std::marker::Model;
@@ -30,23 +31,35 @@ impl Model for World {
 }
 
 impl World {
-    /// Tenants of these names that have reported nothing. It takes one name, and answers `Names` for none or several.
+    /// The most tenants.
+    pub const MOST_TENANTS: usize = 16;
+
+    /// Tenants of these names that have reported nothing. It takes 1 to 16 names, and answers `Names` for none, for
+    /// more, and where a name stands twice; want of memory comes last.
     pub fn new(alloc: Global, names: &[Name], limits: Limits) -> Result<World, WorldFault>
-        ensures names { IsErrOf result WorldFault.Names ↔ (length names.now ≢ 1) }
+        ensures names { IsErrOf result WorldFault.Names ↔ (can_be_tenants names.now ≡ false) }
         ensures world { IfOk result (λ world. world ≡ record { names = names.now; limits = limits; tenants = map (λ name. fresh limits) names.now }) }
         ensures fresh { IfOk result (λ world. IsAfter world []) }
     {
-        let [name] = names else {
+        if !can_be_tenants(names) {
             return Err(WorldFault::Names);
-        };
-        let ledger = Ledger::new(alloc, limits)?;
-        let mut world = World {
-            names: Vec::new(alloc),
-            limits,
-            ledgers: Vec::new(alloc),
-        };
-        world.add(*name, ledger)?;
+        }
+        let mut world = World::with_room(alloc, names.len(), limits)?;
+        for name in names {
+            world.add(*name, Ledger::new(alloc, limits)?)?;
+        }
         Ok(world)
+    }
+
+    /// No tenant yet, and room for so many.
+    fn with_room(alloc: Global, count: usize, limits: Limits) -> Result<World, Memory>
+        ensures { IfOk result (λ world. world ≡ record { names = []; limits = limits; tenants = [] }) }
+    {
+        Ok(World {
+            names: Vec::with_capacity(alloc, count)?,
+            limits,
+            ledgers: Vec::with_capacity(alloc, count)?,
+        })
     }
 
     /// Adds a tenant.
@@ -93,6 +106,23 @@ impl World {
     }
 }
 
+fn can_be_tenants(names: &[Name]) -> bool
+    ensures { result ≡ can_be_tenants names.now }
+{
+    1 <= names.len() && names.len() <= World::MOST_TENANTS && are_distinct(names)
+}
+
+fn are_distinct(names: &[Name]) -> bool
+    ensures { result ≡ are_distinct names.now }
+{
+    for (place, name) in names.iter().enumerate() {
+        if names[place + 1..].contains(name) {
+            return false;
+        }
+    }
+    true
+}
+
 fn place_of(names: &[Name], name: &Name) -> Option<usize>
     ensures { result ≡ place_of names.now name.now }
 {
@@ -109,20 +139,34 @@ mod tests {
     use super::*;
     use std::test::Fail;
 
-    fn name(text: &[u8]) -> Result<Name, &'static str> {
-        Name::read(text).ok_or("no name")
+    /// Names of one letter each.
+    fn names_of(alloc: Global, letters: &str) -> Result<Vec<Name>, Fail> {
+        let mut names = Vec::new(alloc);
+        for letter in letters.as_bytes().chunks(1) {
+            names.push(Name::read(letter).ok_or("no name")?)?;
+        }
+        Ok(names)
     }
 
     #[test]
-    fn a_world_takes_one_name(rt: HostRuntime) -> Result<(), Fail> {
-        let (x, y) = (name(b"x")?, name(b"y")?);
-        for names in [&[][..], &[x, y]] {
-            let refused = World::new(rt.alloc(), names, Limits::default()).err();
-            assert_eq!(rt; refused, Some(WorldFault::Names));
+    fn no_names_17_names_and_a_name_twice_are_refused(rt: HostRuntime) -> Result<(), Fail> {
+        for letters in ["", "abcdefghijklmnopq", "xx", "xyzx"] {
+            let names = names_of(rt.alloc(), letters)?;
+            let refused = World::new(rt.alloc(), &names, Limits::default()).err();
+            assert_eq!(rt; refused, Some(WorldFault::Names), "{letters}");
         }
-        let world = World::new(rt.alloc(), &[x], Limits::default())?;
-        assert_eq!(rt; world.tenant_count(), 1);
-        assert_eq!(rt; (world.find(&x), world.find(&y)), (Some(0), None));
+        Ok(())
+    }
+
+    #[test]
+    fn sixteen_names_are_found_at_their_places(rt: HostRuntime) -> Result<(), Fail> {
+        let names = names_of(rt.alloc(), "abcdefghijklmnop")?;
+        let world = World::new(rt.alloc(), &names, Limits::default())?;
+        assert_eq!(rt; world.tenant_count(), 16);
+        for (place, name) in names.iter().enumerate() {
+            assert_eq!(rt; world.find(name), Some(place));
+        }
+        assert_eq!(rt; world.find(&Name::root()), None);
         Ok(())
     }
 }

@@ -94,11 +94,24 @@ impl Write for Output {
 /// The limits that stand where none are asked for.
 const DEFAULTS: (u64, u64, u64) = (4096, 512, 2048);
 
+fn name(text: &[u8]) -> Result<Name, Fail> {
+    Ok(Name::read(text).ok_or("no name")?)
+}
+
+fn limits_of((events, tasks, messages): (u64, u64, u64)) -> Result<Limits, Fail> {
+    Ok(Limits::read(events, tasks, messages).ok_or("no limits")?)
+}
+
 /// A world of one tenant, `x`, that may have so many events, tasks and messages.
-fn world_of_x(alloc: Global, (events, tasks, messages): (u64, u64, u64)) -> Result<World, Fail> {
-    let name = Name::read(b"x").ok_or("no name")?;
-    let limits = Limits::read(events, tasks, messages).ok_or("no limits")?;
-    Ok(World::new(alloc, &[name], limits)?)
+fn world_of_x(alloc: Global, limits: (u64, u64, u64)) -> Result<World, Fail> {
+    let names = [name(b"x")?];
+    Ok(World::new(alloc, &names, limits_of(limits)?)?)
+}
+
+/// A world of two tenants, `x` and `y`, each of which may have so many events, tasks and messages.
+fn world_of_x_and_y(alloc: Global, limits: (u64, u64, u64)) -> Result<World, Fail> {
+    let names = [name(b"x")?, name(b"y")?];
+    Ok(World::new(alloc, &names, limits_of(limits)?)?)
 }
 
 /// What a replay answered, what was written, and how many bytes of it were flushed.
@@ -277,31 +290,34 @@ fn each_refusal_of_a_join_or_spawn_is_the_first_that_is_due(rt: HostRuntime) -> 
     answers(&rt, (3, 512, 2048), input, want, counts)
 }
 
+/// Requests of every sort, and refusals.
+const SCRIPT: &str = "x local root\nx stamp 1\nx spawn root a\nx stamp 2\nx local a\nx local root\n\
+    x order 3 4\nx stamp 3\nx stamp 4\nx send a m\nx stamp 5\nx order 4 5\nx recv root m\n\
+    x stamp 6\nx past 6\nx end a\nx task a\nx join root a\nx stamp 7\nx stamp 8\nx task a\n\
+    x concurrent 4\nx concurrent 6\nx order 5 5\nx order 8 1\nx event 1\nx event 6\n\
+    x message m\nx recv root m\nx join root a\nx local a\nx join root q\nx spawn root a\n\
+    x join root root\nx count\nx order 0 1\nx order 9 1\nx order 01 1\nx past 1\n\
+    x message q\nx recv root q\n";
+
+/// The replies to the lines of `SCRIPT`.
+const REPLIES: &str = "x 201 1\nx 200 [1;1]\nx 201 2\nx 200 [(1,0);2]\nx 201 3\nx 201 4\n\
+    x 200 concurrent\nx 200 [(0,1);(2,0,1)]\nx 200 [(1,0);(2,1,0)]\nx 201 5\n\
+    x 200 [(0,1);(2,0,2)]\nx 200 concurrent\nx 201 6\nx 200 [(1,0);4]\nx 200 5 1 2 3 4 5\n\
+    x 201 7\nx 200 ended 7\nx 201 8\nx 200 [(0,1);(2,0,3)]\nx 200 [1;5]\nx 200 joined 7\n\
+    x 200 3 3 5 7\nx 200 1 7\nx 200 same\nx 200 after\nx 200 local root - 0\n\
+    x 200 recv root m 2 4 5\nx 200 5 1 6\nx 407 already received\nx 409 already joined\n\
+    x 403 task ended\nx 401 no task\nx 402 task exists\nx 408 not ended\nx 200 8 2 1\n\
+    x 404 no event\nx 404 no event\nx 400 line\nx 200 0\nx 405 no message\nx 405 no message\n";
+
 #[test]
 fn messages_and_lists_are_answered_by_the_graph(rt: HostRuntime) -> Result<(), Fail> {
-    let input = b"x local root\nx stamp 1\nx spawn root a\nx stamp 2\nx local a\nx local root\n\
-        x order 3 4\nx stamp 3\nx stamp 4\nx send a m\nx stamp 5\nx order 4 5\nx recv root m\n\
-        x stamp 6\nx past 6\nx end a\nx task a\nx join root a\nx stamp 7\nx stamp 8\nx task a\n\
-        x concurrent 4\nx concurrent 6\nx order 5 5\nx order 8 1\nx event 1\nx event 6\n\
-        x message m\nx recv root m\nx join root a\nx local a\nx join root q\nx spawn root a\n\
-        x join root root\nx count\nx order 0 1\nx order 9 1\nx order 01 1\nx past 1\n\
-        x message q\nx recv root q\n";
-    let want =
-        "x 201 1\nx 200 [1;1]\nx 201 2\nx 200 [(1,0);2]\nx 201 3\nx 201 4\nx 200 concurrent\n\
-        x 200 [(0,1);(2,0,1)]\nx 200 [(1,0);(2,1,0)]\nx 201 5\nx 200 [(0,1);(2,0,2)]\n\
-        x 200 concurrent\nx 201 6\nx 200 [(1,0);4]\nx 200 5 1 2 3 4 5\nx 201 7\nx 200 ended 7\n\
-        x 201 8\nx 200 [(0,1);(2,0,3)]\nx 200 [1;5]\nx 200 joined 7\nx 200 3 3 5 7\nx 200 1 7\n\
-        x 200 same\nx 200 after\nx 200 local root - 0\nx 200 recv root m 2 4 5\nx 200 5 1 6\n\
-        x 407 already received\nx 409 already joined\nx 403 task ended\nx 401 no task\n\
-        x 402 task exists\nx 408 not ended\nx 200 8 2 1\nx 404 no event\nx 404 no event\n\
-        x 400 line\nx 200 0\nx 405 no message\nx 405 no message\n";
     let counts = Counts {
         lines: 41,
         accepted: 8,
         answered: 22,
         refused: 11,
     };
-    answers(&rt, DEFAULTS, input, want, counts)
+    answers(&rt, DEFAULTS, SCRIPT.as_bytes(), REPLIES, counts)
 }
 
 #[test]
@@ -319,6 +335,76 @@ fn a_message_to_its_sender_has_one_predecessor_and_messages_have_a_limit(
         refused: 2,
     };
     answers(&rt, (4096, 512, 1), input, want, counts)
+}
+
+/// What is written for lines of `x` and `y`.
+fn written<R: AllocGlobal>(rt: &R, limits: (u64, u64, u64), lines: &str) -> Result<String, Fail> {
+    let mut world = world_of_x_and_y(rt.alloc(), limits)?;
+    let all = Pace::AT_ONCE;
+    Ok(replay_bytes(rt, &mut world, lines.as_bytes(), all, all)?.text)
+}
+
+#[test]
+fn each_tenant_has_events_and_tasks_of_its_own(rt: HostRuntime) -> Result<(), Fail> {
+    let lines = "x local root\ny local root\nx spawn root a\ny spawn root a\nx stamp 2\n\
+        y order 1 2\n";
+    let want = "x 201 1\ny 201 1\nx 201 2\ny 201 2\nx 200 [(1,0);2]\ny 200 before\n";
+    assert_eq!(rt; written(&rt, DEFAULTS, lines)?.as_str(), want);
+    Ok(())
+}
+
+#[test]
+fn each_tenant_has_the_limits_by_itself(rt: HostRuntime) -> Result<(), Fail> {
+    let lines = "x local root\nx local root\nx local root\ny local root\n";
+    let want = "x 201 1\nx 201 2\nx 413 events full\ny 201 1\n";
+    assert_eq!(rt; written(&rt, (2, 512, 2048), lines)?.as_str(), want);
+    Ok(())
+}
+
+fn push_line(text: &mut String, line: &str) -> Result<(), Fail> {
+    text.push_str(line)?;
+    text.push_str("\n")?;
+    Ok(())
+}
+
+/// The lines of one, and after each of them one of the others while there is one.
+fn interleaved(alloc: Global, lines: &str, others: &str) -> Result<String, Fail> {
+    let mut text = String::new(alloc);
+    let mut others = others.lines();
+    for line in lines.lines() {
+        push_line(&mut text, line)?;
+        if let Some(other) = others.next() {
+            push_line(&mut text, other)?;
+        }
+    }
+    Ok(text)
+}
+
+/// The lines that begin so.
+fn lines_with(alloc: Global, text: &str, begin: &str) -> Result<String, Fail> {
+    let mut found = String::new(alloc);
+    for line in text.lines() {
+        if line.starts_with(begin) {
+            push_line(&mut found, line)?;
+        }
+    }
+    Ok(found)
+}
+
+/// The lines of `x` are answered as ever, with these of `y` between them.
+fn answers_whatever_y_asks<R: Abort + AllocGlobal>(rt: &R, others: &str) -> Result<(), Fail> {
+    let lines = interleaved(rt.alloc(), SCRIPT, others)?;
+    let text = written(rt, DEFAULTS, &lines)?;
+    assert_eq!(rt; lines_with(rt.alloc(), &text, "x ")?.as_str(), REPLIES);
+    Ok(())
+}
+
+#[test]
+fn no_line_of_another_changes_a_byte(rt: HostRuntime) -> Result<(), Fail> {
+    let same = SCRIPT.replace(rt.alloc(), "x ", "y ")?;
+    answers_whatever_y_asks(&rt, &same)?;
+    let local = "y local root\n".repeat(rt.alloc(), 40)?;
+    answers_whatever_y_asks(&rt, &local)
 }
 
 /// What a replay leaves that a fault cut short, and what the tenant counts afterwards.

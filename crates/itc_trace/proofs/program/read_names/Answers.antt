@@ -1,5 +1,6 @@
 use Rattle.std.proofs.Common.{rules, ◌≡◌, ◌<◌, ℕ, zero, suc, arith, inr, refl, ap, List, [], ◌∷◌, length, map, false, true, Bool, ◌&&◌, slice_index_or, string_bytes}
 use Rattle.std.specs.List.{list_all}
+use Rattle.std.proofs.lemmas.Bool.{and_right}
 use Rattle.trace_types.specs.Name.{is_name}
 use Rattle.itc_trace.proofs.program.read_names.Goals as goal
 
@@ -16,4 +17,4 @@ not_all p f (y ∷ ys) (suc i) x within at fails = later (p (f y)) (not_all p f 
 pub returns-in_default-clause-err : goal.returns-in_default-clause-err
 returns-in_default-clause-err c =
     let no_name : is_name (string_bytes c.tenant-item.result) ≡ false = search rules in
-    inr (refl, not_all is_name string_bytes c.args.tenants.now c.loop-tenant.tenant-index c.tenant-item.result (search rules) c.tenant-item.is no_name)
+    inr (refl, and_right _ _ (not_all is_name string_bytes c.args.tenants.now c.loop-tenant.tenant-index c.tenant-item.result (search rules) c.tenant-item.is no_name))

@@ -1,0 +1,49 @@
+//! What tenant isolation means, and the places of names. Each law is the contract of a function that does nothing.
+ghost use Rattle.std.specs.Prelude.{◌≡◌, ◌↔◌, ℕ, IsTrue, List, [], Some, slice_get};
+ghost use Rattle.trace_types.specs.Name.{Text};
+ghost use Rattle.trace_types.specs.Limits.{Limits};
+ghost use Rattle.trace_types.specs.Interleaving.{Call, calls_of, kept, alone};
+ghost use Rattle.trace_types.specs.Replay.{Entry, calls_by, output, place_of};
+ghost use Rattle.trace_world.specs.Isolation.{due_replies, replies_to_tenant, lines_of, output_to};
+ghost use Rattle.trace_world.specs.Tenants.{are_distinct};
+
+/// Isolation of the calls that `World::step` does.
+///
+/// However the calls of all tenants are mixed, the replies that are due to one tenant are those that its own requests
+/// give where there is no other tenant. So it cannot tell from its replies what the others ask, how much they report,
+/// or whether they are there. A call that was answered with want of memory is left out: it changed nothing, and
+/// nothing is said of when memory lacks.
+pub fn isolation()
+    ensures alone { (limits : Limits) (tenant : ℕ) (calls : List Call)
+        → due_replies limits tenant [] calls ≡ alone limits (kept (calls_of tenant calls)) }
+    // Two runs in which the tenant asks the same.
+    ensures whatever_others_ask { (limits : Limits) (tenant : ℕ) (first second : List Call)
+        → kept (calls_of tenant first) ≡ kept (calls_of tenant second)
+        → due_replies limits tenant [] first ≡ due_replies limits tenant [] second }
+{}
+
+/// Isolation of the lines that `replay` answers.
+///
+/// What is written for the lines that name one tenant is, byte for byte, what a replay of these lines alone writes.
+/// So whatever lines name the others, or nobody, they change none of its bytes. Where memory lacked for some of its
+/// requests, the replies to the rest are still those that the rest alone gives.
+pub fn isolation_in_bytes()
+    ensures lines_alone { (names : List Text) (limits : Limits) (tenant : ℕ) (entries : List Entry)
+        → output_to names limits tenant [] entries ≡ output names limits [] (lines_of tenant entries) }
+    // Two inputs with the same lines of the tenant.
+    ensures whatever_others_write { (names : List Text) (limits : Limits) (tenant : ℕ) (first second : List Entry)
+        → lines_of tenant first ≡ lines_of tenant second
+        → output_to names limits tenant [] first ≡ output_to names limits tenant [] second }
+    ensures requests_alone { (limits : Limits) (tenant : ℕ) (entries : List Entry)
+        → replies_to_tenant limits tenant [] entries ≡ alone limits (kept (calls_of tenant (calls_by entries))) }
+    // Two inputs by which the tenant asks the same.
+    ensures whatever_others_ask { (limits : Limits) (tenant : ℕ) (first second : List Entry)
+        → kept (calls_of tenant (calls_by first)) ≡ kept (calls_of tenant (calls_by second))
+        → replies_to_tenant limits tenant [] first ≡ replies_to_tenant limits tenant [] second }
+{}
+
+/// Among names of which none stands twice, as those of a world, a name is found exactly at the place where it stands.
+pub fn places()
+    ensures { (names : List Text) → IsTrue (are_distinct names) → (name : Text) (place : ℕ)
+        → (place_of names name ≡ Some place) ↔ (slice_get names place ≡ Some name) }
+{}
