@@ -1,16 +1,16 @@
 // The operations of ids and event trees in plain Rust, by the published algorithms, for `plain.rs` and `trees.rs`: no
 // proofs, and a refused request for memory ends the program.
 
-#[derive(Clone, PartialEq)]
+#[derive(Clone)]
 pub enum Id {
     Zero,
     One,
-    Pair(Box<(Id, Id)>),
+    Pair(Box<Id>, Box<Id>),
 }
 
 impl Id {
     pub fn pair(left: Id, right: Id) -> Id {
-        Id::Pair(Box::new((left, right)))
+        Id::Pair(Box::new(left), Box::new(right))
     }
 
     fn norm(left: Id, right: Id) -> Id {
@@ -25,7 +25,7 @@ impl Id {
         match self {
             Id::Zero => (Id::Zero, Id::Zero),
             Id::One => (Id::pair(Id::One, Id::Zero), Id::pair(Id::Zero, Id::One)),
-            Id::Pair(halves) => match &**halves {
+            Id::Pair(left, right) => match (&**left, &**right) {
                 (Id::Zero, right) => {
                     let (first, second) = right.split();
                     (Id::pair(Id::Zero, first), Id::pair(Id::Zero, second))
@@ -45,7 +45,9 @@ impl Id {
     pub fn sum(&self, other: &Id) -> Id {
         match (self, other) {
             (Id::Zero, id) | (id, Id::Zero) => id.clone(),
-            (Id::Pair(one), Id::Pair(other)) => Id::norm(one.0.sum(&other.0), one.1.sum(&other.1)),
+            (Id::Pair(left, right), Id::Pair(other_left, other_right)) => {
+                Id::norm(left.sum(other_left), right.sum(other_right))
+            }
             _ => Id::One,
         }
     }
@@ -53,8 +55,8 @@ impl Id {
     pub fn disjoint(&self, other: &Id) -> bool {
         match (self, other) {
             (Id::Zero, _) | (_, Id::Zero) => true,
-            (Id::Pair(one), Id::Pair(other)) => {
-                one.0.disjoint(&other.0) && one.1.disjoint(&other.1)
+            (Id::Pair(left, right), Id::Pair(other_left, other_right)) => {
+                left.disjoint(other_left) && right.disjoint(other_right)
             }
             _ => false,
         }
@@ -64,30 +66,27 @@ impl Id {
         match self {
             Id::Zero => text.push(b'0'),
             Id::One => text.push(b'1'),
-            Id::Pair(halves) => {
+            Id::Pair(left, right) => {
                 text.push(b'(');
-                halves.0.write(text);
+                left.write(text);
                 text.push(b',');
-                halves.1.write(text);
+                right.write(text);
                 text.push(b')');
             }
         }
     }
 }
 
+/// `spread` is how far the greatest value lies above the least, `base`.
 #[derive(Clone)]
 pub enum Tree {
     Leaf(u64),
-    Node(Box<Fork>),
-}
-
-/// `spread` is how far the greatest value lies above the least, `base`.
-#[derive(Clone)]
-pub struct Fork {
-    base: u64,
-    spread: u64,
-    left: Tree,
-    right: Tree,
+    Fork {
+        base: u64,
+        spread: u64,
+        left: Box<Tree>,
+        right: Box<Tree>,
+    },
 }
 
 pub static ZERO: Tree = Tree::Leaf(0);
@@ -96,26 +95,25 @@ impl Tree {
     pub fn min(&self) -> u64 {
         match self {
             Tree::Leaf(n) => *n,
-            Tree::Node(fork) => fork.base,
+            Tree::Fork { base, .. } => *base,
         }
     }
 
     pub fn max(&self) -> u64 {
         match self {
             Tree::Leaf(n) => *n,
-            Tree::Node(fork) => fork.base + fork.spread,
+            Tree::Fork { base, spread, .. } => base + spread,
         }
     }
 
-    fn lowered(mut self, by: u64) -> Tree {
-        match &mut self {
+    fn lower(&mut self, by: u64) {
+        match self {
             Tree::Leaf(n) => *n -= by,
-            Tree::Node(fork) => fork.base -= by,
+            Tree::Fork { base, .. } => *base -= by,
         }
-        self
     }
 
-    pub fn fork(n: u64, left: Tree, right: Tree) -> Tree {
+    pub fn fork(n: u64, mut left: Tree, mut right: Tree) -> Tree {
         if let (Tree::Leaf(one), Tree::Leaf(other)) = (&left, &right) {
             if one == other {
                 return Tree::Leaf(n + one);
@@ -123,24 +121,43 @@ impl Tree {
         }
         let common = left.min().min(right.min());
         let spread = left.max().max(right.max()) - common;
-        Tree::Node(Box::new(Fork {
-            base: n + common,
-            spread,
-            left: left.lowered(common),
-            right: right.lowered(common),
-        }))
+        left.lower(common);
+        right.lower(common);
+        let (left, right) = (Box::new(left), Box::new(right));
+        Tree::Fork { base: n + common, spread, left, right }
+    }
+
+    /// Brings an inner node to normal form, of which a child was changed.
+    fn renew(&mut self) {
+        let Tree::Fork { base, spread, left, right } = self else {
+            return;
+        };
+        if let (Tree::Leaf(one), Tree::Leaf(other)) = (&**left, &**right) {
+            if one == other {
+                *self = Tree::Leaf(*base + one);
+                return;
+            }
+        }
+        let common = left.min().min(right.min());
+        *base += common;
+        *spread = left.max().max(right.max()) - common;
+        left.lower(common);
+        right.lower(common);
     }
 
     pub fn join(&self, lift: u64, other: &Tree, other_lift: u64) -> Tree {
         match (self, other) {
             (Tree::Leaf(n), _) => other.join_number(other_lift, lift + n),
             (_, Tree::Leaf(n)) => self.join_number(lift, other_lift + n),
-            (Tree::Node(one), Tree::Node(two)) => {
-                let (root, other_root) = (lift + one.base, other_lift + two.base);
+            (
+                Tree::Fork { base, left, right, .. },
+                Tree::Fork { base: other_base, left: other_left, right: other_right, .. },
+            ) => {
+                let (root, other_root) = (lift + base, other_lift + other_base);
                 let low = root.min(other_root);
                 let (lift, other_lift) = (root - low, other_root - low);
-                let left = one.left.join(lift, &two.left, other_lift);
-                let right = one.right.join(lift, &two.right, other_lift);
+                let left = left.join(lift, other_left, other_lift);
+                let right = right.join(lift, other_right, other_lift);
                 Tree::fork(low, left, right)
             }
         }
@@ -152,12 +169,12 @@ impl Tree {
         }
         match self {
             Tree::Leaf(n) => Tree::Leaf(lift + n),
-            Tree::Node(fork) => {
-                let root = lift + fork.base;
+            Tree::Fork { base, left, right, .. } => {
+                let root = lift + base;
                 let low = number.min(root);
                 let (number, lift) = (number - low, root - low);
-                let left = fork.left.join_number(lift, number);
-                let right = fork.right.join_number(lift, number);
+                let left = left.join_number(lift, number);
+                let right = right.join_number(lift, number);
                 Tree::fork(low, left, right)
             }
         }
@@ -174,15 +191,19 @@ impl Tree {
         if !(possible.0 || possible.1) || high <= other_low || other_high <= low {
             return possible;
         }
-        let (Tree::Node(one), Tree::Node(two)) = (self, other) else {
+        let (
+            Tree::Fork { base, left, right, .. },
+            Tree::Fork { base: other_base, left: other_left, right: other_right, .. },
+        ) = (self, other)
+        else {
             return possible;
         };
-        let (lift, other_lift) = (lift + one.base, other_lift + two.base);
-        let possible = one.left.compare(lift, &two.left, other_lift, possible);
+        let (lift, other_lift) = (lift + base, other_lift + other_base);
+        let possible = left.compare(lift, other_left, other_lift, possible);
         if !(possible.0 || possible.1) {
             return possible;
         }
-        one.right.compare(lift, &two.right, other_lift, possible)
+        right.compare(lift, other_right, other_lift, possible)
     }
 
     pub fn leq(&self, other: &Tree) -> bool {
@@ -203,107 +224,106 @@ impl Tree {
         }
     }
 
-    fn is_flattened(&self, least: u64) -> bool {
-        match self {
-            Tree::Leaf(n) => *n < least,
-            Tree::Node(_) => true,
-        }
+    /// Makes the tree one number of at least `least`, and tells whether that is another tree.
+    fn flatten(&mut self, least: u64) -> bool {
+        let number = self.max().max(least);
+        let changes = !matches!(self, Tree::Leaf(n) if *n == number);
+        *self = Tree::Leaf(number);
+        changes
     }
 
-    fn fill_changes(&self, id: &Id) -> bool {
-        match (id, self) {
-            (Id::Zero, _) | (_, Tree::Leaf(_)) => false,
-            (Id::One, Tree::Node(_)) => true,
-            (Id::Pair(ids), Tree::Node(fork)) => match &**ids {
-                (Id::One, right) => fork.right.fill_changes(right) || fork.left.is_flattened(fork.right.min()),
-                (left, Id::One) => fork.left.fill_changes(left) || fork.right.is_flattened(fork.left.min()),
-                (left, right) => fork.left.fill_changes(left) || fork.right.fill_changes(right),
-            },
+    /// Fills the tree in its place, and tells whether that changed it.
+    fn fill(&mut self, id: &Id) -> bool {
+        let (left_id, right_id) = match id {
+            Id::Zero => return false,
+            Id::One => return self.flatten(0),
+            Id::Pair(left_id, right_id) => (&**left_id, &**right_id),
+        };
+        let Tree::Fork { left, right, .. } = self else {
+            return false;
+        };
+        let changes = match (left_id, right_id) {
+            (Id::One, _) => right.fill(right_id) | left.flatten(right.min()),
+            (_, Id::One) => left.fill(left_id) | right.flatten(left.min()),
+            _ => left.fill(left_id) | right.fill(right_id),
+        };
+        if changes {
+            self.renew();
         }
-    }
-
-    fn filled(&self, id: &Id) -> Tree {
-        match (id, self) {
-            (Id::Zero, _) => self.clone(),
-            (Id::One, _) => Tree::Leaf(self.max()),
-            (_, Tree::Leaf(n)) => Tree::Leaf(*n),
-            (Id::Pair(ids), Tree::Node(fork)) => match &**ids {
-                (Id::One, right) => {
-                    let right = fork.right.filled(right);
-                    let left = Tree::Leaf(fork.left.max().max(right.min()));
-                    Tree::fork(fork.base, left, right)
-                }
-                (left, Id::One) => {
-                    let left = fork.left.filled(left);
-                    let right = Tree::Leaf(fork.right.max().max(left.min()));
-                    Tree::fork(fork.base, left, right)
-                }
-                (left, right) => {
-                    let left = fork.left.filled(left);
-                    let right = fork.right.filled(right);
-                    Tree::fork(fork.base, left, right)
-                }
-            },
-        }
-    }
-
-    fn opened(&self) -> (u64, &Tree, &Tree, u64) {
-        match self {
-            Tree::Leaf(n) => (*n, &ZERO, &ZERO, 1),
-            Tree::Node(fork) => (fork.base, &fork.left, &fork.right, 0),
-        }
+        changes
     }
 
     /// The least cost of growing: expansions before steps.
     fn cost(&self, id: &Id) -> Option<(u64, u64)> {
-        let Id::Pair(ids) = id else {
-            return if *id == Id::One { Some((0, 0)) } else { None };
+        let (left_id, right_id) = match id {
+            Id::Zero => return None,
+            Id::One => return Some((0, 0)),
+            Id::Pair(left_id, right_id) => (left_id, right_id),
         };
-        let (_, left, right, expansion) = self.opened();
-        let cheaper = match (left.cost(&ids.0), right.cost(&ids.1)) {
+        let (left, right, expansion) = match self {
+            Tree::Leaf(_) => (&ZERO, &ZERO, 1),
+            Tree::Fork { left, right, .. } => (&**left, &**right, 0),
+        };
+        let cheaper = match (left.cost(left_id), right.cost(right_id)) {
             (Some(left), Some(right)) => Some(if left < right { left } else { right }),
             (left, right) => left.or(right),
         };
         cheaper.map(|(expansions, steps)| (expansions + expansion, steps + 1))
     }
 
-    /// The tree grown for exactly this cost, which is the least.
-    fn grown(&self, id: &Id, cost: (u64, u64)) -> Option<Tree> {
-        let Id::Pair(ids) = id else {
-            return if *id == Id::One && cost == (0, 0) {
-                Some(Tree::Leaf(self.max() + 1))
-            } else {
-                None
-            };
+    /// Grows the tree in its place for exactly this cost, which is the least; else it changes nothing and tells so.
+    fn grow(&mut self, id: &Id, cost: (u64, u64)) -> bool {
+        let (left_id, right_id) = match id {
+            Id::Zero => return false,
+            Id::One if cost == (0, 0) => {
+                *self = Tree::Leaf(self.max() + 1);
+                return true;
+            }
+            Id::One => return false,
+            Id::Pair(left_id, right_id) => (left_id, right_id),
         };
-        let (n, left, right, expansion) = self.opened();
-        let cost = (cost.0.checked_sub(expansion)?, cost.1.checked_sub(1)?);
-        if let Some(right) = right.grown(&ids.1, cost) {
-            return Some(Tree::fork(n, left.clone(), right));
+        let expansion = u64::from(matches!(self, Tree::Leaf(_)));
+        let (Some(expansions), Some(steps)) = (cost.0.checked_sub(expansion), cost.1.checked_sub(1)) else {
+            return false;
+        };
+        let cost = (expansions, steps);
+        match self {
+            Tree::Leaf(n) => {
+                let (mut left, mut right) = (Tree::Leaf(0), Tree::Leaf(0));
+                if !right.grow(right_id, cost) && !left.grow(left_id, cost) {
+                    return false;
+                }
+                *self = Tree::fork(*n, left, right);
+            }
+            Tree::Fork { left, right, .. } => {
+                if !right.grow(right_id, cost) && !left.grow(left_id, cost) {
+                    return false;
+                }
+                self.renew();
+            }
         }
-        let left = left.grown(&ids.0, cost)?;
-        Some(Tree::fork(n, left, right.clone()))
+        true
     }
 
-    pub fn event(&self, id: &Id) -> Tree {
-        if self.fill_changes(id) {
-            return self.filled(id);
+    /// The tree after an event, in the memory of this one.
+    pub fn event(mut self, id: &Id) -> Tree {
+        if !self.fill(id) {
+            let cost = self.cost(id).expect("an id of some points");
+            self.grow(id, cost);
         }
-        self.cost(id)
-            .and_then(|cost| self.grown(id, cost))
-            .expect("an id of some points")
+        self
     }
 
     pub fn write(&self, text: &mut Vec<u8>) {
         match self {
             Tree::Leaf(n) => write_number(text, *n),
-            Tree::Node(fork) => {
+            Tree::Fork { base, left, right, .. } => {
                 text.push(b'(');
-                write_number(text, fork.base);
+                write_number(text, *base);
                 text.push(b',');
-                fork.left.write(text);
+                left.write(text);
                 text.push(b',');
-                fork.right.write(text);
+                right.write(text);
                 text.push(b')');
             }
         }

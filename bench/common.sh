@@ -24,22 +24,3 @@ build_rattle() {
         exit 1
     fi
 }
-
-# Writes the head of the table of replays.
-table_head() {
-    echo "| Trace | Rattle | Plain Rust | Ratio | Rattle, peak | Plain Rust, peak | Ratio |"
-    echo "|---|---|---|---|---|---|---|"
-}
-
-# table_row TRACE PLAIN_WORDS PROGRAM WORDS..: times both programs on the trace, in turn, compares their replies and writes a
-# row: processor time, user and system, the best of five runs, and the greatest peak of memory.
-table_row() {
-    trace=$1
-    plain_words=$2
-    shift 2
-    used=$("$work/measure" 5 "$work/$trace" "$work/replies" "$work/plain_replies" "$@" -- "$work/plain" $plain_words)
-    cmp "$work/replies" "$work/plain_replies"
-    echo "$trace $used" | awk '{
-        printf "| %s | %.3f s | %.3f s | %.2f | %.1f MiB | %.1f MiB | %.2f |\n", $1, $2, $4, $2 / $4, $3 / 1024, $5 / 1024, $3 / $5
-    }'
-}

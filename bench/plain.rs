@@ -3,7 +3,7 @@
 // `plain [--events N] [--tasks N] [--messages N] TENANT..` gives the program's replies byte for byte, and refuses in the
 // same order. It leaves out: refusing for want of memory (the process ends), the bound on reads, the program's statuses and
 // lines on standard error, and the ranges of its words (what is no number ends it, names of tenants and limits are taken as
-// they stand, and several tenants are served). A line that one buffer does not hold is kept whole until its end is read.
+// they stand). A line that one buffer does not hold is kept whole until its end is read.
 //
 // A message has room for one receipt, as no more is taken. No predecessor is followed: order and lists are told by the
 // trees, a list by comparing with each event, also with those that by their numbers alone cannot be in it.
@@ -248,7 +248,7 @@ impl Tenant {
     /// Adds an event with which the task of this place takes nothing in and keeps its id.
     fn add_alone(&mut self, place: usize, task_name: Name, kind: Kind, name: Option<Name>) -> u64 {
         let task = self.tasks[place];
-        let tree = self.known(task.last).event(&self.ids[task.id]);
+        let tree = self.known(task.last).clone().event(&self.ids[task.id]);
         let preds = [task.last, 0];
         let last = self.add(Row { task: task_name, kind, name, preds, tree, id: task.id });
         self.tasks[place].last = last;
@@ -314,7 +314,7 @@ impl Tenant {
             Entry::Vacant(entry) => entry.insert(started),
         };
         let task = self.tasks[place];
-        let tree = self.known(task.last).event(&self.ids[task.id]);
+        let tree = self.known(task.last).clone().event(&self.ids[task.id]);
         let (kept, given) = self.ids[task.id].split();
         let (kept, given) = (self.add_id(kept), self.add_id(given));
         let preds = [task.last, 0];

@@ -160,7 +160,7 @@ fn answer(line: &str) {
             |word| word.as_bytes().to_vec(),
         ),
         "join" => tell(count, || black_box(&one).tree.join(0, &other.tree, 0), text_of_tree),
-        "event" => tell(count, || black_box(&one).tree.event(&one.id), text_of_tree),
+        "event" => tell(count, || black_box(&one).tree.clone().event(&one.id), text_of_tree),
         "write" => tell(count, || black_box(&one).write(), |text| text),
         "read" => tell(count, || read(black_box(text)), |stamp| stamp.expect("a stamp").write()),
         _ => panic!("no such operation"),

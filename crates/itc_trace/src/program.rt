@@ -54,6 +54,10 @@ pub fn run<T: AllocGlobal, S: AsStr, R: Source, W: Sink, E: Sink>(
         (E.interruptions errors.old) (E.interruptions errors.new) fault
         × IfSome (asked_in (map S.text words.now)) (λ asked. ReplaysFreshInPart fault asked.limits asked.tenants
         (R.given reader.old) (R.given reader.new) (R.has_ended reader.new) (W.taken writer.old) (W.taken writer.new)) }
+    // Whatever the words are, nothing was read, or the replay of the lines of some tenants was broken off.
+    ensures stopped { result ≡ 3 → (reader.new ≡ reader.old) ⊎ ((fault : Fault) × (limits : Bounds) × (tenants : List Text)
+        × IsTrue (are_limits limits.events limits.tasks limits.messages) × IsTrue (are_taken tenants) × ReplaysFreshInPart fault limits tenants
+        (R.given reader.old) (R.given reader.new) (R.has_ended reader.new) (W.taken writer.old) (W.taken writer.new)) }
     ensures read_failed { R.failures reader.old < R.failures reader.new → result ≡ 3 }
     ensures write_failed { W.failures writer.old < W.failures writer.new → result ≡ 3 }
     ensures no_memory { result ≡ 4 → Tells (E.taken errors.old) (E.taken errors.new) (E.failures errors.old) (E.failures errors.new)

@@ -36,7 +36,7 @@ others_standing wanted trees event = filter (λ other. is_other_standing wanted 
 abbrev pub past_of : List EventTree → ℕ → List ℕ
 past_of trees event = others_standing Before trees event
 
--- the other events that are neither before the event nor after it
+-- the other events that are concurrent with the event
 abbrev pub concurrent_of : List EventTree → ℕ → List ℕ
 concurrent_of trees event = others_standing Concurrent trees event
 

@@ -10,9 +10,9 @@ ghost use Rattle.trace_world.specs.Tenants.{are_distinct};
 /// Isolation of the calls that `World::step` does.
 ///
 /// However the calls of all tenants are mixed, the replies that are due to one tenant are those that its own requests
-/// give where there is no other tenant. So it cannot tell from its replies what the others ask, how much they report,
-/// or whether they are there. A call that was answered with want of memory is left out: it changed nothing, and
-/// nothing is said of when memory lacks.
+/// give where there is no other tenant. A call that was answered with want of memory is left out: it changed nothing,
+/// and nothing is said of when memory lacks. But for that, a tenant cannot tell from its replies what the others ask,
+/// how much they report, or whether they are there.
 pub fn isolation()
     ensures alone { (limits : Limits) (tenant : ℕ) (calls : List Call)
         → due_replies limits tenant [] calls ≡ alone limits (kept (calls_of tenant calls)) }
@@ -24,13 +24,13 @@ pub fn isolation()
 
 /// Isolation of the lines that `replay` answers.
 ///
-/// What is written for the lines that name one tenant is, byte for byte, what a replay of these lines alone writes.
-/// So whatever lines name the others, or nobody, they change none of its bytes. Where memory lacked for some of its
-/// requests, the replies to the rest are still those that the rest alone gives.
+/// What is written for the lines that name one tenant is, byte for byte, what these lines give without all others,
+/// where the same of them find no memory. So lines that name the others, or nobody, change none of its bytes. Where
+/// memory lacked for some of its requests, the replies to the rest are still those that the rest alone gives.
 pub fn isolation_in_bytes()
     ensures lines_alone { (names : List Text) (limits : Limits) (tenant : ℕ) (entries : List Entry)
         → output_to names limits tenant [] entries ≡ output names limits [] (lines_of tenant entries) }
-    // Two inputs with the same lines of the tenant.
+    // Two inputs with the same lines of the tenant, of which the same find no memory.
     ensures whatever_others_write { (names : List Text) (limits : Limits) (tenant : ℕ) (first second : List Entry)
         → lines_of tenant first ≡ lines_of tenant second
         → output_to names limits tenant [] first ≡ output_to names limits tenant [] second }

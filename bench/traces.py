@@ -1,0 +1,154 @@
+#!/usr/bin/env python3
+"""Writes the traces that `run` replays into a folder, and for each a line: its name, and the words that both programs take.
+
+They are the same at every run. All requests are accepted or answered.
+"""
+import random
+import sys
+
+EVENTS, TASKS, MESSAGES = 4096, 512, 2048
+MOST_EVENTS, MOST_TASKS = 16384, 2048
+GREATEST = f"--events {MOST_EVENTS} --tasks {MOST_TASKS} x"
+NAMES = [f"task_{number}" for number in range(1, MOST_TASKS)]
+
+
+def taken(names):
+    return names.pop(random.randrange(len(names)))
+
+
+def churn(events, tasks, messages):
+    """Tasks that come and go, and send and receive where there are messages."""
+    live, ended, unread, started, sent = ["root"], [], [], 1, 0
+    for _ in range(events):
+        kind = random.random()
+        if kind < 0.14 and started < tasks:
+            live.append(f"task_{started}")
+            yield f"spawn {random.choice(live[:-1])} {live[-1]}"
+            started += 1
+        elif kind < 0.27 and len(live) > 1:
+            ended.append(taken(live))
+            yield f"end {ended[-1]}"
+        elif kind < 0.40 and ended:
+            yield f"join {random.choice(live)} {taken(ended)}"
+        elif kind < 0.65 and sent < messages:
+            sent += 1
+            unread.append(f"message_{sent}")
+            yield f"send {random.choice(live)} {unread[-1]}"
+        elif kind < 0.90 and unread:
+            yield f"recv {random.choice(live)} {taken(unread)}"
+        else:
+            yield f"local {random.choice(live)}"
+
+
+def talk(tasks):
+    """Tasks that all live to the end, and send each other messages."""
+    names = NAMES[:tasks]
+    yield from (f"spawn root {name}" for name in names)
+    for number in range(1, MESSAGES + 1):
+        sender, receiver = random.sample(names, 2)
+        yield f"send {sender} message_{number}"
+        if number <= EVENTS - tasks - MESSAGES:
+            yield f"recv {receiver} message_{number}"
+
+
+def build(jobs):
+    """Jobs that start jobs, with so many at a time: each works, and then ends and is joined by the one that started it."""
+    spawns, locals_left = len(NAMES), MOST_EVENTS - 3 * len(NAMES)
+    names, started = iter(NAMES), {"root": None}
+    while spawns or len(started) > 1:
+        if spawns and len(started) <= jobs:
+            parent, name = random.choice(list(started)), next(names)
+            started[name] = parent
+            spawns -= 1
+            yield f"spawn {parent} {name}"
+        else:
+            name = random.choice([name for name in started if name not in started.values() and name != "root"])
+            parent = started.pop(name)
+            yield f"end {name}"
+            yield f"join {parent} {name}"
+        for _ in range(min(locals_left, random.randint(0, 5))):
+            locals_left -= 1
+            yield f"local {random.choice(list(started))}"
+    yield from ["local root"] * locals_left
+
+
+def grown(parents, joins):
+    """As many tasks as there may be, each spawned by its parent; each does something, and ends and is joined."""
+    yield from (f"spawn {parent} {name}" for parent, name in zip(parents, NAMES))
+    yield from (f"local {name}" for name in NAMES)
+    for parent, name in joins:
+        yield f"end {name}"
+        yield f"join {parent} {name}"
+
+
+def orders(events, count):
+    return (f"order {random.randint(1, events)} {random.randint(1, events)}" for _ in range(count))
+
+
+def lists(count):
+    return (f"{keyword} {random.randint(1, EVENTS)}" for keyword in ("past", "concurrent") for _ in range(count))
+
+
+def named_last(reports, keyword):
+    """The last word of each report with this keyword."""
+    return [words[-1] for words in map(str.split, reports) if words[0] == keyword]
+
+
+def queries(reports, count):
+    """Queries of all kinds but lists."""
+    tasks, messages, events = ["root", *named_last(reports, "spawn")], named_last(reports, "send"), len(reports)
+    for _ in range(count):
+        yield random.choice([
+            f"order {random.randint(1, events)} {random.randint(1, events)}",
+            f"event {random.randint(1, events)}",
+            f"stamp {random.randint(1, events)}",
+            f"task {random.choice(tasks)}",
+            f"message {random.choice(messages)}",
+            "count",
+        ])
+
+
+def addressed(tenant, *requests):
+    return [f"{tenant} {request}\n" for part in requests for request in part]
+
+
+def interleaved(parts):
+    """The lines of all, each part's in its order."""
+    order = [place for place, part in enumerate(parts) for _ in part]
+    random.shuffle(order)
+    rests = [iter(part) for part in parts]
+    return (next(rests[place]) for place in order)
+
+
+def of_many(tenants):
+    for tenant in tenants:
+        reports = list(churn(1024, 128, 512))
+        yield addressed(tenant, reports, queries(reports, 20_000))
+
+
+def write(name, words, lines):
+    with open(f"{sys.argv[1]}/{name}", "w") as file:
+        file.writelines(lines)
+    print(name, words)
+
+
+random.seed(1)
+without_messages, with_messages = list(churn(EVENTS, TASKS, 0)), list(churn(EVENTS, TASKS, MESSAGES))
+long_lived, built = list(talk(64)), list(build(64))
+chain = list(zip(["root", *NAMES], NAMES))
+fan = [("root", name) for name in NAMES]
+after = list(orders(4 * len(NAMES), 4_000))
+write("counts", "x", addressed("x", ["count"] * 1_000_000))
+write("orders", "x", addressed("x", ["local root"] * EVENTS, orders(EVENTS, 1_000_000)))
+write("churn", "x", addressed("x", without_messages, orders(EVENTS, 4_000)))
+write("churn_and_orders", "x", addressed("x", without_messages, orders(EVENTS, 1_000_000)))
+write("messages", "x", addressed("x", with_messages, queries(with_messages, 300_000)))
+write("lists", "x", addressed("x", with_messages, lists(200)))
+write("long_lived", "x", addressed("x", long_lived, queries(long_lived, 300_000)))
+tenants = [f"tenant_{number}" for number in range(16)]
+write("many_tenants", " ".join(tenants), interleaved(list(of_many(tenants))))
+write("build", GREATEST, addressed("x", built, orders(MOST_EVENTS, 300_000)))
+write("chain", GREATEST, addressed("x", grown(["root", *NAMES], reversed(chain)), after))
+write("chain_joined_by_root", GREATEST, addressed("x", grown(["root", *NAMES], fan), after))
+write("fan_first_made_first", GREATEST, addressed("x", grown(["root"] * len(NAMES), fan), after))
+write("fan_last_made_first", GREATEST, addressed("x", grown(["root"] * len(NAMES), reversed(fan)), after))
