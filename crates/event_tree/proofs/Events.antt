@@ -1,5 +1,5 @@
 -- The event raises some point of the id, no other, and its greatest value by at most one.
-use Rattle.std.proofs.Common.{◌≡◌, ◌≢◌, ◌+◌, ◌≤◌, Bool, true, false, ◌==◌, inl, inr, refl, ap, arith}
+use Rattle.std.proofs.Common.{◌≡◌, ◌≢◌, ◌+◌, ◌≤◌, true, ◌==◌, inl, inr, refl, ap, arith}
 use Rattle.std.proofs.lemmas.Bool.{cases_Bool, eqb-true, and_parts, eq-eqb}
 use Rattle.trace_types.specs.Id.{Id, Zero}
 use Rattle.trace_types.specs.Id as ids
@@ -7,11 +7,10 @@ use Rattle.trace_types.specs.EventTree.{EventTree, Leaf, Node, value, maximum, I
 use Rattle.trace_types.specs.Fill.{fill}
 use Rattle.trace_types.specs.Grow.{grown}
 use Rattle.trace_types.specs.Event.{is_same, normalised, event}
-use Rattle.event_tree.specs.Changes.{fill_changes}
 use Rattle.event_tree.specs.Raised.{RisesSomewhere}
 use Rattle.event_tree.specs.Tables.{FollowsEventTable}
 use Rattle.event_tree.proofs.Raising.{IsRaised}
-use Rattle.event_tree.proofs.Filled.{Tells, fills, told_fill}
+use Rattle.event_tree.proofs.Filled.{IsOtherwise, fills, otherwise_fill}
 use Rattle.event_tree.proofs.Grown.{raised_grown, maximum-grown-le, rises_grown, cost-some, normal_normalised, value-normalised, maximum-normalised-le}
 
 pub is_same-itself : (tree : EventTree) → is_same tree tree ≡ true
@@ -50,13 +49,6 @@ event_by_growth id tree same = rw (same, is_same-itself tree) refl
 pub follows_event_table : FollowsEventTable
 follows_event_table = record { filled = event_by_test; grows = event_by_growth }
 
--- so the event is told by whether filling changes the tree
-pub event_if_changed : (id : Id) (tree : EventTree) → IsNormal tree → fill_changes id tree ≡ true → event id tree ≡ fill id tree
-event_if_changed id tree normal changes = event_by_fill id tree (rw changes at (told_fill id tree normal))
-
-pub event_if_unchanged : (id : Id) (tree : EventTree) → IsNormal tree → fill_changes id tree ≡ false → event id tree ≡ normalised (grown id tree)
-event_if_unchanged id tree normal changes = event_by_growth id tree (rw changes at (told_fill id tree normal))
-
 -- what an event does to a tree
 pub record Raises (id : Id) (before after : EventTree) : Type 0 where
   pub normal : IsNormal after
@@ -78,11 +70,11 @@ raises_grown id tree id_normal some =
       bounded = omega (arith, maximum-normalised-le (grown id tree), maximum-grown-le id tree);
     }
 
-raises_by_told : (id : Id) (tree : EventTree) (changes : Bool) → Tells changes tree (fill id tree) → ids.IsNormal id → id ≢ Zero → IsNormal tree → Raises id tree (event id tree)
-raises_by_told id tree true rises id_normal some normal =
+raises_filled : (id : Id) (tree : EventTree) → IsOtherwise tree (fill id tree) → ids.IsNormal id → id ≢ Zero → IsNormal tree → Raises id tree (event id tree)
+raises_filled id tree (inl same) id_normal some normal = rw (event_by_growth id tree same) (raises_grown id tree id_normal some)
+raises_filled id tree (inr rises) id_normal some normal =
     let filled = fills id tree normal in
     rw (event_by_fill id tree rises) (record { normal = filled.normal; raised = filled.raised; rises = rises; bounded = omega (arith, filled.bounded) })
-raises_by_told id tree false same id_normal some normal = rw (event_by_growth id tree same) (raises_grown id tree id_normal some)
 
 pub raises_event : (id : Id) (tree : EventTree) → ids.IsNormal id → id ≢ Zero → IsNormal tree → Raises id tree (event id tree)
-raises_event id tree id_normal some normal = raises_by_told id tree (fill_changes id tree) (told_fill id tree normal) id_normal some normal
+raises_event id tree id_normal some normal = raises_filled id tree (otherwise_fill id tree normal) id_normal some normal

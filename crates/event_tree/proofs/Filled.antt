@@ -1,16 +1,17 @@
--- Filling raises only points of the id, keeps trees normal and their greatest value, and whether it changes the tree is told.
-use Rattle.std.proofs.Common.{◌≡◌, ◌≢◌, ℕ, ◌+◌, ◌≤◌, Bool, true, false, ◌||◌, max, [], inl, inr, refl, ap, subst, arith}
-use Rattle.std.proofs.lemmas.Bool.{cases_lt, lt-ltb, le-ltb}
+-- Filling raises only points of the id, keeps trees normal and their greatest value, and rises somewhere or changes nothing.
+use Rattle.std.proofs.Common.{◌≡◌, ◌≢◌, ℕ, ◌+◌, ◌≤◌, ◌⊎◌, false, ◌&&◌, is_none, Option, Some, None, max, inl, inr, refl, arith}
 use Rattle.trace_types.specs.Id.{Id, Zero, One, Pair}
 use Rattle.trace_types.specs.EventTree.{EventTree, Leaf, Node, minimum, maximum, IsNormal}
 use Rattle.trace_types.specs.Norm.{norm}
 use Rattle.trace_types.specs.Fill.{node_filled, fill}
-use Rattle.event_tree.specs.Changes.{is_flattened, node_changes, fill_changes}
+use Rattle.event_tree.specs.Filled.{filled_over, Rises, GivesFilled}
 use Rattle.event_tree.specs.Raised.{RisesSomewhere}
 use Rattle.event_tree.proofs.Bounds.{minimum-le-maximum}
+use Rattle.event_tree.proofs.Canonical.{same_from_values}
+use Rattle.event_tree.proofs.Decided.{below_or_above}
 use Rattle.event_tree.proofs.NormLemmas.{normal_norm}
 use Rattle.event_tree.proofs.Raising.{IsRaised, raised_same, raised_whole, raised_norm, rises_left, rises_right, rises_norm, rises_flat}
-use Rattle.event_tree.proofs.Values.{maximum-norm, norm-normal}
+use Rattle.event_tree.proofs.Values.{maximum-norm}
 
 -- a tree in place of another: normal, raised at points of the id, and not above a bound
 pub record Fills (id : Id) (before after : EventTree) (bound : ℕ) : Type 0 where
@@ -70,64 +71,29 @@ normal_fill id tree normal = (fills id tree normal).normal
 pub maximum-fill-le : (id : Id) (tree : EventTree) → IsNormal tree → maximum (fill id tree) ≤ maximum tree
 maximum-fill-le id tree normal = (fills id tree normal).bounded
 
--- the answer tells whether the second tree is another, which then rises above the first somewhere
-abbrev pub Tells : Bool → EventTree → EventTree → Type 0
-Tells true before after = RisesSomewhere before after
-Tells false before after = after ≡ before
+-- a tree in place of another rises above it somewhere, or is the same
+abbrev pub IsOtherwise : EventTree → EventTree → Type 0
+IsOtherwise before after = (after ≡ before) ⊎ RisesSomewhere before after
 
-or-false : (b : Bool) → (b || false) ≡ b
-or-false true = refl
-or-false false = refl
-
--- a number in place of a tree
-told_flattened : (tree : EventTree) (least : ℕ) → IsNormal tree → Tells (is_flattened tree least) tree (Leaf (max (maximum tree) least))
-told_flattened (Leaf n) least normal =
-    elim (cases_lt n least) [
-      | inl less ↦ rw (lt-ltb n least less) ([], omega arith)
-      | inr no_less ↦ rw (le-ltb n least no_less) (ap Leaf (omega arith))
+-- as the filled tree does
+pub otherwise_fill : (id : Id) (tree : EventTree) → IsNormal tree → IsOtherwise tree (fill id tree)
+otherwise_fill id tree normal =
+    let filled = fills id tree normal in
+    elim (below_or_above (fill id tree) tree) [
+      | inl below ↦ inl (same_from_values (fill id tree) tree filled.normal normal (λ point. omega (arith, below point, filled.raised.below point)))
+      | inr rises ↦ inr rises
     ]
-told_flattened (Node n l r) least normal = rises_flat n l r (max (maximum (Node n l r)) least) normal (omega arith)
 
-module _ (n : ℕ) (l r x y : EventTree) (normal : IsNormal (Node n l r)) (x_normal : IsNormal x) (y_normal : IsNormal y) where
-  told_node : (on_left on_right : Bool) → Tells on_left l x → Tells on_right r y → Tells (on_left || on_right) (Node n l r) (norm n x y)
-  told_node true on_right left right = rises_norm n l r x y x_normal y_normal (rises_left n l r x y left)
-  told_node false true left right = rises_norm n l r x y x_normal y_normal (rises_right n l r x y right)
-  told_node false false left right = rw (left, right) (norm-normal n l r normal)
+-- what is given over a normal tree rises, or is nothing
+module _ (n : ℕ) (l r : EventTree) (normal : IsNormal (Node n l r)) (x y : EventTree) (x_normal : IsNormal x) (y_normal : IsNormal y) where
+  pub rises_beside : (left right : Option EventTree) → Rises left l → Rises right r → x ≡ filled_over left l → y ≡ filled_over right r → (is_none left && is_none right) ≡ false → RisesSomewhere (Node n l r) (norm n x y)
+  rises_beside (Some a) right on_left on_right x_is y_is some = rises_norm n l r x y x_normal y_normal (rises_left n l r x y (rw x_is on_left))
+  rises_beside None (Some b) on_left on_right x_is y_is some = rises_norm n l r x y x_normal y_normal (rises_right n l r x y (rw y_is on_right))
+  rises_beside None None on_left on_right x_is y_is some = absurd (cc)
 
-module _ (n : ℕ) (l r l' r' : EventTree) (normal : IsNormal (Node n l r)) (l_normal : IsNormal l') (r_normal : IsNormal r') where
-  -- where the other side changes the node does, and else that side is as it was
-  told_left_whole : (on_right : Bool) → Tells on_right r r' → Tells (on_right || is_flattened l (minimum r)) (Node n l r) (norm n (Leaf (max (maximum l) (minimum r'))) r')
-  told_left_whole true right =
-      let flat = Leaf (max (maximum l) (minimum r')) in
-      rises_norm n l r flat r' tt r_normal (rises_right n l r flat r' right)
-  told_left_whole false right =
-      let changes = is_flattened l (minimum r) in
-      let flat = Leaf (max (maximum l) (minimum r)) in
-      rw right (subst (λ (b : Bool). Tells b (Node n l r) (norm n flat r)) (or-false changes) (told_node n l r flat r normal tt normal.1 changes false (told_flattened l (minimum r) normal.0) refl))
-
-  told_right_whole : (on_left : Bool) → Tells on_left l l' → Tells (on_left || is_flattened r (minimum l)) (Node n l r) (norm n l' (Leaf (max (maximum r) (minimum l'))))
-  told_right_whole true left =
-      let flat = Leaf (max (maximum r) (minimum l')) in
-      rises_norm n l r l' flat l_normal tt (rises_left n l r l' flat left)
-  told_right_whole false left =
-      rw left (told_node n l r l (Leaf (max (maximum r) (minimum l))) normal normal.0 tt false (is_flattened r (minimum l)) refl (told_flattened r (minimum l) normal.1))
-
-  told_filled : (il ir : Id) (on_left on_right : Bool) → Tells on_left l l' → Tells on_right r r' → Tells (node_changes il ir l r on_left on_right) (Node n l r) (node_filled n il ir l r l' r')
-  told_filled One ir on_left on_right left right = told_left_whole on_right right
-  told_filled Zero One on_left on_right left right = told_right_whole on_left left
-  told_filled (Pair a b) One on_left on_right left right = told_right_whole on_left left
-  told_filled Zero Zero on_left on_right left right = told_node n l r l' r' normal l_normal r_normal on_left on_right left right
-  told_filled Zero (Pair c d) on_left on_right left right = told_node n l r l' r' normal l_normal r_normal on_left on_right left right
-  told_filled (Pair a b) Zero on_left on_right left right = told_node n l r l' r' normal l_normal r_normal on_left on_right left right
-  told_filled (Pair a b) (Pair c d) on_left on_right left right = told_node n l r l' r' normal l_normal r_normal on_left on_right left right
-
-pub told_fill : (id : Id) (tree : EventTree) → IsNormal tree → Tells (fill_changes id tree) tree (fill id tree)
-told_fill Zero tree normal = refl
-told_fill One (Leaf n) normal = refl
-told_fill One (Node n l r) normal = rises_flat n l r (maximum (Node n l r)) normal (omega arith)
-told_fill (Pair il ir) (Leaf n) normal = refl
-told_fill (Pair il ir) (Node n l r) normal =
-    told_filled n l r (fill il l) (fill ir r) normal (normal_fill il l normal.0) (normal_fill ir r normal.1) il ir (fill_changes il l) (fill_changes ir r) (told_fill il l normal.0) (told_fill ir r normal.1)
+-- a number that bounds a normal node is given in its place
+pub gives_number : (n : ℕ) (l r : EventTree) (m : ℕ) → IsNormal (Node n l r) → maximum (Node n l r) ≤ m → GivesFilled (Some (Leaf m)) (Node n l r) (Leaf m)
+gives_number n l r m normal bound = record { exact = refl; rises = rises_flat n l r m normal bound }
 
 -- halves that the id owns only in part are filled each by itself
 pub node_filled-both : (n : ℕ) (il ir : Id) (l r l' r' : EventTree) → il ≢ One → ir ≢ One → node_filled n il ir l r l' r' ≡ norm n l' r'
@@ -138,3 +104,9 @@ node_filled-both n Zero Zero l r l' r' left right = refl
 node_filled-both n Zero (Pair c d) l r l' r' left right = refl
 node_filled-both n (Pair a b) Zero l r l' r' left right = refl
 node_filled-both n (Pair a b) (Pair c d) l r l' r' left right = refl
+
+-- a right half that the id owns whole is raised, where it does not own the left one
+pub node_filled-right : (n : ℕ) (il : Id) (l r l' r' : EventTree) → il ≢ One → node_filled n il One l r l' r' ≡ norm n l' (Leaf (max (maximum r) (minimum l')))
+node_filled-right n One l r l' r' left = absurd (left refl)
+node_filled-right n Zero l r l' r' left = refl
+node_filled-right n (Pair a b) l r l' r' left = refl

@@ -1,11 +1,12 @@
 -- The join has the greater value at each point and is normal, and it is the one of the table.
 use Rattle.std.proofs.Common.{◌≡◌, ℕ, ◌+◌, ◌-◌, ◌≤◌, min, max, arith}
 use Rattle.trace_types.specs.Points.{Half, Left, Right, Point, half_of, within_half, at_half}
-use Rattle.trace_types.specs.EventTree.{EventTree, Leaf, Node, value, maximum, IsNormal}
+use Rattle.trace_types.specs.EventTree.{EventTree, Leaf, Node, value, minimum, maximum, IsNormal}
 use Rattle.trace_types.specs.Norm.{norm}
 use Rattle.trace_types.specs.Join.{lifted, joined_number, joined, join}
+use Rattle.event_tree.specs.Lifted.{IsLiftedBelow}
 use Rattle.event_tree.specs.Tables.{FollowsJoinTable}
-use Rattle.event_tree.proofs.Bounds.{value-le-maximum, reaches_maximum}
+use Rattle.event_tree.proofs.Bounds.{minimum-le-value, value-le-maximum, reaches_maximum}
 use Rattle.event_tree.proofs.Canonical.{same_from_values}
 use Rattle.event_tree.proofs.NormLemmas.{value-norm, normal_norm}
 use Rattle.event_tree.proofs.Values.{on_both}
@@ -69,14 +70,32 @@ maximum-joined_number-le m b f =
     let high = reaches_maximum (joined_number m b f) in
     omega (arith, high.1, value-joined_number m b f high.0, value-le-maximum f high.0)
 
+value-lifted : (m : ℕ) (tree : EventTree) (point : Point) → value (lifted m tree) point ≡ m + value tree point
+value-lifted m (Leaf n) point = omega arith
+value-lifted m (Node n l r) point = omega arith
+
+normal_lifted : (m : ℕ) (tree : EventTree) → IsNormal tree → IsNormal (lifted m tree)
+normal_lifted m (Leaf n) normal = tt
+normal_lifted m (Node n l r) normal = normal
+
+-- the join with a tree that is below is the other tree
+pub joined-first : (a : ℕ) (e : EventTree) (b : ℕ) (f : EventTree) → IsNormal e → IsLiftedBelow b f a e → joined a e b f ≡ lifted a e
+joined-first a e b f normal below =
+    same_from_values (joined a e b f) (lifted a e) (normal_joined a e b f) (normal_lifted a e normal) (λ point. omega (arith, value-joined a e b f point, value-lifted a e point, below point))
+
+pub joined-second : (a : ℕ) (e : EventTree) (b : ℕ) (f : EventTree) → IsNormal f → IsLiftedBelow a e b f → joined a e b f ≡ lifted b f
+joined-second a e b f normal below =
+    same_from_values (joined a e b f) (lifted b f) (normal_joined a e b f) (normal_lifted b f normal) (λ point. omega (arith, value-joined a e b f point, value-lifted b f point, below point))
+
+-- the join with a number that no value of the tree is below is the tree
+pub joined_number-below : (m b : ℕ) (f : EventTree) → IsNormal f → m ≤ b + minimum f → joined_number m b f ≡ lifted b f
+joined_number-below m b f normal below =
+    same_from_values (joined_number m b f) (lifted b f) (normal_joined_number m b f) (normal_lifted b f normal) (λ point. omega (arith, value-joined_number m b f point, value-lifted b f point, minimum-le-value f point))
+
 -- a number that no value of the tree exceeds is the join
 pub joined_number-above : (m b : ℕ) (f : EventTree) → b + maximum f ≤ m → joined_number m b f ≡ Leaf m
 joined_number-above m b f above =
     same_from_values (joined_number m b f) (Leaf m) (normal_joined_number m b f) tt (λ point. omega (arith, value-joined_number m b f point, value-le-maximum f point))
-
-value-lifted : (m : ℕ) (tree : EventTree) (point : Point) → value (lifted m tree) point ≡ m + value tree point
-value-lifted m (Leaf n) point = omega arith
-value-lifted m (Node n l r) point = omega arith
 
 -- two joins that have the same values are the same tree
 same_join : (e f g h : EventTree) → ((point : Point) → max (value e point) (value f point) ≡ max (value g point) (value h point)) → join e f ≡ join g h

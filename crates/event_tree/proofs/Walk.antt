@@ -1,9 +1,11 @@
--- What a step of the comparison walk decides, in one direction.
-use Rattle.std.proofs.Common.{◌≡◌, ℕ, ◌+◌, ◌↔◌, Bool, IsTrue, [], ◌∷◌, arith}
+-- What a step of the comparison walk decides, in each direction.
+use Rattle.std.proofs.Common.{◌≡◌, ℕ, ◌+◌, ◌≤◌, ◌↔◌, ◌⊎◌, inl, inr, Bool, true, false, IsTrue, [], ◌∷◌, sym, ap, ◌∙◌, arith}
+use Rattle.std.proofs.lemmas.Bool.{false≢true}
 use Rattle.trace_types.specs.Points.{Half, Left, Right, at_half}
-use Rattle.trace_types.specs.EventTree.{EventTree, Node}
+use Rattle.trace_types.specs.EventTree.{EventTree, Node, minimum, maximum}
 use Rattle.event_tree.specs.Lifted.{IsLiftedBelow}
 use Rattle.event_tree.specs.Ranges.{range_of, IsRangeBelow, CanBeBelow}
+use Rattle.event_tree.specs.declared.ev_tree.comparison.Range.{Range}
 use Rattle.event_tree.proofs.Bounds.{minimum-le-value, value-le-maximum, reaches_minimum, reaches_maximum}
 
 pub ranges_from_below : (m n : ℕ) (e f : EventTree) → IsLiftedBelow m e n f → CanBeBelow (range_of m e) (range_of n f)
@@ -26,14 +28,6 @@ module _ (m n a b : ℕ) (l r l' r' : EventTree) where
   below_from_sides left right (Left ∷ point) = omega (arith, left point)
   below_from_sides left right (Right ∷ point) = omega (arith, right point)
 
--- the direction is possible where it was asked and the ranges allow it
-abbrev pub Narrows : Bool → Bool → ℕ → EventTree → ℕ → EventTree → Type 0
-Narrows asked possible m e n f = IsTrue possible ↔ (IsTrue asked × CanBeBelow (range_of m e) (range_of n f))
-
--- the answer is whether the direction was asked and holds
-abbrev pub Answers : Bool → Bool → ℕ → EventTree → ℕ → EventTree → Type 0
-Answers asked answer m e n f = IsTrue answer ↔ (IsTrue asked × IsLiftedBelow m e n f)
-
 -- two nodes, with their numbers and children
 pub record AreNodes (e f : EventTree) (a b : ℕ) (l r l' r' : EventTree) : Type 0 where
   pub one : e ≡ Node a l r
@@ -42,28 +36,20 @@ pub record AreNodes (e f : EventTree) (a b : ℕ) (l r l' r' : EventTree) : Type
 pub are_nodes_swapped : {e f : EventTree} {a b : ℕ} {l r l' r' : EventTree} → AreNodes e f a b l r l' r' → AreNodes f e b a l' r' l r
 are_nodes_swapped nodes = record { one = nodes.other; other = nodes.one }
 
-module _ (asked possible : Bool) (m n : ℕ) (e f : EventTree) (narrow : Narrows asked possible m e n f) where
-  -- a possible direction between ranges that lie apart holds
-  pub answers_by_ranges : (IsTrue possible → IsRangeBelow (range_of m e) (range_of n f)) → Answers asked possible m e n f
-  answers_by_ranges apart =
-      (λ is_possible. ((narrow.0 is_possible).0, below_from_ranges m n e f (apart is_possible)), λ holds. narrow.1 (holds.0, ranges_from_below m n e f holds.1))
+-- two nodes
+module _ (m n : ℕ) (e f : EventTree) {a b : ℕ} {l r l' r' : EventTree} (nodes : AreNodes e f a b l r l' r') where
+  -- are not below one another where the left side is not
+  pub not_below_by_left : (left : Bool) → (IsTrue left ↔ IsLiftedBelow (m + a) l (n + b) l') → left ≡ false → IsTrue left ↔ IsLiftedBelow m e n f
+  not_below_by_left left on_left fails =
+      (λ is. absurd (false≢true (sym fails ∙ is)), λ below. on_left.1 (below_on m n a b l r l' r' Left (rw (nodes.one, nodes.other) at below)))
 
-  module _ {a b : ℕ} {l r l' r' : EventTree} (nodes : AreNodes e f a b l r l' r') where
-    -- what holds between the nodes holds on either side
-    on_side : (half : Half) → IsTrue asked × IsLiftedBelow m e n f → IsTrue possible × IsLiftedBelow (m + a) (at_half half l r) (n + b) (at_half half l' r')
-    on_side half holds =
-        (narrow.1 (holds.0, ranges_from_below m n e f holds.1), below_on m n a b l r l' r' half (rw (nodes.one, nodes.other) at holds.1))
+  -- and else stand as the right side does
+  pub below_by_right : (left right : Bool) → (IsTrue left ↔ IsLiftedBelow (m + a) l (n + b) l') → left ≡ true → (IsTrue right ↔ IsLiftedBelow (m + a) r (n + b) r') → IsTrue right ↔ IsLiftedBelow m e n f
+  below_by_right left right on_left holds on_right = (
+    λ is. rw (nodes.one, nodes.other) (below_from_sides m n a b l r l' r' (on_left.0 holds) (on_right.0 is)),
+    λ below. on_right.1 (below_on m n a b l r l' r' Right (rw (nodes.one, nodes.other) at below)),
+  )
 
-    -- a left side that rules the direction out answers for the nodes
-    pub answers_by_left : (left : Bool) → Answers possible left (m + a) l (n + b) l' → (IsTrue left → ⊥) → Answers asked left m e n f
-    answers_by_left left on_left closed = (λ h. absurd (closed h), λ holds. on_left.1 (on_side Left holds))
-
-    -- both sides in turn answer for the nodes
-    pub answers_by_sides : (left answer : Bool) → Answers possible left (m + a) l (n + b) l' → Answers left answer (m + a) r (n + b) r' → Answers asked answer m e n f
-    answers_by_sides left answer on_left on_right = (
-      λ h.
-          let right = on_right.0 h in
-          let left = on_left.0 right.0 in
-          ((narrow.0 left.0).0, rw (nodes.one, nodes.other) (below_from_sides m n a b l r l' r' left.1 right.1)),
-      λ holds. on_right.1 (on_left.1 (on_side Left holds), (on_side Right holds).1),
-    )
+-- trees with one range of which one is flat are below one another
+pub below_flat : (m n : ℕ) (e f : EventTree) → range_of m e ≡ range_of n f → (m + maximum e ≤ m + minimum e) ⊎ (n + maximum f ≤ n + minimum f) → IsLiftedBelow m e n f
+below_flat m n e f same flat = below_from_ranges m n e f (let low = ap Range.low same in let high = ap Range.high same in elim flat [ inl one ↦ omega (arith, one, low, high) | inr other ↦ omega (arith, other, low, high) ])

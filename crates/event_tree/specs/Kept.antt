@@ -8,12 +8,12 @@ use Rattle.event_tree.specs.declared.ev_tree.Node.TheVariants.{Leaf, Fork}
 -- the plain tree
 abbrev pub tree_of : kept.Node → EventTree
 tree_of (Leaf n) = plain.Leaf n
-tree_of (Fork base spread left right) = Node base left.value right.value
+tree_of (Fork base spread children) = Node base children.value.left children.value.right
 
 -- a fork keeps how far the greatest value of its children lies above their least, which is 0
 abbrev pub KeepsSpread : kept.Node → Type 0
 KeepsSpread (Leaf n) = Unit {0}
-KeepsSpread (Fork base spread left right) = spread ≡ max (maximum left.value) (maximum right.value)
+KeepsSpread (Fork base spread children) = spread ≡ max (maximum children.value.left) (maximum children.value.right)
 
 pub record IsKept (node : kept.Node) : Type 0 where
   pub normal : IsNormal (tree_of node)

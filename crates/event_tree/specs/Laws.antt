@@ -5,7 +5,7 @@ use Rattle.trace_types.specs.Id as ids
 use Rattle.trace_types.specs.Points.{Point}
 use Rattle.trace_types.specs.declared.order.Order.{Order}
 use Rattle.trace_types.specs.declared.order.Order.TheVariants.{Same}
-use Rattle.trace_types.specs.EventTree.{EventTree, Node, value, maximum, IsNormal}
+use Rattle.trace_types.specs.EventTree.{EventTree, Node, value, minimum, maximum, IsNormal}
 use Rattle.event_tree.specs.Comparison.{IsBelow, StandsAs}
 use Rattle.trace_types.specs.Norm.{norm}
 use Rattle.trace_types.specs.Join.{join}
@@ -28,6 +28,13 @@ NormKeepsValues = (n : ℕ) (left right : EventTree) → IsNormal left → IsNor
 -- the normal form of a node is normal
 abbrev pub NormIsNormal : Type 0
 NormIsNormal = (n : ℕ) (left right : EventTree) → IsNormal left → IsNormal right → IsNormal (norm n left right)
+
+-- no value of a tree is below its least or above its greatest, and at some point it has each
+pub record HasExtremes (tree : EventTree) : Type 0 where
+  pub least : (point : Point) → minimum tree ≤ value tree point
+  pub least_reached : (point : Point) × (value tree point ≡ minimum tree)
+  pub greatest : (point : Point) → value tree point ≤ maximum tree
+  pub greatest_reached : (point : Point) × (value tree point ≡ maximum tree)
 
 -- two trees stand to each other in some way
 abbrev pub StandSomehow : Type 0

@@ -1,8 +1,9 @@
-pub mod Changes
 pub mod Comparison
 pub mod EventTreeCode
+pub mod Filled
 pub mod GrownFor
 pub mod Height
+pub mod Joins
 pub mod Kept
 pub mod KeptFalls
 pub mod Laws

@@ -1,24 +1,30 @@
 //! The event tree, kept normal.
-ghost use Rattle.std.specs.Prelude.{◌≡◌, ◌≢◌, ◌+◌, ◌^◌, ◌<◌, ◌≤◌, ◌↔◌, ◌⊎◌, ◌||◌, max, IfOk, IsTrue};
+ghost use Rattle.std.specs.Prelude.{◌≡◌, ◌≢◌, ◌+◌, ◌^◌, ◌<◌, ◌≤◌, ◌↔◌, max, IfOk, IsTrue};
 ghost use Rattle.trace_types.specs.Id.{Zero};
 ghost use Rattle.trace_types.specs.EventTree.{Leaf, IsNormal, minimum, maximum};
 ghost use Rattle.event_tree.specs.Comparison.{IsBelow, StandsAs};
-ghost use Rattle.event_tree.specs.Lifted.{IsLiftedBelow};
-ghost use Rattle.event_tree.specs.Ranges.{range_of, IsRangeBelow, CanBeBelow};
 ghost use Rattle.trace_types.specs.Norm.{norm, lowered};
-ghost use Rattle.trace_types.specs.Join.{joined_number, joined, join};
+ghost use Rattle.trace_types.specs.Join.{lifted, join};
 ghost use Rattle.trace_types.specs.Event.{event};
 ghost use Rattle.event_tree.specs.Parts.{tree_of_parts};
 
+use comparison::{compare, is_below};
 use id_tree::IdTree;
+use joining::joined;
 use std::alloc::Global;
+use std::fmt;
 use std::marker::Model;
+use std::sync::Arc;
 use trace_types::{Memory, Order};
 
+mod comparison;
 mod filling;
 mod growth;
+mod joining;
 
 /// An event tree in normal form, whose greatest value is below 2^64.
+///
+/// Trees share their parts: what an operation leaves as it was stands in both trees, and is counted.
 #[cycle(ev_tree)]
 #[derive(Drop)]
 pub struct EvTree {
@@ -33,15 +39,24 @@ enum Node {
     Fork {
         base: u64,
         spread: u64,
-        left: Box<EvTree>,
-        right: Box<EvTree>,
+        children: Arc<Children>,
     },
 }
 
-/// What a tree is made of, with the children of an inner node lent.
+/// Both children of an inner node.
+#[cycle(ev_tree)]
 #[derive(Drop)]
+struct Children {
+    left: EvTree,
+    right: EvTree,
+}
+
+/// What a tree is made of, with the children of an inner node lent.
+#[derive(Debug, Drop)]
 pub enum Parts<'a> {
+    /// One value everywhere.
     Leaf(u64),
+    /// The least value, and what each half adds to it.
     Node(u64, &'a EvTree, &'a EvTree),
 }
 
@@ -79,7 +94,7 @@ impl EvTree {
 
     /// The normal form of the tree with `n` added to what `left` and `right` say of the two halves.
     ///
-    /// Out of memory, both trees are lost.
+    /// `Memory` where a request for memory was refused; both trees are then lost. A leaf takes none.
     pub fn fork(alloc: Global, n: u64, left: EvTree, right: EvTree) -> Result<EvTree, Memory>
         requires { n + max (maximum left) (maximum right) < 2 ^ 64 }
         ensures { IfOk result (λ tree. tree ≡ norm n left right) }
@@ -91,14 +106,15 @@ impl EvTree {
         }
         let common = left.min().min(right.min());
         let spread = left.max().max(right.max()) - common;
-        let left = Box::new(alloc, left.lowered(common))?;
-        let right = Box::new(alloc, right.lowered(common))?;
+        let children = Children {
+            left: left.lowered(common),
+            right: right.lowered(common),
+        };
         Ok(EvTree {
             node: Node::Fork {
                 base: n + common,
                 spread,
-                left,
-                right,
+                children: Arc::new(alloc, children)?,
             },
         })
     }
@@ -112,16 +128,36 @@ impl EvTree {
             Node::Fork {
                 base,
                 spread,
-                left,
-                right,
+                children,
             } => EvTree {
                 node: Node::Fork {
                     base: base - by,
                     spread,
-                    left,
-                    right,
+                    children,
                 },
             },
+        }
+    }
+
+    /// The tree with its least value raised by so much, over the same children.
+    fn lifted(&self, by: u64) -> Result<EvTree, Memory>
+        requires { by + maximum self.now < 2 ^ 64 }
+        ensures exact { IfOk result (λ tree. tree ≡ lifted by self.now) }
+        ensures normal { IsNormal self.now }
+    {
+        match &self.node {
+            Node::Leaf(n) => Ok(EvTree::leaf(*n + by)),
+            Node::Fork {
+                base,
+                spread,
+                children,
+            } => Ok(EvTree {
+                node: Node::Fork {
+                    base: *base + by,
+                    spread: *spread,
+                    children: Arc::try_clone(children)?,
+                },
+            }),
         }
     }
 
@@ -133,17 +169,16 @@ impl EvTree {
     {
         match &self.node {
             Node::Leaf(n) => Parts::Leaf(*n),
-            Node::Fork {
-                base,
-                left,
-                right,
-                ..
-            } => Parts::Node(*base, left, right),
+            Node::Fork { base, children, .. } => {
+                Parts::Node(*base, &children.left, &children.right)
+            }
         }
     }
 
-    /// The same tree in memory of its own.
-    pub fn share(&self, alloc: Global) -> Result<EvTree, Memory>
+    /// The same tree, over the same children.
+    ///
+    /// It takes no memory, and constant time. `Memory` where one part would stand in more trees than can be counted.
+    pub fn share(&self, _alloc: Global) -> Result<EvTree, Memory>
         ensures { IfOk result (λ tree. tree ≡ self.now) }
     {
         match &self.node {
@@ -151,99 +186,33 @@ impl EvTree {
             Node::Fork {
                 base,
                 spread,
-                left,
-                right,
-            } => {
-                let left = left.share(alloc)?;
-                let left = Box::new(alloc, left)?;
-                let right = right.share(alloc)?;
-                let right = Box::new(alloc, right)?;
-                Ok(EvTree {
-                    node: Node::Fork {
-                        base: *base,
-                        spread: *spread,
-                        left,
-                        right,
-                    },
-                })
-            }
+                children,
+            } => Ok(EvTree {
+                node: Node::Fork {
+                    base: *base,
+                    spread: *spread,
+                    children: Arc::try_clone(children)?,
+                },
+            }),
         }
     }
 
-    /// The tree that has at each point the greater of the values of the two.
+    /// The tree that has at each point the greater of the values of the two (Almeida, Baquero and Fonte 2008).
+    ///
+    /// It shares every part that one of the two has, and makes no node where one is below the other. `Memory` where a
+    /// request for memory was refused.
     pub fn join(&self, alloc: Global, other: &EvTree) -> Result<EvTree, Memory>
         ensures { IfOk result (λ tree. tree ≡ join self.now other.now) }
     {
         self.normal();
         other.normal();
-        self.joined(alloc, 0, other, 0)
+        joined(alloc, self, 0, other, 0)?.tree(self, 0, other, 0)
     }
 
-    fn joined(
-        &self,
-        alloc: Global,
-        lift: u64,
-        other: &EvTree,
-        other_lift: u64,
-    ) -> Result<EvTree, Memory>
-        requires fits { lift + maximum self.now < 2 ^ 64 }
-        requires other_fits { other_lift + maximum other.now < 2 ^ 64 }
-        ensures { IfOk result (λ tree. tree ≡ joined lift self.now other_lift other.now) }
-    {
-        match (&self.node, &other.node) {
-            (Node::Leaf(n), _) => other.joined_number(alloc, other_lift, lift + *n),
-            (_, Node::Leaf(n)) => self.joined_number(alloc, lift, other_lift + *n),
-            (
-                Node::Fork {
-                    base,
-                    left,
-                    right,
-                    ..
-                },
-                Node::Fork {
-                    base: other_base,
-                    left: other_left,
-                    right: other_right,
-                    ..
-                },
-            ) => {
-                let (root, other_root) = (lift + *base, other_lift + *other_base);
-                let low = root.min(other_root);
-                let (lift, other_lift) = (root - low, other_root - low);
-                let left = left.joined(alloc, lift, other_left, other_lift)?;
-                let right = right.joined(alloc, lift, other_right, other_lift)?;
-                EvTree::fork(alloc, low, left, right)
-            }
-        }
-    }
-
-    /// The join of this tree lifted by `lift` and of `number`.
-    fn joined_number(&self, alloc: Global, lift: u64, number: u64) -> Result<EvTree, Memory>
-        requires { lift + maximum self.now < 2 ^ 64 }
-        ensures { IfOk result (λ tree. tree ≡ joined_number number lift self.now) }
-    {
-        if lift + self.max() <= number {
-            return Ok(EvTree::leaf(number));
-        }
-        match &self.node {
-            Node::Leaf(n) => Ok(EvTree::leaf(lift + *n)),
-            Node::Fork {
-                base,
-                left,
-                right,
-                ..
-            } => {
-                let root = lift + *base;
-                let low = number.min(root);
-                let (number, lift) = (number - low, root - low);
-                let left = left.joined_number(alloc, lift, number)?;
-                let right = right.joined_number(alloc, lift, number)?;
-                EvTree::fork(alloc, low, left, right)
-            }
-        }
-    }
-
-    /// The tree raised at points of the id, by filling where that changes it and else by growing.
+    /// The tree raised at points of the id, by filling where that changes it and else by growing (Almeida, Baquero and
+    /// Fonte 2008).
+    ///
+    /// It makes the path to what is raised, and shares the rest. `Memory` where a request for memory was refused.
     pub fn event(alloc: Global, id: &IdTree, tree: &EvTree) -> Result<EvTree, Memory>
         requires some { id.now ≢ Zero }
         requires fits { maximum tree.now + 1 < 2 ^ 64 }
@@ -251,8 +220,8 @@ impl EvTree {
     {
         tree.normal();
         id_tree::laws::each_tree_is_normal(id);
-        if tree.fill_changes(id) {
-            return tree.filled(alloc, id);
+        if let Some(filled) = tree.filled(alloc, id)? {
+            return Ok(filled);
         }
         let zero = EvTree::leaf(0);
         let Some(price) = tree.growth_cost(id, &zero)? else {
@@ -284,26 +253,23 @@ impl EvTree {
         }
     }
 
-    /// Whether no value of this tree is above that of `other` at the same point.
+    /// Whether no value of this tree is above that of `other` at the same point, by a walk over both that ends at the
+    /// first place which refutes it.
     pub fn leq(&self, other: &EvTree) -> bool
         ensures { IsTrue result ↔ IsBelow self.now other.now }
     {
-        let asked = Directions {
-            below: true,
-            above: false,
-        };
-        self.holding(other, asked).below
+        self.normal();
+        other.normal();
+        is_below(self, 0, other, 0)
     }
 
     /// How this tree stands to `other`, by one walk over both.
     pub fn order(&self, other: &EvTree) -> Order
         ensures { StandsAs result self.now other.now }
     {
-        let asked = Directions {
-            below: true,
-            above: true,
-        };
-        let holding = self.holding(other, asked);
+        self.normal();
+        other.normal();
+        let holding = compare(self, 0, other, 0);
         match (holding.below, holding.above) {
             (true, true) => Order::Same,
             (true, false) => Order::Before,
@@ -312,125 +278,22 @@ impl EvTree {
         }
     }
 
-    fn holding(&self, other: &EvTree, asked: Directions) -> Directions
-        ensures below { IsTrue result.below ↔ (IsTrue asked.below × IsBelow self.now other.now) }
-        ensures above { IsTrue result.above ↔ (IsTrue asked.above × IsBelow other.now self.now) }
-    {
-        self.normal();
-        other.normal();
-        compare(self, 0, other, 0, asked)
-    }
-
     /// Every tree is normal, and its greatest value fits.
-    pub fn normal(&self)
+    fn normal(&self)
         ensures normal { IsNormal self.now }
         ensures fits { maximum self.now < 2 ^ 64 }
     {
         let _node = &self.node;
     }
+}
 
-    fn range(&self, lift: u64) -> Range
-        requires { lift + maximum self.now < 2 ^ 64 }
-        ensures { result ≡ range_of lift self.now }
-    {
-        Range {
-            low: lift + self.min(),
-            high: lift + self.max(),
+impl fmt::Debug for EvTree {
+    /// Writes the tree as `n` or `(n,left,right)`.
+    fn fmt<W: fmt::Write>(&self, f: &mut fmt::Formatter<W>) -> fmt::Result {
+        match self.parts() {
+            Parts::Leaf(n) => write!(f, "{n}"),
+            Parts::Node(n, left, right) => write!(f, "({n},{left:?},{right:?})"),
         }
-    }
-}
-
-/// The least and the greatest value of a lifted tree.
-#[derive(Clone, Copy)]
-struct Range {
-    low: u64,
-    high: u64,
-}
-
-impl Range {
-    fn is_apart(self, other: Range) -> bool
-        ensures { IsTrue result ↔ (IsRangeBelow self other ⊎ IsRangeBelow other self) }
-    {
-        self.high <= other.low || other.high <= self.low
-    }
-
-    fn can_be_below(self, other: Range) -> bool
-        ensures { IsTrue result ↔ CanBeBelow self other }
-    {
-        self.low <= other.low && self.high <= other.high
-    }
-}
-
-/// Which of the two directions of a comparison may hold.
-#[derive(Clone, Copy)]
-struct Directions {
-    below: bool,
-    above: bool,
-}
-
-impl Directions {
-    fn any(self) -> bool
-        ensures { result ≡ (self.below || self.above) }
-    {
-        self.below || self.above
-    }
-
-    fn within(self, one: Range, other: Range) -> Directions
-        ensures below { IsTrue result.below ↔ (IsTrue self.below × CanBeBelow one other) }
-        ensures above { IsTrue result.above ↔ (IsTrue self.above × CanBeBelow other one) }
-    {
-        Directions {
-            below: self.below && one.can_be_below(other),
-            above: self.above && other.can_be_below(one),
-        }
-    }
-}
-
-/// Which of the asked directions hold between the two trees, each lifted by the number beside it.
-fn compare(
-    one: &EvTree,
-    one_lift: u64,
-    other: &EvTree,
-    other_lift: u64,
-    asked: Directions,
-) -> Directions
-    requires one_fits { one_lift + maximum one.now < 2 ^ 64 }
-    requires other_fits { other_lift + maximum other.now < 2 ^ 64 }
-    ensures below { IsTrue result.below
-        ↔ (IsTrue asked.below × IsLiftedBelow one_lift one.now other_lift other.now) }
-    ensures above { IsTrue result.above
-        ↔ (IsTrue asked.above × IsLiftedBelow other_lift other.now one_lift one.now) }
-{
-    let here = one.range(one_lift);
-    let there = other.range(other_lift);
-    let possible = asked.within(here, there);
-    if !possible.any() || here.is_apart(there) {
-        return possible;
-    }
-    match (&one.node, &other.node) {
-        (
-            Node::Fork {
-                base,
-                left,
-                right,
-                ..
-            },
-            Node::Fork {
-                base: other_base,
-                left: other_left,
-                right: other_right,
-                ..
-            },
-        ) => {
-            let (one_lift, other_lift) = (one_lift + *base, other_lift + *other_base);
-            let possible = compare(left, one_lift, other_left, other_lift, possible);
-            if !possible.any() {
-                return possible;
-            }
-            compare(right, one_lift, other_right, other_lift, possible)
-        }
-        // A leaf has one value, so the ranges have decided.
-        _ => unreachable!(),
     }
 }
 

@@ -1,5 +1,6 @@
 //! The laws of event trees, each the contract of a function that does nothing.
-ghost use Rattle.event_tree.specs.Laws.{NormalIsCanonical, NormKeepsValues, NormIsNormal, StandSomehow, StandOneWay, SameIsEqual};
+ghost use Rattle.trace_types.specs.EventTree.{EventTree};
+ghost use Rattle.event_tree.specs.Laws.{NormalIsCanonical, NormKeepsValues, NormIsNormal, HasExtremes, StandSomehow, StandOneWay, SameIsEqual};
 ghost use Rattle.event_tree.specs.Laws.{JoinHasTheGreater, JoinIsNormal};
 ghost use Rattle.event_tree.specs.Laws.{FillLowersNone, FillStaysOutside, FillIsNormal};
 ghost use Rattle.event_tree.specs.Laws.{EventLowersNone, EventStaysOutside, EventRises, EventIsBounded, EventIsNormal};
@@ -14,6 +15,11 @@ pub fn canonical()
 pub fn norm_value()
     ensures values { NormKeepsValues }
     ensures normal { NormIsNormal }
+{}
+
+/// The least and the greatest value of a tree are those of its values, and the tree has both.
+pub fn extremes()
+    ensures { (tree : EventTree) → HasExtremes tree }
 {}
 
 /// Two trees stand to each other in exactly one way.

@@ -6,6 +6,16 @@ use Rattle.trace_types.specs.IdOperations.{split}
 use Rattle.id_tree.specs.Laws.{SharesOut}
 use Rattle.id_tree.proofs.Normal.{AreApart-sym, AreApart-Zero}
 
+-- where both halves own something, each part has one of them
+pub split_both : (left right : Id) → left ≢ Zero → right ≢ Zero → split (Pair left right) ≡ (Pair left Zero, Pair Zero right)
+split_both Zero right in_left in_right = absurd (in_left refl)
+split_both One Zero in_left in_right = absurd (in_right refl)
+split_both (Pair l r) Zero in_left in_right = absurd (in_right refl)
+split_both One One in_left in_right = refl
+split_both One (Pair l r) in_left in_right = refl
+split_both (Pair l r) One in_left in_right = refl
+split_both (Pair l r) (Pair l' r') in_left in_right = refl
+
 -- one truth and false have that truth between them
 all_first : (x : Bool) → (x || false ≡ x) × (x && false ≡ false)
 all_first true = (refl, refl)

@@ -7,4 +7,4 @@ use Rattle.id_tree.specs.declared.tree.Node.TheVariants.{Zero, One, Pair}
 abbrev pub id_of : Node → plain.Id
 id_of Zero = plain.Zero
 id_of One = plain.One
-id_of (Pair left right) = plain.Pair left.value right.value
+id_of (Pair halves) = plain.Pair halves.value.left halves.value.right

@@ -11,4 +11,4 @@ use Rattle.id_tree.specs.declared.tree.IdTree.TheDeep.{deep-Node}
 pub depth_le-pair_count : (node : Node) → max (deep-Node node) 0 ≤ pair_count (id_of node)
 depth_le-pair_count Zero = omega arith
 depth_le-pair_count One = omega arith
-depth_le-pair_count (Pair left right) = omega arith
+depth_le-pair_count (Pair halves) = omega arith

@@ -5,10 +5,15 @@ ghost use Rattle.trace_types.specs.IdOperations.{norm, split, sum};
 ghost use Rattle.id_tree.specs.Parts.{id_of_parts};
 
 use std::alloc::Global;
+use std::fmt;
 use std::marker::Model;
+use std::sync::Arc;
 use trace_types::Memory;
 
-/// The points that one party may count on, as a tree in normal form.
+/// The points that one party may count on, as a tree in normal form (Almeida, Baquero and Fonte 2008).
+///
+/// Ids share their parts: a pair is one block of memory, and a part that stays as it was is kept by a count. Each call
+/// that is handed an allocator answers `Memory` where a block is refused, or where such a count is full.
 #[cycle(tree)]
 #[derive(Drop)]
 pub struct IdTree {
@@ -20,14 +25,25 @@ pub struct IdTree {
 enum Node {
     Zero,
     One,
-    Pair(Box<IdTree>, Box<IdTree>),
+    Pair(Arc<Halves>),
+}
+
+/// Both halves of a pair.
+#[cycle(tree)]
+#[derive(Drop)]
+struct Halves {
+    left: IdTree,
+    right: IdTree,
 }
 
 /// What an id is made of, with the halves of a pair lent.
-#[derive(Drop)]
+#[derive(Debug, Drop)]
 pub enum Parts<'a> {
+    /// No point.
     Zero,
+    /// Every point.
     One,
+    /// What is owned of the left half, and of the right. They are not both nothing, and not both everything.
     Pair(&'a IdTree, &'a IdTree),
 }
 
@@ -89,11 +105,13 @@ impl IdTree {
         match &self.node {
             Node::Zero => Parts::Zero,
             Node::One => Parts::One,
-            Node::Pair(left, right) => Parts::Pair(left, right),
+            Node::Pair(halves) => Parts::Pair(&halves.left, &halves.right),
         }
     }
 
     /// The id that owns in each half what the id for that half owns, in normal form.
+    ///
+    /// Takes one block at most. Where it is refused, both ids are lost.
     pub fn fork(alloc: Global, left: IdTree, right: IdTree) -> Result<IdTree, Memory>
         ensures { IfOk result (λ id. id ≡ norm left right) }
     {
@@ -106,30 +124,35 @@ impl IdTree {
         }
     }
 
-    /// Two ids that share out the points of this one. Both own some where this one does.
+    /// Two ids that share out the points of this one, by the published `split`. Both own some where this one does.
+    ///
+    /// Takes a block for each pair on the way to where the id is divided, in each of the two.
+    #[tactic(auto, using(crate::proofs::Split::split_both))]
     pub fn split(&self, alloc: Global) -> Result<(IdTree, IdTree), Memory>
         ensures { IfOk result (λ parts. parts ≡ split self.now) }
     {
         match &self.node {
             Node::Zero => Ok((IdTree::zero(), IdTree::zero())),
             Node::One => IdTree::one_each(alloc, IdTree::one(), IdTree::one()),
-            Node::Pair(left, right) if left.is_zero() => {
-                let (first, second) = right.split(alloc)?;
+            Node::Pair(halves) if halves.left.is_zero() => {
+                let (first, second) = halves.right.split(alloc)?;
                 IdTree::both_right(alloc, first, second)
             }
-            Node::Pair(left, right) if right.is_zero() => {
-                let (first, second) = left.split(alloc)?;
+            Node::Pair(halves) if halves.right.is_zero() => {
+                let (first, second) = halves.left.split(alloc)?;
                 IdTree::both_left(alloc, first, second)
             }
-            Node::Pair(left, right) => {
-                let first = left.share(alloc)?;
-                let second = right.share(alloc)?;
+            Node::Pair(halves) => {
+                let first = halves.left.share(alloc)?;
+                let second = halves.right.share(alloc)?;
                 IdTree::one_each(alloc, first, second)
             }
         }
     }
 
-    /// The id that owns what this one or the other owns.
+    /// The id that owns what this one or the other owns, by the published `sum`.
+    ///
+    /// Takes a block for each pair of which both ids own a part.
     pub fn sum(&self, alloc: Global, other: &IdTree) -> Result<IdTree, Memory>
         requires { AreDisjoint self.now other.now }
         ensures { IfOk result (λ id. id ≡ sum self.now other.now) }
@@ -137,9 +160,9 @@ impl IdTree {
         match (&self.node, &other.node) {
             (Node::Zero, _) => other.share(alloc),
             (_, Node::Zero) => self.share(alloc),
-            (Node::Pair(left, right), Node::Pair(other_left, other_right)) => {
-                let left = left.sum(alloc, other_left)?;
-                let right = right.sum(alloc, other_right)?;
+            (Node::Pair(halves), Node::Pair(others)) => {
+                let left = halves.left.sum(alloc, &others.left)?;
+                let right = halves.right.sum(alloc, &others.right)?;
                 IdTree::fork(alloc, left, right)
             }
             (Node::One, _) | (_, Node::One) => Ok(IdTree::one()),
@@ -152,25 +175,23 @@ impl IdTree {
     {
         match (&self.node, &other.node) {
             (Node::Zero, _) | (_, Node::Zero) => true,
-            (Node::Pair(left, right), Node::Pair(other_left, other_right)) => {
-                left.disjoint(other_left) && right.disjoint(other_right)
+            (Node::Pair(halves), Node::Pair(others)) => {
+                halves.left.disjoint(&others.left) && halves.right.disjoint(&others.right)
             }
             (Node::One, Node::One | Node::Pair(..)) | (Node::Pair(..), Node::One) => false,
         }
     }
 
-    /// The same id in memory of its own.
-    pub fn share(&self, alloc: Global) -> Result<IdTree, Memory>
+    /// The same id, in one step and without memory, whatever the id.
+    pub fn share(&self, _alloc: Global) -> Result<IdTree, Memory>
         ensures { IfOk result (λ id. id ≡ self.now) }
     {
         match &self.node {
             Node::Zero => Ok(IdTree::zero()),
             Node::One => Ok(IdTree::one()),
-            Node::Pair(left, right) => {
-                let left = left.share(alloc)?;
-                let right = right.share(alloc)?;
-                IdTree::pair(alloc, left, right)
-            }
+            Node::Pair(halves) => Ok(IdTree {
+                node: Node::Pair(Arc::try_clone(halves)?),
+            }),
         }
     }
 
@@ -222,11 +243,20 @@ impl IdTree {
         requires { AreApart left right }
         ensures { IfOk result (λ id. id ≡ Pair left right) }
     {
-        let left = Box::new(alloc, left)?;
-        let right = Box::new(alloc, right)?;
         Ok(IdTree {
-            node: Node::Pair(left, right),
+            node: Node::Pair(Arc::new(alloc, Halves { left, right })?),
         })
+    }
+}
+
+/// Writes the id as a text, as in `((1,0),1)`.
+impl fmt::Debug for IdTree {
+    fn fmt<W: fmt::Write>(&self, f: &mut fmt::Formatter<W>) -> fmt::Result {
+        match self.parts() {
+            Parts::Zero => f.write_str("0"),
+            Parts::One => f.write_str("1"),
+            Parts::Pair(left, right) => write!(f, "({left:?},{right:?})"),
+        }
     }
 }
 

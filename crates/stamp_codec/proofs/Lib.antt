@@ -1,14 +1,9 @@
-pub mod Completions
-pub mod Nodes
 pub mod Steps
 pub mod Places
 pub mod Parts
-pub mod Deep
-pub mod Large
-pub mod BuiltIds
-pub mod BuiltTrees
 pub mod Firsts
-pub mod Numerals
+pub mod WalkIds
+pub mod WalkTrees
 pub mod Outcomes
 pub mod RoundTrip
 pub mod Unique

@@ -1,20 +1,39 @@
--- The text of a stamp within the bounds spells that stamp.
-use Rattle.std.proofs.Common.{◌≡◌, inl, inr, ℕ, ◌+◌, ◌^◌, ◌<◌, ◌≤◌, List, [], ◌∷◌, ◌++◌, get_or, refl, sym, ap, subst, arith, Result}
+-- The digits of a number that fits are its text, and the text of a stamp within the bounds spells that stamp.
+use Rattle.std.proofs.Common.{◌≡◌, inl, inr, ℕ, ◌+◌, ◌^◌, ◌<◌, ◌≤◌, List, [], ◌∷◌, ◌++◌, length, get_or, refl, sym, ap, subst, arith, rules, Result}
 use Rattle.std.specs.Fmt.{decimal}
-use Rattle.std.proofs.lemmas.Fmt.{digits_decimal, digits_value-decimal, first_decimal, decimal_digit}
+use Rattle.std.proofs.lemmas.Str.Parse.{IsNumeralModel, numerals_by_fold}
+use Rattle.std.proofs.lemmas.Fmt.{decimal-digits_value, digits_decimal, digits_value-decimal, first_decimal, decimal_digit}
 use Rattle.std.proofs.lemmas.Bool.{cases_eq}
 use Rattle.trace_types.specs.Id.{Id, Zero, One, Pair}
 use Rattle.trace_types.specs.Id as ids
 use Rattle.trace_types.specs.EventTree.{EventTree, Leaf, Node, maximum, IsNormal}
 use Rattle.event_tree.specs.Height.{height}
-use Rattle.stamp_codec.specs.StampText.{HasNumbers, IsNumber, AreDigits, id_text, tree_text, stamp_text, written_text, number_of, tree_of}
+use Rattle.stamp_codec.specs.StampText.{Written, Number, Fork, HasNumbers, IsNumber, AreDigits, id_text, tree_text, stamp_text, written_text, read_on, number_of, tree_of}
 use Rattle.stamp_codec.specs.Faults.{most_nested, greatest_sum, tree_start, IsIdTooDeepAt, IsTreeTooLargeAt, IsTooLargeAt, IsIdNotNormalAt, IsTreeNotNormalAt, IsNotNormalAt}
-use Rattle.stamp_codec.specs.Walks.{first_child, second_child, second_id}
+use Rattle.stamp_codec.proofs.Parts.{first_child, second_child, second_id, AreDigits-number}
 use Rattle.stamp_codec.specs.Bounds.{id_height, IsBounded, as_written}
 use Rattle.stamp_codec.specs.Reading.{SpellsNormal, GivesStamp}
 use Rattle.stamp_codec.specs.declared.fault.StampFault.{StampFault}
 use Rattle.stamp_codec.specs.declared.stamp.Stamp.{Stamp}
-use Rattle.stamp_codec.proofs.Numerals.{own}
+
+-- these digits are what std means by digits
+pub own : IsNumeralModel AreDigits (read_on 0)
+own = numerals_by_fold _ (search rules) read_on (search rules)
+
+-- a number of one digit or more begins with a 0 only if that is all
+one_zero : (digits : List ℕ) → IsNumber digits → (0 < length digits) × (get_or digits 0 0 ≡ 48 → length digits ≡ 1)
+one_zero [] number = absurd number
+one_zero (d ∷ digits) (inl zero) = (omega arith, λ is. rw zero.1 refl)
+one_zero (d ∷ digits) (inr more) = (omega arith, λ is. absurd (omega (arith, is, more.0)))
+
+pub decimal-number : (digits : List ℕ) → IsNumber digits → number_of digits < 2 ^ 64 → decimal (number_of digits) ≡ digits
+decimal-number digits number small = decimal-digits_value own digits (AreDigits-number digits number) (one_zero digits number).0 (one_zero digits number).1 small
+
+-- a tree whose numbers fit is written as its text
+pub tree_text-written : (tree : Written) → HasNumbers tree → maximum (tree_of tree) < 2 ^ 64 → tree_text (tree_of tree) ≡ written_text tree
+tree_text-written (Number digits) numbers small = decimal-number digits numbers small
+tree_text-written (Fork digits left right) numbers small =
+    rw (decimal-number digits numbers.0 (omega (arith, small)), tree_text-written left numbers.1 (omega (arith, small)), tree_text-written right numbers.2 (omega (arith, small))) refl
 
 -- digits of which the first is not 0, or which are 0 alone, are a number
 is_number : (digits : List ℕ) → AreDigits digits → 48 < get_or digits 0 0 → IsNumber digits

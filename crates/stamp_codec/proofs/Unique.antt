@@ -1,11 +1,10 @@
 -- A text spells one id and one tree.
 use Rattle.std.proofs.Common.{◌≡◌, ℕ, ◌≤◌, List, [], ◌∷◌, ◌++◌, refl, sym, ap, ◌∙◌, arith}
 use Rattle.trace_types.specs.Id.{Id, Zero, One, Pair}
-use Rattle.stamp_codec.specs.StampText.{Written, Number, Fork, HasNumbers, IsNumber, AreDigits, Spells, id_text, written_text}
-use Rattle.stamp_codec.specs.Passes.{EndsDigits}
-use Rattle.stamp_codec.proofs.Nodes.{heads, pair_text-append, number_first}
-use Rattle.stamp_codec.proofs.Parts.{AreDigits-number, fork_behind}
-use Rattle.stamp_codec.proofs.Large.{comma_ends, end_ends}
+use Rattle.stamp_codec.specs.StampText.{Written, Number, Fork, HasNumbers, IsNumber, Spells, id_text, written_text}
+use Rattle.std.proofs.lemmas.List.{append_cancel_right}
+use Rattle.stamp_codec.specs.Walks.{leading, EndsDigits}
+use Rattle.stamp_codec.proofs.Parts.{heads, pair_text-append, number_first, number_is, fork_behind, comma_ends, end_ends}
 
 -- no id begins another
 id_once : (a b : Id) (x y : List ℕ) → id_text a ++ x ≡ id_text b ++ y → (a ≡ b) × (x ≡ y)
@@ -24,24 +23,12 @@ id_once (Pair l r) (Pair l' r') x y same =
     let whole : Pair l r ≡ Pair l' r' = cc (left.0, right.0) in
     (whole, (heads 41 41 x y right.1).1)
 
--- digits end where no digit follows
-digits_once : (a b x y : List ℕ) → AreDigits a → AreDigits b → EndsDigits x → EndsDigits y → a ++ x ≡ b ++ y → (a ≡ b) × (x ≡ y)
-digits_once [] [] x y are others ends stops same = (refl, same)
-digits_once [] (d ∷ b) [] y are others ends stops same = cc
-digits_once [] (d ∷ b) (byte ∷ x) y are others ends stops same =
-    let first = (heads byte d x (b ++ y) same).0 in
-    absurd (ends (omega (arith, first, others.0), omega (arith, first, others.1)))
-digits_once (d ∷ a) [] x [] are others ends stops same = cc
-digits_once (d ∷ a) [] x (byte ∷ y) are others ends stops same =
-    let first = (heads d byte (a ++ x) y same).0 in
-    absurd (stops (omega (arith, first, are.0), omega (arith, first, are.1)))
-digits_once (d ∷ a) (e ∷ b) x y are others ends stops same =
-    let first = heads d e (a ++ x) (b ++ y) same in
-    let rest = digits_once a b x y are.2 others.2 ends stops first.1 in
-    (cc (first.0, rest.0), rest.1)
-
+-- no number begins another, where no digit follows
 numbers_once : (a b x y : List ℕ) → IsNumber a → IsNumber b → EndsDigits x → EndsDigits y → a ++ x ≡ b ++ y → (a ≡ b) × (x ≡ y)
-numbers_once a b x y number other ends stops same = digits_once a b x y (AreDigits-number a number) (AreDigits-number b other) ends stops same
+numbers_once a b x y number other ends stops same =
+    let read : ℕ × List ℕ = leading 0 (a ++ x) in
+    let behind : x ≡ y = sym (number_is (a ++ x) a x read.0 read.1 refl number ends refl).1 ∙ (number_is (a ++ x) b y read.0 read.1 same other stops refl).1 in
+    (append_cancel_right a b y (ap (λ t. a ++ t) (sym behind) ∙ same), behind)
 
 -- no number begins as a node does
 number_not_fork : (digits x y : List ℕ) → IsNumber digits → digits ++ x ≡ 40 ∷ y → ⊥

@@ -13,30 +13,15 @@ unfolding digits
 text-seed = refl
 
 -- the seed after a fork, on either side
-text-forked : stamp_text (fork seed).0 ≡ codes "[(1,0);0]"
+text-forked : (stamp_text (fork seed).0 ≡ codes "[(1,0);0]") × (stamp_text (fork seed).1 ≡ codes "[(0,1);0]")
 unfolding digits
-text-forked = refl
+text-forked = (refl, refl)
 
-text-forked_right : stamp_text (fork seed).1 ≡ codes "[(0,1);0]"
+-- after an event, after both halves join again, and what is sent along
+text-event : (stamp_text (event seed) ≡ codes "[1;1]") × (stamp_text (join (event (fork seed).0) (event (fork seed).1)) ≡ codes "[1;1]") × (stamp_text (peek (event seed)) ≡ codes "[0;1]")
 unfolding digits
-text-forked_right = refl
-
--- after an event, and after both halves join again
-text-event : stamp_text (event seed) ≡ codes "[1;1]"
-unfolding digits
-text-event = refl
-
-text-joined : stamp_text (join (event (fork seed).0) (event (fork seed).1)) ≡ codes "[1;1]"
-unfolding digits
-text-joined = refl
-
-text-peek : stamp_text (peek (event seed)) ≡ codes "[0;1]"
-unfolding digits
-text-peek = refl
+text-event = (refl, refl, refl)
 
 -- a tree that is written with digits
-text-digits : whole_text (ids.Pair ids.One ids.Zero) (Fork (codes "12") (Number (codes "1")) (Number (codes "0"))) ≡ codes "[(1,0);(12,1,0)]"
-text-digits = refl
-
-tree-digits : tree_of (Fork (codes "12") (Number (codes "1")) (Number (codes "0"))) ≡ Node 12 (Leaf 1) (Leaf 0)
-tree-digits = refl
+text-digits : let tree = Fork (codes "12") (Number (codes "1")) (Number (codes "0")) in (whole_text (ids.Pair ids.One ids.Zero) tree ≡ codes "[(1,0);(12,1,0)]") × (tree_of tree ≡ Node 12 (Leaf 1) (Leaf 0))
+text-digits = (refl, refl)

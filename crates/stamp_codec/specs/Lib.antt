@@ -1,7 +1,5 @@
 pub mod Bounds
-pub mod Built
 pub mod Faults
-pub mod Passes
 pub mod Reading
 pub mod Scan
 pub mod Stamp

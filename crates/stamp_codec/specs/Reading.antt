@@ -2,7 +2,6 @@
 use Rattle.std.specs.Prelude.{◌≡◌, ℕ, List, Result, Ok, Err}
 use Rattle.trace_types.specs.Id.{Id}
 use Rattle.trace_types.specs.EventTree.{EventTree}
-use Rattle.stamp_codec.specs.Built.{IsNoMemory}
 use Rattle.stamp_codec.specs.StampText.{Written, Spells, tree_of}
 use Rattle.stamp_codec.specs.Faults.{IsShapeFault, IsLeast, IsTooLargeAt, IsNotNormalAt}
 use Rattle.stamp_codec.specs.declared.stamp.Stamp.{Stamp}
@@ -30,6 +29,13 @@ Refuses text Memory = Unit {0}
 abbrev pub Reads : List ℕ → Result Stamp StampFault → Type 0
 Reads text (Ok stamp) = (tree : Written) × SpellsNormal text stamp.id tree × (stamp.tree ≡ tree_of tree)
 Reads text (Err fault) = Refuses text fault
+
+-- there was no memory
+abbrev pub IsNoMemory : StampFault → Type 0
+IsNoMemory (Shape place) = ⊥
+IsNoMemory (TooLarge place) = ⊥
+IsNoMemory (NotNormal place) = ⊥
+IsNoMemory Memory = Unit {0}
 
 -- the stamp of this id and this tree, unless memory ran out
 abbrev pub GivesStamp : Result Stamp StampFault → Id → EventTree → Type 0

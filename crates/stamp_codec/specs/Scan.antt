@@ -1,5 +1,5 @@
 -- One step of the scan for shape: what is awaited after a byte, or nothing where no stamp goes on with it.
-use Rattle.std.specs.Prelude.{ℕ, Bool, ◌==◌, ◌||◌, ◌&&◌, nat_le, if◌then◌else◌, List, [], ◌∷◌, Option, Some, None}
+use Rattle.std.specs.Prelude.{ℕ, Bool, ◌==◌, ◌&&◌, nat_le, if◌then◌else◌, List, [], ◌∷◌, Option, Some, None}
 use Rattle.stamp_codec.specs.declared.shape.Part.{Part}
 use Rattle.stamp_codec.specs.declared.shape.Part.TheVariants.{Id, Tree}
 use Rattle.stamp_codec.specs.declared.shape.nesting.Side.{Side}
@@ -34,7 +34,8 @@ is_digit byte = nat_le 48 byte && nat_le byte 57
 abbrev pub id_begun : List Side → ℕ → Option Scan
 id_begun inside byte =
     if byte == 40 then Some (awaiting (Node Id) (Left ∷ inside))
-    else if (byte == 48) || (byte == 49) then Some (awaiting (NodeEnd Id) inside)
+    else if byte == 48 then Some (awaiting (NodeEnd Id) inside)
+    else if byte == 49 then Some (awaiting (NodeEnd Id) inside)
     else None
 
 -- a number begins; what is awaited then depends on whether digits may follow

@@ -5,8 +5,7 @@
 --   tree   = number | "(" number "," tree "," tree ")"
 --   number = "0" | nonzero digit, then any digits
 use Rattle.std.specs.Prelude.{◌≡◌, ℕ, ◌+◌, ◌-◌, ◌*◌, ◌≤◌, ◌⊎◌, List, [], ◌∷◌, ◌++◌, codes}
-use Rattle.std.specs.Fmt.{decimal}
-use Rattle.trace_types.specs.Id.{Id, Zero, One, Pair}
+use Rattle.trace_types.specs.Id.{Id}
 use Rattle.trace_types.specs.EventTree.{EventTree, Leaf, Node}
 pub use Rattle.trace_types.specs.StampText.{id_text, tree_text}
 use Rattle.trace_types.specs.StampText.{stamp_text as text_of_stamp}

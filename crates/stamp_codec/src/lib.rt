@@ -5,6 +5,16 @@
 //! `specs/Faults.antt` the faults with their places, `specs/Reading.antt` what reading gives and
 //! `specs/Stamp.antt` the operations; `laws` says that a text spells one stamp, and that what is
 //! written is read again.
+//!
+//! ```
+//! let (left, right) = Stamp::seed().fork(alloc)?;
+//! let left = left.event(alloc)?;
+//! let right = right.event(alloc)?;
+//! assert_eq!(rt; left.tree.order(&right.tree), Order::Concurrent);
+//! let joined = left.join(alloc, &right)?;
+//! assert_eq!(rt; left.tree.order(&joined.tree), Order::Before);
+//! assert_eq!(rt; write_stamp(alloc, &joined)?.as_slice(), b"[1;1]".as_slice());
+//! ```
 #![tactic(auto)]
 
 pub use fault::StampFault;
@@ -12,8 +22,7 @@ pub use reading::read_stamp;
 pub use stamp::Stamp;
 pub use writing::{write_parts, write_stamp};
 
-mod bounds;
-mod building;
+mod cursor;
 mod fault;
 pub mod laws;
 mod reading;
@@ -21,4 +30,5 @@ mod shape;
 mod stamp;
 #[cfg(test)]
 mod tests;
+mod walk;
 mod writing;

@@ -8,8 +8,11 @@ use id_tree::IdTree;
 use std::alloc::Global;
 use trace_types::Memory;
 
-/// The points that a party may count on, and what it knows to have happened.
-#[derive(Drop)]
+/// A stamp of an interval tree clock (Almeida, Baquero and Fonte 2008): the points that a party may count on, and what
+/// it knows to have happened.
+///
+/// Each call leaves the stamps that it is given as they are, also where it answers `Memory`.
+#[derive(Debug, Drop)]
 pub struct Stamp {
     pub id: IdTree,
     pub tree: EvTree,
@@ -18,7 +21,7 @@ pub struct Stamp {
 impl Stamp {
     ghost use Rattle.stamp_codec.specs.Stamp.{seed, fork, event, join, peek};
 
-    /// The stamp that every other comes from.
+    /// The stamp that every other comes from: it owns every point, and nothing has happened. Takes no memory.
     pub fn seed() -> Stamp
         ensures { result ≡ seed }
     {
@@ -28,7 +31,10 @@ impl Stamp {
         }
     }
 
-    /// Two stamps that share out the points of this one and know what it knows.
+    /// Two stamps that share out the points of this one and know what it knows: the published fork. Both own some point
+    /// where this one does.
+    ///
+    /// `Memory`: there was none for the new ids or for the trees.
     pub fn fork(&self, alloc: Global) -> Result<(Stamp, Stamp), Memory>
         ensures { IfOk result (λ stamps. stamps ≡ fork self.now) }
     {
@@ -44,7 +50,10 @@ impl Stamp {
         Ok((first, second))
     }
 
-    /// The stamp after an event of its own.
+    /// The stamp after an event of its own: the published event. It has to own a point, as any stamp does that comes from
+    /// the seed by forks, joins and events, and no value of its tree may be `u64::MAX`.
+    ///
+    /// `Memory`: there was none for the tree that is raised or for the id.
     pub fn event(&self, alloc: Global) -> Result<Stamp, Memory>
         requires some { self.now.id ≢ Zero }
         requires fits { maximum self.now.tree + 1 < 2 ^ 64 }
@@ -55,7 +64,10 @@ impl Stamp {
         Ok(Stamp { id, tree })
     }
 
-    /// The stamp that has the points of both and knows what either knows.
+    /// The stamp that has the points of both and knows what either knows: the published join. No point may be owned by
+    /// both; `IdTree::disjoint` tells. Stamps that are live at once and come from one seed never share a point.
+    ///
+    /// `Memory`: there was none for the sum of the ids or for the tree.
     pub fn join(&self, alloc: Global, other: &Stamp) -> Result<Stamp, Memory>
         requires { AreDisjoint self.now.id other.now.id }
         ensures { IfOk result (λ stamp. stamp ≡ join self.now other.now) }
@@ -65,7 +77,9 @@ impl Stamp {
         Ok(Stamp { id, tree })
     }
 
-    /// A stamp without points that knows what this one knows.
+    /// A stamp without points that knows what this one knows, to be sent along: the published peek. It can have no event.
+    ///
+    /// `Memory`: there was none for the tree.
     pub fn peek(&self, alloc: Global) -> Result<Stamp, Memory>
         ensures { IfOk result (λ stamp. stamp ≡ peek self.now) }
     {

@@ -1,7 +1,7 @@
 use crate::{Stamp, StampFault, read_stamp, write_stamp};
 use std::alloc::{AllocError, Global};
 use std::test::Fail;
-use trace_types::Memory;
+use trace_types::{Memory, Order};
 
 fn fault_of(alloc: Global, text: &[u8]) -> Option<StampFault> {
     read_stamp(alloc, text).err()
@@ -93,6 +93,22 @@ fn fault_of_nested_tree(alloc: Global, count: usize) -> Result<Option<StampFault
 }
 
 #[test]
+fn the_example_of_the_crate_holds(rt: HostRuntime) -> Result<(), Fail> {
+    let alloc = rt.alloc();
+    let (left, right) = Stamp::seed().fork(alloc)?;
+    let left = left.event(alloc)?;
+    let right = right.event(alloc)?;
+    assert_eq!(rt; left.tree.order(&right.tree), Order::Concurrent);
+    let joined = left.join(alloc, &right)?;
+    assert_eq!(rt; left.tree.order(&joined.tree), Order::Before);
+    assert_eq!(rt;
+        write_stamp(alloc, &joined)?.as_slice(),
+        b"[1;1]".as_slice()
+    );
+    Ok(())
+}
+
+#[test]
 fn a_text_is_refused_at_the_place_of_its_fault(rt: HostRuntime) -> Result<(), Fail> {
     for (text, fault) in [
         ("", StampFault::Shape(0)),
@@ -131,6 +147,10 @@ fn sums_above_the_bound_are_refused_at_the_number(rt: HostRuntime) -> Result<(),
         (
             "[(0,0);(1,0,(9223372036854775807,0,1))]",
             StampFault::TooLarge(13),
+        ),
+        (
+            "[1;(0,(1,2,2),9223372036854775808)]",
+            StampFault::TooLarge(14),
         ),
     ] {
         assert_eq!(rt; fault_of(rt.alloc(), text.as_bytes()), Some(fault));

@@ -1,7 +1,7 @@
 -- The answers of the queries, step by step.
-use Rattle.std.proofs.Common.{◌≡◌, ℕ, ◌+◌, ◌-◌, ◌<◌, ◌≤◌, Bool, true, false, not, ◌&&◌, cond, eqb, List, [], ◌∷◌, ◌++◌, length, get_or, take, map, Ok, Err, refl, sym, ap, subst, ◌∙◌, arith}
+use Rattle.std.proofs.Common.{◌≡◌, ◌≢◌, ℕ, zero, suc, ◌+◌, ◌-◌, ◌<◌, ◌≤◌, ◌↔◌, Bool, true, false, ◌&&◌, cond, List, [], ◌∷◌, ◌++◌, length, get_or, take, map, IsTrue, Ok, Err, refl, sym, ap, subst, ◌∙◌, inl, inr, arith}
 use Rattle.std.specs.List.{filter, range_with_len}
-use Rattle.std.proofs.lemmas.Bool.{and_from, cond-true, cond-false}
+use Rattle.std.proofs.lemmas.Bool.{false≢true, and_from, cases_Bool, cond-true, cond-false}
 use Rattle.std.proofs.lemmas.List.{get_or-map, length-map, take_all, append-nil}
 use Rattle.std.proofs.lemmas.List.Elements.{filter_more}
 use Rattle.std.proofs.lemmas.List.FromFn.{length-range_with_len, get_or-range_with_len}
@@ -11,10 +11,27 @@ use Rattle.trace_types.specs.declared.order.Order.{Order}
 use Rattle.trace_types.specs.declared.order.Order.TheVariants.{Same, Before, After, Concurrent}
 use Rattle.trace_types.specs.EventTree.{EventTree, Leaf}
 use Rattle.event_tree.specs.Comparison.{StandsAs}
+use Rattle.event_tree.proofs.Standing.{stand_one_way}
 use Rattle.trace_query.specs.Compared.{tree_order, is_order}
 use Rattle.trace_query.specs.Queries.{is_event, events_of, tree_at, order_between, is_other_standing, others_standing, order_due}
 use Rattle.trace_query.specs.declared.query_fault.QueryFault.TheVariants.{Unknown}
-use Rattle.trace_query.proofs.ComparedTrees.{stands_as_compared}
+use Rattle.trace_query.proofs.ComparedTrees.{stands_as_compared, is_order_iff}
+use Rattle.trace_query.proofs.Listed.{is_other_standing_iff}
+
+-- the test for an order is that of the program
+is_order-test : (order : Order) → sameb the_type order Concurrent ≡ is_order Concurrent order
+is_order-test Same = refl
+is_order-test Before = refl
+is_order-test After = refl
+is_order-test Concurrent = refl
+
+-- two trees that stand in this way, tested for being concurrent
+pub tested : (order : Order) (e f : EventTree) (found : Bool) → StandsAs order e f → found ≡ sameb the_type order Concurrent → IsTrue found ↔ StandsAs Concurrent e f
+tested order e f found stands is =
+    let told : found ≡ is_order Concurrent order = is ∙ is_order-test order in (
+      λ passes. subst (λ (o : Order). StandsAs o e f) (sym ((is_order_iff Concurrent order).0 (sym told ∙ passes))) stands,
+      λ apart. told ∙ (is_order_iff Concurrent order).1 (stand_one_way e f Concurrent order apart stands),
+    )
 
 -- one event more
 more : (test : ℕ → Bool) (n place : ℕ) → place < n → filter test (take (place + 1) (range_with_len 1 n)) ≡ filter test (take place (range_with_len 1 n)) ++ cond (test (place + 1)) ((place + 1) ∷ []) []
@@ -47,58 +64,76 @@ ordered trees first second one other order is_first is_second is_one is_other st
     let told : order ≡ order_between trees first second = stands_as_compared order one other stands ∙ ap (λ e. tree_order e other) is_one ∙ ap (tree_order (tree_at trees first)) is_other in
     ap Ok told ∙ sym (cond-true (is_event trees first && is_event trees second) (Ok (order_between trees first second)) (Err Unknown) both)
 
--- the test for an order is that of the program
-is_order-test : (wanted order : Order) → sameb the_type order wanted ≡ is_order wanted order
-is_order-test Same Same = refl
-is_order-test Same Before = refl
-is_order-test Same After = refl
-is_order-test Same Concurrent = refl
-is_order-test Before Same = refl
-is_order-test Before Before = refl
-is_order-test Before After = refl
-is_order-test Before Concurrent = refl
-is_order-test After Same = refl
-is_order-test After Before = refl
-is_order-test After After = refl
-is_order-test After Concurrent = refl
-is_order-test Concurrent Same = refl
-is_order-test Concurrent Before = refl
-is_order-test Concurrent After = refl
-is_order-test Concurrent Concurrent = refl
+-- of trees of which none more passes the events are all there
+pub passed_over : (test : ℕ → Bool) (n place left : ℕ) → place + left ≡ n → ((later : ℕ) → place < later → later ≤ n → test later ≡ false)
+    → filter test (take place (range_with_len 1 n)) ≡ filter test (range_with_len 1 n)
+passed_over test n place zero whole none =
+    let wide : length (range_with_len 1 n) ≡ n = length-range_with_len 1 n in
+    ap (filter test) (take_all place (range_with_len 1 n) (omega arith))
+passed_over test n place (suc left) whole none =
+    gathered_none test n place (filter test (take place (range_with_len 1 n))) (omega arith) refl (none (place + 1) (omega arith) (omega arith))
+    ∙ passed_over test n (place + 1) left (omega arith) (λ later above within. none later (omega (arith, above)) within)
 
--- two trees that stand in this way, tested for an order
-pub tested : (wanted order : Order) (e f : EventTree) (found : Bool) → StandsAs order e f → found ≡ sameb the_type order wanted → found ≡ is_order wanted (tree_order e f)
-tested wanted order e f found stands is = is ∙ is_order-test wanted order ∙ ap (is_order wanted) (stands_as_compared order e f stands)
+-- what was tested and is not
+pub refuted_by : {P : Type 0} {b : Bool} → (IsTrue b ↔ P) → b ≡ false → ¬ P
+refuted_by told is holds = false≢true (sym is ∙ told.1 holds)
 
-module _ {K : Type 0} (tree : K → EventTree) (wanted : Order) (kept : List K) (event place : ℕ) (other one : K) (is_other : other ≡ get_or kept place other) (is_one : tree one ≡ tree_at (map tree kept) event) (within : place < length kept) where
-  -- the test of what is kept in a place is that of its event
-  listed_next : (not (eqb (place + 1) event) && is_order wanted (tree_order (tree other) (tree one))) ≡ is_other_standing wanted (map tree kept) (place + 1) event
-  listed_next =
-      let many : place < length (map tree kept) = let long : length (map tree kept) ≡ length kept = length-map kept tree in omega arith in
+-- what is no fact is not tested to be one
+pub refuted : {P : Type 0} (b : Bool) → (IsTrue b → P) → (¬ P) → b ≡ false
+refuted b told refutes = elim (cases_Bool b) [ inl is ↦ absurd (refutes (told is)) | inr is_not ↦ is_not ]
+
+module _ (wanted : Order) (trees : List EventTree) (event : ℕ) where
+  abbrev pub is_listed : ℕ → Bool
+  is_listed number = is_other_standing wanted trees number event
+
+  -- the events up to this place that are listed
+  abbrev pub listed_to : ℕ → List ℕ
+  listed_to place = filter is_listed (take place (events_of trees))
+
+  -- an event is passed over where it is no other one that stands so
+  pub unlisted : (number : ℕ) → (number ≢ event → ¬ StandsAs wanted (tree_at trees number) (tree_at trees event)) → is_listed number ≡ false
+  unlisted number refutes = refuted (is_listed number) ((is_other_standing_iff wanted trees number event).0) (λ holds. refutes holds.0 holds.1)
+
+  -- past the last place are all of them
+  pub listed_all : (place : ℕ) (events : List ℕ) → length trees ≤ place → events ≡ listed_to place → events ≡ others_standing wanted trees event
+  listed_all place events past so_far =
+      let wide : length (events_of trees) ≡ length trees = length-range_with_len 1 (length trees) in
+      so_far ∙ ap (filter is_listed) (take_all place (events_of trees) (omega arith))
+
+  -- also where no later one is listed
+  pub listed_before : (place : ℕ) (events : List ℕ) → place ≤ length trees → ((later : ℕ) → place < later → later ≤ length trees → is_listed later ≡ false)
+      → events ≡ listed_to place → events ≡ others_standing wanted trees event
+  listed_before place events within none so_far = so_far ∙ passed_over is_listed (length trees) place (length trees - place) (omega arith) none
+
+module _ {K : Type 0} (tree : K → EventTree) (kept : List K) (place : ℕ) (other : K) (is_other : other ≡ get_or kept place other) (within : place < length kept) where
+  many : place < length (map tree kept)
+  many = let long : length (map tree kept) ≡ length kept = length-map kept tree in omega arith
+
+  -- what is kept in a place is the tree of its event
+  pub tree_in_place : tree other ≡ tree_at (map tree kept) (place + 1)
+  tree_in_place =
       let back : (place + 1) - 1 ≡ place = omega arith in
-      let at : tree other ≡ tree_at (map tree kept) (place + 1) =
-      ap tree is_other ∙ sym (get_or-map tree kept place other (Leaf 0) within) ∙ ap (λ (k : ℕ). get_or (map tree kept) k (Leaf 0)) (sym back) in
-      ap (λ e. not (eqb (place + 1) event) && is_order wanted (tree_order e (tree one))) at
-      ∙ ap (λ e. not (eqb (place + 1) event) && is_order wanted (tree_order (tree_at (map tree kept) (place + 1)) e)) is_one
+      ap tree is_other ∙ sym (get_or-map tree kept place other (Leaf 0) within) ∙ ap (λ (k : ℕ). get_or (map tree kept) k (Leaf 0)) (sym back)
 
-  module _ (events : List ℕ) (found : Bool) (is_found : found ≡ (not (eqb (place + 1) event) && is_order wanted (tree_order (tree other) (tree one)))) (so_far : events ≡ filter (λ number. is_other_standing wanted (map tree kept) number event) (take place (events_of (map tree kept)))) where
-    within_trees : place < length (map tree kept)
-    within_trees = let long : length (map tree kept) ≡ length kept = length-map kept tree in omega arith
+module _ {K : Type 0} (tree : K → EventTree) (wanted : Order) (kept : List K) (event place : ℕ) (other one : K)
+    (is_other : other ≡ get_or kept place other) (is_one : tree one ≡ tree_at (map tree kept) event) (within : place < length kept)
+    (events : List ℕ) (so_far : events ≡ listed_to wanted (map tree kept) event place) where
+  at : tree other ≡ tree_at (map tree kept) (place + 1)
+  at = tree_in_place tree kept place other is_other within
 
-    pub listed_one : found ≡ true → (next : List ℕ) → next ≡ events ++ (place + 1) ∷ [] → next ≡ filter (λ number. is_other_standing wanted (map tree kept) number event) (take (place + 1) (events_of (map tree kept)))
-    listed_one passes next is_next =
-        is_next
-        ∙ gathered_one (λ number. is_other_standing wanted (map tree kept) number event) (length (map tree kept)) place events within_trees so_far (sym listed_next ∙ sym is_found ∙ passes)
+  -- another event that stands so is listed
+  pub listed_one : (place + 1 ≢ event) → StandsAs wanted (tree other) (tree one) → (next : List ℕ) → next ≡ events ++ (place + 1) ∷ []
+      → next ≡ listed_to wanted (map tree kept) event (place + 1)
+  listed_one differ stands next is_next =
+      let there : StandsAs wanted (tree_at (map tree kept) (place + 1)) (tree_at (map tree kept) event) =
+      subst (StandsAs wanted (tree_at (map tree kept) (place + 1))) is_one (subst (λ (e : EventTree). StandsAs wanted e (tree one)) at stands) in
+      is_next
+      ∙ gathered_one (is_listed wanted (map tree kept) event) (length (map tree kept)) place events (many tree kept place other is_other within) so_far ((is_other_standing_iff wanted (map tree kept) (place + 1) event).1 (differ, there))
 
-    pub listed_none : found ≡ false → events ≡ filter (λ number. is_other_standing wanted (map tree kept) number event) (take (place + 1) (events_of (map tree kept)))
-    listed_none fails =
-        gathered_none (λ number. is_other_standing wanted (map tree kept) number event) (length (map tree kept)) place events within_trees so_far (sym listed_next ∙ sym is_found ∙ fails)
-
--- past the last place are all of them
-pub listed_all : {K : Type 0} (tree : K → EventTree) (wanted : Order) (kept : List K) (event place : ℕ) (events : List ℕ) → length kept ≤ place
-    → events ≡ filter (λ number. is_other_standing wanted (map tree kept) number event) (take place (events_of (map tree kept)))
-    → events ≡ others_standing wanted (map tree kept) event
-listed_all tree wanted kept event place events past so_far =
-    let long : length (map tree kept) ≡ length kept = length-map kept tree in
-    let wide : length (events_of (map tree kept)) ≡ length (map tree kept) = length-range_with_len 1 (length (map tree kept)) in
-    so_far ∙ ap (filter (λ number. is_other_standing wanted (map tree kept) number event)) (take_all place (events_of (map tree kept)) (omega arith))
+  -- any other one is passed over
+  pub listed_none : (place + 1 ≢ event → ¬ StandsAs wanted (tree other) (tree one)) → events ≡ listed_to wanted (map tree kept) event (place + 1)
+  listed_none refutes =
+      gathered_none (is_listed wanted (map tree kept) event) (length (map tree kept)) place events (many tree kept place other is_other within) so_far
+      (unlisted wanted (map tree kept) event (place + 1)
+      (λ differ there. refutes differ
+      (subst (StandsAs wanted (tree other)) (sym is_one) (subst (λ (e : EventTree). StandsAs wanted e (tree_at (map tree kept) event)) (sym at) there))))

@@ -55,7 +55,7 @@ Contains-events trees event = (
 )
 
 -- the test is what it says
-is_other_standing_iff : (wanted : Order) (trees : List EventTree) (first second : ℕ)
+pub is_other_standing_iff : (wanted : Order) (trees : List EventTree) (first second : ℕ)
     → IsTrue (is_other_standing wanted trees first second) ↔ ((first ≢ second) × StandsAs wanted (tree_at trees first) (tree_at trees second))
 is_other_standing_iff wanted trees first second = (
   λ is.

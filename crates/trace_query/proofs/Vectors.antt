@@ -3,8 +3,9 @@ use Rattle.std.proofs.Common.{◌≡◌, List, [], ◌∷◌, Ok, Err, refl}
 use Rattle.trace_types.specs.declared.order.Order.TheVariants.{Before, Concurrent}
 use Rattle.trace_types.specs.EventTree.{EventTree, Leaf, Node}
 use Rattle.trace_query.specs.Compared.{tree_order}
-use Rattle.trace_query.specs.Queries.{past_of, concurrent_of, order_due, fault_due}
+use Rattle.trace_query.specs.Queries.{StandInOrder, past_of, concurrent_of, order_due, fault_due}
 use Rattle.trace_query.specs.declared.query_fault.QueryFault.TheVariants.{Unknown, Memory}
+use Rattle.trace_query.proofs.InOrder.{stand_in_order}
 
 pub tree_order-210-202 : tree_order (Node 2 (Leaf 1) (Leaf 0)) (Node 2 (Leaf 0) (Leaf 2)) ≡ Concurrent
 tree_order-210-202 = refl
@@ -16,8 +17,11 @@ pub tree_order-4-203 : tree_order (Leaf 4) (Node 2 (Leaf 0) (Leaf 3)) ≡ Concur
 tree_order-4-203 = refl
 
 -- the trees of six events
-abbrev run : List EventTree
+abbrev pub run : List EventTree
 run = Leaf 1 ∷ Leaf 2 ∷ Node 2 (Leaf 0) (Leaf 1) ∷ Node 2 (Leaf 1) (Leaf 0) ∷ Node 2 (Leaf 0) (Leaf 2) ∷ Leaf 4 ∷ []
+
+pub run-in_order : StandInOrder run
+run-in_order = stand_in_order run refl
 
 pub past-4 : past_of run 4 ≡ 1 ∷ 2 ∷ []
 past-4 = refl

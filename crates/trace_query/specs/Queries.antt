@@ -1,9 +1,10 @@
 -- What queries about the order of events are due, from the list of the events' trees: event k has the k-th, from 1.
-use Rattle.std.specs.Prelude.{ℕ, suc, ◌-◌, Bool, not, ◌&&◌, List, length, ◌==◌, nat_lt, if◌then◌else◌, Result, Ok, Err}
+use Rattle.std.specs.Prelude.{ℕ, suc, ◌-◌, ◌<◌, Bool, not, ◌&&◌, IsTrue, List, length, ◌==◌, nat_lt, if◌then◌else◌, Result, Ok, Err}
 use Rattle.std.specs.List.{slice_index_or, filter, range_with_len}
 use Rattle.trace_types.specs.EventTree.{EventTree, Leaf}
 use Rattle.trace_types.specs.declared.order.Order.{Order}
 use Rattle.trace_types.specs.declared.order.Order.TheVariants.{Before, Concurrent}
+use Rattle.event_tree.specs.Comparison.{IsBelow}
 use Rattle.trace_query.specs.Compared.{tree_order, is_order}
 use Rattle.trace_query.specs.declared.query_fault.QueryFault.{QueryFault}
 use Rattle.trace_query.specs.declared.query_fault.QueryFault.TheVariants.{Unknown, Memory}
@@ -19,6 +20,12 @@ events_of trees = range_with_len 1 (length trees)
 -- the tree of the event; of no event it is not asked
 abbrev pub tree_at : List EventTree → ℕ → EventTree
 tree_at trees event = slice_index_or trees (event - 1) (Leaf 0)
+
+-- the trees stand in the order of the events: no later event's tree is below an earlier one's
+abbrev pub StandInOrder : List EventTree → Type 0
+StandInOrder trees =
+    (earlier later : ℕ) → IsTrue (is_event trees earlier) → IsTrue (is_event trees later) → earlier < later
+    → ¬ IsBelow (tree_at trees later) (tree_at trees earlier)
 
 -- how the tree of the first event stands to that of the second
 abbrev pub order_between : List EventTree → ℕ → ℕ → Order

@@ -1,10 +1,13 @@
 //! The comparison of kept trees.
-ghost use Rattle.event_tree.specs.Comparison.{StandsAs};
+ghost use Rattle.std.specs.Prelude.{◌↔◌, IsTrue};
+ghost use Rattle.event_tree.specs.Comparison.{IsBelow, StandsAs};
 
 use crate::Meant;
 use trace_types::Order;
 
 /// A way to compare kept trees. It may hold what it needs for that, as a cache.
+///
+/// A question about one direction is asked by [`Compare::is_below`], which has less to look at than [`Compare::order`].
 pub trait Compare {
     /// What is kept for an event.
     type Kept: Meant + Drop;
@@ -12,4 +15,8 @@ pub trait Compare {
     /// How the tree of `first` stands to that of `second`. It takes no memory.
     fn order(&self, first: &Self::Kept, second: &Self::Kept) -> Order
         ensures { StandsAs result (Self.Kept.tree first.now) (Self.Kept.tree second.now) };
+
+    /// Whether no value of the tree of `first` is above that of `second` at the same point. It takes no memory.
+    fn is_below(&self, first: &Self::Kept, second: &Self::Kept) -> bool
+        ensures { IsTrue result ↔ IsBelow (Self.Kept.tree first.now) (Self.Kept.tree second.now) };
 }

@@ -1,9 +1,10 @@
 //! Queries about the order of events, answered by comparing the event trees that are kept for them.
 //!
 //! The one contract: [`order`], [`past`] and [`concurrent_with`] give exactly what `specs/Queries.antt` defines over the list
-//! of the kept trees, of which event k has the k-th. Nothing else of the events is known here. How two kept trees are
-//! compared is left to a [`Compare`]; `specs/Compared.antt` defines what it has to answer, and [`laws`] says what the
-//! definitions mean.
+//! of the kept trees, of which event k has the k-th. Nothing else of the events is known here. Where no later event's
+//! tree is below an earlier one's, [`past_in_order`] and [`concurrent_in_order`] give the same lists with one look at each
+//! pair. How two kept trees are compared is left to a [`Compare`]; `specs/Compared.antt` defines what it has to answer, and
+//! [`laws`] says what the definitions mean.
 #![tactic(auto)]
 
 mod compare;
@@ -16,7 +17,7 @@ mod query_fault;
 pub use compare::Compare;
 pub use meant::Meant;
 pub use plain::Plain;
-pub use queries::{concurrent_with, order, past};
+pub use queries::{concurrent_in_order, concurrent_with, order, past, past_in_order};
 pub use query_fault::QueryFault;
 
 #[cfg(test)]

@@ -14,4 +14,8 @@ impl Compare for Plain {
     fn order(&self, first: &EvTree, second: &EvTree) -> Order {
         first.order(second)
     }
+
+    fn is_below(&self, first: &EvTree, second: &EvTree) -> bool {
+        first.leq(second)
+    }
 }

@@ -1,10 +1,10 @@
 //! Queries about the order of events. Event k has the k-th of the kept trees, from 1.
-ghost use Rattle.std.specs.Prelude.{◌≡◌, ◌==◌, ◌&&◌, not, IfOk, IfErr, map, true, false};
-ghost use Rattle.trace_query.specs.Compared.{tree_order, is_order};
-ghost use Rattle.trace_query.specs.Queries.{is_event, tree_at, others_standing, past_of, concurrent_of, order_due, fault_due};
+ghost use Rattle.std.specs.Prelude.{◌≡◌, IfOk, IfErr, map, true, false};
+ghost use Rattle.trace_query.specs.Queries.{is_event, tree_at, StandInOrder, past_of, concurrent_of, order_due, fault_due};
 
 use crate::{Compare, Meant, QueryFault};
 use std::alloc::Global;
+use std::cmp::Ordering;
 use trace_types::{Memory, Order};
 
 /// How the first event stands to the second, as their trees do; `Unknown` where either is no event.
@@ -37,7 +37,40 @@ pub fn past<C: Compare>(
         (λ events. events.items ≡ past_of (map C.Kept.tree kept.now) event) }
     ensures fault { IfErr result (λ fault. fault ≡ fault_due (map C.Kept.tree kept.now) event) }
 {
-    standing(compare, alloc, kept, event, Order::Before)
+    let tree = kept_of(kept, event)?;
+    let mut events = Vec::new(alloc);
+    for (place, other) in kept.iter().enumerate() {
+        let number = place as u64 + 1;
+        if number != event && compare.is_below(other, tree) && !compare.is_below(tree, other) {
+            events.push(number).map_err(Memory::from)?;
+        }
+    }
+    Ok(events)
+}
+
+/// As [`past`], of events whose trees stand in their order: each earlier event is compared once, in one direction, and
+/// no later one is looked at.
+pub fn past_in_order<C: Compare>(
+    compare: &C,
+    alloc: Global,
+    kept: &[C::Kept],
+    event: u64,
+) -> Result<Vec<u64>, QueryFault>
+    requires { StandInOrder (map C.Kept.tree kept.now) }
+    ensures known { IfOk result (λ _. is_event (map C.Kept.tree kept.now) event ≡ true) }
+    ensures events { IfOk result
+        (λ events. events.items ≡ past_of (map C.Kept.tree kept.now) event) }
+    ensures fault { IfErr result (λ fault. fault ≡ fault_due (map C.Kept.tree kept.now) event) }
+{
+    let tree = kept_of(kept, event)?;
+    let earlier = &kept[..event as usize - 1];
+    let mut events = Vec::new(alloc);
+    for (place, other) in earlier.iter().enumerate() {
+        if compare.is_below(other, tree) {
+            events.push(place as u64 + 1).map_err(Memory::from)?;
+        }
+    }
+    Ok(events)
 }
 
 /// The other events whose trees are concurrent with the tree of this one, increasing.
@@ -54,7 +87,45 @@ pub fn concurrent_with<C: Compare>(
         (λ events. events.items ≡ concurrent_of (map C.Kept.tree kept.now) event) }
     ensures fault { IfErr result (λ fault. fault ≡ fault_due (map C.Kept.tree kept.now) event) }
 {
-    standing(compare, alloc, kept, event, Order::Concurrent)
+    let tree = kept_of(kept, event)?;
+    let mut events = Vec::new(alloc);
+    for (place, other) in kept.iter().enumerate() {
+        let number = place as u64 + 1;
+        if number != event && compare.order(other, tree) == Order::Concurrent {
+            events.push(number).map_err(Memory::from)?;
+        }
+    }
+    Ok(events)
+}
+
+/// As [`concurrent_with`], of events whose trees stand in their order: each other event is compared once, in one
+/// direction.
+pub fn concurrent_in_order<C: Compare>(
+    compare: &C,
+    alloc: Global,
+    kept: &[C::Kept],
+    event: u64,
+) -> Result<Vec<u64>, QueryFault>
+    requires { StandInOrder (map C.Kept.tree kept.now) }
+    ensures known { IfOk result (λ _. is_event (map C.Kept.tree kept.now) event ≡ true) }
+    ensures events { IfOk result
+        (λ events. events.items ≡ concurrent_of (map C.Kept.tree kept.now) event) }
+    ensures fault { IfErr result (λ fault. fault ≡ fault_due (map C.Kept.tree kept.now) event) }
+{
+    let tree = kept_of(kept, event)?;
+    let mut events = Vec::new(alloc);
+    for (place, other) in kept.iter().enumerate() {
+        let number = place as u64 + 1;
+        let is_apart = match number.cmp(&event) {
+            Ordering::Less => !compare.is_below(other, tree),
+            Ordering::Equal => false,
+            Ordering::Greater => !compare.is_below(tree, other),
+        };
+        if is_apart {
+            events.push(number).map_err(Memory::from)?;
+        }
+    }
+    Ok(events)
 }
 
 /// What is kept for the event.
@@ -66,51 +137,4 @@ fn kept_of<K: Meant>(kept: &[K], event: u64) -> Result<&K, QueryFault>
 {
     let place = event.checked_sub(1).ok_or(QueryFault::Unknown)?;
     kept.get(place as usize).ok_or(QueryFault::Unknown)
-}
-
-/// The other events that stand so to the event, increasing.
-fn standing<C: Compare>(
-    compare: &C,
-    alloc: Global,
-    kept: &[C::Kept],
-    event: u64,
-    wanted: Order,
-) -> Result<Vec<u64>, QueryFault>
-    ensures known { IfOk result (λ _. is_event (map C.Kept.tree kept.now) event ≡ true) }
-    ensures events { IfOk result
-        (λ events. events.items ≡ others_standing wanted (map C.Kept.tree kept.now) event) }
-    ensures fault { IfErr result (λ fault. fault ≡ fault_due (map C.Kept.tree kept.now) event) }
-{
-    let tree = kept_of(kept, event)?;
-    let mut events = Vec::new(alloc);
-    for (place, other) in kept.iter().enumerate() {
-        let number = place as u64 + 1;
-        if is_listed(compare, number, other, event, tree, wanted) {
-            events.push(number).map_err(Memory::from)?;
-        }
-    }
-    Ok(events)
-}
-
-/// Whether the event of this number is another one than `event`, and stands so to it.
-fn is_listed<C: Compare>(
-    compare: &C,
-    number: u64,
-    other: &C::Kept,
-    event: u64,
-    tree: &C::Kept,
-    wanted: Order,
-) -> bool
-    ensures { result ≡ (not (number == event)
-        && is_order wanted (tree_order (C.Kept.tree other.now) (C.Kept.tree tree.now))) }
-{
-    number != event && stands(compare, other, tree, wanted)
-}
-
-/// Whether the first tree stands so to the second.
-fn stands<C: Compare>(compare: &C, first: &C::Kept, second: &C::Kept, wanted: Order) -> bool
-    ensures { result
-        ≡ is_order wanted (tree_order (C.Kept.tree first.now) (C.Kept.tree second.now)) }
-{
-    compare.order(first, second) == wanted
 }

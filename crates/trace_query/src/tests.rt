@@ -1,3 +1,8 @@
+ghost use Rattle.std.specs.Prelude.{◌≡◌, ◌+◌, ◌^◌, ◌<◌, max, map, IfOk};
+ghost use Rattle.trace_types.specs.EventTree.{Leaf};
+ghost use Rattle.trace_types.specs.Norm.{norm};
+ghost use Rattle.trace_query.specs.Queries.{StandInOrder};
+
 use super::*;
 use event_tree::EvTree;
 use std::alloc::Global;
@@ -18,31 +23,35 @@ impl Compare for Counted {
         self.comparisons.set(self.comparisons.get().wrapping_add(1));
         Plain.order(first, second)
     }
+
+    fn is_below(&self, first: &EvTree, second: &EvTree) -> bool {
+        self.comparisons.set(self.comparisons.get().wrapping_add(1));
+        Plain.is_below(first, second)
+    }
 }
 
-fn tree_of(alloc: Global, row: (u8, u8, u8)) -> Result<EvTree, Memory> {
-    let (n, left, right) = row;
-    let (left, right) = (
-        EvTree::leaf(u64::from(left)),
-        EvTree::leaf(u64::from(right)),
-    );
-    EvTree::fork(alloc, u64::from(n), left, right)
+fn node(alloc: Global, n: u64, left: u64, right: u64) -> Result<EvTree, Memory>
+    requires { n + max left right < 2 ^ 64 }
+    ensures { IfOk result (λ tree. tree ≡ norm n (Leaf left) (Leaf right)) }
+{
+    EvTree::fork(alloc, n, EvTree::leaf(left), EvTree::leaf(right))
 }
 
 /// `root` starts `a` and acts; `a` acts, and acts again with `root` between; `root` hears of all that.
-fn run(alloc: Global) -> Result<Vec<EvTree>, Memory> {
-    let mut trees = Vec::new(alloc);
-    for row in [
-        (1, 0, 0),
-        (2, 0, 0),
-        (2, 0, 1),
-        (2, 1, 0),
-        (2, 0, 2),
-        (4, 0, 0),
-    ] {
-        trees.push(tree_of(alloc, row)?)?;
-    }
-    Ok(trees)
+fn run(alloc: Global) -> Result<[EvTree; 6], Memory>
+    ensures { IfOk result (λ trees. StandInOrder (map (λ tree. tree) trees)) }
+{
+    let acts_once = node(alloc, 2, 0, 1)?;
+    let root_acts = node(alloc, 2, 1, 0)?;
+    let acts_again = node(alloc, 2, 0, 2)?;
+    Ok([
+        EvTree::leaf(1),
+        EvTree::leaf(2),
+        acts_once,
+        root_acts,
+        acts_again,
+        EvTree::leaf(4),
+    ])
 }
 
 #[test]
@@ -73,6 +82,19 @@ fn lists(alloc: Global, trees: &[EvTree], event: u64) -> Result<(Vec<u64>, Vec<u
     Ok((past, concurrent))
 }
 
+/// The same of events whose trees stand in their order.
+fn lists_in_order(
+    alloc: Global,
+    trees: &[EvTree],
+    event: u64,
+) -> Result<(Vec<u64>, Vec<u64>), QueryFault>
+    requires { StandInOrder (map (λ tree. tree) trees.now) }
+{
+    let past = past_in_order(&Plain, alloc, trees, event)?;
+    let concurrent = concurrent_in_order(&Plain, alloc, trees, event)?;
+    Ok((past, concurrent))
+}
+
 #[test]
 fn lists_are_those_of_the_run(rt: HostRuntime) -> Result<(), Fail> {
     let trees = run(rt.alloc())?;
@@ -83,9 +105,11 @@ fn lists_are_those_of_the_run(rt: HostRuntime) -> Result<(), Fail> {
         (5, &[1, 2, 3], &[4]),
         (6, &[1, 2, 3, 4, 5], &[]),
     ] {
-        let found = lists(rt.alloc(), &trees, event)?;
-        assert_eq!(rt; found.0.as_slice(), past, "past {event}");
-        assert_eq!(rt; found.1.as_slice(), concurrent, "concurrent {event}");
+        let of_any = lists(rt.alloc(), &trees, event)?;
+        assert_eq!(rt; of_any.0.as_slice(), past, "past {event}");
+        assert_eq!(rt; of_any.1.as_slice(), concurrent, "concurrent {event}");
+        let in_order = lists_in_order(rt.alloc(), &trees, event)?;
+        assert_eq!(rt; in_order, of_any, "in order {event}");
     }
     Ok(())
 }
@@ -94,27 +118,31 @@ fn lists_are_those_of_the_run(rt: HostRuntime) -> Result<(), Fail> {
 fn no_event_has_a_list(rt: HostRuntime) -> Result<(), Fail> {
     let trees = run(rt.alloc())?;
     for event in [0, 7, u64::MAX] {
-        let past = past(&Plain, rt.alloc(), &trees, event);
-        assert_eq!(rt; past.err(), Some(QueryFault::Unknown), "past {event}");
-        let concurrent = concurrent_with(&Plain, rt.alloc(), &trees, event);
-        assert_eq!(rt;
-            concurrent.err(),
-            Some(QueryFault::Unknown),
-            "concurrent {event}"
-        );
+        let found = [
+            past(&Plain, rt.alloc(), &trees, event),
+            past_in_order(&Plain, rt.alloc(), &trees, event),
+            concurrent_with(&Plain, rt.alloc(), &trees, event),
+            concurrent_in_order(&Plain, rt.alloc(), &trees, event),
+        ];
+        for list in found {
+            assert_eq!(rt; list.err(), Some(QueryFault::Unknown), "{event}");
+        }
     }
     Ok(())
 }
 
 #[test]
-fn each_other_event_is_compared_once(rt: HostRuntime) -> Result<(), Fail> {
+fn each_event_before_is_compared_once(rt: HostRuntime) -> Result<(), Fail> {
     let trees = run(rt.alloc())?;
     let counted = Counted {
         comparisons: Cell::new(0),
     };
-    let found = past(&counted, rt.alloc(), &trees, 6)?;
-    assert_eq!(rt; found.as_slice(), [1, 2, 3, 4, 5].as_slice());
-    assert_eq!(rt; counted.comparisons.get(), 5);
+    let found = past_in_order(&counted, rt.alloc(), &trees, 4)?;
+    assert_eq!(rt; found.as_slice(), [1, 2].as_slice());
+    assert_eq!(rt; counted.comparisons.get(), 3);
+    let found = concurrent_in_order(&counted, rt.alloc(), &trees, 4)?;
+    assert_eq!(rt; found.as_slice(), [3, 5].as_slice());
+    assert_eq!(rt; counted.comparisons.get(), 8);
     Ok(())
 }
 

@@ -1,74 +1,130 @@
 //! Filling a tree below an id.
-ghost use Rattle.std.specs.Prelude.{◌≡◌, IfOk};
-ghost use Rattle.event_tree.specs.Changes.{is_flattened, fill_changes};
+ghost use Rattle.std.specs.Prelude.{◌≡◌, ◌+◌, ◌^◌, ◌<◌, max, IfOk};
+ghost use Rattle.trace_types.specs.EventTree.{Leaf, Node as plain_Node, minimum, maximum, IsNormal};
+ghost use Rattle.trace_types.specs.Norm.{norm};
 ghost use Rattle.trace_types.specs.Fill.{fill};
+ghost use Rattle.event_tree.specs.Filled.{filled_over, Rises, GivesFilled};
 
 use super::{EvTree, Node};
 use id_tree::{IdTree, Parts as IdParts};
 use std::alloc::Global;
 use trace_types::Memory;
 
+/// A part of a tree, and what filling makes of it where that is another tree.
+#[derive(Drop)]
+struct Filling<'a> {
+    before: &'a EvTree,
+    after: Option<EvTree>,
+}
+
+impl Filling<'_> {
+    /// The least value after filling.
+    fn min(&self) -> u64
+        ensures { result ≡ minimum (filled_over self.now.after self.now.before.now) }
+    {
+        match &self.after {
+            Some(tree) => tree.min(),
+            None => self.before.min(),
+        }
+    }
+
+    /// The tree after filling.
+    fn tree(self, alloc: Global) -> Result<EvTree, Memory>
+        ensures { IfOk result (λ tree. tree ≡ filled_over self.entry.after self.entry.before.now) }
+    {
+        match self.after {
+            Some(tree) => Ok(tree),
+            None => self.before.share(alloc),
+        }
+    }
+
+    /// The node over this part and the one on its right, if either is another tree.
+    fn beside(self, alloc: Global, base: u64, right: Filling<'_>) -> Result<Option<EvTree>, Memory>
+        requires normal { IsNormal (plain_Node base self.before.now right.before.now) }
+        requires fits { base + max (maximum (filled_over self.after self.before.now)) (maximum (filled_over right.after right.before.now)) < 2 ^ 64 }
+        requires left_normal { IsNormal (filled_over self.after self.before.now) }
+        requires right_normal { IsNormal (filled_over right.after right.before.now) }
+        requires left_rises { Rises self.after self.before.now }
+        requires right_rises { Rises right.after right.before.now }
+        ensures { IfOk result (λ found. GivesFilled found
+            (plain_Node base self.entry.before.now right.entry.before.now)
+            (norm base (filled_over self.entry.after self.entry.before.now) (filled_over right.entry.after right.entry.before.now))) }
+    {
+        if self.after.is_none() && right.after.is_none() {
+            return Ok(None);
+        }
+        let left = self.tree(alloc)?;
+        let right = right.tree(alloc)?;
+        Ok(Some(EvTree::fork(alloc, base, left, right)?))
+    }
+}
+
 impl EvTree {
-    /// Whether filling changes the tree.
-    pub(super) fn fill_changes(&self, id: &IdTree) -> bool
-        ensures { result ≡ fill_changes id.now self.now }
+    /// The filled tree, if it is another.
+    pub(super) fn filled(&self, alloc: Global, id: &IdTree) -> Result<Option<EvTree>, Memory>
+        ensures { IfOk result (λ found. GivesFilled found self.now (fill id.now self.now)) }
     {
         match (id.parts(), &self.node) {
-            (IdParts::Zero, _) | (_, Node::Leaf(_)) => false,
-            (IdParts::One, Node::Fork { .. }) => true,
-            (IdParts::Pair(left_id, right_id), Node::Fork { left, right, .. }) => {
+            (IdParts::Zero, _) | (_, Node::Leaf(_)) => Ok(None),
+            (IdParts::One, Node::Fork { .. }) => Ok(Some(EvTree::leaf(self.max()))),
+            (IdParts::Pair(left_id, right_id), Node::Fork { base, children, .. }) => {
+                let (left, right) = (&children.left, &children.right);
                 if left_id.is_one() {
-                    right.fill_changes(right_id) || left.is_flattened(right.min())
+                    let after = right.filled(alloc, right_id)?;
+                    let right = Filling {
+                        before: right,
+                        after,
+                    };
+                    let after = left.flattened(right.min());
+                    Filling {
+                        before: left,
+                        after,
+                    }
+                    .beside(alloc, *base, right)
                 } else if right_id.is_one() {
-                    left.fill_changes(left_id) || right.is_flattened(left.min())
+                    let after = left.filled(alloc, left_id)?;
+                    let left = Filling {
+                        before: left,
+                        after,
+                    };
+                    let after = right.flattened(left.min());
+                    left.beside(
+                        alloc,
+                        *base,
+                        Filling {
+                            before: right,
+                            after,
+                        },
+                    )
                 } else {
-                    left.fill_changes(left_id) || right.fill_changes(right_id)
+                    let after = left.filled(alloc, left_id)?;
+                    let left = Filling {
+                        before: left,
+                        after,
+                    };
+                    let after = right.filled(alloc, right_id)?;
+                    left.beside(
+                        alloc,
+                        *base,
+                        Filling {
+                            before: right,
+                            after,
+                        },
+                    )
                 }
             }
         }
     }
 
-    /// Whether the number that is this tree's greatest value, and at least `least`, is another tree.
-    fn is_flattened(&self, least: u64) -> bool
-        ensures { result ≡ is_flattened self.now least }
+    /// The number that takes the place of this tree where the id owns it whole, unless it is that number: its greatest
+    /// value, but at least `least`.
+    fn flattened(&self, least: u64) -> Option<EvTree>
+        ensures { GivesFilled result self.now (Leaf (max (maximum self.now) least)) }
     {
         match self.node {
-            Node::Leaf(n) => n < least,
-            Node::Fork { .. } => true,
-        }
-    }
-
-    /// The filled tree.
-    pub(super) fn filled(&self, alloc: Global, id: &IdTree) -> Result<EvTree, Memory>
-        ensures { IfOk result (λ tree. tree ≡ fill id.now self.now) }
-    {
-        match (id.parts(), &self.node) {
-            (IdParts::Zero, _) => self.share(alloc),
-            (IdParts::One, _) => Ok(EvTree::leaf(self.max())),
-            (IdParts::Pair(..), Node::Leaf(n)) => Ok(EvTree::leaf(*n)),
-            (
-                IdParts::Pair(left_id, right_id),
-                Node::Fork {
-                    base,
-                    left,
-                    right,
-                    ..
-                },
-            ) => {
-                if left_id.is_one() {
-                    let right = right.filled(alloc, right_id)?;
-                    let left = EvTree::leaf(left.max().max(right.min()));
-                    EvTree::fork(alloc, *base, left, right)
-                } else if right_id.is_one() {
-                    let left = left.filled(alloc, left_id)?;
-                    let right = EvTree::leaf(right.max().max(left.min()));
-                    EvTree::fork(alloc, *base, left, right)
-                } else {
-                    let left = left.filled(alloc, left_id)?;
-                    let right = right.filled(alloc, right_id)?;
-                    EvTree::fork(alloc, *base, left, right)
-                }
-            }
+            Node::Leaf(n) if n < least => Some(EvTree::leaf(least)),
+            Node::Leaf(_) => None,
+            Node::Fork { .. } => Some(EvTree::leaf(self.max().max(least))),
         }
     }
 }

@@ -103,15 +103,10 @@ impl EvTree {
                 right: zero,
                 expansion: 1,
             },
-            Node::Fork {
-                base,
-                left,
-                right,
-                ..
-            } => Opened {
+            Node::Fork { base, children, .. } => Opened {
                 root: *base,
-                left,
-                right,
+                left: &children.left,
+                right: &children.right,
                 expansion: 0,
             },
         }

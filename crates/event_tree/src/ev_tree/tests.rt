@@ -28,7 +28,7 @@ fn tree_of_row(alloc: Global, row: Row) -> Result<EvTree, Memory> {
 fn children(tree: &EvTree) -> Option<(u64, u64)> {
     match &tree.node {
         Node::Leaf(_) => None,
-        Node::Fork { left, right, .. } => Some((left.max(), right.max())),
+        Node::Fork { children, .. } => Some((children.left.max(), children.right.max())),
     }
 }
 
@@ -183,5 +183,7 @@ fn a_shared_tree_is_lent_in_equal_parts(rt: HostRuntime) -> Result<(), Fail> {
     assert_eq!(rt; tree.order(&other), Order::Same);
     assert_eq!(rt; lent(&other), (3, Some((0, 4))));
     assert_eq!(rt; lent(&EvTree::leaf(7)), (7, None));
+    let text = format!(in rt.alloc(); "{other:?}")?;
+    assert_eq!(rt; text.as_str(), "(3,0,(0,0,4))");
     Ok(())
 }

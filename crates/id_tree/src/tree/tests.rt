@@ -27,32 +27,13 @@ fn last_read(read: &mut Vec<IdTree>) -> IdTree {
     }
 }
 
-fn write_id(id: &IdTree, text: &mut String) -> Result<(), AllocError> {
-    match id.parts() {
-        Parts::Zero => text.push('0'),
-        Parts::One => text.push('1'),
-        Parts::Pair(left, right) => {
-            text.push('(')?;
-            write_id(left, text)?;
-            text.push(',')?;
-            write_id(right, text)?;
-            text.push(')')
-        }
-    }
-}
-
 fn text_of(alloc: Global, id: &IdTree) -> Result<String, AllocError> {
-    let mut text = String::new(alloc);
-    write_id(id, &mut text)?;
-    Ok(text)
+    format!(in alloc; "{id:?}")
 }
 
 fn text_of_split(alloc: Global, id: &str) -> Result<String, Memory> {
     let (first, second) = read_id(alloc, id)?.split(alloc)?;
-    let mut text = text_of(alloc, &first)?;
-    text.push_str(" and ")?;
-    write_id(&second, &mut text)?;
-    Ok(text)
+    Ok(format!(in alloc; "{first:?} and {second:?}")?)
 }
 
 /// The text of the sum, or `overlap` where there is none.
@@ -108,5 +89,26 @@ fn fork_and_share_give_the_normal_form(rt: HostRuntime) -> Result<(), Fail> {
     ] {
         assert_eq!(rt; text_of_copy(rt.alloc(), id)?.as_str(), copy);
     }
+    Ok(())
+}
+
+/// An id of more than 2^64 pairs, in 65 blocks.
+fn doubled(alloc: Global) -> Result<IdTree, Memory> {
+    let mut id = IdTree::fork(alloc, IdTree::one(), IdTree::zero())?;
+    for _ in 0..64usize {
+        let half = id.share(alloc)?;
+        id = IdTree::fork(alloc, half, id)?;
+    }
+    Ok(id)
+}
+
+#[test]
+fn share_split_and_sum_take_no_memory_for_what_stays(rt: HostRuntime) -> Result<(), Fail> {
+    let (first, second) = doubled(rt.alloc())?.split(rt.alloc())?;
+    if !first.disjoint(&second) {
+        return Err("the parts overlap".into());
+    }
+    let whole = first.sum(rt.alloc(), &second)?;
+    assert!(rt; !whole.is_one());
     Ok(())
 }

@@ -2,39 +2,68 @@ use Rattle.std.proofs.Common.{ap, arith}
 use Rattle.std.proofs.lemmas.Bool.{false≢true}
 use Rattle.trace_types.specs.EventTree.{maximum}
 use Rattle.trace_types.specs.Fill.{fill}
+use Rattle.event_tree.specs.Filled.{filled_over}
 use Rattle.event_tree.proofs.Bounds.{minimum-le-maximum}
-use Rattle.event_tree.proofs.Filled.{maximum-fill-le, node_filled-both}
+use Rattle.event_tree.proofs.Filled.{normal_fill, maximum-fill-le, node_filled-both, gives_number}
 use Rattle.event_tree.proofs.ev_tree.EvTree.+filled.Goals as goal
 
-pub fork-requires : goal.fork-requires
-fork-requires t c =
+pub beside-requires-clause-fits : goal.beside-requires-clause-fits
+beside-requires-clause-fits t c =
     let fits = rw c.in-Pair-Fork.is-1 at c.self.invariant.fits in
     let normal = rw c.in-Pair-Fork.is-1 at c.self.invariant.normal in
-    let left = ap maximum c.leaf-left.ensures in
-    let right = rw c.deref.ensures at (ap maximum c.in_ok-right-in-Pair-Fork.ensures) in
-    let whole = rw c.deref-then-is_one.ensures at c.max-then-is_one.ensures in
-    omega (arith, fits, left, right, whole, maximum-fill-le c.in-Pair-Fork.right_id.now c.in-Pair-Fork.right.value normal.1, minimum-le-maximum c.in_ok-right-in-Pair-Fork.right)
+    let left = rw c.deref.ensures at (ap maximum c.flattened-after.ensures.exact) in
+    let right = rw c.deref-in-Pair-Fork.ensures at (ap maximum c.in_ok-after-in-Pair-Fork.ensures.exact) in
+    let least = rw c.deref-in-Pair-Fork.ensures at c.min.ensures in
+    rw (c.deref.ensures, c.deref-in-Pair-Fork.ensures)
+    (omega (arith, fits, left, right, least, maximum-fill-le c.in-Pair-Fork.right_id.now c.in-Pair-Fork.children.value.right normal.1, minimum-le-maximum (filled_over c.in_ok-after-in-Pair-Fork.after c.in-Pair-Fork.children.value.right)))
 
-pub fork-requires-then-is_one-2 : goal.fork-requires-then-is_one-2
-fork-requires-then-is_one-2 t c =
+pub beside-requires-clause-right_normal : goal.beside-requires-clause-right_normal
+beside-requires-clause-right_normal t c =
+    let normal = rw c.in-Pair-Fork.is-1 at c.self.invariant.normal in
+    rw c.in_ok-after-in-Pair-Fork.ensures.exact (rw c.deref-in-Pair-Fork.ensures (normal_fill c.in-Pair-Fork.right_id.now c.in-Pair-Fork.children.value.right normal.1))
+
+pub beside-requires-then-is_one-2-clause-fits : goal.beside-requires-then-is_one-2-clause-fits
+beside-requires-then-is_one-2-clause-fits t c =
     let fits = rw c.in-Pair-Fork.is-1 at c.self.invariant.fits in
     let normal = rw c.in-Pair-Fork.is-1 at c.self.invariant.normal in
-    let left = rw c.deref-then-is_one-2.ensures at (ap maximum c.in_ok-left-in-Pair-Fork.ensures) in
-    let right = ap maximum c.leaf-right.ensures in
-    let whole = rw c.deref-then-is_one-2-2.ensures at c.max-then-is_one-2-2.ensures in
-    omega (arith, fits, left, right, whole, maximum-fill-le c.in-Pair-Fork.left_id.now c.in-Pair-Fork.left.value normal.0, minimum-le-maximum c.in_ok-left-in-Pair-Fork.left)
+    let left = rw c.deref.ensures at (ap maximum c.in_ok-after-in-Pair-Fork-2.ensures.exact) in
+    let right = rw c.deref-in-Pair-Fork.ensures at (ap maximum c.flattened-after-then-is_one-2.ensures.exact) in
+    let least = rw c.deref.ensures at c.min-then-is_one-2.ensures in
+    rw (c.deref.ensures, c.deref-in-Pair-Fork.ensures)
+    (omega (arith, fits, left, right, least, maximum-fill-le c.in-Pair-Fork.left_id.now c.in-Pair-Fork.children.value.left normal.0, minimum-le-maximum (filled_over c.in_ok-after-in-Pair-Fork-2.after c.in-Pair-Fork.children.value.left)))
 
-pub fork-requires-else-is_one-2 : goal.fork-requires-else-is_one-2
-fork-requires-else-is_one-2 t c =
+pub beside-requires-then-is_one-2-clause-left_normal : goal.beside-requires-then-is_one-2-clause-left_normal
+beside-requires-then-is_one-2-clause-left_normal t c =
+    let normal = rw c.in-Pair-Fork.is-1 at c.self.invariant.normal in
+    rw c.in_ok-after-in-Pair-Fork-2.ensures.exact (rw c.deref.ensures (normal_fill c.in-Pair-Fork.left_id.now c.in-Pair-Fork.children.value.left normal.0))
+
+pub beside-requires-else-is_one-2-clause-fits : goal.beside-requires-else-is_one-2-clause-fits
+beside-requires-else-is_one-2-clause-fits t c =
     let fits = rw c.in-Pair-Fork.is-1 at c.self.invariant.fits in
     let normal = rw c.in-Pair-Fork.is-1 at c.self.invariant.normal in
-    let left = rw c.deref-else-is_one-2.ensures at (ap maximum c.in_ok-left-in-Pair-Fork-2.ensures) in
-    let right = rw c.deref-else-is_one-2-2.ensures at (ap maximum c.in_ok-right-in-Pair-Fork-2.ensures) in
-    omega (arith, fits, left, right, maximum-fill-le c.in-Pair-Fork.left_id.now c.in-Pair-Fork.left.value normal.0, maximum-fill-le c.in-Pair-Fork.right_id.now c.in-Pair-Fork.right.value normal.1)
+    let left = rw c.deref.ensures at (ap maximum c.in_ok-after-in-Pair-Fork-3.ensures.exact) in
+    let right = rw c.deref-in-Pair-Fork.ensures at (ap maximum c.in_ok-after-in-Pair-Fork-4.ensures.exact) in
+    rw (c.deref.ensures, c.deref-in-Pair-Fork.ensures)
+    (omega (arith, fits, left, right, maximum-fill-le c.in-Pair-Fork.left_id.now c.in-Pair-Fork.children.value.left normal.0, maximum-fill-le c.in-Pair-Fork.right_id.now c.in-Pair-Fork.children.value.right normal.1))
 
-pub returns-in_ok-right-in-Pair-Fork-2 : goal.returns-in_ok-right-in-Pair-Fork-2
-returns-in_ok-right-in-Pair-Fork-2 t c =
-    let left = rw c.deref-else-is_one-2.ensures at c.in_ok-left-in-Pair-Fork-2.ensures in
-    let right = rw c.deref-else-is_one-2-2.ensures at c.in_ok-right-in-Pair-Fork-2.ensures in
-    let both = node_filled-both c.in-Pair-Fork.base c.in-Pair-Fork.left_id.now c.in-Pair-Fork.right_id.now c.in-Pair-Fork.left.value c.in-Pair-Fork.right.value (fill c.in-Pair-Fork.left_id.now c.in-Pair-Fork.left.value) (fill c.in-Pair-Fork.right_id.now c.in-Pair-Fork.right.value) (λ e. false≢true (c.if-is_one.ensures.1 e)) (λ e. false≢true (c.if-is_one-2.ensures.1 e)) in
-    rw (← c.self.view_is, c.in-Pair-Fork.is-1, ← c.in-Pair-Fork.ensures.exact, both) (rw (left, right) at c.fork-else-is_one-2.ensures)
+pub beside-requires-else-is_one-2-clause-left_normal : goal.beside-requires-else-is_one-2-clause-left_normal
+beside-requires-else-is_one-2-clause-left_normal t c =
+    let normal = rw c.in-Pair-Fork.is-1 at c.self.invariant.normal in
+    rw c.in_ok-after-in-Pair-Fork-3.ensures.exact (rw c.deref.ensures (normal_fill c.in-Pair-Fork.left_id.now c.in-Pair-Fork.children.value.left normal.0))
+
+pub beside-requires-else-is_one-2-clause-right_normal : goal.beside-requires-else-is_one-2-clause-right_normal
+beside-requires-else-is_one-2-clause-right_normal t c =
+    let normal = rw c.in-Pair-Fork.is-1 at c.self.invariant.normal in
+    rw c.in_ok-after-in-Pair-Fork-4.ensures.exact (rw c.deref-in-Pair-Fork.ensures (normal_fill c.in-Pair-Fork.right_id.now c.in-Pair-Fork.children.value.right normal.1))
+
+pub returns-in-One-Fork : goal.returns-in-One-Fork
+returns-in-One-Fork t c =
+    let normal = rw c.in-One-Fork.is-1 at c.self.invariant.normal in
+    rw (c.leaf.ensures, c.max.ensures, ← c.self.view_is, c.in-One-Fork.is-1, ← c.in-One-Fork.ensures.exact) (gives_number _ _ _ _ normal (omega arith))
+
+pub returns-in_ok-after-in-Pair-Fork-4 : goal.returns-in_ok-after-in-Pair-Fork-4
+returns-in_ok-after-in-Pair-Fork-4 t c =
+    let left = rw c.deref.ensures at c.in_ok-after-in-Pair-Fork-3.ensures.exact in
+    let right = rw c.deref-in-Pair-Fork.ensures at c.in_ok-after-in-Pair-Fork-4.ensures.exact in
+    let both = node_filled-both c.in-Pair-Fork.base c.in-Pair-Fork.left_id.now c.in-Pair-Fork.right_id.now c.in-Pair-Fork.children.value.left c.in-Pair-Fork.children.value.right (fill c.in-Pair-Fork.left_id.now c.in-Pair-Fork.children.value.left) (fill c.in-Pair-Fork.right_id.now c.in-Pair-Fork.children.value.right) (λ e. false≢true (c.if-is_one.ensures.1 e)) (λ e. false≢true (c.if-is_one-2.ensures.1 e)) in
+    rw (← c.self.view_is, c.in-Pair-Fork.is-1, ← c.in-Pair-Fork.ensures.exact, both) (rw (c.deref.ensures, c.deref-in-Pair-Fork.ensures, left, right) at c.beside-else-is_one-2.ensures)

@@ -1,0 +1,174 @@
+//! Joining two lifted trees.
+ghost use Rattle.std.specs.Prelude.{◌≡◌, ◌+◌, ◌^◌, ◌<◌, max, IfOk, IfSome};
+ghost use Rattle.trace_types.specs.EventTree.{maximum};
+ghost use Rattle.trace_types.specs.Norm.{norm};
+ghost use Rattle.trace_types.specs.Join.{joined_number, joined};
+ghost use Rattle.event_tree.specs.Joins.{IsJoin, HoldsBeside};
+
+use super::comparison::Directions;
+use super::{Children, EvTree, Node};
+use std::alloc::Global;
+use trace_types::Memory;
+
+/// The join of two lifted trees.
+#[derive(Drop)]
+pub(super) enum Join {
+    /// It is one of the two: the second where the first is below it, the first where it is above.
+    Given(Directions),
+    /// It is neither.
+    Made(EvTree),
+}
+
+impl Join {
+    /// The join itself, of the two trees that were joined.
+    pub(super) fn tree(
+        self,
+        one: &EvTree,
+        one_lift: u64,
+        other: &EvTree,
+        other_lift: u64,
+    ) -> Result<EvTree, Memory>
+        requires one_fits { one_lift + maximum one.now < 2 ^ 64 }
+        requires other_fits { other_lift + maximum other.now < 2 ^ 64 }
+        requires join { IsJoin self one_lift one.now other_lift other.now }
+        ensures { IfOk result (λ tree. tree ≡ joined one_lift one.now other_lift other.now) }
+    {
+        match self {
+            Join::Given(holding) if holding.above => one.lifted(one_lift),
+            Join::Given(_) => other.lifted(other_lift),
+            Join::Made(tree) => Ok(tree),
+        }
+    }
+
+    /// Which directions hold on both sides, if the joins of both sides are given by one of the two trees.
+    fn given_beside(&self, right: &Join) -> Option<Directions>
+        ensures { IfSome result (λ holding. HoldsBeside holding self.now right.now) }
+    {
+        let (Join::Given(on_left), Join::Given(on_right)) = (self, right) else {
+            return None;
+        };
+        let both = Directions {
+            below: on_left.below && on_right.below,
+            above: on_left.above && on_right.above,
+        };
+        if both.any() { Some(both) } else { None }
+    }
+}
+
+/// The join of two trees, each lifted by the number beside it.
+///
+/// A part that one of the two has is not made again.
+pub(super) fn joined(
+    alloc: Global,
+    one: &EvTree,
+    one_lift: u64,
+    other: &EvTree,
+    other_lift: u64,
+) -> Result<Join, Memory>
+    requires one_fits { one_lift + maximum one.now < 2 ^ 64 }
+    requires other_fits { other_lift + maximum other.now < 2 ^ 64 }
+    ensures { IfOk result (λ join. IsJoin join one_lift one.now other_lift other.now) }
+{
+    let here = one.range(one_lift);
+    let there = other.range(other_lift);
+    let holding = Directions {
+        below: here.is_below(there),
+        above: there.is_below(here),
+    };
+    if holding.any() {
+        return Ok(Join::Given(holding));
+    }
+    match (&one.node, &other.node) {
+        (Node::Leaf(n), _) => {
+            let tree = other.raised_to(alloc, other_lift, one_lift + *n)?;
+            Ok(Join::Made(tree))
+        }
+        (_, Node::Leaf(n)) => {
+            let tree = one.raised_to(alloc, one_lift, other_lift + *n)?;
+            Ok(Join::Made(tree))
+        }
+        (
+            Node::Fork { base, children, .. },
+            Node::Fork {
+                base: other_base,
+                children: other_children,
+                ..
+            },
+        ) => {
+            let (root, other_root) = (one_lift + *base, other_lift + *other_base);
+            let low = root.min(other_root);
+            let (lift, other_lift) = (root - low, other_root - low);
+            let (one_left, other_left) = (&children.left, &other_children.left);
+            let (one_right, other_right) = (&children.right, &other_children.right);
+            let left = joined(alloc, one_left, lift, other_left, other_lift)?;
+            let right = joined(alloc, one_right, lift, other_right, other_lift)?;
+            if let Some(holding) = left.given_beside(&right) {
+                return Ok(Join::Given(holding));
+            }
+            let tree = node_over(
+                alloc,
+                low,
+                left,
+                right,
+                children,
+                lift,
+                other_children,
+                other_lift,
+            )?;
+            Ok(Join::Made(tree))
+        }
+    }
+}
+
+/// The node over the joins of both sides, in normal form.
+#[inline(never)]
+fn node_over(
+    alloc: Global,
+    low: u64,
+    left: Join,
+    right: Join,
+    one: &Children,
+    one_lift: u64,
+    other: &Children,
+    other_lift: u64,
+) -> Result<EvTree, Memory>
+    requires left { IsJoin left one_lift one.now.left other_lift other.now.left }
+    requires right { IsJoin right one_lift one.now.right other_lift other.now.right }
+    requires fits { low + (one_lift + max (maximum one.now.left) (maximum one.now.right)) < 2 ^ 64 }
+    requires other_fits { low + (other_lift + max (maximum other.now.left) (maximum other.now.right)) < 2 ^ 64 }
+    ensures { IfOk result (λ tree. tree ≡ norm low
+        (joined one_lift one.now.left other_lift other.now.left)
+        (joined one_lift one.now.right other_lift other.now.right)) }
+{
+    let left = left.tree(&one.left, one_lift, &other.left, other_lift)?;
+    let right = right.tree(&one.right, one_lift, &other.right, other_lift)?;
+    EvTree::fork(alloc, low, left, right)
+}
+
+impl EvTree {
+    /// The join of this tree lifted by `lift` and of `number`.
+    fn raised_to(&self, alloc: Global, lift: u64, number: u64) -> Result<EvTree, Memory>
+        requires { lift + maximum self.now < 2 ^ 64 }
+        ensures { IfOk result (λ tree. tree ≡ joined_number number lift self.now) }
+    {
+        let range = self.range(lift);
+        if range.high <= number {
+            return Ok(EvTree::leaf(number));
+        }
+        if number <= range.low {
+            return self.lifted(lift);
+        }
+        match &self.node {
+            // A leaf has one value, so its range has decided.
+            Node::Leaf(_) => unreachable!(),
+            Node::Fork { base, children, .. } => {
+                let root = lift + *base;
+                let low = number.min(root);
+                let (number, lift) = (number - low, root - low);
+                let left = children.left.raised_to(alloc, lift, number)?;
+                let right = children.right.raised_to(alloc, lift, number)?;
+                EvTree::fork(alloc, low, left, right)
+            }
+        }
+    }
+}

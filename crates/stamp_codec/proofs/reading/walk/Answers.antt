@@ -1,0 +1,19 @@
+use Rattle.std.proofs.Common.{length, drop, ap, arith, ◌∙◌}
+use Rattle.std.proofs.lemmas.Result.{err_from_is_err_and}
+use Rattle.stamp_codec.proofs.Outcomes.{ends_in_id, walked}
+use Rattle.stamp_codec.proofs.reading.walk.Goals as goal
+
+pub returns-in_err-id-clause-exact : goal.returns-in_err-id-clause-exact
+returns-in_err-id-clause-exact c =
+    let p = err_from_is_err_and c.from_residual.result c.from_residual.ensures.1 in
+    λ id tree spells. rw (p.1, p.2) (ends_in_id _ _ _ _ (c.skip.ensures.rest ∙ ap (λ t. drop 1 t) c.new-cursor.ensures.rest) (omega (arith, ap (λ t. length t) c.new-cursor.ensures.rest)) c.in_err-id.ensures.exact id tree spells)
+
+pub returns-in-Some-clause-exact : goal.returns-in-Some-clause-exact
+returns-in-Some-clause-exact c = λ id tree spells.
+    let w = walked _ _ _ _ _ _ _ c.in_ok-id.id c.in_ok-tree.tree _ _ _ _ (c.skip.ensures.rest ∙ ap (λ t. drop 1 t) c.new-cursor.ensures.rest) (omega (arith, ap (λ t. length t) c.new-cursor.ensures.rest)) (c.skip.ensures.uneven ∙ c.new-cursor.ensures.uneven) c.skip-2.ensures.uneven c.in_ok-id.ensures.exact c.skip-2.ensures.rest (omega (arith, c.in_ok-id.ensures.end, ap (λ t. length t) c.new-cursor.ensures.rest)) c.in_ok-tree.ensures.exact id tree spells in
+    (w.small, rw c.in-Some.is at w.uneven)
+
+pub returns-in-None-clause-exact : goal.returns-in-None-clause-exact
+returns-in-None-clause-exact c = λ id tree spells.
+    let w = walked _ _ _ _ _ _ _ c.in_ok-id.id c.in_ok-tree.tree _ _ _ _ (c.skip.ensures.rest ∙ ap (λ t. drop 1 t) c.new-cursor.ensures.rest) (omega (arith, ap (λ t. length t) c.new-cursor.ensures.rest)) (c.skip.ensures.uneven ∙ c.new-cursor.ensures.uneven) c.skip-2.ensures.uneven c.in_ok-id.ensures.exact c.skip-2.ensures.rest (omega (arith, c.in_ok-id.ensures.end, ap (λ t. length t) c.new-cursor.ensures.rest)) c.in_ok-tree.ensures.exact id tree spells in
+    (w.id_is c.in-None.is, w.tree_is c.in-None.is, w.small, rw c.in-None.is at w.uneven)
