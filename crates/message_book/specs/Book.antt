@@ -1,5 +1,5 @@
 -- The book of one tenant's messages: what it has, what a send and a receipt do to it, and when they are refused.
-use Rattle.std.specs.Prelude.{ℕ, Bool, false, not, List, [], ◌∷◌, ◌++◌, length, map, Option, Some, None, is_some, if◌then◌else◌, nat_le, nat_lt}
+use Rattle.std.specs.Prelude.{◌≡◌, ℕ, ◌-◌, Bool, false, not, List, [], ◌∷◌, ◌++◌, length, take, map, Option, Some, None, is_some, if◌then◌else◌, nat_le, nat_lt}
 use Rattle.std.specs.List.{IsDistinct}
 use Rattle.trace_types.specs.Name.{Text, is_same}
 use Rattle.trace_types.specs.Refusal.{first_code}
@@ -38,11 +38,27 @@ with_message name event messages = messages ++ (name, record { sent = event; rec
 abbrev pub entry_with_receipt : ℕ → Entry → Entry
 entry_with_receipt event entry = record entry { receipts = entry.receipts ++ event ∷ [] }
 
+-- the messages, of which the one of this name is changed
+abbrev pub with_changed : (Entry → Entry) → Text → Messages → Messages
+with_changed change name [] = []
+with_changed change name (message ∷ later) =
+    if is_same name message.0 then (message.0, change message.1) ∷ later else message ∷ with_changed change name later
+
 -- the messages, of which the one of this name has one receipt more
 abbrev pub with_receipt : Text → ℕ → Messages → Messages
-with_receipt name event [] = []
-with_receipt name event (message ∷ later) =
-    if is_same name message.0 then (message.0, entry_with_receipt event message.1) ∷ later else message ∷ with_receipt name event later
+with_receipt name event messages = with_changed (entry_with_receipt event) name messages
+
+-- the messages, of which the one of this name has no receipts
+abbrev pub without_receipts : Text → Messages → Messages
+without_receipts name messages = with_changed (λ entry. record entry { receipts = [] }) name messages
+
+-- the messages without the last one
+abbrev pub without_last : Messages → Messages
+without_last messages = take (length messages - 1) messages
+
+-- The last message has no receipts: its send can be taken back.
+abbrev pub LastIsUnreceived : Messages → Type 0
+LastIsUnreceived messages = (name : Text) × (event : ℕ) × (messages ≡ with_message name event (without_last messages))
 
 -- what a send is refused for, each with the test for it, in the order in which they are looked at
 abbrev pub refusals_of_send : Book → Text → List (Bool × Code)

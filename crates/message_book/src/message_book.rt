@@ -1,8 +1,8 @@
 //! The book of one tenant's messages.
-ghost use Rattle.std.specs.Prelude.{◌≡◌, ◌≤◌, [], length, None, Some, IfOk, IfErr, OnErr, OnOk, IsOkAnd, unwrap_or};
+ghost use Rattle.std.specs.Prelude.{◌≡◌, ◌≤◌, [], true, length, None, Some, IfOk, IfErr, OnErr, OnOk, IsOkAnd, unwrap_or};
 ghost use Rattle.std.specs.Option.{option_copied, option_map};
 ghost use Rattle.std.specs.Result.{result_err};
-ghost use Rattle.message_book.specs.Book.{AreNamedOnce, entry_of, with_message, with_receipt, refusal_of_send, refusal_of_receive};
+ghost use Rattle.message_book.specs.Book.{AreNamedOnce, LastIsUnreceived, entry_of, has_receipt, with_message, with_receipt, without_last, without_receipts, refusal_of_send, refusal_of_receive};
 
 use crate::Entry;
 use indexmap::IndexMap;
@@ -109,6 +109,25 @@ impl MessageBook {
         self.check_receive(name)?;
         self.add_receipt(name, event);
         Ok(())
+    }
+
+    /// Takes the last send back: the message is not there any more. It takes no memory.
+    pub fn undo_send(&mut self)
+        requires { LastIsUnreceived self.old.messages }
+        ensures { self.new ≡ record self.old { messages = without_last self.old.messages } }
+    {
+        self.messages.pop();
+    }
+
+    /// Takes the receipt of a message back: the message can be received again. It takes no memory.
+    pub fn undo_receive(&mut self, name: &Name)
+        requires { has_receipt (entry_of self.old.messages name.now) ≡ true }
+        ensures { self.new ≡ record self.old { messages = without_receipts name.now self.old.messages } }
+    {
+        let alloc = *self.messages.allocator();
+        if let Some(entry) = self.messages.get_mut(name) {
+            entry.lose_receipts(alloc);
+        }
     }
 
     /// Adds a message that can be sent.

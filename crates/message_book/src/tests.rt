@@ -62,6 +62,35 @@ fn a_receipt_is_refused_for_an_unknown_message_and_for_a_second_time(
     Ok(())
 }
 
+#[test]
+fn a_send_taken_back_leaves_the_name_free(rt: HostRuntime) -> Result<(), Fail> {
+    let mut book = MessageBook::new(rt.alloc(), 2)?;
+    book.send(name(&rt, "m"), 5)?;
+    book.send(name(&rt, "n"), 7)?;
+    book.undo_send();
+    assert_eq!(rt; book.message_count(), 1);
+    assert!(rt; book.find(&name(&rt, "n")).is_none());
+    assert_has(&rt, &book, "m", 5, &[]);
+    book.send(name(&rt, "n"), 8)?;
+    assert_has(&rt, &book, "n", 8, &[]);
+    Ok(())
+}
+
+#[test]
+fn a_receipt_taken_back_can_be_given_again(rt: HostRuntime) -> Result<(), Fail> {
+    let mut book = MessageBook::new(rt.alloc(), 2)?;
+    book.send(name(&rt, "m"), 5)?;
+    book.send(name(&rt, "n"), 6)?;
+    let message = name(&rt, "m");
+    book.receive(&message, 7)?;
+    book.undo_receive(&message);
+    assert_has(&rt, &book, "m", 5, &[]);
+    assert_has(&rt, &book, "n", 6, &[]);
+    book.receive(&name(&rt, "m"), 8)?;
+    assert_has(&rt, &book, "m", 5, &[8]);
+    Ok(())
+}
+
 /// It passes also where an allocation fails.
 #[test]
 fn a_send_that_finds_no_memory_changes_nothing(rt: HostRuntime) -> Result<(), Fail> {

@@ -1,5 +1,5 @@
 -- How a request is answered: with the first refusal that applies, else as asked.
-use Rattle.std.proofs.Common.{◌≡◌, ◌+◌, ◌-◌, ◌<◌, ◌≤◌, ℕ, suc, Bool, false, true, List, [], ◌∷◌, ◌++◌, length, Option, Some, None, Result, Ok, Err, IsTrue, IsErrAnd, refl, sym, ap, ◌∙◌, inl, inr, arith, cond, eqb, get_or, map, subst}
+use Rattle.std.proofs.Common.{◌≡◌, ◌-◌, ◌<◌, ◌≤◌, ℕ, suc, Bool, false, true, List, [], ◌∷◌, ◌++◌, length, Option, Some, None, Result, Ok, Err, IsTrue, IsErrAnd, refl, sym, ap, ◌∙◌, inl, inr, arith, cond, eqb, get_or, map, subst}
 use Rattle.std.proofs.lemmas.Bool.{cond_both, cond-false, false≢true}
 use Rattle.std.proofs.lemmas.List.{length-reverse, length-map}
 use Rattle.std.proofs.lemmas.Option.{slice_get_read, slice_get_within, same_Some}
@@ -21,7 +21,6 @@ use Rattle.trace_types.specs.StampText.{stamp_text}
 use Rattle.trace_types.specs.Tenant.{Steps, step_unless, answer_to, accepted, row_after, with_row, may_lack_memory, reply_to_view, Tenant, Answers, is_report, step}
 use Rattle.trace_types.specs.declared.code.Code.{Code}
 use Rattle.trace_types.specs.declared.code.Code.TheVariants.{NoTask, TaskExists, TasksFull, MessageExists, MessagesFull, NoMessage, AlreadyReceived, NotEnded, AlreadyJoined, EventsFull, NoMemory}
-use Rattle.trace_types.specs.declared.memory.Memory.{Memory}
 use Rattle.trace_types.specs.declared.order.Order.{Order}
 use Rattle.trace_types.specs.declared.reply.Reply.{Reply}
 use Rattle.trace_types.specs.declared.reply.Reply.TheVariants as reply
@@ -30,7 +29,8 @@ use Rattle.trace_types.specs.declared.request.Request.TheVariants as request
 use Rattle.trace_types.specs.declared.row.Row.{Row}
 use Rattle.trace_types.specs.declared.row.Kind.{Kind}
 use Rattle.tenant_ledger.specs.declared.book.Book.{Book}
-use Rattle.tenant_ledger.specs.Ledger.{IsBook, ids_in, IsPlace, IsMessage, tenant_of, Decides, Adds, reply_of}
+use Rattle.tenant_ledger.specs.declared.book.Draft.{Draft}
+use Rattle.tenant_ledger.specs.Ledger.{IsBook, ids_in, IsPlace, IsMessage, tenant_of, Decides, HaveTheSame, IsReady, Prepares}
 use Rattle.tenant_ledger.proofs.Events.{event_bounds}
 use Rattle.tenant_ledger.proofs.KeepingReports.{seeded_place, seeded_ids}
 use Rattle.tenant_ledger.proofs.Legality.{IsLegal_from_AreLegal}
@@ -79,57 +79,39 @@ decides_by_first {A = A} (refusal ∷ rest) (Err code) is = λ others. by others
     by others false found later = later found
 
 -- a request that is refused is answered with the code, and changes nothing
-pub refused : {S I K : Type 0} (book : Book S I K) (request : Request) (code : Code) (outcome : Result ℕ Code) → IsErrAnd outcome (λ given. given ≡ code)
-    → refusal_of book.limits (history_of book.rows.items) request ≡ Some code → Steps (tenant_of book) request (reply_of outcome) (tenant_of book)
-refused book request code (Ok event) is first = absurd is
-refused book request code (Err given) is first = inl (ap (λ refusal. step_unless refusal (tenant_of book) request) (first ∙ ap Some (sym is)))
+pub refused : {S I K : Type 0} {meant : K → EventTree} {meant_id : I → Id} (book : Book S I K) (request : Request) (code : Code) (outcome : Result (Draft S I K) Code)
+    → IsErrAnd outcome (λ given. given ≡ code) → IsBook meant meant_id book
+    → refusal_of book.limits (history_of book.rows.items) request ≡ Some code → Prepares meant meant_id outcome (tenant_of book) request book
+refused book request code (Ok draft) given is first = absurd given
+refused book request code (Err other) given is first =
+    (is, refl, inl (ap (λ refusal. step_unless refusal (tenant_of book) request) (first ∙ ap Some (sym given))))
 
--- what is added after the seed was kept is added to the book before
-pub adds_seeded : {S I K : Type 0} (meant : K → EventTree) (meant_id : I → Id) (old mid new : Book S I K) → mid ≡ record old { ids = mid.ids }
-    → (outcome : Result ℕ Memory) (task : Text) (kind : Kind) (name : Option Text)
-    → Adds meant meant_id outcome mid (row_after (history_of mid.rows.items) task kind name) new
-    → Adds meant meant_id outcome old (row_after (history_of old.rows.items) task kind name) new
-adds_seeded {S} {I} {K} meant meant_id old mid new seeded (Ok event) task kind name adds =
-    let rows = ap (λ (book : Book S I K). book.rows.items) seeded in
-    let limits = ap (λ (book : Book S I K). book.limits) seeded in (
-      adds.0,
-      adds.1 ∙ (λ i. with_row (record { limits = limits i; rows = rows i }) (Some (row_after (history_of (rows i)) task kind name))),
-      adds.2 ∙ ap (λ (found : List Row). length found + 1) rows,
-    )
-adds_seeded {S} {I} {K} meant meant_id old mid new seeded (Err memory) task kind name adds =
-    let rows = ap (λ (book : Book S I K). book.rows.items) seeded in
-    let limits = ap (λ (book : Book S I K). book.limits) seeded in
-    (adds.0, adds.1 ∙ (λ i. record { limits = limits i; rows = rows i }))
-
--- a report that is not refused is answered with its event, and adds its row
-pub added : {S I K : Type 0} {meant : K → EventTree} {meant_id : I → Id} (old new : Book S I K) (request : Request) (task : Text) (kind : Kind) (name : Option Text) (event : ℕ)
-    → answer_to (history_of old.rows.items) request ≡ accepted (history_of old.rows.items) task kind name
-    → refusal_of old.limits (history_of old.rows.items) request ≡ None
-    → Adds meant meant_id (Ok event) old (row_after (history_of old.rows.items) task kind name) new
-    → Steps (tenant_of old) request (reply.Accepted event) (tenant_of new)
-added old new request task kind name event answer none adds =
-    let number : suc (length (history_of old.rows.items)) ≡ event = omega (arith, length-reverse old.rows.items, adds.2) in
-    let answered = ap (λ (given : Reply × Option Row). (given.0, with_row (tenant_of old) given.1)) answer in
-    inl (ap (λ refusal. step_unless refusal (tenant_of old) request) none ∙ answered ∙ (λ i. (reply.Accepted (number i), sym adds.1 i)))
+-- where the book has the same in it, its tenant is the same
+pub same_tenant : {S I K : Type 0} (old new : Book S I K) → HaveTheSame old new → tenant_of new ≡ tenant_of old
+same_tenant old new same = λ i. record { limits = same.limits i; rows = same.rows i }
 
 -- or with want of memory, and changes nothing
-pub lacked : {S I K : Type 0} {meant : K → EventTree} {meant_id : I → Id} (old new : Book S I K) (request : Request) (task : Text) (kind : Kind) (name : Option Text) (memory : Memory) (outcome : Result ℕ Code)
+pub lacked : {S I K : Type 0} {meant : K → EventTree} {meant_id : I → Id} (old new : Book S I K) (request : Request) (outcome : Result (Draft S I K) Code)
     → IsTrue (may_lack_memory request) → IsErrAnd outcome (λ given. given ≡ NoMemory)
-    → refusal_of old.limits (history_of old.rows.items) request ≡ None
-    → Adds meant meant_id (Err memory) old (row_after (history_of old.rows.items) task kind name) new
-    → Steps (tenant_of old) request (reply_of outcome) (tenant_of new)
-lacked old new request task kind name memory (Ok event) may is none adds = absurd is
-lacked old new request task kind name memory (Err given) may is none adds = inr ((may, none), ap reply.Refused is, adds.1)
+    → refusal_of old.limits (history_of old.rows.items) request ≡ None → IsBook meant meant_id new → tenant_of new ≡ tenant_of old
+    → Prepares meant meant_id outcome (tenant_of old) request new
+lacked old new request (Ok draft) may given none is same = absurd given
+lacked old new request (Err code) may given none is same = (is, same, inr ((may, none), ap reply.Refused given, refl))
 
--- so it is where there is no memory for the seed
-pub lacked_seed : {S I K : Type 0} (old mid : Book S I K) (request : Request) (outcome : Result ℕ Code) → mid ≡ record old { ids = mid.ids }
-    → IsTrue (may_lack_memory request) → IsErrAnd outcome (λ given. given ≡ NoMemory)
-    → refusal_of old.limits (history_of old.rows.items) request ≡ None → Steps (tenant_of old) request (reply_of outcome) (tenant_of mid)
-lacked_seed old mid request (Ok event) seeded may is none = absurd is
-lacked_seed {S} {I} {K} old mid request (Err given) seeded may is none =
-    let rows = ap (λ (book : Book S I K). book.rows.items) seeded in
-    let limits = ap (λ (book : Book S I K). book.limits) seeded in
-    inr ((may, none), ap reply.Refused is, (λ i. record { limits = limits i; rows = rows i }))
+-- a report that is not refused is the tenant's step with the row of its draft
+pub drafted : {S I K : Type 0} {meant : K → EventTree} {meant_id : I → Id} (old mid new : Book S I K) (request : Request) (task : Text) (kind : Kind) (name : Option Text) (draft : Draft S I K)
+    → answer_to (history_of old.rows.items) request ≡ accepted (history_of old.rows.items) task kind name
+    → refusal_of old.limits (history_of old.rows.items) request ≡ None → HaveTheSame old mid → IsReady meant meant_id new draft → tenant_of new ≡ tenant_of mid
+    → draft.row ≡ row_after (history_of mid.rows.items) task kind name
+    → Prepares meant meant_id (Ok draft) (tenant_of old) request new
+drafted old mid new request task kind name draft answer none same ready tenant row =
+    let row_is : row_after (history_of old.rows.items) task kind name ≡ draft.row = ap (λ rows. row_after (history_of rows) task kind name) (sym same.rows) ∙ sym row in
+    let answered = ap (λ (given : Reply × Option Row). (given.0, with_row (tenant_of old) given.1)) answer in
+    let number : suc (length (history_of old.rows.items)) ≡ suc (length old.rows.items) = ap suc (length-reverse old.rows.items) in (
+      ready,
+      tenant ∙ same_tenant old mid same,
+      ap (λ refusal. step_unless refusal (tenant_of old) request) none ∙ answered ∙ (λ i. (reply.Accepted (number i), with_row (tenant_of old) (Some (row_is i)))),
+    )
 
 -- the order in which two events' trees stand is the order to be answered
 pub ordered : {S I K : Type 0} {meant : K → EventTree} {meant_id : I → Id} (book : Book S I K) (first second : ℕ) (order : Order) → IsBook meant meant_id book → is_event (history_of book.rows.items) first ≡ true

@@ -10,11 +10,10 @@ use Rattle.trace_types.specs.Limits.{Limits}
 use Rattle.trace_types.specs.Rows.{History, history_of, task_count}
 use Rattle.trace_types.specs.Clock.{tree_clock}
 use Rattle.trace_types.specs.Stamps.{id_of, tree_of, stamp_of}
-use Rattle.trace_types.specs.Tenant.{AreLegal}
 use Rattle.trace_types.specs.Id.{Id}
 use Rattle.trace_types.specs.EventTree.{EventTree}
 use Rattle.trace_types.specs.declared.row.Row.{Row}
-use Rattle.tenant_ledger.specs.Ledger.{IsTask, IsPlace, IsKept}
+use Rattle.tenant_ledger.specs.Ledger.{IsTask, IsPlace, IsKept, Stay, IsNext}
 use Rattle.tenant_ledger.specs.declared.book.Task.{Task}
 use Rattle.tenant_ledger.proofs.Events.{tree_of-older}
 use Rattle.tenant_ledger.proofs.Reaching.{new_event}
@@ -26,24 +25,18 @@ slice_get-longer xs ys place x there =
     let longer : place < length (xs ++ ys) = omega (arith, within, length-append xs ys) in
     slice_get-get_or (xs ++ ys) place x longer ∙ ap Some (get_or-append xs ys x place within ∙ get_or_from_slice_get xs place x x there)
 
--- and what is added stands at the end
+-- and what is added stands behind it
+pub slice_get-seam : {X : Type 0} (xs : List X) (x : X) (rest : List X) → slice_get (xs ++ x ∷ rest) (length xs) ≡ Some x
+slice_get-seam xs x rest =
+    let within : length xs < length (xs ++ x ∷ rest) = omega (arith, length-append xs (x ∷ rest)) in
+    slice_get-get_or (xs ++ x ∷ rest) (length xs) x within ∙ ap Some (get_or-append_seam xs x rest x)
+
 pub slice_get-added : {X : Type 0} (xs : List X) (x : X) → slice_get (xs ++ x ∷ []) (length xs) ≡ Some x
-slice_get-added xs x =
-    let within : length xs < length (xs ++ x ∷ []) = omega (arith, length-append xs (x ∷ [])) in
-    slice_get-get_or (xs ++ x ∷ []) (length xs) x within ∙ ap Some (get_or-append_seam xs x [] x)
+slice_get-added xs x = slice_get-seam xs x []
 
--- each id stands where it stood
-abbrev pub Stay : List Id → List Id → Type 0
-Stay ids ids' = (place : ℕ) (id : Id) → slice_get ids place ≡ Some id → slice_get ids' place ≡ Some id
-
--- so it is where an id is added
-pub stay-added : (ids ids' : List Id) (id : Id) → ids' ≡ ids ++ id ∷ [] → Stay ids ids'
-stay-added ids ids' id is place other there = subst (λ found. slice_get found place ≡ Some other) (sym is) (slice_get-longer ids (id ∷ []) place other there)
-
--- which stands at the end
-pub id-added : (ids ids' : List Id) (id : Id) (place : ℕ) → ids' ≡ ids ++ id ∷ [] → place ≡ length ids → slice_get ids' place ≡ Some id
-id-added ids ids' id place is last =
-    subst (λ found. slice_get found place ≡ Some id) (sym is) (ap (slice_get (ids ++ id ∷ [])) last ∙ slice_get-added ids id)
+-- ids that are added leave each id where it stood
+pub stay-added : (ids more : List Id) → Stay ids (ids ++ more)
+stay-added ids more place id there = slice_get-longer ids more place id there
 
 stamp_of-new : (row : Row) (earlier : History) → (stamp_of tree_clock (row ∷ earlier) (new_event earlier)).0 ≡ id_of tree_clock (row ∷ earlier) row.task
 stamp_of-new row earlier = ap (λ (stamp : Id × EventTree). stamp.0) (cond-true (eqb (new_event earlier) (new_event earlier)) _ _ (eq-eqb (new_event earlier) (new_event earlier) refl))
@@ -68,17 +61,6 @@ older_place ids ids' row earlier places new event at stay older = by (slice_get 
     by (Some place) is right =
         subst (IsPlace ids' (row ∷ earlier) event) (sym (slice_get-longer places (new ∷ []) at place is))
         (stay place _ right ∙ ap Some (sym (stamp_of-older row earlier event older)))
-
--- what is asked of what is kept with one more row
-pub record IsNext (limits : Limits) (rows : List Row) (ids : List Id) (row : Row) (tree : EventTree) (place : ℕ) (ids' : List Id) (task_of' : Text → Option Task) (count' : ℕ) : Type 0 where
-  pub legal : AreLegal limits (rows ++ row ∷ [])
-  pub few : length rows < limits.events
-  pub small : limits.events ≤ 16384
-  pub tree_is : tree ≡ tree_of tree_clock (row ∷ history_of rows) (new_event (history_of rows))
-  pub place_is : slice_get ids' place ≡ Some (id_of tree_clock (row ∷ history_of rows) row.task)
-  pub stay : Stay ids ids'
-  pub tasks : (name : Text) → IsTask ids' (row ∷ history_of rows) name (task_of' name)
-  pub counted : count' ≡ task_count (row ∷ history_of rows)
 
 module _ (limits : Limits) (rows : List Row) (trees : List EventTree) (places : List ℕ) (ids : List Id) (task_of : Text → Option Task) (count : ℕ)
     (row : Row) (tree : EventTree) (place : ℕ) (ids' : List Id) (task_of' : Text → Option Task) (count' : ℕ)

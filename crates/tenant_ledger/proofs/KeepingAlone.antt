@@ -26,7 +26,7 @@ use Rattle.tenant_ledger.specs.declared.book.Book.{Book}
 use Rattle.tenant_ledger.specs.declared.book.Task.{Task}
 use Rattle.tenant_ledger.proofs.Consequences.{known_before_maximum-le}
 use Rattle.tenant_ledger.proofs.Events.{known_before_new}
-use Rattle.tenant_ledger.proofs.Keeping.{IsNext}
+use Rattle.tenant_ledger.specs.Ledger.{IsNext}
 use Rattle.tenant_ledger.proofs.KeepingLegal.{AreLegal-push, has_room}
 use Rattle.tenant_ledger.proofs.KeepingTasks.{IsBystander, state_of-live, state_of-ended, task_count-more, acting_is_task, Puts, puts_at, tasks_after, count_of-known}
 use Rattle.tenant_ledger.proofs.KeepingRows.{KeepsIds, local_keeps_ids, send_keeps_ids, receive_keeps_ids, end_keeps_ids}

@@ -1,144 +1,134 @@
--- What a book has after an event was added to it.
-use Rattle.std.proofs.lemmas.List.{reverse-append, map-append}
-use Rattle.std.proofs.Common.{◌≡◌, ℕ, ◌+◌, List, [], ◌∷◌, ◌++◌, ◌<◌, length, map, Some, Ok, cond, is_some, sym, ap, ◌∙◌, subst, refl}
+-- What a book has after the report of a draft was added to it.
+use Rattle.std.proofs.Common.{◌≡◌, ℕ, ◌+◌, List, [], ◌∷◌, ◌++◌, ◌<◌, length, map, Some, option_to_list, sym, ap, ◌∙◌, arith}
+use Rattle.std.proofs.Math.Path.{transport, fun_ext}
+use Rattle.std.proofs.lemmas.List.{reverse-append, map-append, length-append}
 use Rattle.indexmap.specs.IndexMap.{index_map_len}
-use Rattle.trace_types.specs.Name.{Text, is_same}
-use Rattle.trace_types.specs.Limits.{Limits}
+use Rattle.trace_types.specs.Name.{Text}
 use Rattle.trace_types.specs.Rows.{history_of}
+use Rattle.trace_types.specs.Tenant.{with_row}
 use Rattle.trace_types.specs.Id.{Id}
 use Rattle.trace_types.specs.EventTree.{EventTree}
 use Rattle.trace_types.specs.declared.row.Row.{Row}
-use Rattle.tenant_ledger.specs.Ledger.{IsKept, IsBook, ids_in, trees_in, AreMessages, HaveTheSame, Adds, task_in}
+use Rattle.tenant_ledger.specs.Ledger.{IsKept, IsBook, IsReady, ids_in, trees_in, AreMessages, task_in, tenant_of, task_with, count_with, task_with_some, count_with_some}
 use Rattle.tenant_ledger.specs.declared.book.Book.{Book}
-use Rattle.tenant_ledger.specs.declared.book.Task.{Task}
-use Rattle.tenant_ledger.proofs.Keeping.{IsNext, keeps_one_more}
+use Rattle.tenant_ledger.specs.declared.book.Draft.{Draft}
+use Rattle.tenant_ledger.proofs.Keeping.{keeps_one_more}
 use Rattle.tenant_ledger.proofs.KeepingReports.{seeded_ids}
-use Rattle.tenant_ledger.proofs.KeepingTasks.{Puts}
 
--- both have the same in them, but for the ids and the messages
-pub record SameButIds {S I K : Type 0} (old new : Book S I K) : Type 0 where
-  pub limits : new.limits ≡ old.limits
-  pub rows : new.rows.items ≡ old.rows.items
-  pub trees : new.trees.items ≡ old.trees.items
-  pub places : new.places.items ≡ old.places.items
-  pub tasks : new.tasks.entries ≡ old.tasks.entries
+-- The ids of the draft were added, then its tasks were kept, and then its event was added.
+pub record WasAdded {S I K : Type 0} (old one two three four new : Book S I K) (draft : Draft S I K) : Type 0 where
+  pub first : one ≡ record old { ids = one.ids }
+  pub first_ids : one.ids.items ≡ old.ids.items ++ option_to_list draft.first
+  pub second : two ≡ record one { ids = two.ids }
+  pub second_ids : two.ids.items ≡ one.ids.items ++ option_to_list draft.second
+  pub named : three ≡ record two { tasks = three.tasks }
+  pub named_tasks : (other : Text) → task_in three other ≡ task_with_some draft.named draft.row.name (task_in two) other
+  pub named_count : index_map_len three.tasks ≡ count_with_some draft.named draft.row.name (task_in two) (index_map_len two.tasks)
+  pub acting : four ≡ record three { tasks = four.tasks }
+  pub acting_tasks : (other : Text) → task_in four other ≡ task_with draft.row.task draft.acting (task_in three) other
+  pub acting_count : index_map_len four.tasks ≡ count_with draft.row.task (task_in three) (index_map_len three.tasks)
+  pub added : new ≡ record four { rows = new.rows; trees = new.trees; places = new.places }
+  pub rows : new.rows.items ≡ four.rows.items ++ draft.row ∷ []
+  pub trees : new.trees.items ≡ four.trees.items ++ draft.tree ∷ []
+  pub places : new.places.items ≡ four.places.items ++ draft.acting.id ∷ []
 
-pub same_at_reserve : {S I K : Type 0} {old new : Book S I K} → HaveTheSame old new → SameButIds old new
-same_at_reserve same = record { limits = same.limits; rows = same.rows; trees = same.trees; places = same.places; tasks = same.tasks }
+module _ {S I K : Type 0} {meant : K → EventTree} {meant_id : I → Id} {old one two three four new : Book S I K} {draft : Draft S I K}
+    (ready : IsReady meant meant_id old draft) (was : WasAdded old one two three four new draft) where
+  -- the ids and the tasks change nothing else
+  same_before : {A : Type 0} (part : Book S I K → A) → part one ≡ part old → part two ≡ part one → part three ≡ part two → part four ≡ part three → part four ≡ part old
+  same_before part first second third fourth = fourth ∙ (third ∙ (second ∙ first))
 
-pub same_then_id : {S I K : Type 0} {old mid new : Book S I K} → SameButIds old mid → new ≡ record mid { ids = new.ids } → SameButIds old new
-same_then_id {S} {I} {K} same is = record {
-  limits = ap (λ (book : Book S I K). book.limits) is ∙ same.limits;
-  rows = ap (λ (book : Book S I K). book.rows.items) is ∙ same.rows;
-  trees = ap (λ (book : Book S I K). book.trees.items) is ∙ same.trees;
-  places = ap (λ (book : Book S I K). book.places.items) is ∙ same.places;
-  tasks = ap (λ (book : Book S I K). book.tasks.entries) is ∙ same.tasks;
-}
+  limits_are : new.limits ≡ old.limits
+  limits_are =
+      let part = λ (book : Book S I K). book.limits in
+      ap part was.added ∙ same_before part (ap part was.first) (ap part was.second) (ap part was.named) (ap part was.acting)
 
--- so it is where the messages change
-pub same_then_messages : {S I K : Type 0} {old mid new : Book S I K} → SameButIds old mid → new ≡ record mid { messages = new.messages } → SameButIds old new
-same_then_messages {S} {I} {K} same is = record {
-  limits = ap (λ (book : Book S I K). book.limits) is ∙ same.limits;
-  rows = ap (λ (book : Book S I K). book.rows.items) is ∙ same.rows;
-  trees = ap (λ (book : Book S I K). book.trees.items) is ∙ same.trees;
-  places = ap (λ (book : Book S I K). book.places.items) is ∙ same.places;
-  tasks = ap (λ (book : Book S I K). book.tasks.entries) is ∙ same.tasks;
-}
+  rows_are : new.rows.items ≡ old.rows.items ++ draft.row ∷ []
+  rows_are =
+      let part = λ (book : Book S I K). book.rows.items in
+      was.rows ∙ ap (λ rows. rows ++ draft.row ∷ []) (same_before part (ap part was.first) (ap part was.second) (ap part was.named) (ap part was.acting))
 
--- both have the same in them, but for the tasks
-pub record SameButTasks {S I K : Type 0} (old new : Book S I K) : Type 0 where
-  pub limits : new.limits ≡ old.limits
-  pub rows : new.rows.items ≡ old.rows.items
-  pub trees : new.trees.items ≡ old.trees.items
-  pub places : new.places.items ≡ old.places.items
-  pub ids : new.ids.items ≡ old.ids.items
-  pub messages : new.messages ≡ old.messages
+  trees_are : trees_in meant new ≡ trees_in meant old ++ meant draft.tree ∷ []
+  trees_are =
+      let part = λ (book : Book S I K). book.trees.items in
+      ap (map meant) (was.trees ∙ ap (λ trees. trees ++ draft.tree ∷ []) (same_before part (ap part was.first) (ap part was.second) (ap part was.named) (ap part was.acting)))
+      ∙ map-append meant old.trees.items (draft.tree ∷ [])
 
-pub same_at_put : {S I K : Type 0} (old new : Book S I K) → new ≡ record old { tasks = new.tasks } → SameButTasks old new
-same_at_put {S} {I} {K} old new is = record {
-  limits = ap (λ (book : Book S I K). book.limits) is;
-  rows = ap (λ (book : Book S I K). book.rows.items) is;
-  trees = ap (λ (book : Book S I K). book.trees.items) is;
-  places = ap (λ (book : Book S I K). book.places.items) is;
-  ids = ap (λ (book : Book S I K). book.ids.items) is;
-  messages = ap (λ (book : Book S I K). book.messages) is;
-}
+  places_are : new.places.items ≡ old.places.items ++ draft.acting.id ∷ []
+  places_are =
+      let part = λ (book : Book S I K). book.places.items in
+      was.places ∙ ap (λ places. places ++ draft.acting.id ∷ []) (same_before part (ap part was.first) (ap part was.second) (ap part was.named) (ap part was.acting))
 
-pub same_then_put : {S I K : Type 0} {old mid new : Book S I K} → SameButTasks old mid → SameButTasks mid new → SameButTasks old new
-same_then_put first second = record {
-  limits = second.limits ∙ first.limits;
-  rows = second.rows ∙ first.rows;
-  trees = second.trees ∙ first.trees;
-  places = second.places ∙ first.places;
-  ids = second.ids ∙ first.ids;
-  messages = second.messages ∙ first.messages;
-}
+  messages_are : new.messages ≡ old.messages
+  messages_are =
+      let part = λ (book : Book S I K). book.messages in
+      ap part was.added ∙ same_before part (ap part was.first) (ap part was.second) (ap part was.named) (ap part was.acting)
 
--- Ids were added, then an event, and then tasks were kept.
-pub record WasAdded {S I K : Type 0} (old base added new : Book S I K) (row : Row) (tree : K) (place event : ℕ) : Type 0 where
-  pub before : SameButIds old base
-  pub is : added ≡ record base { rows = added.rows; trees = added.trees; places = added.places }
-  pub rows : added.rows.items ≡ base.rows.items ++ row ∷ []
-  pub trees : added.trees.items ≡ base.trees.items ++ tree ∷ []
-  pub places : added.places.items ≡ base.places.items ++ place ∷ []
-  pub number : event ≡ length base.rows.items + 1
-  pub after : SameButTasks added new
+  abbrev first : List I
+  first = option_to_list draft.first
 
--- books with the same tasks have the same under each name
-task_in-same : {S I K : Type 0} (old new : Book S I K) → new.tasks.entries ≡ old.tasks.entries → (name : Text) → task_in new name ≡ task_in old name
-task_in-same old new same name = rw same refl
+  abbrev second : List I
+  second = option_to_list draft.second
 
-module _ {S I K : Type 0} {old base added new : Book S I K} {row : Row} {tree : K} {place event : ℕ} (was : WasAdded old base added new row tree place event) where
-  pub event_number : event ≡ length old.rows.items + 1
-  event_number = was.number ∙ ap (λ (rows : List Row). length rows + 1) was.before.rows
+  all_ids : new.ids.items ≡ old.ids.items ++ first ++ second
+  all_ids =
+      let part = λ (book : Book S I K). book.ids.items in
+      ap part was.added ∙ ap part was.acting ∙ ap part was.named ∙ was.second_ids ∙ ap (λ ids. ids ++ second) was.first_ids
 
-  tasks_same : added.tasks.entries ≡ old.tasks.entries
-  tasks_same = ap (λ (book : Book S I K). book.tasks.entries) was.is ∙ was.before.tasks
+  some : 0 < length new.ids.items
+  some = omega (arith, ready.seeded, ap length all_ids, length-append (old.ids.items ++ first) second, length-append old.ids.items first)
 
-  pub ids_same : new.ids.items ≡ base.ids.items
-  ids_same = was.after.ids ∙ ap (λ (book : Book S I K). book.ids.items) was.is
+  ids_are : ids_in meant_id new ≡ ids_in meant_id old ++ map meant_id first ++ map meant_id second
+  ids_are =
+      seeded_ids meant_id new.ids.items some ∙ ap (map meant_id) all_ids ∙ map-append meant_id (old.ids.items ++ first) second
+      ∙ ap (λ ids. ids ++ map meant_id second) (map-append meant_id old.ids.items first)
+      ∙ ap (λ ids. ids ++ map meant_id first ++ map meant_id second) (sym (seeded_ids meant_id old.ids.items ready.seeded))
 
-  messages_same : new.messages ≡ base.messages
-  messages_same = was.after.messages ∙ ap (λ (book : Book S I K). book.messages) was.is
+  tasks_before : task_in two ≡ task_in old
+  tasks_before =
+      let part = λ (book : Book S I K). task_in book in
+      ap part was.second ∙ ap part was.first
 
-  -- the first task that is kept with the event is kept beside those of the old book
-  pub first_put : (name : Text) (task : Task) (later : Book S I K) → Puts (task_in added) name task (task_in later) → Puts (task_in old) name task (task_in later)
-  first_put name task later puts other = puts other ∙ ap (cond (is_same name other) (Some task)) (task_in-same old added tasks_same other)
+  tasks_between : task_in three ≡ task_with_some draft.named draft.row.name (task_in old)
+  tasks_between = fun_ext was.named_tasks ∙ ap (task_with_some draft.named draft.row.name) tasks_before
 
-  pub first_count : (name : Text) (count : ℕ) → count ≡ index_map_len added.tasks + cond (is_some (task_in added name)) 0 1
-      → count ≡ index_map_len old.tasks + cond (is_some (task_in old name)) 0 1
-  first_count name count is =
-      is ∙ (ap (λ n. n + cond (is_some (task_in added name)) 0 1) (ap length tasks_same)
-      ∙ ap (λ found. index_map_len old.tasks + cond (is_some found) 0 1) (task_in-same old added tasks_same name))
+  tasks_are : task_in new ≡ task_with draft.row.task draft.acting (task_with_some draft.named draft.row.name (task_in old))
+  tasks_are =
+      let part = λ (book : Book S I K). task_in book in
+      ap part was.added ∙ (fun_ext was.acting_tasks ∙ ap (task_with draft.row.task draft.acting) tasks_between)
 
-  -- the book is kept, where what is kept with the row and of the messages is right
-  pub adds_event : {meant : K → EventTree} {meant_id : I → Id} (next : Row) → IsBook meant meant_id old → row ≡ next
-      → IsNext old.limits old.rows.items (ids_in meant_id old) next (meant tree) place (map meant_id new.ids.items) (task_in new) (index_map_len new.tasks)
-      → AreMessages old.limits (next ∷ history_of old.rows.items) base.messages → 0 < length new.ids.items → Adds meant meant_id (Ok event) old next new
-  adds_event {meant = meant} {meant_id = meant_id} next is_book row_is is_next messages some =
-      let limits_are : new.limits ≡ old.limits = was.after.limits ∙ (ap (λ (book : Book S I K). book.limits) was.is ∙ was.before.limits) in
-      let rows_are : new.rows.items ≡ old.rows.items ++ next ∷ [] =
-      was.after.rows ∙ (was.rows ∙ (ap (λ rows. rows ++ row ∷ []) was.before.rows ∙ ap (λ r. old.rows.items ++ r ∷ []) row_is)) in
-      let trees_are : trees_in meant new ≡ trees_in meant old ++ meant tree ∷ [] =
-      ap (map meant) (was.after.trees ∙ (was.trees ∙ ap (λ trees. trees ++ tree ∷ []) was.before.trees)) ∙ map-append meant old.trees.items (tree ∷ []) in
-      let places_are : new.places.items ≡ old.places.items ++ place ∷ [] = was.after.places ∙ (was.places ∙ ap (λ places. places ++ place ∷ []) was.before.places) in
-      let IsRight = λ (limits : Limits) (rows : List Row) (trees : List EventTree) (places : List ℕ).
-      IsKept limits rows trees places (map meant_id new.ids.items) (task_in new) (index_map_len new.tasks) in
-      let history_is : history_of new.rows.items ≡ next ∷ history_of old.rows.items = ap history_of rows_are ∙ reverse-append old.rows.items (next ∷ []) in
+  count_before : index_map_len two.tasks ≡ index_map_len old.tasks
+  count_before =
+      let part = λ (book : Book S I K). index_map_len book.tasks in
+      ap part was.second ∙ ap part was.first
+
+  count_is : index_map_len new.tasks ≡ count_with draft.row.task (task_with_some draft.named draft.row.name (task_in old))
+      (count_with_some draft.named draft.row.name (task_in old) (index_map_len old.tasks))
+  count_is =
+      let part = λ (book : Book S I K). index_map_len book.tasks in
+      ap part was.added ∙ (was.acting_count ∙ (λ i. count_with draft.row.task (tasks_between i)
+      ((was.named_count ∙ (λ j. count_with_some draft.named draft.row.name (tasks_before j) (count_before j))) i)))
+
+  history_is : history_of new.rows.items ≡ draft.row ∷ history_of old.rows.items
+  history_is = ap history_of rows_are ∙ reverse-append old.rows.items (draft.row ∷ [])
+
+  -- the book is kept for the rows with the new one
+  pub committed : IsBook meant meant_id new
+  committed =
       let more = keeps_one_more old.limits old.rows.items (trees_in meant old) old.places.items (ids_in meant_id old) (task_in old) (index_map_len old.tasks)
-      next (meant tree) place (map meant_id new.ids.items) (task_in new) (index_map_len new.tasks) is_book.kept is_next in (
-        record {
-          kept = subst (λ ids. IsKept new.limits new.rows.items (trees_in meant new) new.places.items ids (task_in new) (index_map_len new.tasks))
-              (sym (seeded_ids meant_id new.ids.items some))
-              (subst (λ limits. IsRight limits new.rows.items (trees_in meant new) new.places.items) (sym limits_are)
-              (subst (λ rows. IsRight old.limits rows (trees_in meant new) new.places.items) (sym rows_are)
-              (subst (λ trees. IsRight old.limits (old.rows.items ++ next ∷ []) trees new.places.items) (sym trees_are)
-              (subst (IsRight old.limits (old.rows.items ++ next ∷ []) (trees_in meant old ++ meant tree ∷ [])) (sym places_are) more))));
-          messages = subst (λ limits. AreMessages limits (history_of new.rows.items) new.messages) (sym limits_are)
-              (subst (λ history. AreMessages old.limits history new.messages) (sym history_is)
-              (subst (AreMessages old.limits (next ∷ history_of old.rows.items)) (sym messages_same) messages));
-          seeded = λ _. some;
-        },
-        (λ i. record { limits = limits_are i; rows = rows_are i }),
-        event_number,
-      )
+      draft.row (meant draft.tree) draft.acting.id _ _ _ ready.was.kept ready.next in
+      record {
+        kept = transport (λ i. IsKept (sym limits_are i) (sym rows_are i) (sym trees_are i) (sym places_are i) (sym ids_are i) (sym tasks_are i) (sym count_is i)) more;
+        messages = transport (λ i. AreMessages (sym limits_are i) (sym history_is i) (sym messages_are i)) ready.messages;
+        seeded = λ _. some;
+      }
+
+  -- whose tenant has it
+  pub tenant_committed : tenant_of new ≡ with_row (tenant_of old) (Some draft.row)
+  tenant_committed = λ i. record { limits = limits_are i; rows = rows_are i }
+
+  -- as the event after the last
+  pub event_committed : (event : ℕ) → event ≡ length four.rows.items + 1 → event ≡ length old.rows.items + 1
+  event_committed event is =
+      let part = λ (book : Book S I K). book.rows.items in
+      is ∙ ap (λ (rows : List Row). length rows + 1) (same_before part (ap part was.first) (ap part was.second) (ap part was.named) (ap part was.acting))

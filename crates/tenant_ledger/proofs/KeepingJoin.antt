@@ -1,6 +1,6 @@
 -- A report that takes in an ended task: what is kept with its row is right.
 use Rattle.indexmap.specs.IndexMap.{index_map_len}
-use Rattle.std.proofs.Common.{◌≡◌, ◌≢◌, ℕ, ◌+◌, ◌<◌, ◌≤◌, false, cond, IsTrue, List, [], ◌∷◌, ◌++◌, length, slice_get, Option, Some, is_some, refl, sym, ap, ◌∙◌, inr, arith}
+use Rattle.std.proofs.Common.{◌≡◌, ◌≢◌, ℕ, ◌+◌, ◌<◌, ◌≤◌, false, cond, IsTrue, List, [], ◌∷◌, ◌++◌, length, slice_get, Option, Some, is_some, refl, sym, ap, ◌∙◌, arith}
 use Rattle.std.proofs.lemmas.Bool.{cond-true, cond-false, or_left}
 use Rattle.std.proofs.lemmas.List.{length-reverse}
 use Rattle.trace_types.specs.Name.{Text, is_same, is_name}
@@ -25,7 +25,7 @@ use Rattle.tenant_ledger.specs.declared.book.Task.{Task}
 use Rattle.tenant_ledger.proofs.Consequences.{ids_are_disjoint, acting_id_is_not_Zero, known_before_maximum-le}
 use Rattle.tenant_ledger.proofs.Events.{known_before_new}
 use Rattle.tenant_ledger.proofs.Tasks.{last_event-bystander, live_is_not_ended}
-use Rattle.tenant_ledger.proofs.Keeping.{Stay, IsNext}
+use Rattle.tenant_ledger.specs.Ledger.{Stay, IsNext}
 use Rattle.tenant_ledger.proofs.KeepingLegal.{AreLegal-push, has_room}
 use Rattle.tenant_ledger.proofs.KeepingTasks.{state_of-live, state_of-joined, known_stays, task_count-more, acting_is_task, Puts, both_put, tasks_after, count_of-known}
 use Rattle.tenant_ledger.proofs.KeepingReports.{differ_back, tree_is_new, IsLiveTask, IsEndedTask, history_in, legal_history, newest, Has, live_task, ended_task}
@@ -109,12 +109,12 @@ module _ {S I K : Type 0} {meant : K → EventTree} {meant_id : I → Id} {book 
         → own ≡ id_of tree_clock (history_in book) name → taken ≡ id_of tree_clock (history_in book) child → id ≡ sum own taken
         → own_tree ≡ tree_of tree_clock (history_in book) task.last → taken_tree ≡ tree_of tree_clock (history_in book) joined.last → known ≡ join own_tree taken_tree
         → tree ≡ tree_clock.event id known → Stay (ids_in meant_id book) ids' → slice_get ids' place ≡ Some id → last ≡ length book.rows.items + 1
-        → Puts (task_in book) name (record { state = task.state; last = last; id = place }) mid
-        → Puts mid child (record { state = Joined; last = joined.last; id = joined.id }) task_of'
-        → mid_count ≡ index_map_len book.tasks + cond (is_some (task_in book name)) 0 1 → count' ≡ mid_count + cond (is_some (mid child)) 0 1
+        → Puts (task_in book) child (record { state = Joined; last = joined.last; id = joined.id }) mid
+        → Puts mid name (record { state = task.state; last = last; id = place }) task_of'
+        → mid_count ≡ index_map_len book.tasks + cond (is_some (task_in book child)) 0 1 → count' ≡ mid_count + cond (is_some (mid name)) 0 1
         → IsNext book.limits book.rows.items (ids_in meant_id book) row tree place ids' task_of' count'
     join_is_next own taken id own_tree taken_tree known tree ids' place mid task_of' last mid_count count' own_is taken_is id_is own_tree_is taken_tree_is known_is tree_is stay there number
-        puts_acting puts_child mid_count_is count_is =
+        puts_child puts_acting mid_count_is count_is =
         let history = history_in book in
         let last_is = newest book last number in
         let acting_after : Task = record { state = task.state; last = last; id = place } in
@@ -131,12 +131,12 @@ module _ {S I K : Type 0} {meant : K → EventTree} {meant_id : I → Id} {book 
           stay = stay;
           tasks = tasks_after (ids_in meant_id book) ids' row history child (task_in book) task_of' acting_after child_after stay has.is.kept.tasks
               (both_put row history name child (task_in book) mid task_of' acting_after child_after refl (λ other not_named. not_named) differ (differ_back name child differ)
-              (inr (puts_acting, puts_child)))
+              puts_child puts_acting)
               (acting_is_task row history ids' task.state last place live.known state_is last_is at_place)
               (child_is_task ids');
           counted =
-              let had_acting = count_of-known (index_map_len book.tasks) mid_count (task_in book name) task has.found mid_count_is in
-              let had_child : mid child ≡ Some joined = puts_acting child ∙ (cond-false (is_same name child) _ _ differ ∙ has_child.found) in
-              let no_more = count_of-known mid_count count' (mid child) joined had_child count_is in
-              omega (arith, no_more, had_acting, has.is.kept.counted, task_count-more row history);
+              let had_child = count_of-known (index_map_len book.tasks) mid_count (task_in book child) joined has_child.found mid_count_is in
+              let had_acting : mid name ≡ Some task = puts_child name ∙ (cond-false (is_same child name) _ _ (differ_back name child differ) ∙ has.found) in
+              let no_more = count_of-known mid_count count' (mid name) task had_acting count_is in
+              omega (arith, no_more, had_child, has.is.kept.counted, task_count-more row history);
         }

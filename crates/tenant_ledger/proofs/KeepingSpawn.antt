@@ -1,6 +1,6 @@
 -- A report that starts a task: what is kept with its row is right.
 use Rattle.indexmap.specs.IndexMap.{index_map_len}
-use Rattle.std.proofs.Common.{◌≡◌, ℕ, suc, ◌+◌, ◌<◌, ◌≤◌, false, cond, IsTrue, List, [], ◌∷◌, ◌++◌, length, slice_get, Option, Some, None, is_some, refl, sym, ap, ◌∙◌, inl, arith}
+use Rattle.std.proofs.Common.{◌≡◌, ℕ, suc, ◌+◌, ◌<◌, ◌≤◌, false, cond, IsTrue, List, [], ◌∷◌, ◌++◌, length, slice_get, Option, Some, None, is_some, refl, sym, ap, ◌∙◌, arith}
 use Rattle.std.proofs.lemmas.Bool.{leb-true, cond-true, cond-false, false_from_ne_true}
 use Rattle.trace_types.specs.Name.{Text, is_same, is_name}
 use Rattle.trace_types.specs.Rows.{is_known, state_of, task_count}
@@ -21,7 +21,7 @@ use Rattle.tenant_ledger.specs.Ledger.{IsTask, task_in, ids_in}
 use Rattle.tenant_ledger.specs.declared.book.Book.{Book}
 use Rattle.tenant_ledger.specs.declared.book.Task.{Task}
 use Rattle.tenant_ledger.proofs.Tasks.{last_event-started, live_is_not_unknown, unknown_has_no_event}
-use Rattle.tenant_ledger.proofs.Keeping.{Stay, IsNext}
+use Rattle.tenant_ledger.specs.Ledger.{Stay, IsNext}
 use Rattle.tenant_ledger.proofs.KeepingLegal.{AreLegal-push, has_room}
 use Rattle.tenant_ledger.proofs.KeepingTasks.{state_of-live, started_is_known, task_count-more, acting_is_task, Puts, both_put, tasks_after, count_of-known, count_of-new}
 use Rattle.tenant_ledger.proofs.KeepingReports.{differ_back, unknown_is_not_joined, unknown_has_not_ended, tree_is_new, IsLiveTask, history_in, legal_history, unknown_task, newest, Has, live_task}
@@ -100,7 +100,7 @@ module _ {S I K : Type 0} {meant : K → EventTree} {meant_id : I → Id} {book 
         stay = stay;
         tasks = tasks_after (ids_in meant_id book) ids' row history child (task_in book) task_of' acting_after child_after stay has.is.kept.tasks
             (both_put row history name child (task_in book) mid task_of' acting_after child_after refl (λ other not_named. not_named) differ (differ_back name child differ)
-            (inl (puts_child, puts_acting)))
+            puts_child puts_acting)
             (acting_is_task row history ids' task.state last kept_place live.known state_is last_is place)
             (child_is_task ids' last given_place last_is given_is);
         counted =

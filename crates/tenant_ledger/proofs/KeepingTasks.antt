@@ -1,5 +1,5 @@
 -- What is kept of each task is right after one more row, where that is so of the tasks that the row speaks of.
-use Rattle.std.proofs.Common.{◌≡◌, ◌⊎◌, ℕ, suc, ◌+◌, true, false, cond, List, [], ◌∷◌, length, slice_get, Option, Some, None, is_some, refl, sym, ap, ◌∙◌, subst, inl, inr, arith}
+use Rattle.std.proofs.Common.{◌≡◌, ℕ, suc, ◌+◌, true, false, cond, List, [], ◌∷◌, length, slice_get, Option, Some, None, is_some, refl, sym, ap, ◌∙◌, subst, inl, inr, arith}
 use Rattle.std.specs.List.{list_any}
 use Rattle.std.proofs.lemmas.Bool.{cond-true, cond-false, or_cases, or_left, or_right, and_right}
 use Rattle.std.proofs.lemmas.List.Sums.{sum_by-append}
@@ -15,7 +15,7 @@ use Rattle.trace_types.proofs.Names.{is_same-itself}
 use Rattle.tenant_ledger.specs.Ledger.{IsTask}
 use Rattle.tenant_ledger.specs.declared.book.Task.{Task}
 use Rattle.tenant_ledger.proofs.Tasks.{last_event-acting, last_event-bystander, for_each_task}
-use Rattle.tenant_ledger.proofs.Keeping.{Stay}
+use Rattle.tenant_ledger.specs.Ledger.{Stay}
 
 -- in what state a task is, by the two tests that it is found by
 module _ (history : History) (task : Text) where
@@ -115,22 +115,13 @@ tasks_after ids ids' row earlier named task_of task_of' acting other stay before
 -- two tasks that the row speaks of are kept, one after the other
 pub both_put : (row : Row) (earlier : History) (acting named : Text) (task_of mid task_of' : Text → Option Task) (one other : Task) → row.task ≡ acting
     → ((task : Text) → is_same named task ≡ false → names row task ≡ false) → is_same acting named ≡ false → is_same named acting ≡ false
-    → (Puts task_of named other mid × Puts mid acting one task_of') ⊎ (Puts task_of acting one mid × Puts mid named other task_of')
-    → Replaces named row earlier task_of task_of' one other
-both_put row earlier acting named task_of mid task_of' one other acts only_named differ differ_too (inl puts) = record {
-  at_acting = ap task_of' acts ∙ puts_at mid acting one task_of' puts.1;
-  at_named = puts.1 named ∙ (cond-false (is_same acting named) _ _ differ ∙ puts_at task_of named other mid puts.0);
+    → Puts task_of named other mid → Puts mid acting one task_of' → Replaces named row earlier task_of task_of' one other
+both_put row earlier acting named task_of mid task_of' one other acts only_named differ differ_too puts_named puts_acting = record {
+  at_acting = ap task_of' acts ∙ puts_at mid acting one task_of' puts_acting;
+  at_named = puts_acting named ∙ (cond-false (is_same acting named) _ _ differ ∙ puts_at task_of named other mid puts_named);
   elsewhere = λ task not_acting not_named.
-      puts.1 task ∙ (cond-false (is_same acting task) _ _ (ap (λ name. is_same name task) (sym acts) ∙ not_acting)
-      ∙ (puts.0 task ∙ cond-false (is_same named task) _ _ not_named));
-  bystanders = λ task not_acting not_named. unnamed_is_bystander row earlier task not_acting (only_named task not_named);
-}
-both_put row earlier acting named task_of mid task_of' one other acts only_named differ differ_too (inr puts) = record {
-  at_acting = ap task_of' acts ∙ (puts.1 acting ∙ (cond-false (is_same named acting) _ _ differ_too ∙ puts_at task_of acting one mid puts.0));
-  at_named = puts_at mid named other task_of' puts.1;
-  elsewhere = λ task not_acting not_named.
-      puts.1 task ∙ (cond-false (is_same named task) _ _ not_named
-      ∙ (puts.0 task ∙ cond-false (is_same acting task) _ _ (ap (λ name. is_same name task) (sym acts) ∙ not_acting)));
+      puts_acting task ∙ (cond-false (is_same acting task) _ _ (ap (λ name. is_same name task) (sym acts) ∙ not_acting)
+      ∙ (puts_named task ∙ cond-false (is_same named task) _ _ not_named));
   bystanders = λ task not_acting not_named. unnamed_is_bystander row earlier task not_acting (only_named task not_named);
 }
 

@@ -1,5 +1,6 @@
 pub mod Answering
 pub mod Consequences
+pub mod Drafting
 pub mod Events
 pub mod Gathered
 pub mod Joining

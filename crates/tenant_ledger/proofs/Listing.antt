@@ -5,7 +5,7 @@ use Rattle.std.proofs.lemmas.Bool.{cases_Bool, and_parts, cases_eq, eq-eqb, ne_e
 use Rattle.std.proofs.lemmas.List.{length-reverse, reverse-append, reverse-reverse}
 use Rattle.std.proofs.lemmas.Option.{get_or_from_slice_get, slice_get-get_or, slice_get_read}
 use Rattle.trace_query.specs.Compared.{is_order}
-use Rattle.trace_query.specs.Queries.{tree_at, order_between, others_standing, fault_due}
+use Rattle.trace_query.specs.Queries.{tree_at, StandInOrder, order_between, others_standing, fault_due}
 use Rattle.trace_query.specs.Queries as query
 use Rattle.trace_query.specs.Laws.{Tells}
 use Rattle.trace_query.proofs.ComparedTrees.{tree_order_stands}
@@ -27,7 +27,7 @@ use Rattle.trace_types.specs.declared.request.Request.{Request}
 use Rattle.trace_types.specs.declared.request.Request.TheVariants as request
 use Rattle.trace_query.specs.declared.query_fault.QueryFault.{QueryFault}
 use Rattle.trace_query.specs.declared.query_fault.QueryFault.TheVariants.{Unknown}
-use Rattle.event_tree.specs.Comparison.{StandsAs}
+use Rattle.event_tree.specs.Comparison.{IsBelow, StandsAs}
 use Rattle.trace_types.specs.Id.{Id}
 use Rattle.tenant_ledger.specs.Ledger.{IsBook, tenant_of, code_of, trees_in}
 use Rattle.tenant_ledger.specs.declared.book.Book.{Book}
@@ -35,7 +35,10 @@ use Rattle.tenant_ledger.proofs.Answering.{ordered}
 use Rattle.tenant_ledger.proofs.Events.{event_bounds}
 use Rattle.tenant_ledger.proofs.Keeping.{slice_get-longer, slice_get-added}
 use Rattle.tenant_ledger.proofs.Legality.{IsLegal_from_AreLegal}
-use Rattle.tenant_ledger.proofs.Ordering.{stands_as_ordered}
+use Rattle.tenant_ledger.proofs.Ordering.{below_iff_reaches, stands_as_ordered}
+use Rattle.tenant_ledger.proofs.Reaching.{reaches_forward}
+use Rattle.tenant_ledger.proofs.TreeClock.{tree_clock_laws}
+use Rattle.tenant_ledger.proofs.Upheld.{invariant_upheld}
 
 -- each event reaches itself
 reaches_itself : (history : History) (event : ℕ) → reaches history event event ≡ true
@@ -102,6 +105,18 @@ module _ {S I K : Type 0} {meant : K → EventTree} {meant_id : I → Id} (book 
       let other_is : IsTrue (is_event history second) = sym (same_events second) ∙ second_is in
       rw (tree_is_kept first one_is, tree_is_kept second other_is)
       (stands_as_ordered history (IsLegal_from_AreLegal book.limits book.rows.items is.kept.legal) first second one_is other_is)
+
+  -- what an event knows is not below what an earlier one does: to be below it is to reach it
+  pub stand_in_order : StandInOrder trees
+  stand_in_order earlier later earlier_is later_is before below =
+      let one_is : IsTrue (is_event history earlier) = sym (same_events earlier) ∙ earlier_is in
+      let other_is : IsTrue (is_event history later) = sym (same_events later) ∙ later_is in
+      let holds = invariant_upheld tree_clock_laws history (IsLegal_from_AreLegal book.limits book.rows.items is.kept.legal) in
+      let kept_below : IsBelow (tree_of tree_clock history later) (tree_of tree_clock history earlier) =
+      subst (IsBelow (tree_of tree_clock history later)) (tree_is_kept earlier one_is)
+      (subst (λ tree. IsBelow tree (tree_at trees earlier)) (tree_is_kept later other_is) below) in
+      let reached : IsTrue (reaches history later earlier) = (below_iff_reaches tree_clock_laws history holds later earlier other_is).0 kept_below in
+      elim (reaches_forward history later earlier reached) [ inl same ↦ omega (arith, same, before) | inr after ↦ omega (arith, after.0, before) ]
 
   told : (wanted : Order) → is_order wanted Same ≡ false → (event : ℕ) → IsTrue (query.is_event trees event)
       → others_standing wanted trees event ≡ filter (λ other. is_order wanted (order_of history other event)) (events history)

@@ -2,3 +2,5 @@ pub mod ClockLaws
 pub mod Legal
 pub mod Invariant
 pub mod Ledger
+pub mod Laws
+pub mod Upcoming

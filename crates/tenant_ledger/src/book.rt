@@ -1,5 +1,5 @@
 //! What a ledger keeps.
-ghost use Rattle.std.specs.Prelude.{◌≡◌, ◌+◌, ◌-◌, ◌<◌, ◌≤◌, ◌∷◌, [], true, IfOk, OnOk, IfErr, IsTrue, Some, None, length, not, slice_get, vec_len, vec_capacity, ◌++◌, if◌then◌else◌, is_some, map};
+ghost use Rattle.std.specs.Prelude.{◌≡◌, ℕ, ◌+◌, ◌-◌, ◌<◌, ◌≤◌, ◌∷◌, [], true, IfOk, OnOk, IfErr, IsTrue, Some, None, length, not, option_to_list, slice_get, vec_len, vec_capacity, ◌++◌, map};
 ghost use Rattle.indexmap.specs.IndexMap.{index_map_len, spare};
 ghost use Rattle.trace_types.specs.Name.{Text as Characters, is_name, is_same};
 ghost use Rattle.trace_types.specs.Rows.{history_of, is_event, is_known, is_ended, is_joined, is_sent, is_received, send_event};
@@ -7,11 +7,12 @@ ghost use Rattle.trace_types.specs.Reachability.{increasing};
 ghost use Rattle.trace_types.specs.Refusal.{has_all_events, has_all_tasks, has_all_messages};
 ghost use Rattle.trace_types.specs.Clock.{tree_clock};
 ghost use Rattle.trace_types.specs.Stamps.{tree_of, stamp_text_of};
-ghost use Rattle.trace_types.specs.Tenant.{fresh, Steps, row_after};
+ghost use Rattle.trace_types.specs.Tenant.{fresh, is_report, row_after, with_row};
 ghost use Rattle.trace_types.specs.EventTree.{Leaf};
 ghost use Rattle.trace_types.specs.declared.request.Request.TheVariants as request;
 ghost use Rattle.message_book.specs.Book.{refusal_of_send, refusal_of_receive, entry_of};
-ghost use Rattle.tenant_ledger.specs.Ledger.{IsBook, HasRoom, HaveTheSame, task_in, tenant_of, Decides, LeavesState, Adds, reply_of};
+ghost use Rattle.message_book.specs.Book.{Book as Messages};
+ghost use Rattle.tenant_ledger.specs.Ledger.{IsBook, HasRoom, HaveTheSame, task_in, tenant_of, Decides, LeavesState, task_with, count_with, task_with_some, count_with_some, Notes, IsReady, Drafts, Prepares};
 
 use crate::share::{MeantId, Share};
 use event_tree::EvTree;
@@ -21,7 +22,7 @@ use message_book::{Entry, MessageBook};
 use stamp_codec::write_parts;
 use std::alloc::Global;
 use trace_query::Meant;
-use trace_types::{Code, Kind, Limits, Memory, Name, Preds, Row, TaskState, Text};
+use trace_types::{Code, Kind, Limits, Memory, Name, Preds, Request, Row, TaskState, Text};
 
 /// The rows, and what is kept beside them.
 #[derive(Drop)]
@@ -47,6 +48,44 @@ pub(crate) struct Task {
     pub(crate) last: u64,
     /// The place of its id; of a joined task it is not asked.
     id: usize,
+}
+
+/// A report that is not refused, and what is to be kept with its row.
+pub(crate) struct Draft<S: Share> {
+    pub(crate) row: Row,
+    tree: S::Kept,
+    /// The ids that it makes, which are to stand after those that the book has.
+    first: Option<S::Id>,
+    second: Option<S::Id>,
+    /// What is to be kept of the acting task.
+    acting: Task,
+    /// What is to be kept of the task that it names.
+    named: Option<Task>,
+}
+
+impl<S: Share> Draft<S> {
+    /// What its event knows, as it is kept.
+    pub(crate) fn tree(&self) -> &S::Kept
+        ensures { result.now ≡ self.now.tree }
+    {
+        &self.tree
+    }
+
+    /// Drops all but the row.
+    fn into_row(self) -> Row
+        ensures { result ≡ self.row }
+    {
+        let Draft {
+            row,
+            tree,
+            first,
+            second,
+            acting: _,
+            named: _,
+        } = self;
+        drop((tree, first, second));
+        row
+    }
 }
 
 impl<S: Share> Book<S> {
@@ -244,123 +283,124 @@ impl<S: Share> Book<S> {
         }
     }
 
-    /// Reports that the task did something by itself, and gives the event.
-    pub(crate) fn local<T>(&mut self, rt: &T, share: &S, name: Name) -> Result<u64, Code>
-        requires { IsBook S.Kept.tree S.Id.id self.old }
-        ensures book { IsBook S.Kept.tree S.Id.id self.new }
-        ensures steps { Steps (tenant_of self.old) (request.Local name) (reply_of result) (tenant_of self.new) }
-    {
-        let task = self.live_task(&name)?;
-        self.check_room()?;
-        self.seed(rt, share)?;
-        Ok(self.alone(rt, share, name, Kind::Local, task, TaskState::Live)?)
-    }
-
-    /// Reports that the task sends the message.
-    pub(crate) fn send<T>(
+    /// Prepares a report: its draft is to be committed or abandoned.
+    pub(crate) fn prepare<T>(
         &mut self,
         rt: &T,
         share: &S,
-        name: Name,
-        message: Name,
-    ) -> Result<u64, Code>
+        request: &Request,
+    ) -> Result<Draft<S>, Code>
+        requires book { IsBook S.Kept.tree S.Id.id self.old }
+        requires report { is_report request.now ≡ true }
+        ensures { Prepares S.Kept.tree S.Id.id result (tenant_of self.old) request.now self.new }
+    {
+        match *request {
+            Request::Local(task) => self.local(rt, share, task),
+            Request::Spawn(task, child) => self.spawn(rt, share, task, child),
+            Request::Send(task, message) => self.send(rt, share, task, message),
+            Request::Recv(task, message) => self.receive(rt, share, task, message),
+            Request::End(task) => self.end(rt, share, task),
+            Request::Join(task, child) => self.join(rt, share, task, child),
+            Request::Order(..)
+            | Request::Past(_)
+            | Request::Concurrent(_)
+            | Request::Event(_)
+            | Request::Stamp(_)
+            | Request::Task(_)
+            | Request::Message(_)
+            | Request::Count => Err(Code::ViewOnly),
+        }
+    }
+
+    /// Prepares the report that the task did something by itself.
+    fn local<T>(&mut self, rt: &T, share: &S, name: Name) -> Result<Draft<S>, Code>
         requires { IsBook S.Kept.tree S.Id.id self.old }
-        ensures book { IsBook S.Kept.tree S.Id.id self.new }
-        ensures steps { Steps (tenant_of self.old) (request.Send name message) (reply_of result) (tenant_of self.new) }
+        ensures { Prepares S.Kept.tree S.Id.id result (tenant_of self.old) (request.Local name) self.new }
+    {
+        let task = self.live_task(&name)?;
+        self.check_room()?;
+        self.make_room(rt, share)?;
+        Ok(self.alone(rt, share, name, Kind::Local, task, TaskState::Live)?)
+    }
+
+    /// Prepares the report that the task sends the message.
+    fn send<T>(&mut self, rt: &T, share: &S, name: Name, message: Name) -> Result<Draft<S>, Code>
+        requires { IsBook S.Kept.tree S.Id.id self.old }
+        ensures { Prepares S.Kept.tree S.Id.id result (tenant_of self.old) (request.Send name message) self.new }
     {
         let task = self.live_task(&name)?;
         self.check_message(&message)?;
         self.check_room()?;
-        self.seed(rt, share)?;
+        self.make_room(rt, share)?;
         Ok(self.sent(rt, share, name, message, task)?)
     }
 
-    /// Reports that the task receives the message.
-    pub(crate) fn receive<T>(
-        &mut self,
-        rt: &T,
-        share: &S,
-        name: Name,
-        message: Name,
-    ) -> Result<u64, Code>
+    /// Prepares the report that the task receives the message.
+    fn receive<T>(&mut self, rt: &T, share: &S, name: Name, message: Name) -> Result<Draft<S>, Code>
         requires { IsBook S.Kept.tree S.Id.id self.old }
-        ensures book { IsBook S.Kept.tree S.Id.id self.new }
-        ensures steps { Steps (tenant_of self.old) (request.Recv name message) (reply_of result) (tenant_of self.new) }
+        ensures { Prepares S.Kept.tree S.Id.id result (tenant_of self.old) (request.Recv name message) self.new }
     {
         let task = self.live_task(&name)?;
         let sent = self.sent_message(&message)?;
         self.check_room()?;
-        self.seed(rt, share)?;
+        self.make_room(rt, share)?;
         Ok(self.received(rt, share, name, message, task, sent)?)
     }
 
-    /// Reports that the task ends; its id stays with it.
-    pub(crate) fn end<T>(&mut self, rt: &T, share: &S, name: Name) -> Result<u64, Code>
+    /// Prepares the report that the task ends: its id stays with it.
+    fn end<T>(&mut self, rt: &T, share: &S, name: Name) -> Result<Draft<S>, Code>
         requires { IsBook S.Kept.tree S.Id.id self.old }
-        ensures book { IsBook S.Kept.tree S.Id.id self.new }
-        ensures steps { Steps (tenant_of self.old) (request.End name) (reply_of result) (tenant_of self.new) }
+        ensures { Prepares S.Kept.tree S.Id.id result (tenant_of self.old) (request.End name) self.new }
     {
         let task = self.live_task(&name)?;
         self.check_room()?;
-        self.seed(rt, share)?;
+        self.make_room(rt, share)?;
         Ok(self.alone(rt, share, name, Kind::End, task, TaskState::Ended)?)
     }
 
-    /// Reports that the task starts `child`.
-    pub(crate) fn spawn<T>(
-        &mut self,
-        rt: &T,
-        share: &S,
-        name: Name,
-        child: Name,
-    ) -> Result<u64, Code>
+    /// Prepares the report that the task starts `child`.
+    fn spawn<T>(&mut self, rt: &T, share: &S, name: Name, child: Name) -> Result<Draft<S>, Code>
         requires { IsBook S.Kept.tree S.Id.id self.old }
-        ensures book { IsBook S.Kept.tree S.Id.id self.new }
-        ensures steps { Steps (tenant_of self.old) (request.Spawn name child) (reply_of result) (tenant_of self.new) }
+        ensures { Prepares S.Kept.tree S.Id.id result (tenant_of self.old) (request.Spawn name child) self.new }
     {
         let task = self.live_task(&name)?;
         self.check_child(&child)?;
         self.check_room()?;
-        self.seed(rt, share)?;
+        self.make_room(rt, share)?;
         Ok(self.forked(rt, share, name, child, task)?)
     }
 
-    /// Reports that the task takes in `child`, which has ended.
-    pub(crate) fn join<T>(
-        &mut self,
-        rt: &T,
-        share: &S,
-        name: Name,
-        child: Name,
-    ) -> Result<u64, Code>
+    /// Prepares the report that the task takes in `child`, which has ended.
+    fn join<T>(&mut self, rt: &T, share: &S, name: Name, child: Name) -> Result<Draft<S>, Code>
         requires { IsBook S.Kept.tree S.Id.id self.old }
-        ensures book { IsBook S.Kept.tree S.Id.id self.new }
-        ensures steps { Steps (tenant_of self.old) (request.Join name child) (reply_of result) (tenant_of self.new) }
+        ensures { Prepares S.Kept.tree S.Id.id result (tenant_of self.old) (request.Join name child) self.new }
     {
         let task = self.live_task(&name)?;
         let joined = self.ended_task(&child)?;
         self.check_room()?;
-        self.seed(rt, share)?;
+        self.make_room(rt, share)?;
         Ok(self.summed(rt, share, name, child, task, joined)?)
     }
 
-    /// Adds an event of a task that keeps its id, and leaves the task in this state.
+    /// The draft of an event of a task that keeps its id, and is left in this state.
     fn alone<T>(
-        &mut self,
+        &self,
         rt: &T,
         share: &S,
         name: Name,
         kind: Kind,
         task: Task,
         state: TaskState,
-    ) -> Result<u64, Memory>
-        requires book { IsBook S.Kept.tree S.Id.id self.old }
-        requires seeded { 0 < length self.old.ids.items }
-        requires task { task_in self.old name ≡ Some task }
+    ) -> Result<Draft<S>, Memory>
+        requires book { IsBook S.Kept.tree S.Id.id self.now }
+        requires space { HasRoom self.now }
+        requires seeded { 0 < length self.now.ids.items }
+        requires task { task_in self.now name ≡ Some task }
         requires live { task.state ≡ TaskState.Live }
         requires kind { LeavesState kind state }
-        requires room { length self.old.rows.items < self.old.limits.events }
-        ensures { Adds S.Kept.tree S.Id.id result self.old (row_after (history_of self.old.rows.items) name kind None) self.new }
+        requires room { length self.now.rows.items < self.now.limits.events }
+        ensures ready { IfOk result (IsReady S.Kept.tree S.Id.id self.now) }
+        ensures row { IfOk result (λ draft. draft.row ≡ row_after (history_of self.now.rows.items) name kind None) }
     {
         self.few_events();
         can_be_written(&name);
@@ -368,14 +408,19 @@ impl<S: Share> Book<S> {
         let start = EvTree::leaf(0);
         let tree = EvTree::event(self.alloc, self.id(task.id), self.known(task.last, &start))?;
         let stored = share.keep_tree(rt, tree)?;
-        self.reserve(0)?;
-        let last = self.add(row, stored, task.id);
+        let last = self.event_count() + 1;
         let id = task.id;
-        self.put(name, Task { state, last, id });
-        Ok(last)
+        Ok(Draft {
+            row,
+            tree: stored,
+            first: None,
+            second: None,
+            acting: Task { state, last, id },
+            named: None,
+        })
     }
 
-    /// Adds the event with which the task sends the message.
+    /// The draft of the event with which the task sends the message, which the book has then.
     fn sent<T>(
         &mut self,
         rt: &T,
@@ -383,14 +428,15 @@ impl<S: Share> Book<S> {
         name: Name,
         message: Name,
         task: Task,
-    ) -> Result<u64, Memory>
+    ) -> Result<Draft<S>, Memory>
         requires book { IsBook S.Kept.tree S.Id.id self.old }
+        requires space { HasRoom self.old }
         requires seeded { 0 < length self.old.ids.items }
         requires task { task_in self.old name ≡ Some task }
         requires live { task.state ≡ TaskState.Live }
         requires message { refusal_of_send self.old.messages message ≡ None }
         requires room { length self.old.rows.items < self.old.limits.events }
-        ensures { Adds S.Kept.tree S.Id.id result self.old (row_after (history_of self.old.rows.items) name Kind.Send (Some message)) self.new }
+        ensures { Drafts S.Kept.tree S.Id.id result self.old (row_after (history_of self.old.rows.items) name Kind.Send (Some message)) self.new }
     {
         self.few_events();
         can_be_written(&name);
@@ -399,17 +445,22 @@ impl<S: Share> Book<S> {
         let start = EvTree::leaf(0);
         let tree = EvTree::event(self.alloc, self.id(task.id), self.known(task.last, &start))?;
         let stored = share.keep_tree(rt, tree)?;
-        self.reserve(0)?;
-        let next = self.event_count() + 1;
-        if self.messages.send(message, next).is_err() {
+        let last = self.event_count() + 1;
+        if self.messages.send(message, last).is_err() {
             return Err(Memory);
         }
-        let last = self.add(row, stored, task.id);
-        self.put(name, Task { last, ..task });
-        Ok(last)
+        Ok(Draft {
+            row,
+            tree: stored,
+            first: None,
+            second: None,
+            acting: Task { last, ..task },
+            named: None,
+        })
     }
 
-    /// Adds the event with which the task receives the message that the event `sent` sent.
+    /// The draft of the event with which the task receives the message that the event `sent` sent; the book has the
+    /// receipt then.
     fn received<T>(
         &mut self,
         rt: &T,
@@ -418,15 +469,16 @@ impl<S: Share> Book<S> {
         message: Name,
         task: Task,
         sent: u64,
-    ) -> Result<u64, Memory>
+    ) -> Result<Draft<S>, Memory>
         requires book { IsBook S.Kept.tree S.Id.id self.old }
+        requires space { HasRoom self.old }
         requires seeded { 0 < length self.old.ids.items }
         requires task { task_in self.old name ≡ Some task }
         requires live { task.state ≡ TaskState.Live }
         requires message { refusal_of_receive self.old.messages message ≡ None }
         requires sent { sent ≡ send_event (history_of self.old.rows.items) message }
         requires room { length self.old.rows.items < self.old.limits.events }
-        ensures { Adds S.Kept.tree S.Id.id result self.old (row_after (history_of self.old.rows.items) name Kind.Recv (Some message)) self.new }
+        ensures { Drafts S.Kept.tree S.Id.id result self.old (row_after (history_of self.old.rows.items) name Kind.Recv (Some message)) self.new }
     {
         self.few_events();
         can_be_written(&name);
@@ -438,31 +490,37 @@ impl<S: Share> Book<S> {
             .join(self.alloc, self.known(sent, &start))?;
         let tree = EvTree::event(self.alloc, self.id(task.id), &known)?;
         let stored = share.keep_tree(rt, tree)?;
-        self.reserve(0)?;
-        let next = self.event_count() + 1;
-        self.messages.receive(&message, next).unwrap();
-        let last = self.add(row, stored, task.id);
-        self.put(name, Task { last, ..task });
-        Ok(last)
+        let last = self.event_count() + 1;
+        self.messages.receive(&message, last).unwrap();
+        Ok(Draft {
+            row,
+            tree: stored,
+            first: None,
+            second: None,
+            acting: Task { last, ..task },
+            named: None,
+        })
     }
 
-    /// Adds the event with which the task starts `child`.
+    /// The draft of the event with which the task starts `child`.
     fn forked<T>(
-        &mut self,
+        &self,
         rt: &T,
         share: &S,
         name: Name,
         child: Name,
         task: Task,
-    ) -> Result<u64, Memory>
-        requires book { IsBook S.Kept.tree S.Id.id self.old }
-        requires seeded { 0 < length self.old.ids.items }
-        requires task { task_in self.old name ≡ Some task }
+    ) -> Result<Draft<S>, Memory>
+        requires book { IsBook S.Kept.tree S.Id.id self.now }
+        requires space { HasRoom self.now }
+        requires seeded { 0 < length self.now.ids.items }
+        requires task { task_in self.now name ≡ Some task }
         requires live { task.state ≡ TaskState.Live }
-        requires child { task_in self.old child ≡ None }
-        requires few { index_map_len self.old.tasks < self.old.limits.tasks }
-        requires room { length self.old.rows.items < self.old.limits.events }
-        ensures { Adds S.Kept.tree S.Id.id result self.old (row_after (history_of self.old.rows.items) name Kind.Spawn (Some child)) self.new }
+        requires child { task_in self.now child ≡ None }
+        requires few { index_map_len self.now.tasks < self.now.limits.tasks }
+        requires room { length self.now.rows.items < self.now.limits.events }
+        ensures ready { IfOk result (IsReady S.Kept.tree S.Id.id self.now) }
+        ensures row { IfOk result (λ draft. draft.row ≡ row_after (history_of self.now.rows.items) name Kind.Spawn (Some child)) }
     {
         self.few_events();
         can_be_written(&name);
@@ -474,39 +532,43 @@ impl<S: Share> Book<S> {
         let stored = share.keep_tree(rt, tree)?;
         let kept_id = share.keep_id(rt, kept)?;
         let given_id = share.keep_id(rt, given)?;
-        self.reserve(1)?;
-        let kept = self.add_id(kept_id);
-        let given = self.add_id(given_id);
-        let last = self.add(row, stored, kept);
+        let last = self.event_count() + 1;
+        let id = self.ids.len();
         let started = Task {
             state: TaskState::Live,
             last,
-            id: given,
+            id: id + 1,
         };
-        self.put(child, started);
-        let id = kept;
-        self.put(name, Task { last, id, ..task });
-        Ok(last)
+        Ok(Draft {
+            row,
+            tree: stored,
+            first: Some(kept_id),
+            second: Some(given_id),
+            acting: Task { last, id, ..task },
+            named: Some(started),
+        })
     }
 
-    /// Adds the event with which the task takes in `child`.
+    /// The draft of the event with which the task takes in `child`.
     fn summed<T>(
-        &mut self,
+        &self,
         rt: &T,
         share: &S,
         name: Name,
         child: Name,
         task: Task,
         joined: Task,
-    ) -> Result<u64, Memory>
-        requires book { IsBook S.Kept.tree S.Id.id self.old }
-        requires seeded { 0 < length self.old.ids.items }
-        requires task { task_in self.old name ≡ Some task }
+    ) -> Result<Draft<S>, Memory>
+        requires book { IsBook S.Kept.tree S.Id.id self.now }
+        requires space { HasRoom self.now }
+        requires seeded { 0 < length self.now.ids.items }
+        requires task { task_in self.now name ≡ Some task }
         requires live { task.state ≡ TaskState.Live }
-        requires child { task_in self.old child ≡ Some joined }
+        requires child { task_in self.now child ≡ Some joined }
         requires ended { joined.state ≡ TaskState.Ended }
-        requires room { length self.old.rows.items < self.old.limits.events }
-        ensures { Adds S.Kept.tree S.Id.id result self.old (row_after (history_of self.old.rows.items) name Kind.Join (Some child)) self.new }
+        requires room { length self.now.rows.items < self.now.limits.events }
+        ensures ready { IfOk result (IsReady S.Kept.tree S.Id.id self.now) }
+        ensures row { IfOk result (λ draft. draft.row ≡ row_after (history_of self.now.rows.items) name Kind.Join (Some child)) }
     {
         self.few_events();
         can_be_written(&name);
@@ -520,13 +582,49 @@ impl<S: Share> Book<S> {
         let tree = EvTree::event(self.alloc, &id, &known)?;
         let stored = share.keep_tree(rt, tree)?;
         let sum_id = share.keep_id(rt, id)?;
-        self.reserve(0)?;
-        let id = self.add_id(sum_id);
-        let last = self.add(row, stored, id);
-        self.put(name, Task { last, id, ..task });
+        let last = self.event_count() + 1;
+        let id = self.ids.len();
         let state = TaskState::Joined;
-        self.put(child, Task { state, ..joined });
-        Ok(last)
+        Ok(Draft {
+            row,
+            tree: stored,
+            first: Some(sum_id),
+            second: None,
+            acting: Task { last, id, ..task },
+            named: Some(Task { state, ..joined }),
+        })
+    }
+
+    /// Adds the report of the draft, and gives its event. It takes no memory.
+    pub(crate) fn commit(&mut self, draft: Draft<S>) -> u64
+        requires { IsReady S.Kept.tree S.Id.id self.old draft }
+        ensures book { IsBook S.Kept.tree S.Id.id self.new }
+        ensures tenant { tenant_of self.new ≡ with_row (tenant_of self.old) (Some draft.row) }
+        ensures event { result ≡ length self.old.rows.items + 1 }
+    {
+        let Draft {
+            row,
+            tree,
+            first,
+            second,
+            acting,
+            named,
+        } = draft;
+        self.add_id(first);
+        self.add_id(second);
+        self.put_named(row.name, named);
+        self.put(row.task, acting);
+        self.add(row, tree, acting.id)
+    }
+
+    /// Drops the draft: the book is as before it. It takes no memory.
+    pub(crate) fn abandon(&mut self, draft: Draft<S>)
+        requires { IsReady S.Kept.tree S.Id.id self.old draft }
+        ensures book { IsBook S.Kept.tree S.Id.id self.new }
+        ensures tenant { tenant_of self.new ≡ tenant_of self.old }
+    {
+        let row = draft.into_row();
+        take_back(&mut self.messages, row.kind, row.name);
     }
 
     /// The law that no limit on events is above [`Limits::MOST_EVENTS`]. It does nothing.
@@ -573,30 +671,42 @@ impl<S: Share> Book<S> {
         Ok(())
     }
 
-    /// Makes room for one event, for its ids and for so many new tasks. It changes nothing else.
-    fn reserve(&mut self, tasks: usize) -> Result<(), Memory>
+    /// Keeps the id of `root`, and makes room for one event, its ids and its tasks. It changes nothing else.
+    fn make_room<T>(&mut self, rt: &T, share: &S) -> Result<(), Memory>
+        requires { IsBook S.Kept.tree S.Id.id self.old }
+        ensures book { IsBook S.Kept.tree S.Id.id self.new }
         ensures same { HaveTheSame self.old self.new }
-        ensures room { OnOk result (HasRoom self.new tasks) }
+        ensures seeded { OnOk result (0 < length self.new.ids.items) }
+        ensures room { OnOk result (HasRoom self.new) }
+    {
+        self.seed(rt, share)?;
+        self.reserve()
+    }
+
+    /// Makes room for one event, its ids and its tasks. It changes nothing else.
+    fn reserve(&mut self) -> Result<(), Memory>
+        ensures same { HaveTheSame self.old self.new }
+        ensures ids { self.new.ids.items ≡ self.old.ids.items }
+        ensures room { OnOk result (HasRoom self.new) }
     {
         self.rows.reserve(1)?;
         self.trees.reserve(1)?;
         self.places.reserve(1)?;
         self.ids.reserve(2)?;
-        self.tasks.reserve(tasks)?;
+        self.tasks.reserve(2)?;
         Ok(())
     }
 
-    /// Adds an id, for which there is room, and gives its place.
-    fn add_id(&mut self, id: S::Id) -> usize
+    /// Adds an id, for which there is room, where one is given.
+    fn add_id(&mut self, id: Option<S::Id>)
         requires { vec_len self.old.ids < vec_capacity self.old.ids }
-        ensures place { result ≡ length self.old.ids.items }
-        ensures ids { self.new.ids.items ≡ self.old.ids.items ++ id ∷ [] }
-        ensures room { vec_capacity self.old.ids ≤ vec_capacity self.new.ids }
+        ensures ids { self.new.ids.items ≡ self.old.ids.items ++ option_to_list id }
+        ensures room { vec_len self.new.ids + vec_capacity self.old.ids ≤ vec_len self.old.ids + 1 + vec_capacity self.new.ids }
         ensures others { self.new ≡ record self.old { ids = self.new.ids } }
     {
-        let place = self.ids.len();
-        self.ids.push(id).unwrap();
-        place
+        if let Some(id) = id {
+            self.ids.push(id).unwrap();
+        }
     }
 
     /// Adds an event, for which there is room, and gives its number.
@@ -616,14 +726,40 @@ impl<S: Share> Book<S> {
         self.event_count()
     }
 
+    /// Keeps the task that a report names, where it names one, for which there is room.
+    fn put_named(&mut self, name: Option<Name>, task: Option<Task>)
+        requires { 0 < spare self.old.tasks }
+        ensures tasks { (other : Characters) → task_in self.new other ≡ task_with_some task name (task_in self.old) other }
+        ensures count { index_map_len self.new.tasks ≡ count_with_some task name (task_in self.old) (index_map_len self.old.tasks) }
+        ensures room { spare self.old.tasks ≤ spare self.new.tasks + 1 }
+        ensures others { self.new ≡ record self.old { tasks = self.new.tasks } }
+    {
+        if let (Some(task), Some(name)) = (task, name) {
+            self.put(name, task);
+        }
+    }
+
     /// Keeps the task under its name, for which there is room.
     fn put(&mut self, name: Name, task: Task)
-        requires { task_in self.old name ≡ None → 0 < spare self.old.tasks }
-        ensures tasks { (other : Characters) → task_in self.new other ≡ (if is_same name other then Some task else task_in self.old other) }
-        ensures count { index_map_len self.new.tasks ≡ index_map_len self.old.tasks + (if is_some (task_in self.old name) then 0 else 1) }
+        requires { 0 < spare self.old.tasks }
+        ensures tasks { (other : Characters) → task_in self.new other ≡ task_with name task (task_in self.old) other }
+        ensures count { index_map_len self.new.tasks ≡ count_with name (task_in self.old) (index_map_len self.old.tasks) }
+        ensures room { spare self.old.tasks ≤ spare self.new.tasks + 1 }
         ensures others { self.new ≡ record self.old { tasks = self.new.tasks } }
     {
         self.tasks.insert(name, task).unwrap();
+    }
+}
+
+/// Takes back what a report of this kind made of the messages.
+fn take_back(messages: &mut MessageBook, kind: Kind, name: Option<Name>)
+    requires { (event : ℕ) × (before : Messages) × Notes kind name event before messages.old }
+    ensures { (event : ℕ) (before : Messages) → Notes kind name event before messages.old → messages.new ≡ before }
+{
+    match (kind, name) {
+        (Kind::Send, _) => messages.undo_send(),
+        (Kind::Recv, Some(name)) => messages.undo_receive(&name),
+        _ => {}
     }
 }
 

@@ -8,6 +8,7 @@ ghost use Rattle.trace_types.specs.Stamps.{tree_of};
 ghost use Rattle.trace_types.specs.Tenant.{AreLegal};
 ghost use Rattle.trace_types.specs.declared.row.Row.{Row};
 ghost use Rattle.event_tree.specs.Comparison.{StandsAs};
+ghost use Rattle.tenant_ledger.specs.Laws.{IsAtMostItsNumber};
 
 /// For legal rows and any two events, comparing what the events know gives their order in the graph: the interval
 /// tree clock (Almeida, Baquero and Fonte 2008) tells happened-before (Lamport 1978).
@@ -15,4 +16,9 @@ pub fn clock()
     ensures { (limits : Limits) (rows : List Row) → AreLegal limits rows → (a b : ℕ)
         → IsTrue (is_event (history_of rows) a) → IsTrue (is_event (history_of rows) b)
         → StandsAs (order_of (history_of rows) a b) (tree_of tree_clock (history_of rows) a) (tree_of tree_clock (history_of rows) b) }
+{}
+
+/// For legal rows no event knows a value above its own number, at any point. So no number of a stamp wraps.
+pub fn greatest_value()
+    ensures { (limits : Limits) (rows : List Row) → AreLegal limits rows → (event : ℕ) → IsAtMostItsNumber (history_of rows) event }
 {}

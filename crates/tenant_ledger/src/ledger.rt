@@ -1,25 +1,25 @@
 //! The ledger of one tenant.
-ghost use Rattle.std.specs.Prelude.{◌≡◌, true, IfOk, IfErr};
+ghost use Rattle.std.specs.Prelude.{◌≡◌, suc, true, Some, IfOk, IfErr, length};
 ghost use Rattle.trace_types.specs.Rows.{history_of, is_event};
 ghost use Rattle.trace_types.specs.Reachability.{order_of};
 ghost use Rattle.trace_types.specs.Clock.{tree_clock};
 ghost use Rattle.trace_types.specs.Stamps.{tree_of};
-ghost use Rattle.trace_types.specs.Tenant.{fresh, Steps, Answers, AreLegal, reply_to_view};
+ghost use Rattle.trace_types.specs.Tenant.{fresh, step, Steps, Answers, AreLegal, is_report, reply_to_view, with_row};
 ghost use Rattle.event_tree.specs.Comparison.{StandsAs};
-ghost use Rattle.tenant_ledger.specs.Ledger.{reply_of, code_of};
+ghost use Rattle.tenant_ledger.specs.Ledger.{code_of};
 
 use crate::book::Book;
 use crate::share::{MeantId, Share, Through};
-use crate::{PlainShare, laws};
+use crate::{PlainShare, Prepared, laws};
 use std::alloc::Global;
 use std::marker::Model;
-use trace_query::{Compare, Meant, QueryFault, concurrent_with, order, past};
+use trace_query::{Compare, Meant, QueryFault, concurrent_in_order, order, past_in_order};
 use trace_types::{Code, Limits, Memory, Name, Numbers, Reply, Request, Row};
 
 /// What one tenant has reported. Its ids and trees are kept by a share, the same in each call.
 #[derive(Drop)]
 pub struct Ledger<S: Share = PlainShare> {
-    book: Book<S>,
+    pub(crate) book: Book<S>,
 }
 
 impl<S: Share> Model for Ledger<S> {
@@ -79,21 +79,34 @@ impl<S: Share> Ledger<S> {
     pub fn report<T>(&mut self, rt: &T, share: &S, request: &Request) -> Reply
         ensures { Steps self.old request.now result self.new }
     {
-        match *request {
-            Request::Local(task) => accepted(self.book.local(rt, share, task)),
-            Request::Spawn(task, child) => accepted(self.book.spawn(rt, share, task, child)),
-            Request::Send(task, message) => accepted(self.book.send(rt, share, task, message)),
-            Request::Recv(task, message) => accepted(self.book.receive(rt, share, task, message)),
-            Request::End(task) => accepted(self.book.end(rt, share, task)),
-            Request::Join(task, child) => accepted(self.book.join(rt, share, task, child)),
-            Request::Order(..)
-            | Request::Past(_)
-            | Request::Concurrent(_)
-            | Request::Event(_)
-            | Request::Stamp(_)
-            | Request::Task(_)
-            | Request::Message(_)
-            | Request::Count => self.ask(&Through { rt, share }, request),
+        if !is_report(request) {
+            return self.ask(&Through { rt, share }, request);
+        }
+        match self.book.prepare(rt, share, request) {
+            Ok(draft) => Reply::Accepted(self.book.commit(draft)),
+            Err(code) => Reply::Refused(code),
+        }
+    }
+
+    /// Does all of a report that may be refused, and leaves the rows: what it gives is to be committed or abandoned.
+    ///
+    /// Where [`Ledger::report`] would refuse the report it gives that refusal, with the ledger as it was.
+    pub fn prepare<T>(
+        self,
+        rt: &T,
+        share: &S,
+        request: &Request,
+    ) -> Result<Prepared<S>, (Ledger<S>, Reply)>
+        requires { is_report request.now ≡ true }
+        ensures same { IfOk result (λ prepared. prepared.tenant ≡ self) }
+        ensures accepted { IfOk result (λ prepared. step self request.now ≡ (Reply.Accepted (suc (length self.rows)), with_row self (Some prepared.row))) }
+        ensures unchanged { IfErr result (λ refused. refused.0 ≡ self) }
+        ensures refused { IfErr result (λ refused. Steps self request.now refused.1 self) }
+    {
+        let mut book = self.book;
+        match book.prepare(rt, share, request) {
+            Ok(draft) => Ok(Prepared { book, draft }),
+            Err(code) => Err((Ledger { book }, Reply::Refused(code))),
         }
     }
 
@@ -138,14 +151,14 @@ impl<S: Share> Ledger<S> {
     fn past<C: Compare<Kept = S::Kept>>(&self, compare: &C, event: u64) -> Reply
         ensures { Answers self.now (Request.Past event) result }
     {
-        listed(past(compare, self.book.alloc(), self.book.trees(), event))
+        listed(past_in_order(compare, self.book.alloc(), self.book.trees(), event))
     }
 
     /// The events that neither reach the event nor are reached from it, by the trees kept for them.
     fn concurrent_with<C: Compare<Kept = S::Kept>>(&self, compare: &C, event: u64) -> Reply
         ensures { Answers self.now (Request.Concurrent event) result }
     {
-        listed(concurrent_with(compare, self.book.alloc(), self.book.trees(), event))
+        listed(concurrent_in_order(compare, self.book.alloc(), self.book.trees(), event))
     }
 
     /// The row of the event.
@@ -213,14 +226,19 @@ fn code_of(fault: QueryFault) -> Code
     }
 }
 
-/// The reply to a report.
-fn accepted(outcome: Result<u64, Code>) -> Reply
-    ensures { result ≡ reply_of outcome }
+/// Whether the request reports something.
+fn is_report(request: &Request) -> bool
+    ensures { result ≡ is_report request.now }
 {
-    match outcome {
-        Ok(event) => Reply::Accepted(event),
-        Err(code) => Reply::Refused(code),
-    }
+    matches!(
+        request,
+        Request::Local(_)
+            | Request::Spawn(..)
+            | Request::Send(..)
+            | Request::Recv(..)
+            | Request::End(_)
+            | Request::Join(..)
+    )
 }
 
 #[cfg(test)]

@@ -8,8 +8,10 @@ mod book;
 pub mod laws;
 mod ledger;
 mod plain_share;
+mod prepared;
 mod share;
 
 pub use ledger::Ledger;
 pub use plain_share::PlainShare;
+pub use prepared::Prepared;
 pub use share::{MeantId, Share};

@@ -3,7 +3,7 @@
 use crate::Share;
 use event_tree::EvTree;
 use id_tree::IdTree;
-use trace_query::{Compare, Plain};
+use trace_query::Compare;
 use trace_types::{Memory, Order};
 
 /// Keeps the ids and trees themselves. It takes no lock, and waits for nobody.
@@ -14,7 +14,11 @@ impl Compare for PlainShare {
     type Kept = EvTree;
 
     fn order(&self, first: &EvTree, second: &EvTree) -> Order {
-        Plain.order(first, second)
+        first.order(second)
+    }
+
+    fn is_below(&self, first: &EvTree, second: &EvTree) -> bool {
+        first.leq(second)
     }
 }
 
@@ -38,6 +42,10 @@ impl Share for PlainShare {
     }
 
     fn order_kept<T>(&self, _rt: &T, first: &EvTree, second: &EvTree) -> Order {
-        self.order(first, second)
+        first.order(second)
+    }
+
+    fn below_kept<T>(&self, _rt: &T, first: &EvTree, second: &EvTree) -> bool {
+        first.leq(second)
     }
 }

@@ -1,6 +1,6 @@
 //! What the tenants' ledgers share.
-ghost use Rattle.std.specs.Prelude.{◌≡◌, IfOk};
-ghost use Rattle.event_tree.specs.Comparison.{StandsAs};
+ghost use Rattle.std.specs.Prelude.{◌≡◌, ◌↔◌, IfOk, IsTrue};
+ghost use Rattle.event_tree.specs.Comparison.{IsBelow, StandsAs};
 ghost use Rattle.trace_types.specs.Id.{Id};
 
 use event_tree::EvTree;
@@ -44,6 +44,11 @@ pub trait Share: Compare {
     /// How the tree of `first` stands to that of `second`. It takes no memory, and may wait on `rt`.
     fn order_kept<T>(&self, rt: &T, first: &Self::Kept, second: &Self::Kept) -> Order
         ensures { StandsAs result (Self.Kept.tree first.now) (Self.Kept.tree second.now) };
+
+    /// Whether no value of the tree of `first` is above that of `second` at the same point. It takes no memory, and may
+    /// wait on `rt`.
+    fn below_kept<T>(&self, rt: &T, first: &Self::Kept, second: &Self::Kept) -> bool
+        ensures { IsTrue result ↔ IsBelow (Self.Kept.tree first.now) (Self.Kept.tree second.now) };
 }
 
 /// Compares kept trees as a share does that may wait.
@@ -58,5 +63,9 @@ impl<T, S: Share> Compare for Through<'_, T, S> {
 
     fn order(&self, first: &S::Kept, second: &S::Kept) -> Order {
         self.share.order_kept(self.rt, first, second)
+    }
+
+    fn is_below(&self, first: &S::Kept, second: &S::Kept) -> bool {
+        self.share.below_kept(self.rt, first, second)
     }
 }

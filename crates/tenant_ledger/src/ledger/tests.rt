@@ -101,6 +101,59 @@ fn a_tenant_with_all_its_events_takes_no_more(rt: HostRuntime) -> Result<(), Fai
     Ok(())
 }
 
+/// The report prepared; a query is refused.
+fn prepared(
+    rt: &impl Abort,
+    ledger: Ledger,
+    report: &Request,
+) -> Result<Prepared, (Ledger, Reply)> {
+    if is_report(report) {
+        ledger.prepare(rt, &PlainShare, report)
+    } else {
+        Err((ledger, Reply::Refused(Code::ViewOnly)))
+    }
+}
+
+/// What is answered where the report is abandoned, and then committed.
+fn abandoned_then_committed(rt: &impl Abort, ledger: Ledger, report: &Request) -> (Ledger, Reply) {
+    let ledger = match prepared(rt, ledger, report) {
+        Ok(prepared) => prepared.abandon(),
+        Err(refused) => return refused,
+    };
+    match prepared(rt, ledger, report) {
+        Ok(prepared) => prepared.commit(),
+        Err(refused) => refused,
+    }
+}
+
+#[test]
+fn a_report_that_was_abandoned_is_accepted_when_it_comes_again(
+    rt: HostRuntime,
+) -> Result<(), Fail> {
+    let mut ledger = Ledger::<PlainShare>::new(rt.alloc(), Limits::default())?;
+    for (report, reply) in [
+        (local(&rt, "root"), Reply::Accepted(1)),
+        (spawn(&rt, "root", "a"), Reply::Accepted(2)),
+        (send(&rt, "a", "m"), Reply::Accepted(3)),
+        (recv(&rt, "root", "m"), Reply::Accepted(4)),
+        (
+            recv(&rt, "root", "m"),
+            Reply::Refused(Code::AlreadyReceived),
+        ),
+        (end(&rt, "a"), Reply::Accepted(5)),
+        (join(&rt, "root", "a"), Reply::Accepted(6)),
+    ] {
+        let (next, answer) = abandoned_then_committed(&rt, ledger, &report);
+        assert_eq!(rt; answer, reply, "{report:?}");
+        ledger = next;
+    }
+    assert_eq!(rt;
+        ledger.report(&rt, &PlainShare, &Request::Count),
+        Reply::Count(6, 2, 1)
+    );
+    Ok(())
+}
+
 /// `root` starts `a`, which starts `b`; both end, and `root` joins `b` and then `a`.
 fn family(rt: &impl Abort) -> [Request; 7] {
     [
@@ -481,6 +534,11 @@ impl Compare for Counting {
         self.compared.set(self.compared.get().wrapping_add(1));
         first.order(second)
     }
+
+    fn is_below(&self, first: &EvTree, second: &EvTree) -> bool {
+        self.compared.set(self.compared.get().wrapping_add(1));
+        first.leq(second)
+    }
 }
 
 impl Share for Counting {
@@ -505,6 +563,10 @@ impl Share for Counting {
     fn order_kept<T>(&self, _rt: &T, first: &EvTree, second: &EvTree) -> Order {
         self.order(first, second)
     }
+
+    fn below_kept<T>(&self, _rt: &T, first: &EvTree, second: &EvTree) -> bool {
+        self.is_below(first, second)
+    }
 }
 
 #[test]
@@ -516,13 +578,17 @@ fn comparisons_are_counted(rt: HostRuntime) -> Result<(), Fail> {
     for (report, event) in talk(&rt).iter().zip([1, 2, 3, 4, 5, 6]) {
         assert_eq!(rt; ledger.report(&rt, &share, report), Reply::Accepted(event));
     }
-    for query in [Request::Order(3, 4), Request::Past(6)] {
-        let before = share.compared.get();
+    for (query, comparisons) in [
+        (Request::Order(3, 4), 1),
+        (Request::Past(4), 3),
+        (Request::Concurrent(4), 5),
+    ] {
+        share.compared.set(0);
         let _ = ledger.report(&rt, &share, &query);
-        let between = share.compared.get();
-        assert!(rt; before < between, "{query:?}");
+        assert_eq!(rt; share.compared.get(), comparisons, "{query:?}");
+        share.compared.set(0);
         let _ = ledger.ask(&share, &query);
-        assert!(rt; between < share.compared.get(), "a view of {query:?}");
+        assert_eq!(rt; share.compared.get(), comparisons, "a view of {query:?}");
     }
     Ok(())
 }

@@ -3,7 +3,7 @@ use Rattle.std.specs.Map.{set_value}
 use Rattle.trace_types.specs.Name.{is_same}
 use Rattle.message_book.specs.Book.{entry_of, entry_with_receipt, with_receipt}
 use Rattle.message_book.specs.declared.entry.Entry.{Entry}
-use Rattle.message_book.proofs.Messages.{found_in, set_value_is_with_receipt, is_not_absent, no_receipt_yet}
+use Rattle.message_book.proofs.Messages.{found_in, set_value_is_with_changed, is_not_absent, no_receipt_yet}
 use Rattle.message_book.proofs.message_book.MessageBook.add_receipt.Goals.{in-Some, in_default}
 use Rattle.message_book.proofs.message_book.MessageBook.add_receipt.Goals as goal
 
@@ -26,7 +26,7 @@ returns c =
           let is : written ≡ entry_with_receipt event entry = λ i. record { sent = entry.sent; receipts = w.add.ensures i } in
           let messages : (c.get_mut.follows.lender written).entries ≡ with_receipt name event book.messages =
           (c.get_mut.follows.holds written).0
-          ∙ ((λ i. set_value (is_same name) (c.self.view_is i).messages (is i)) ∙ set_value_is_with_receipt book.messages name event entry found) in
+          ∙ ((λ i. set_value (is_same name) (c.self.view_is i).messages (is i)) ∙ set_value_is_with_changed (entry_with_receipt event) book.messages name entry found) in
           rw w.self-inside-is (λ i. record { limit = (c.self.view_is i).limit; messages = messages i })
       | in_default w ↦
           let absent : entry_of book.messages name ≡ None = sym (w.in_default.ensures.value ∙ found_in _ _ book c.self.view_is name) in

@@ -1,9 +1,9 @@
-use Rattle.std.proofs.Common.{◌≡◌, [], None, Ok, Err, refl, ◌∙◌}
+use Rattle.std.proofs.Common.{◌≡◌, [], None, refl, ◌∙◌}
 use Rattle.trace_types.specs.Refusal.{refusal_of}
 use Rattle.trace_types.specs.Rows.{history_of}
 use Rattle.trace_types.specs.declared.request.Request.TheVariants as request
 use Rattle.trace_types.specs.declared.row.Kind.TheVariants.{End}
-use Rattle.tenant_ledger.proofs.Answering.{room, refused, adds_seeded, added, lacked, lacked_seed}
+use Rattle.tenant_ledger.proofs.Answering.{room, refused, same_tenant, lacked, drafted}
 use Rattle.tenant_ledger.proofs.book.Book.end.Goals.{In_ok-check_room}
 use Rattle.tenant_ledger.proofs.book.Book.end.Given.{Over}
 use Rattle.tenant_ledger.proofs.book.Book.end.Goals as goal
@@ -11,28 +11,30 @@ use Rattle.tenant_ledger.proofs.book.Book.end.Goals as goal
 not_refused : (g : Over) (c : In_ok-check_room g) → refusal_of c.args.self.now.limits (history_of c.args.self.now.rows.items) (request.End c.args.name) ≡ None
 not_refused g c = c.in_ok-task.ensures.decides (room c.args.self.now) ∙ c.in_ok-check_room.ensures.decides []
 
-pub returns-in_err-task-clause-steps : goal.returns-in_err-task-clause-steps
-returns-in_err-task-clause-steps g c =
+pub returns-in_err-task : goal.returns-in_err-task
+returns-in_err-task g c =
     let book = c.args.self.now in
-    refused book (request.End c.args.name) _ c.from_residual.result c.from_residual.ensures.1 (c.in_err-task.ensures.decides (room book))
+    refused book (request.End c.args.name) _ c.from_residual.result c.from_residual.ensures.1 c.requires (c.in_err-task.ensures.decides (room book))
 
-pub returns-in_err-check_room-clause-steps : goal.returns-in_err-check_room-clause-steps
-returns-in_err-check_room-clause-steps g c =
+pub returns-in_err-check_room : goal.returns-in_err-check_room
+returns-in_err-check_room g c =
     let book = c.args.self.now in
-    refused book (request.End c.args.name) _ c.from_residual-in_err-check_room.result c.from_residual-in_err-check_room.ensures.1
+    refused book (request.End c.args.name) _ c.from_residual-in_err-check_room.result c.from_residual-in_err-check_room.ensures.1 c.requires
     (c.in_ok-task.ensures.decides (room book) ∙ c.in_err-check_room.ensures.decides [])
 
-pub returns-in_err-seed-clause-steps : goal.returns-in_err-seed-clause-steps
-returns-in_err-seed-clause-steps g c =
-    lacked_seed c.args.self.now c.seed.new.self (request.End c.args.name) c.from_residual-in_err-seed.result c.seed.ensures.others refl
-    c.from_residual-in_err-seed.ensures.1 (not_refused g (goal.at.returns-in_err-seed-clause-steps g c).In_ok-check_room)
+pub returns-in_err-make_room : goal.returns-in_err-make_room
+returns-in_err-make_room g c =
+    lacked c.args.self.now c.make_room.new.self (request.End c.args.name) c.from_residual-in_err-make_room.result refl
+    c.from_residual-in_err-make_room.ensures.1 (not_refused g (goal.at.returns-in_err-make_room g c).In_ok-check_room) c.make_room.ensures.book
+    (same_tenant c.args.self.now c.make_room.new.self c.make_room.ensures.same)
 
-pub returns-in_err-alone-clause-steps : goal.returns-in_err-alone-clause-steps
-returns-in_err-alone-clause-steps g c =
-    lacked c.args.self.now c.alone.new.self (request.End c.args.name) c.args.name End None c.in_err-alone.field-0.0 c.from_residual-in_err-alone.result refl
-    c.from_residual-in_err-alone.ensures.1 (not_refused g (goal.at.returns-in_err-alone-clause-steps g c).In_ok-check_room) (adds_seeded g.S.Kept.Meant.tree g.S.Id.MeantId.id c.args.self.now c.seed.new.self c.alone.new.self c.seed.ensures.others (Err c.in_err-alone.field-0.0) c.args.name End None c.in_err-alone.ensures)
+pub returns-in_err-alone : goal.returns-in_err-alone
+returns-in_err-alone g c =
+    lacked c.args.self.now c.make_room.new.self (request.End c.args.name) c.from_residual-in_err-alone.result refl
+    c.from_residual-in_err-alone.ensures.1 (not_refused g (goal.at.returns-in_err-alone g c).In_ok-check_room) c.make_room.ensures.book
+    (same_tenant c.args.self.now c.make_room.new.self c.make_room.ensures.same)
 
-pub returns-clause-steps : goal.returns-clause-steps
-returns-clause-steps g c =
-    added c.args.self.now c.alone.new.self (request.End c.args.name) c.args.name End None c.in_ok-alone.field-0 refl
-    (not_refused g (goal.at.returns-clause-steps g c).In_ok-check_room) (adds_seeded g.S.Kept.Meant.tree g.S.Id.MeantId.id c.args.self.now c.seed.new.self c.alone.new.self c.seed.ensures.others (Ok c.in_ok-alone.field-0) c.args.name End None c.in_ok-alone.ensures)
+pub returns : goal.returns
+returns g c =
+    drafted c.args.self.now c.make_room.new.self c.make_room.new.self (request.End c.args.name) c.args.name End None c.in_ok-alone.field-0 refl
+    (not_refused g (goal.at.returns g c).In_ok-check_room) c.make_room.ensures.same c.in_ok-alone.ensures.ready refl c.in_ok-alone.ensures.row

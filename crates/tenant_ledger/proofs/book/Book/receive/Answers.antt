@@ -1,9 +1,9 @@
-use Rattle.std.proofs.Common.{◌≡◌, [], Some, None, Ok, Err, refl, ◌∙◌}
+use Rattle.std.proofs.Common.{◌≡◌, [], Some, None, refl, ◌∙◌}
 use Rattle.trace_types.specs.Refusal.{refusal_of}
 use Rattle.trace_types.specs.Rows.{history_of}
 use Rattle.trace_types.specs.declared.request.Request.TheVariants as request
 use Rattle.trace_types.specs.declared.row.Kind.TheVariants.{Recv}
-use Rattle.tenant_ledger.proofs.Answering.{room, sent_message, refused, adds_seeded, added, lacked, lacked_seed}
+use Rattle.tenant_ledger.proofs.Answering.{room, sent_message, refused, same_tenant, lacked, drafted}
 use Rattle.tenant_ledger.proofs.book.Book.receive.Goals.{In_ok-check_room}
 use Rattle.tenant_ledger.proofs.book.Book.receive.Given.{Over}
 use Rattle.tenant_ledger.proofs.book.Book.receive.Goals as goal
@@ -13,36 +13,37 @@ not_refused g c =
     let book = c.args.self.now in
     c.in_ok-task.ensures.decides (sent_message book c.args.message) ∙ c.in_ok-sent.ensures.decides (room book) ∙ c.in_ok-check_room.ensures.decides []
 
-pub returns-in_err-task-clause-steps : goal.returns-in_err-task-clause-steps
-returns-in_err-task-clause-steps g c =
+pub returns-in_err-task : goal.returns-in_err-task
+returns-in_err-task g c =
     let book = c.args.self.now in
-    refused book (request.Recv c.args.name c.args.message) _ c.from_residual.result c.from_residual.ensures.1
+    refused book (request.Recv c.args.name c.args.message) _ c.from_residual.result c.from_residual.ensures.1 c.requires
     (c.in_err-task.ensures.decides (sent_message book c.args.message))
 
-pub returns-in_err-sent-clause-steps : goal.returns-in_err-sent-clause-steps
-returns-in_err-sent-clause-steps g c =
+pub returns-in_err-sent : goal.returns-in_err-sent
+returns-in_err-sent g c =
     let book = c.args.self.now in
-    refused book (request.Recv c.args.name c.args.message) _ c.from_residual-in_err-sent.result c.from_residual-in_err-sent.ensures.1
+    refused book (request.Recv c.args.name c.args.message) _ c.from_residual-in_err-sent.result c.from_residual-in_err-sent.ensures.1 c.requires
     (c.in_ok-task.ensures.decides (sent_message book c.args.message) ∙ c.in_err-sent.ensures.decides (room book))
 
-pub returns-in_err-check_room-clause-steps : goal.returns-in_err-check_room-clause-steps
-returns-in_err-check_room-clause-steps g c =
+pub returns-in_err-check_room : goal.returns-in_err-check_room
+returns-in_err-check_room g c =
     let book = c.args.self.now in
-    refused book (request.Recv c.args.name c.args.message) _ c.from_residual-in_err-check_room.result c.from_residual-in_err-check_room.ensures.1
+    refused book (request.Recv c.args.name c.args.message) _ c.from_residual-in_err-check_room.result c.from_residual-in_err-check_room.ensures.1 c.requires
     (c.in_ok-task.ensures.decides (sent_message book c.args.message) ∙ c.in_ok-sent.ensures.decides (room book) ∙ c.in_err-check_room.ensures.decides [])
 
-pub returns-in_err-seed-clause-steps : goal.returns-in_err-seed-clause-steps
-returns-in_err-seed-clause-steps g c =
-    lacked_seed c.args.self.now c.seed.new.self (request.Recv c.args.name c.args.message) c.from_residual-in_err-seed.result c.seed.ensures.others refl
-    c.from_residual-in_err-seed.ensures.1 (not_refused g (goal.at.returns-in_err-seed-clause-steps g c).In_ok-check_room)
+pub returns-in_err-make_room : goal.returns-in_err-make_room
+returns-in_err-make_room g c =
+    lacked c.args.self.now c.make_room.new.self (request.Recv c.args.name c.args.message) c.from_residual-in_err-make_room.result refl
+    c.from_residual-in_err-make_room.ensures.1 (not_refused g (goal.at.returns-in_err-make_room g c).In_ok-check_room) c.make_room.ensures.book
+    (same_tenant c.args.self.now c.make_room.new.self c.make_room.ensures.same)
 
-pub returns-in_err-received-clause-steps : goal.returns-in_err-received-clause-steps
-returns-in_err-received-clause-steps g c =
-    lacked c.args.self.now c.received.new.self (request.Recv c.args.name c.args.message) c.args.name Recv (Some c.args.message) c.in_err-received.field-0.0
-    c.from_residual-in_err-received.result refl c.from_residual-in_err-received.ensures.1
-    (not_refused g (goal.at.returns-in_err-received-clause-steps g c).In_ok-check_room) (adds_seeded g.S.Kept.Meant.tree g.S.Id.MeantId.id c.args.self.now c.seed.new.self c.received.new.self c.seed.ensures.others (Err c.in_err-received.field-0.0) c.args.name Recv (Some c.args.message) c.in_err-received.ensures)
+pub returns-in_err-received : goal.returns-in_err-received
+returns-in_err-received g c =
+    lacked c.args.self.now c.received.new.self (request.Recv c.args.name c.args.message) c.from_residual-in_err-received.result refl
+    c.from_residual-in_err-received.ensures.1 (not_refused g (goal.at.returns-in_err-received g c).In_ok-check_room) c.in_err-received.ensures.0
+    (c.in_err-received.ensures.1 ∙ same_tenant c.args.self.now c.make_room.new.self c.make_room.ensures.same)
 
-pub returns-clause-steps : goal.returns-clause-steps
-returns-clause-steps g c =
-    added c.args.self.now c.received.new.self (request.Recv c.args.name c.args.message) c.args.name Recv (Some c.args.message) c.in_ok-received.field-0 refl
-    (not_refused g (goal.at.returns-clause-steps g c).In_ok-check_room) (adds_seeded g.S.Kept.Meant.tree g.S.Id.MeantId.id c.args.self.now c.seed.new.self c.received.new.self c.seed.ensures.others (Ok c.in_ok-received.field-0) c.args.name Recv (Some c.args.message) c.in_ok-received.ensures)
+pub returns : goal.returns
+returns g c =
+    drafted c.args.self.now c.make_room.new.self c.received.new.self (request.Recv c.args.name c.args.message) c.args.name Recv (Some c.args.message) c.in_ok-received.field-0 refl
+    (not_refused g (goal.at.returns g c).In_ok-check_room) c.make_room.ensures.same c.in_ok-received.ensures.0 c.in_ok-received.ensures.1 c.in_ok-received.ensures.2

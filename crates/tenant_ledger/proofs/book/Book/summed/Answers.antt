@@ -1,16 +1,16 @@
-use Rattle.std.proofs.Common.{map, refl, ◌≡◌, ◌∷◌, [], Some, length, ◌++◌, sym, ap, ◌∙◌, arith}
-use Rattle.std.proofs.lemmas.List.{length-append, length-map, map-append}
+use Rattle.std.proofs.Common.{refl, ◌≡◌, ◌+◌, ◌∷◌, [], Some, length, ◌++◌, ap, ◌∙◌, arith}
+use Rattle.std.proofs.lemmas.List.{length-map}
+use Rattle.std.specs.Prelude.{slice_get}
 use Rattle.indexmap.specs.IndexMap.{index_map_len}
 use Rattle.trace_types.specs.Rows.{history_of}
 use Rattle.trace_types.specs.Tenant.{row_after}
 use Rattle.trace_types.specs.declared.row.Kind.TheVariants.{Join}
-use Rattle.trace_types.specs.declared.task_state.TaskState.TheVariants.{Live, Ended}
-use Rattle.tenant_ledger.specs.declared.book.Book.{Book}
-use Rattle.tenant_ledger.specs.Ledger.{ids_in, task_in}
-use Rattle.tenant_ledger.proofs.Keeping.{stay-added, id-added}
-use Rattle.tenant_ledger.proofs.KeepingBook.{WasAdded, same_at_reserve, same_then_id, same_at_put, same_then_put, event_number, ids_same, first_put, first_count, adds_event}
+use Rattle.trace_types.specs.declared.task_state.TaskState.TheVariants.{Live, Ended, Joined}
+use Rattle.tenant_ledger.specs.Ledger.{ids_in, task_in, task_with, count_with}
+use Rattle.tenant_ledger.specs.declared.book.Task.{Task}
+use Rattle.tenant_ledger.proofs.Drafting.{is_ready_unnoted}
+use Rattle.tenant_ledger.proofs.Keeping.{slice_get-longer, slice_get-added}
 use Rattle.tenant_ledger.proofs.KeepingJoin.{join_row, disjoint_ids, sum_some, joined_fits, join_is_next}
-use Rattle.tenant_ledger.proofs.KeepingMessages.{messages_after}
 use Rattle.tenant_ledger.proofs.KeepingReports.{seeded_ids, Has, last-le, live_id, ended_id}
 use Rattle.tenant_ledger.proofs.book.Book.summed.Goals as goal
 
@@ -49,39 +49,30 @@ event-requires-clause-fits g c =
 
 pub returns : goal.returns
 returns g c =
-    let old = c.args.self.now in
-    let with_acting = c.put.new.self in
-    let new = c.put-2.new.self in
-    let id = c.in_ok-id.id in
-    let has : Has g.S.Kept.Meant.tree g.S.Id.MeantId.id Live old c.args.name c.args.task = record { is = c.requires.book; found = c.requires.task; state_is = c.requires.live } in
-    let has_child : Has g.S.Kept.Meant.tree g.S.Id.MeantId.id Ended old c.args.child c.args.joined = record { is = c.requires.book; found = c.requires.child; state_is = c.requires.ended } in
-    let was : WasAdded old c.add_id-id.new.self c.add-last.new.self new c.next_row-row.result c.in_ok-stored.stored c.add_id-id.result c.add-last.result = record {
-      before = same_then_id (same_at_reserve c.reserve.ensures.same) c.add_id-id.ensures.others;
-      is = c.add-last.ensures.others;
-      rows = c.add-last.ensures.rows;
-      trees = c.add-last.ensures.trees;
-      places = c.add-last.ensures.places;
-      number = c.add-last.ensures.event;
-      after = same_then_put (same_at_put c.add-last.new.self with_acting c.put.ensures.others) (same_at_put with_acting new c.put-2.ensures.others);
-    } in
+    let book = c.args.self.now in
     let meant_id = g.S.Id.MeantId.id in
-    let sum_id = c.in_ok-sum_id.sum_id in
-    let before = ids_in meant_id old in
-    let after = map meant_id new.ids.items in
-    let added_id = ids_same was ∙ (c.add_id-id.ensures.ids ∙ ap (λ ids. ids ++ sum_id ∷ []) c.reserve.ensures.same.ids) in
-    let new_ids : after ≡ before ++ meant_id sum_id ∷ [] =
-    ap (map meant_id) added_id ∙ map-append meant_id old.ids.items (sum_id ∷ []) ∙ ap (λ ids. ids ++ meant_id sum_id ∷ []) (sym (seeded_ids meant_id old.ids.items c.requires.seeded)) in
-    adds_event was (row_after (history_of old.rows.items) c.args.name Join (Some c.args.child)) c.requires.book
-    (c.next_row-row.ensures ∙ join_row has has_child)
-    (join_is_next has has_child c.can_be_written.ensures c.can_be_written-2.ensures c.requires.room c.few_events.ensures
-    c.id.result.now c.id-2.result.now id c.known.result.now c.known-2.result.now c.in_ok-known.known (g.S.Kept.Meant.tree c.in_ok-stored.stored) (map g.S.Id.MeantId.id new.ids.items) c.add_id-id.result
-    (task_in with_acting) (task_in new) c.add-last.result (index_map_len with_acting.tasks) (index_map_len new.tasks)
-    (live_id has c.id.result.now c.id.ensures) (ended_id has_child c.id-2.result.now c.id-2.ensures)
-    c.in_ok-id.ensures c.known.ensures c.known-2.ensures c.in_ok-known.ensures (c.in_ok-stored.ensures ∙ c.in_ok-tree.ensures)
-    (stay-added before after (meant_id sum_id) new_ids)
-    (id-added before after (meant_id sum_id) c.add_id-id.result new_ids (c.add_id-id.ensures.place ∙ ap length c.reserve.ensures.same.ids
-    ∙ sym (length-map old.ids.items meant_id) ∙ ap length (sym (seeded_ids meant_id old.ids.items c.requires.seeded))) ∙ ap Some c.in_ok-sum_id.ensures) (event_number was)
-    (first_put was c.args.name _ with_acting c.put.ensures.tasks) c.put-2.ensures.tasks
-    (first_count was c.args.name (index_map_len with_acting.tasks) c.put.ensures.count) c.put-2.ensures.count)
-    (messages_after old c.add_id-id.new.self (ap (λ (b : Book _ _ _). b.messages) c.add_id-id.ensures.others ∙ c.reserve.ensures.same.messages) (row_after (history_of old.rows.items) c.args.name Join (Some c.args.child)) refl refl c.requires.book)
-    (omega (arith, ap length added_id, length-append old.ids.items (sum_id ∷ [])))
+    let kept = ids_in meant_id book in
+    let sum_id = meant_id c.in_ok-sum_id.sum_id in
+    let has : Has g.S.Kept.Meant.tree g.S.Id.MeantId.id Live c.args.self.now c.args.name c.args.task = record { is = c.requires.book; found = c.requires.task; state_is = c.requires.live } in
+    let has_child : Has g.S.Kept.Meant.tree g.S.Id.MeantId.id Ended book c.args.child c.args.joined = record { is = c.requires.book; found = c.requires.child; state_is = c.requires.ended } in
+    let row_is = c.next_row-row.ensures ∙ join_row has has_child in
+    let last = c.event_count-last.result + 1 in
+    let place = c.len-id.result in
+    let place_is : place ≡ length kept =
+    omega (arith, c.len-id.ensures, book.ids.ok.0, length-map book.ids.items meant_id, ap length (seeded_ids meant_id book.ids.items c.requires.seeded)) in
+    let acting : Task = record { state = c.args.task.state; last = last; id = place } in
+    let taken : Task = record { state = Joined; last = c.args.joined.last; id = c.args.joined.id } in
+    let mid = task_with c.args.child taken (task_in book) in
+    let mid_count = count_with c.args.child (task_in book) (index_map_len book.tasks) in
+    record {
+      ready = is_ready_unnoted c.requires.book c.requires.space c.requires.seeded (row_after (history_of book.rows.items) c.args.name Join (Some c.args.child)) row_is refl refl
+          (join_is_next has has_child c.can_be_written.ensures c.can_be_written-2.ensures c.requires.room c.few_events.ensures
+          c.id.result.now c.id-2.result.now c.in_ok-id.id c.known.result.now c.known-2.result.now c.in_ok-known.known (g.S.Kept.Meant.tree c.in_ok-stored.stored) (kept ++ sum_id ∷ [] ++ []) place
+          mid (task_with c.args.name acting mid) last mid_count (count_with c.args.name mid mid_count)
+          (live_id has c.id.result.now c.id.ensures) (ended_id has_child c.id-2.result.now c.id-2.ensures)
+          c.in_ok-id.ensures c.known.ensures c.known-2.ensures c.in_ok-known.ensures (c.in_ok-stored.ensures ∙ c.in_ok-tree.ensures)
+          (λ at id there. slice_get-longer (kept ++ sum_id ∷ []) [] at id (slice_get-longer kept (sum_id ∷ []) at id there))
+          (slice_get-longer (kept ++ sum_id ∷ []) [] place sum_id (ap (slice_get (kept ++ sum_id ∷ [])) place_is ∙ slice_get-added kept sum_id) ∙ ap Some c.in_ok-sum_id.ensures)
+          (ap (λ n. n + 1) c.event_count-last.ensures) (λ other. refl) (λ other. refl) refl refl);
+      row = row_is;
+    }

@@ -1,9 +1,7 @@
-use Rattle.std.proofs.Common.{rules, ◌≡◌, false}
-use Rattle.trace_types.specs.Tenant.{is_report}
+use Rattle.std.proofs.Common.{sym}
 use Rattle.tenant_ledger.proofs.Answering.{query_steps}
 use Rattle.tenant_ledger.proofs.ledger.Ledger.report.Goals as goal
 
-pub returns-in-Order : goal.returns-in-Order
-returns-in-Order g c =
-    let query : is_report c.args.request.now ≡ false = search rules in
-    query_steps c.args.self.now c.args.request.now c.ask.result query c.ask.ensures
+pub returns-then-not-is_report : goal.returns-then-not-is_report
+returns-then-not-is_report g c =
+    query_steps c.args.self.now c.args.request.now c.ask.result (sym c.if-not-is_report.ensures) c.ask.ensures

@@ -1,0 +1,68 @@
+//! A report that will be accepted.
+ghost use Rattle.std.specs.Prelude.{◌≡◌, suc, ◌∷◌, Some, length};
+ghost use Rattle.trace_types.specs.Clock.{tree_clock};
+ghost use Rattle.trace_types.specs.Rows.{history_of};
+ghost use Rattle.trace_types.specs.Stamps.{tree_of};
+ghost use Rattle.trace_types.specs.Tenant.{with_row};
+ghost use Rattle.trace_types.specs.declared.reply.Reply.TheVariants as reply;
+
+use crate::book::{Book, Draft};
+use crate::share::{MeantId, Share};
+use crate::{Ledger, PlainShare};
+use std::marker::Model;
+use trace_query::Meant;
+use trace_types::{Reply, Row};
+
+/// A ledger with a report that will be accepted: it has to be committed or abandoned, and neither takes memory.
+///
+/// Contracts see the tenant as it is before the report, and the row of the report.
+pub struct Prepared<S: Share = PlainShare> {
+    pub(crate) book: Book<S>,
+    pub(crate) draft: Draft<S>,
+}
+
+impl<S: Share> Model for Prepared<S> {
+    ghost use Rattle.tenant_ledger.specs.Upcoming.{Upcoming};
+    ghost use Rattle.tenant_ledger.specs.Ledger.{IsReady, tenant_of};
+
+    ghost Value = { Upcoming };
+
+    ghost view = { λ p. record { tenant = tenant_of p.book; row = p.draft.row } };
+
+    ghost invariant = { λ p. IsReady S.Kept.tree S.Id.id p.book p.draft };
+}
+
+impl<S: Share> Prepared<S> {
+    /// The row that the report adds.
+    pub fn row(&self) -> &Row
+        ensures { result.now ≡ self.now.row }
+    {
+        &self.draft.row
+    }
+
+    /// What its event knows, as it is kept.
+    pub fn tree(&self) -> &S::Kept
+        ensures { S.Kept.tree result.now ≡ tree_of tree_clock (self.now.row ∷ history_of self.now.tenant.rows) (suc (length self.now.tenant.rows)) }
+    {
+        self.draft.tree()
+    }
+
+    /// Adds the report as the tenant's next event.
+    pub fn commit(self) -> (Ledger<S>, Reply)
+        ensures ledger { result.0 ≡ with_row self.tenant (Some self.row) }
+        ensures reply { result.1 ≡ reply.Accepted (suc (length self.tenant.rows)) }
+    {
+        let Prepared { mut book, draft } = self;
+        let event = book.commit(draft);
+        (Ledger { book }, Reply::Accepted(event))
+    }
+
+    /// Drops the report: the ledger is as it was before it was prepared.
+    pub fn abandon(self) -> Ledger<S>
+        ensures { result ≡ self.tenant }
+    {
+        let Prepared { mut book, draft } = self;
+        book.abandon(draft);
+        Ledger { book }
+    }
+}
