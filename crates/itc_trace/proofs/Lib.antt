@@ -1,4 +1,5 @@
 mod Amounts
 mod Asking
 mod CommandLine
+mod KindsOfWords
 mod Rows

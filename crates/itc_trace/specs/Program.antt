@@ -1,53 +1,98 @@
 -- What the program did.
-use Rattle.std.specs.Prelude.{◌≡◌, ◌≢◌, ℕ, ◌+◌, ◌<◌, ◌≤◌, ◌^◌, Bool, true, false, List, ◌++◌, ◌⊎◌, map}
+use Rattle.std.specs.Prelude.{◌≡◌, ◌≢◌, ℕ, ◌+◌, ◌<◌, ◌^◌, Bool, true, false, IsTrue, List, ◌++◌, ◌⊎◌, length, map, Option, IfSome}
 use Rattle.trace_types.specs.Name.{Text}
-use Rattle.trace_types.specs.Limits.{Limits}
+use Rattle.trace_types.specs.Limits.{Limits, are_limits}
 use Rattle.trace_types.specs.Tenant.{fresh}
 use Rattle.trace_types.specs.World.{World}
-use Rattle.line_protocol.specs.Writing.{WritesFront, IsWriteFault}
+use Rattle.line_protocol.specs.Source.{Given}
+use Rattle.line_protocol.specs.Sink.{Taken}
+use Rattle.line_protocol.specs.Writing.{WritesFront, EndsInFault}
 use Rattle.trace_world.specs.Replayed.{Replays, ReplaysInPart}
 use Rattle.trace_world.specs.declared.counts.Counts.{Counts}
 use Rattle.trace_world.specs.declared.replay_fault.ReplayFault.{ReplayFault}
+use Rattle.itc_trace.specs.CommandLine.{Asked, are_taken}
 use Rattle.itc_trace.specs.Fault.{line_of, fault_of_replay}
 use Rattle.itc_trace.specs.declared.fault.Fault.{Fault}
-use Rattle.itc_trace.specs.declared.fault.Fault.TheVariants.{Read, Write, TooLong}
+use Rattle.itc_trace.specs.declared.fault.Fault.TheVariants.{Tenants, Read, Write, TooLong}
 
 -- tenants of these names that have these limits and have reported nothing
 abbrev pub fresh_world : Limits → List Text → World
 fresh_world limits names = record { names = names; limits = limits; tenants = map (λ name. fresh limits) names }
 
 -- All that the reader gave was replayed, from tenants of these names and limits that had reported nothing.
-pub record ReplaysFresh (limits : Limits) (names : List Text) (given given' : List ℕ) (has_ended : Bool) (taken taken' : List ℕ) : Type 0 where
+pub record ReplaysFresh (limits : Limits) (names : List Text) (before after : Given) (taken taken' : Taken) : Type 0 where
   pub counts : Counts
   pub later : World
-  pub replays : Replays given given' has_ended taken taken' (fresh_world limits names) counts later
+  pub replays : Replays before after taken taken' (fresh_world limits names) counts later
 
 -- A replay for such tenants was broken off by this fault.
-pub record ReplaysFreshInPart (fault : Fault) (limits : Limits) (names : List Text) (given given' : List ℕ) (has_ended : Bool) (taken taken' : List ℕ) : Type 0 where
+pub record ReplaysFreshInPart (fault : Fault) (limits : Limits) (names : List Text) (before after : Given) (taken taken' : Taken) : Type 0 where
   pub cause : ReplayFault
   pub told : fault_of_replay cause ≡ fault
   pub later : World
-  pub replays : ReplaysInPart cause given given' has_ended taken taken' (fresh_world limits names) later
+  pub replays : ReplaysInPart cause before after taken taken' (fresh_world limits names) later
+
+-- All that the reader gave was replayed, for some tenants that are taken, with limits in their ranges.
+abbrev pub ReplaysSome : (before after : Given) (taken taken' : Taken) → Type 0
+ReplaysSome before after taken taken' = (limits : Limits) × (tenants : List Text)
+    × IsTrue (are_limits limits.events limits.tasks limits.messages) × IsTrue (are_taken tenants)
+    × ReplaysFresh limits tenants before after taken taken'
+
+-- Such a replay was broken off by this fault.
+abbrev pub ReplaysSomeInPart : (fault : Fault) (before after : Given) (taken taken' : Taken) → Type 0
+ReplaysSomeInPart fault before after taken taken' = (limits : Limits) × (tenants : List Text)
+    × IsTrue (are_limits limits.events limits.tasks limits.messages) × IsTrue (are_taken tenants)
+    × ReplaysFreshInPart fault limits tenants before after taken taken'
 
 -- one of the statuses with which the program ends
 abbrev pub IsStatus : ℕ → Type 0
 IsStatus status = (status ≡ 0) ⊎ ((status ≡ 2) ⊎ ((status ≡ 3) ⊎ (status ≡ 4)))
 
--- Tenants that are taken are not refused, and others are, unless memory is wanting before.
-abbrev pub IsStatusOf : Bool → ℕ → Type 0
-IsStatusOf true status = status ≢ 2
-IsStatusOf false status = (status ≡ 2) ⊎ (status ≡ 4)
+-- Nothing was read, and nothing written on the output.
+abbrev pub IsUntouched : {R W : Type 0} → R → R → W → W → Type 0
+IsUntouched reader reader' writer writer' = (reader' ≡ reader) × (writer' ≡ writer)
 
--- Why a run fails: by the reads that failed and were made, and the writes that failed and were interrupted, before and
--- after it.
-abbrev pub IsFailure : (failures failures' reads reads' write_failures write_failures' interruptions interruptions' : ℕ) → Fault → Type 0
-IsFailure failures failures' reads reads' write_failures write_failures' interruptions interruptions' Read = failures < failures'
-IsFailure failures failures' reads reads' write_failures write_failures' interruptions interruptions' TooLong = reads + 2 ^ 30 ≤ reads'
-IsFailure failures failures' reads reads' write_failures write_failures' interruptions interruptions' Write =
-    IsWriteFault write_failures write_failures' interruptions interruptions'
-IsFailure failures failures' reads reads' write_failures write_failures' interruptions interruptions' fault = ⊥
+-- No read or write failed, and what was written was handed on.
+abbrev pub GoesThrough : (before after : Given) (taken taken' : Taken) → Type 0
+GoesThrough before after taken taken' =
+    (before.failures < after.failures → ⊥) × (taken.failures < taken'.failures → ⊥) × IsTrue taken'.is_flushed
 
--- A fault's line was written, or a front of it where that failed too.
-abbrev pub Tells : (taken taken' : List ℕ) (failures failures' interruptions interruptions' : ℕ) → Fault → Type 0
-Tells taken taken' failures failures' interruptions interruptions' fault =
-    (taken' ≡ taken ++ line_of fault) ⊎ (WritesFront taken taken' (line_of fault) × IsWriteFault failures failures' interruptions interruptions')
+-- Why a run fails: by what is seen of the reader and the writer before and after it.
+abbrev pub IsFailure : (before after : Given) (taken taken' : Taken) → Fault → Type 0
+IsFailure before after taken taken' Read = before.failures < after.failures
+IsFailure before after taken taken' TooLong = after.reads ≡ before.reads + 2 ^ 30
+IsFailure before after taken taken' Write = EndsInFault taken taken'
+IsFailure before after taken taken' fault = ⊥
+
+-- The text was written and handed on, and no call failed.
+abbrev pub ShowsAll : Taken → Taken → Text → Type 0
+ShowsAll before after text = (after.bytes ≡ before.bytes ++ text) × IsTrue after.is_flushed × (after.failures ≡ before.failures)
+
+-- The text was written and handed on; or a call failed, and a front of it was written, perhaps all of it.
+abbrev pub Shows : Taken → Taken → Text → Type 0
+Shows before after text =
+    ShowsAll before after text
+    ⊎ (WritesFront before.bytes after.bytes text × EndsInFault before after)
+
+-- The line of a fault was shown.
+abbrev pub Tells : Taken → Taken → Fault → Type 0
+Tells before after fault = Shows before after (line_of fault)
+
+-- Some text was shown, the whole of it.
+abbrev pub ShowsSomeAll : Taken → Taken → Type 0
+ShowsSomeAll before after = (text : Text) × (0 < length text) × ShowsAll before after text
+
+-- Some text was shown, or a front of it where a call failed.
+abbrev pub ShowsSome : Taken → Taken → Type 0
+ShowsSome before after = (text : Text) × (0 < length text) × Shows before after text
+
+-- By whether the tenants are taken: those that are taken are not refused, and others are, unless memory is wanting
+-- before; and then the line says so.
+abbrev pub RefusesTenants : Bool → Taken → Taken → ℕ → Type 0
+RefusesTenants true before after status = status ≢ 2
+RefusesTenants false before after status = ((status ≡ 2) × Tells before after Tenants) ⊎ (status ≡ 4)
+
+-- What a run that fails leaves: the fault's cause, and in part the replay that is asked for.
+abbrev pub BreaksOff : (before after : Given) (taken taken' : Taken) → Option Asked → Fault → Type 0
+BreaksOff before after taken taken' asked fault = IsFailure before after taken taken' fault
+    × IfSome asked (λ wanted. ReplaysFreshInPart fault wanted.limits wanted.tenants before after taken taken')

@@ -1,7 +1,11 @@
 -- The command line as it is built, and what is read of it.
-use Rattle.std.specs.Prelude.{◌≡◌, ℕ, true, List, Option, Some, None, Result, Ok, Err, codes, option_and_then, if◌then◌else◌, map, string_bytes}
+use Rattle.std.specs.Prelude.{◌≡◌, ℕ, true, List, Option, Some, None, Result, Ok, Err, ◌⊎◌, [], codes, option_and_then, if◌then◌else◌, map, string_bytes}
 use Rattle.std.specs.Option.{option_map_or}
 use Rattle.clap.specs.Words.{App, Row, Rule, Text, all_of, one_of, new_app, new_rule, with_rule, with_subcommand}
+use Rattle.clap.specs.Faults.{fault_of}
+use Rattle.clap.specs.Kinds.{IsAmong}
+use Rattle.clap.specs.declared.error.kind.ErrorKind.{ErrorKind}
+use Rattle.clap.specs.declared.error.kind.ErrorKind.TheVariants.{DisplayHelp, DisplayVersion}
 use Rattle.clap.specs.declared.builder.ArgAction.TheVariants.{Append, Set}
 use Rattle.clap.specs.declared.builder.value_parser.ValueParser.TheVariants as parser
 use Rattle.trace_types.specs.Limits.{Limits, are_limits, default_limits}
@@ -37,12 +41,42 @@ replay_app =
 
 abbrev pub bare_app : App
 bare_app = record (new_app (codes "itc_trace")) {
-  top = record (new_app (codes "itc_trace")).top { no_binary_name = true; subcommand_required = true };
+  top = record (new_app (codes "itc_trace")).top { has_version = true; no_binary_name = true; subcommand_required = true };
 }
 
 -- the whole command line
 abbrev pub program_app : App
 program_app = with_subcommand bare_app replay_app.top
+
+-- why the command line does not take the words: the kinds of fault that may come, and none where it takes them
+abbrev pub kinds_of : List (List ℕ) → List ErrorKind
+kinds_of words = fault_of program_app words
+
+-- A fault of this kind is no mistake: help or the version was asked for.
+abbrev pub IsShown : ErrorKind → Type 0
+IsShown kind = (kind ≡ DisplayHelp) ⊎ (kind ≡ DisplayVersion)
+
+-- Help or the version may be asked for.
+abbrev pub AsksForHelp : List ErrorKind → Type 0
+AsksForHelp kinds = (kind : ErrorKind) × IsAmong kind kinds × IsShown kind
+
+-- The command line may refuse the words, or takes them.
+abbrev pub MayBeRefused : List ErrorKind → Type 0
+MayBeRefused kinds = (kinds ≡ []) ⊎ ((kind : ErrorKind) × IsAmong kind kinds × (IsShown kind → ⊥))
+
+-- what is made of a fault of this kind
+abbrev pub IsToldOf : ErrorKind → Result Asked Refusal → Type 0
+IsToldOf kind (Ok (Replay replay)) = ⊥
+IsToldOf kind (Ok (Show text)) = IsShown kind
+IsToldOf kind (Err (Words text)) = IsShown kind → ⊥
+IsToldOf kind (Err Memory) = Unit {0}
+
+-- what is made of words for which these kinds of fault may come
+abbrev pub IsAnswer : List ErrorKind → Result Asked Refusal → Type 0
+IsAnswer kinds (Ok (Replay replay)) = kinds ≡ []
+IsAnswer kinds (Ok (Show text)) = AsksForHelp kinds
+IsAnswer kinds (Err (Words text)) = MayBeRefused kinds
+IsAnswer kinds (Err Memory) = Unit {0}
 
 -- the tenants among what was found of a subcommand
 abbrev pub tenants_found : Option (Text × List Row) → Option (List Text)

@@ -46,11 +46,10 @@ impl Fault {
         }
     }
 
-    /// Writes the fault's line, and answers its status. Where that line cannot be written the status tells alone.
+    /// Writes the fault's line, hands it on, and answers its status. Where that fails the status tells alone.
     pub(crate) fn tell<E: Sink>(self, errors: &mut E) -> u8
         ensures status { result ≡ status_of self }
-        ensures told { Tells (E.taken errors.old) (E.taken errors.new) (E.failures errors.old) (E.failures errors.new)
-            (E.interruptions errors.old) (E.interruptions errors.new) self }
+        ensures told { Tells (E.seen errors.old) (E.seen errors.new) self }
     {
         if write_bytes(errors, self.line().as_bytes()).is_ok() {
             let _ = flush(errors);

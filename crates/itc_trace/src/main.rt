@@ -17,13 +17,10 @@ mod tests;
 mod words;
 
 use fault::Fault;
-use line_protocol::{FromReader, IntoWriter};
-use std::io::{BufWriter, ErrorKind};
+use line_protocol::{Buffered, FromReader, IntoWriter};
+use std::io::ErrorKind;
 use std::process::ExitCode;
 use std::{env, io};
-
-/// How many bytes of output are gathered before they are written.
-const OUTPUT_ROOM: usize = 65536;
 
 fn main(rt: HostRuntime) -> ExitCode {
     let mut errors = IntoWriter::new(rt.stderr());
@@ -40,8 +37,10 @@ fn start(rt: &HostRuntime, errors: &mut IntoWriter<io::Stderr>) -> io::Result<u8
     ensures { IfOk result IsStatus }
 {
     let words: Vec<String> = env::args(rt)?.skip(1).collect(rt.alloc())?;
-    let output = BufWriter::with_capacity(rt.alloc(), OUTPUT_ROOM, rt.stdout())?;
     let mut reader = FromReader::new(rt.stdin());
-    let mut writer = IntoWriter::new(output);
+    let mut writer = match Buffered::new(rt.alloc(), IntoWriter::new(rt.stdout())) {
+        Ok(writer) => writer,
+        Err(_) => return Ok(Fault::Memory.tell(errors)),
+    };
     Ok(program::run(rt, &words, &mut reader, &mut writer, errors))
 }

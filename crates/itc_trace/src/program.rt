@@ -1,12 +1,13 @@
 //! What the program does.
-ghost use Rattle.std.specs.Prelude.{◌≡◌, ◌<◌, ◌≤◌, ◌++◌, ◌⊎◌, List, length, map, true, false, IsTrue, OnOk, IfOk, IfErr, IfSome, IsErr, IsErrAnd, string_bytes};
-ghost use Rattle.line_protocol.specs.Writing.{IsWriteFault};
+ghost use Rattle.std.specs.Prelude.{◌≡◌, ◌≢◌, ◌<◌, ◌≤◌, ◌++◌, ◌⊎◌, List, [], length, map, true, false, IsTrue, OnOk, IfOk, IfErr, IfSome, IsErr, IsErrAnd, string_bytes};
+ghost use Rattle.line_protocol.specs.Writing.{EndsInFault};
 ghost use Rattle.std.specs.List.{list_all};
 ghost use Rattle.trace_types.specs.Name.{Text, is_name};
 ghost use Rattle.trace_types.specs.Limits.{Limits as Bounds, are_limits};
 ghost use Rattle.itc_trace.specs.CommandLine.{are_taken, asked_in};
 ghost use Rattle.itc_trace.specs.Fault.{status_of};
-ghost use Rattle.itc_trace.specs.Program.{ReplaysFresh, ReplaysFreshInPart, IsStatus, IsStatusOf, IsFailure, Tells};
+ghost use Rattle.itc_trace.specs.Reading.{AsksForHelp, MayBeRefused, kinds_of};
+ghost use Rattle.itc_trace.specs.Program.{BreaksOff, GoesThrough, IsFailure, IsUntouched, RefusesTenants, ReplaysFresh, ReplaysFreshInPart, ReplaysSome, ReplaysSomeInPart, Shows, ShowsAll, ShowsSome, ShowsSomeAll, Tells};
 
 use crate::fault::Fault;
 use crate::words::{Asked, Refusal, Replay, read_words};
@@ -29,57 +30,64 @@ pub fn run<T: AllocGlobal, S: AsStr, R: Source, W: Sink, E: Sink>(
     writer: &mut W,
     errors: &mut E,
 ) -> u8
-    ensures status { IsStatus result }
-    // Tenants after `replay` are refused where they are not to be taken, and where they are, their lines are replayed
-    // with the limits that are asked for.
-    ensures taken { IfSome (asked_in (map S.text words.now)) (λ asked. IsStatusOf (are_taken asked.tenants) result) }
+    // Status 2: the command line refuses the words, or takes them and the tenants are refused. Nothing was read or written,
+    // but for a text on standard error.
+    ensures words_refused { result ≡ 2 → MayBeRefused (kinds_of (map S.text words.now)) × IsUntouched reader.old reader.new writer.old writer.new × ShowsSome (E.seen errors.old) (E.seen errors.new) }
+    // Where the words ask for a replay, its tenants alone decide whether they are refused, and the line says so.
+    ensures tenants_refused { IfSome (asked_in (map S.text words.now)) (λ asked.
+        RefusesTenants (are_taken asked.tenants) (E.seen errors.old) (E.seen errors.new) result) }
+    // Status 4: nothing was read, and nothing written on the output.
+    ensures memory { result ≡ 4 → IsUntouched reader.old reader.new writer.old writer.new × Tells (E.seen errors.old) (E.seen errors.new) Fault.Memory }
+    // Status 0: no read or write failed, and help was asked for and shown and nothing read, or the words are taken and all
+    // lines of some tenants were replayed.
+    ensures help { result ≡ 0 → (errors.new ≡ errors.old)
+        × GoesThrough (R.seen reader.old) (R.seen reader.new) (W.seen writer.old) (W.seen writer.new)
+        × ((AsksForHelp (kinds_of (map S.text words.now)) × (reader.new ≡ reader.old) × ShowsSomeAll (W.seen writer.old) (W.seen writer.new))
+        ⊎ ((kinds_of (map S.text words.now) ≡ []) × ReplaysSome (R.seen reader.old) (R.seen reader.new) (W.seen writer.old) (W.seen writer.new))) }
+    // Where the words ask for a replay, it is done for these tenants, with these limits.
     ensures replayed { result ≡ 0 → IfSome (asked_in (map S.text words.now)) (λ asked. ReplaysFresh asked.limits asked.tenants
-        (R.given reader.old) (R.given reader.new) (R.has_ended reader.new) (W.taken writer.old) (W.taken writer.new)) }
-
-    // Whatever the words are, help was shown and nothing read, or the lines of some tenants were replayed.
-    ensures done { result ≡ 0 → (reader.new ≡ reader.old) ⊎ ((limits : Bounds) × (tenants : List Text)
-        × IsTrue (are_limits limits.events limits.tasks limits.messages) × IsTrue (are_taken tenants) × ReplaysFresh limits tenants
-        (R.given reader.old) (R.given reader.new) (R.has_ended reader.new) (W.taken writer.old) (W.taken writer.new)) }
-    ensures flushed { result ≡ 0 → IsTrue (W.is_flushed writer.new) }
-    ensures quiet { result ≡ 0 → errors.new ≡ errors.old }
-
-    // Where the words or the tenants are refused, and for want of memory, nothing was read or written.
-    ensures refused { (result ≡ 2) ⊎ (result ≡ 4) → (reader.new ≡ reader.old) × (writer.new ≡ writer.old) }
-
-    // What each other status says. A failed read or write is never passed over.
-    ensures failed { result ≡ 3 → (fault : Fault)
-        × IsFailure (R.failures reader.old) (R.failures reader.new) (R.reads reader.old) (R.reads reader.new)
-        (W.failures writer.old) (W.failures writer.new) (W.interruptions writer.old) (W.interruptions writer.new) fault
-        × Tells (E.taken errors.old) (E.taken errors.new) (E.failures errors.old) (E.failures errors.new)
-        (E.interruptions errors.old) (E.interruptions errors.new) fault
-        × IfSome (asked_in (map S.text words.now)) (λ asked. ReplaysFreshInPart fault asked.limits asked.tenants
-        (R.given reader.old) (R.given reader.new) (R.has_ended reader.new) (W.taken writer.old) (W.taken writer.new)) }
-    // Whatever the words are, nothing was read, or the replay of the lines of some tenants was broken off.
-    ensures stopped { result ≡ 3 → (reader.new ≡ reader.old) ⊎ ((fault : Fault) × (limits : Bounds) × (tenants : List Text)
-        × IsTrue (are_limits limits.events limits.tasks limits.messages) × IsTrue (are_taken tenants) × ReplaysFreshInPart fault limits tenants
-        (R.given reader.old) (R.given reader.new) (R.has_ended reader.new) (W.taken writer.old) (W.taken writer.new)) }
-    ensures read_failed { R.failures reader.old < R.failures reader.new → result ≡ 3 }
-    ensures write_failed { W.failures writer.old < W.failures writer.new → result ≡ 3 }
-    ensures no_memory { result ≡ 4 → Tells (E.taken errors.old) (E.taken errors.new) (E.failures errors.old) (E.failures errors.new)
-        (E.interruptions errors.old) (E.interruptions errors.new) Fault.Memory }
-    ensures no_tenants { result ≡ 2 → IfSome (asked_in (map S.text words.now)) (λ asked.
-        Tells (E.taken errors.old) (E.taken errors.new) (E.failures errors.old) (E.failures errors.new)
-        (E.interruptions errors.old) (E.interruptions errors.new) Fault.Tenants) }
+        (R.seen reader.old) (R.seen reader.new) (W.seen writer.old) (W.seen writer.new)) }
+    // Any other status is 3: showing help, or the replay that the words ask for, was broken off by a fault that is told.
+    ensures broken_off { (result ≢ 0) × (result ≢ 2) × (result ≢ 4) → (result ≡ 3) × (fault : Fault)
+        × BreaksOff (R.seen reader.old) (R.seen reader.new) (W.seen writer.old) (W.seen writer.new) (asked_in (map S.text words.now)) fault
+        × Tells (E.seen errors.old) (E.seen errors.new) fault
+        × ((reader.new ≡ reader.old) ⊎ ReplaysSomeInPart fault (R.seen reader.old) (R.seen reader.new) (W.seen writer.old) (W.seen writer.new)) }
 {
     let alloc = rt.alloc();
     let done = match read_words(alloc, words) {
         Ok(Asked::Replay(wanted)) => replay_tenants(rt, alloc, &wanted, reader, writer),
-        Ok(Asked::Show(text)) => show(writer, text.as_str()),
-        Err(Refusal::Words(text)) => {
-            let _ = show(errors, text.as_str());
-            return 2;
-        }
+        Ok(Asked::Show(text)) => show_help(writer, text.as_str()),
+        Err(Refusal::Words(text)) => return refuse(errors, text.as_str()),
         Err(Refusal::Memory) => Err(Fault::Memory),
     };
     match done {
         Ok(()) => 0,
         Err(fault) => fault.tell(errors),
     }
+}
+
+/// Tells why the words are refused, and answers the status for that.
+fn refuse<E: Sink>(errors: &mut E, text: &str) -> u8
+    ensures status { result ≡ 2 }
+    ensures told { ShowsSome (E.seen errors.old) (E.seen errors.new) }
+{
+    if text.is_empty() {
+        return Fault::Words.tell(errors);
+    }
+    let _ = show(errors, text);
+    Fault::Words.status()
+}
+
+/// Shows help, were it by the program's name alone.
+fn show_help<W: Sink>(writer: &mut W, text: &str) -> Result<(), Fault>
+    ensures ok { OnOk result (ShowsSomeAll (W.seen writer.old) (W.seen writer.new)) }
+    ensures err { IfErr result (λ fault. (fault ≡ Fault.Write) × EndsInFault (W.seen writer.old) (W.seen writer.new)) }
+    ensures failed { (W.seen writer.old).failures < (W.seen writer.new).failures → IsErr result }
+{
+    if text.is_empty() {
+        return show(writer, "itc_trace\n");
+    }
+    show(writer, text)
 }
 
 /// Replays the lines of the tenants.
@@ -90,21 +98,17 @@ fn replay_tenants<T, R: Source, W: Sink>(
     reader: &mut R,
     writer: &mut W,
 ) -> Result<(), Fault>
-    ensures ok { OnOk result (ReplaysFresh wanted.now.limits (map string_bytes wanted.now.tenants.items) (R.given reader.old) (R.given reader.new) (R.has_ended reader.new)
-        (W.taken writer.old) (W.taken writer.new)) }
+    ensures ok { OnOk result (ReplaysFresh wanted.now.limits (map string_bytes wanted.now.tenants.items) (R.seen reader.old) (R.seen reader.new) (W.seen writer.old) (W.seen writer.new)) }
     ensures taken { OnOk result (are_taken (map string_bytes wanted.now.tenants.items) ≡ true) }
     ensures ranges { OnOk result (IsTrue (are_limits wanted.now.limits.events wanted.now.limits.tasks wanted.now.limits.messages)) }
-    ensures flushed { OnOk result (IsTrue (W.is_flushed writer.new)) }
+    ensures flushed { OnOk result (IsTrue (W.seen writer.new).is_flushed) }
     ensures refused { IfErr result (λ fault. status_of fault ≡ 2 → (fault ≡ Fault.Tenants) × (are_taken (map string_bytes wanted.now.tenants.items) ≡ false)) }
     ensures unchanged { IfErr result (λ fault. (status_of fault ≡ 2) ⊎ (status_of fault ≡ 4) → (reader.new ≡ reader.old) × (writer.new ≡ writer.old)) }
     ensures in_part { IfErr result (λ fault. status_of fault ≡ 3 → (are_taken (map string_bytes wanted.now.tenants.items) ≡ true)
-        × ReplaysFreshInPart fault wanted.now.limits (map string_bytes wanted.now.tenants.items) (R.given reader.old) (R.given reader.new) (R.has_ended reader.new)
-        (W.taken writer.old) (W.taken writer.new)) }
-    ensures failed { IfErr result (λ fault. status_of fault ≡ 3 → IsFailure (R.failures reader.old) (R.failures reader.new)
-        (R.reads reader.old) (R.reads reader.new) (W.failures writer.old) (W.failures writer.new)
-        (W.interruptions writer.old) (W.interruptions writer.new) fault) }
-    ensures read_failed { R.failures reader.old < R.failures reader.new → IsErrAnd result (λ fault. status_of fault ≡ 3) }
-    ensures write_failed { W.failures writer.old < W.failures writer.new → IsErrAnd result (λ fault. status_of fault ≡ 3) }
+        × ReplaysFreshInPart fault wanted.now.limits (map string_bytes wanted.now.tenants.items) (R.seen reader.old) (R.seen reader.new) (W.seen writer.old) (W.seen writer.new)) }
+    ensures failed { IfErr result (λ fault. status_of fault ≡ 3 → IsFailure (R.seen reader.old) (R.seen reader.new) (W.seen writer.old) (W.seen writer.new) fault) }
+    ensures read_failed { (R.seen reader.old).failures < (R.seen reader.new).failures → IsErrAnd result (λ fault. status_of fault ≡ 3) }
+    ensures write_failed { (W.seen writer.old).failures < (W.seen writer.new).failures → IsErrAnd result (λ fault. status_of fault ≡ 3) }
 {
     let names = read_names(alloc, &wanted.tenants)?;
     let mut world = World::new(alloc, &names, wanted.limits)?;
@@ -134,11 +138,10 @@ fn read_names(alloc: Global, tenants: &[String]) -> Result<Vec<Name>, Fault>
 
 /// Writes a text, and hands it on.
 fn show<W: Sink>(writer: &mut W, text: &str) -> Result<(), Fault>
-    ensures ok { OnOk result (W.taken writer.new ≡ W.taken writer.old ++ text.now) }
-    ensures flushed { OnOk result (IsTrue (W.is_flushed writer.new)) }
-    ensures err { IfErr result (λ fault. (fault ≡ Fault.Write)
-        × IsWriteFault (W.failures writer.old) (W.failures writer.new) (W.interruptions writer.old) (W.interruptions writer.new)) }
-    ensures failed { W.failures writer.old < W.failures writer.new → IsErr result }
+    ensures shown { Shows (W.seen writer.old) (W.seen writer.new) text.now }
+    ensures ok { OnOk result (ShowsAll (W.seen writer.old) (W.seen writer.new) text.now) }
+    ensures err { IfErr result (λ fault. (fault ≡ Fault.Write) × EndsInFault (W.seen writer.old) (W.seen writer.new)) }
+    ensures failed { (W.seen writer.old).failures < (W.seen writer.new).failures → IsErr result }
 {
     write_bytes(writer, text.as_bytes()).map_err(|_| Fault::Write)?;
     flush(writer).map_err(|_| Fault::Write)

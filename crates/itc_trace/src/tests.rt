@@ -205,6 +205,40 @@ fn help_goes_to_the_output_with_status_0(rt: HostRuntime) -> Result<(), Fail> {
 }
 
 #[test]
+fn the_version_is_told_with_status_0(rt: HostRuntime) {
+    let words: [&str; 2] = ["--version", "-V"];
+    for word in words {
+        let outcome = run_on(&rt, &[word], b"x count\n");
+        assert_eq!(rt; outcome.status, 0);
+        assert_eq!(rt; outcome.output.as_slice(), b"itc_trace 0.1.0\n".as_slice());
+        assert!(rt; outcome.errors.is_empty());
+    }
+}
+
+fn has_part(text: &[u8], wanted: &[u8]) -> bool {
+    wanted.is_empty() || text.windows(wanted.len()).any(|part| part == wanted)
+}
+
+#[test]
+fn usage_begins_with_the_name_of_the_program(rt: HostRuntime) {
+    let top: &[u8] = b"Usage: itc_trace <COMMAND>\n";
+    let below: &[u8] = b"Usage: itc_trace replay ";
+    let cases: [(&[&str], &[u8]); 5] = [
+        (&["--help"], top),
+        (&["replay", "--help"], below),
+        (&["help", "replay"], below),
+        (&["nonsense"], top),
+        (&["replay"], below),
+    ];
+    for (words, want) in cases {
+        let outcome = run_on(&rt, words, b"");
+        let told = has_part(outcome.output.as_slice(), want)
+            || has_part(outcome.errors.as_slice(), want);
+        assert!(rt; told);
+    }
+}
+
+#[test]
 fn help_tells_each_option_with_its_range_and_default(rt: HostRuntime) {
     let outcome = run_on(&rt, &["replay", "--help"], b"x count\n");
     assert_eq!(rt; outcome.status, 0);
@@ -218,7 +252,7 @@ fn help_tells_each_option_with_its_range_and_default(rt: HostRuntime) {
         b"1 to 16384 [default: 2048]",
     ];
     for text in wanted {
-        assert!(rt; outcome.output.windows(text.len()).any(|part| part == text));
+        assert!(rt; has_part(outcome.output.as_slice(), text));
     }
 }
 

@@ -1,9 +1,9 @@
 //! The words of the command line.
-ghost use Rattle.std.specs.Prelude.{◌≡◌, ℕ, false, Some, Err, map, IfOk, IfErr, IfSome, string_bytes};
+ghost use Rattle.std.specs.Prelude.{◌≡◌, ℕ, false, [], Some, Err, map, IfOk, IfErr, IfSome, string_bytes};
 ghost use Rattle.clap.specs.Words.{app_of, found_of, kind_of, rows_of, rule_of, subcommand_rows_of};
 ghost use Rattle.clap.specs.declared.builder.Command.TheViews.{out-Command as fields_of};
 ghost use Rattle.itc_trace.specs.CommandLine.{Asked as Wanted, asked_in};
-ghost use Rattle.itc_trace.specs.Reading.{Finds, FindsLimits, Has, Reads, amount_in, limit_rule, program_app, replay_app, tenant_rule};
+ghost use Rattle.itc_trace.specs.Reading.{Finds, FindsLimits, Has, IsAnswer, IsToldOf, Reads, amount_in, kinds_of, limit_rule, program_app, replay_app, tenant_rule};
 
 use clap::builder::ValueParser;
 use clap::error::ErrorKind;
@@ -96,6 +96,8 @@ fn command<'a>(alloc: Global) -> Result<Command<'a>, AllocError>
     ensures { IfOk result (λ command. app_of command ≡ program_app) }
 {
     Command::new(alloc, "itc_trace")
+        .bin_name("itc_trace")?
+        .version("0.1.0")
         .about("Collects the events of tasks, and answers how they are ordered")
         .after_help(HELP)
         .no_binary_name(true)
@@ -148,7 +150,9 @@ fn limit<'a>(alloc: Global, name: &'a str, help: &'a str, most: u64) -> Arg<'a>
 /// `--messages N` once at most, with a whole number in its range.
 pub(crate) fn read_words<S: AsStr>(alloc: Global, words: &[S]) -> Result<Asked, Refusal>
     // Limits and tenants are read as they stand, and want of memory alone prevents it.
-    ensures { IfSome (asked_in (map S.text words.now)) (λ asked. Reads asked result) }
+    ensures asked { IfSome (asked_in (map S.text words.now)) (λ asked. Reads asked result) }
+    // Whatever the words are, help is shown only where it is asked for.
+    ensures kinds { IsAnswer (kinds_of (map S.text words.now)) result }
 {
     match command(alloc)?.try_get_matches_from(words) {
         Ok(matches) => asked_of(alloc, &matches),
@@ -158,7 +162,8 @@ pub(crate) fn read_words<S: AsStr>(alloc: Global, words: &[S]) -> Result<Asked, 
 
 /// What was found.
 fn asked_of(alloc: Global, matches: &ArgMatches) -> Result<Asked, Refusal>
-    ensures { (asked : Wanted) → Has (subcommand_rows_of matches.now) asked → Reads asked result }
+    ensures asked { (asked : Wanted) → Has (subcommand_rows_of matches.now) asked → Reads asked result }
+    ensures kinds { IsAnswer [] result }
 {
     let tenants = tenants_of(alloc, matches)?;
     match limits_of(matches) {
@@ -211,15 +216,17 @@ fn copy_texts(alloc: Global, texts: &[&str]) -> Result<Vec<String>, Refusal>
 
 /// The text of an error that clap made: help, or why the words are refused.
 fn shown(alloc: Global, error: &Error) -> Result<Asked, Refusal>
-    ensures { kind_of error.now ≡ ErrorKind.OutOfMemory → result ≡ Err Refusal.Memory }
+    ensures memory { kind_of error.now ≡ ErrorKind.OutOfMemory → result ≡ Err Refusal.Memory }
+    ensures told { IsToldOf (kind_of error.now) result }
 {
-    if error.kind() == ErrorKind::OutOfMemory {
+    let kind = error.kind();
+    if kind == ErrorKind::OutOfMemory {
         return Err(Refusal::Memory);
     }
     let text = format!(in alloc; "{error}")?;
-    if error.use_stderr() {
-        Err(Refusal::Words(text))
-    } else {
+    if kind == ErrorKind::DisplayHelp || kind == ErrorKind::DisplayVersion {
         Ok(Asked::Show(text))
+    } else {
+        Err(Refusal::Words(text))
     }
 }

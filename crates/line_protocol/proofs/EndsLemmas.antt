@@ -3,7 +3,7 @@ use Rattle.std.proofs.Common.{◌≡◌, ℕ, suc, ◌+◌, ◌-◌, ◌<◌, Bo
 use Rattle.std.proofs.lemmas.Bool.Decides.{eqb_tells}
 use Rattle.std.proofs.lemmas.List.{length-map}
 use Rattle.std.proofs.lemmas.List.Sums.{sum_by-cons}
-use Rattle.std.specs.Prelude.{if◌then◌else◌}
+use Rattle.std.specs.Prelude.{if◌then◌else◌, not, is_some, IsTrue}
 use Rattle.std.proofs.Common.{inl, inr}
 use Rattle.std.proofs.lemmas.Iterator.Adapters.{position_from-zero}
 use Rattle.std.specs.List.{position, position_from}
@@ -111,3 +111,24 @@ is_end xs (Some k) (at, place, ends) = let same : k ≡ at = omega arith in rw s
 -- what a search for the first end finds
 pub IsEnd-position : (xs : List ℕ) → IsEnd xs (position (λ byte. byte == 10) xs)
 IsEnd-position xs = rw (position_from-zero (λ byte. byte == 10) xs) (is_end xs (position_from (λ byte. byte == 10) 0 xs) (found 0 xs))
+
+-- an end of line is one
+pub HasNoEnd-ended : (xs ys : List ℕ) → HasNoEnd (xs ++ 10 ∷ ys) → ⊥
+HasNoEnd-ended [] ys none = let no = none.0 in cc
+HasNoEnd-ended (x ∷ xs) ys none = HasNoEnd-ended xs ys none.1
+
+-- where an end of line was found there is one
+pub EndsAt-has_end : {bytes : List ℕ} {at : ℕ} → EndsAt bytes at → HasNoEnd bytes → ⊥
+EndsAt-has_end ends none = HasNoEnd-ended ends.before ends.after (rw ends.splits at none)
+
+-- the front of bytes that have no end
+pub HasNoEnd-front : (xs ys : List ℕ) → HasNoEnd (xs ++ ys) → HasNoEnd xs
+HasNoEnd-front [] ys none = tt
+HasNoEnd-front (x ∷ xs) ys none = (none.0, HasNoEnd-front xs ys none.1)
+
+-- whether a search found no end
+pub IsEnd-none : (bytes : List ℕ) (found : Option ℕ) (none : Bool) → IsEnd bytes found → is_some found ≡ not none → (IsTrue none → HasNoEnd bytes) × (HasNoEnd bytes → IsTrue none)
+IsEnd-none bytes None true is_end told = (λ _. is_end, λ _. refl)
+IsEnd-none bytes None false is_end told = absurd (cc)
+IsEnd-none bytes (Some at) true is_end told = absurd (cc)
+IsEnd-none bytes (Some at) false is_end told = (λ no. absurd (cc), λ none. absurd (EndsAt-has_end is_end none))

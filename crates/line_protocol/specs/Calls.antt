@@ -1,5 +1,7 @@
 -- The calls that were made of a reader or a writer, the last first.
 use Rattle.std.specs.Prelude.{ℕ, ◌+◌, Bool, false, List, [], ◌∷◌, ◌++◌, slice_index, ◌==◌, if◌then◌else◌}
+use Rattle.line_protocol.specs.Source.{Given}
+use Rattle.line_protocol.specs.Sink.{Taken}
 
 -- how a call ended: 0 it moved bytes, 1 it moved none of some, 2 it failed, 3 it was interrupted, 4 it flushed
 pub record Call : Type 0 where
@@ -33,3 +35,23 @@ endings ending (call ∷ earlier) = endings ending earlier + (if call.ending == 
 abbrev pub call_count : List Call → ℕ
 call_count [] = 0
 call_count (call ∷ earlier) = call_count earlier + 1
+
+-- what was seen of a reader
+abbrev pub given_by : List Call → Given
+given_by calls = record {
+  bytes = bytes_moved calls;
+  has_ended = is_last_empty calls;
+  ends = endings 1 calls;
+  reads = call_count calls;
+  failures = endings 2 calls;
+  interruptions = endings 3 calls;
+}
+
+-- what was seen of a writer
+abbrev pub taken_by : List Call → Taken
+taken_by calls = record {
+  bytes = bytes_moved calls;
+  is_flushed = is_last_flush calls;
+  failures = endings 1 calls + endings 2 calls;
+  interruptions = endings 3 calls;
+}

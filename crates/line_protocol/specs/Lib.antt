@@ -3,6 +3,7 @@ pub mod Endings
 pub mod Stopped
 pub mod Source
 pub mod Sink
+pub mod Buffered
 pub mod Held
 pub mod LineReading
 pub mod Ends

@@ -3,6 +3,7 @@ use Rattle.std.specs.Prelude.{◌≡◌, ℕ, ◌+◌, ◌-◌, ◌*◌, ◌≤�
 use Rattle.trace_types.specs.Name.{Text}
 use Rattle.trace_types.specs.Lines.{lines, is_too_long}
 use Rattle.line_protocol.specs.Held.{Held}
+use Rattle.line_protocol.specs.Source.{Given, one_if}
 use Rattle.line_protocol.specs.Ends.{HasNoEnd}
 use Rattle.line_protocol.specs.declared.line.Line.{Line}
 use Rattle.line_protocol.specs.declared.line.Line.TheVariants.{Whole, TooLong, End}
@@ -51,6 +52,17 @@ abbrev pub failed_reads : {A : Type 0} → Result A ReadFault → ℕ
 failed_reads (Ok value) = 0
 failed_reads (Err fault.Read) = 1
 failed_reads (Err fault.TooLong) = 0
+
+-- Reads were made, so many of them failed, and none was made after one that told the end. The end is known once it
+-- was told.
+pub record Reads (before after : Given) (old new : Held) (failed : ℕ) : Type 0 where
+  pub failures : after.failures ≡ before.failures + failed
+  pub counted : new.reads + before.reads ≡ old.reads + after.reads
+  pub ends : after.ends + one_if old.is_ended ≡ before.ends + one_if new.is_ended
+
+-- A line cannot be given without a read: no end of line is held, and the end was not told.
+abbrev pub NeedsRead : Held → Type 0
+NeedsRead held = HasNoEnd held.left × (held.is_ended ≡ false)
 
 -- 2^30 reads were made where the answer is that there were too many
 abbrev pub IfTooLong : {A : Type 0} → Result A ReadFault → ℕ → Type 0

@@ -1,8 +1,18 @@
--- What one write does to a sink.
-use Rattle.std.specs.Prelude.{ℕ, Result, ◌&&◌, List, [], length, take, Ok, Err, ◌==◌, nat_lt, if◌then◌else◌}
+-- What is seen of a sink, and what one call adds.
+use Rattle.std.specs.Prelude.{◌≡◌, ℕ, ◌+◌, Result, Bool, IsTrue, OnOk, ◌&&◌, List, [], ◌++◌, length, take, Ok, Err, ◌==◌, nat_lt, if◌then◌else◌}
 use Rattle.line_protocol.specs.declared.stop.Stop.{Stop}
-use Rattle.line_protocol.specs.declared.stop.Stop.TheVariants.{Interrupted, Failed}
-use Rattle.line_protocol.specs.Source.{failure_count_of}
+use Rattle.line_protocol.specs.Source.{failure_count, failure_count_of, interruption_count}
+
+-- what a sink took, and how its calls ended
+pub record Taken : Type 0 where
+  -- all bytes that it took
+  pub bytes : List ℕ
+  -- whether it has handed on all of them
+  pub is_flushed : Bool
+  -- how many calls failed, or took no byte of some
+  pub failures : ℕ
+  -- how many calls were interrupted
+  pub interruptions : ℕ
 
 -- the bytes that a write took
 abbrev pub bytes_taken : Result ℕ Stop → List ℕ → List ℕ
@@ -14,11 +24,15 @@ abbrev pub write_failure_count : Result ℕ Stop → List ℕ → ℕ
 write_failure_count (Ok n) bytes = if (n == 0) && nat_lt 0 (length bytes) then 1 else 0
 write_failure_count (Err stop) bytes = failure_count_of stop
 
--- how many interruptions a call adds
-abbrev pub interruption_count_of : Stop → ℕ
-interruption_count_of Interrupted = 1
-interruption_count_of Failed = 0
+-- One write of these bytes was made.
+pub record WritesOnce (before after : Taken) (result : Result ℕ Stop) (bytes : List ℕ) : Type 0 where
+  pub taken : after.bytes ≡ before.bytes ++ bytes_taken result bytes
+  pub failures : after.failures ≡ before.failures + write_failure_count result bytes
+  pub interruptions : after.interruptions ≡ before.interruptions + interruption_count result
 
-abbrev pub interruption_count : {A : Type 0} → Result A Stop → ℕ
-interruption_count (Ok value) = 0
-interruption_count (Err stop) = interruption_count_of stop
+-- One flush was made.
+pub record FlushesOnce (before after : Taken) (result : Result Unit Stop) : Type 0 where
+  pub taken : after.bytes ≡ before.bytes
+  pub flushed : OnOk result (IsTrue after.is_flushed)
+  pub failures : after.failures ≡ before.failures + failure_count result
+  pub interruptions : after.interruptions ≡ before.interruptions + interruption_count result

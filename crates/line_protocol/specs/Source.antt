@@ -1,7 +1,27 @@
--- What one read does to a source.
-use Rattle.std.specs.Prelude.{ℕ, Result, Bool, false, ◌&&◌, List, [], length, take, Ok, Err, ◌==◌, nat_lt}
+-- What is seen of a source, and what one read adds.
+use Rattle.std.specs.Prelude.{◌≡◌, ℕ, ◌+◌, Result, Bool, IsTrue, ◌⊎◌, true, false, ◌&&◌, List, [], ◌++◌, length, take, Ok, Err, ◌==◌, nat_lt}
 use Rattle.line_protocol.specs.declared.stop.Stop.{Stop}
 use Rattle.line_protocol.specs.declared.stop.Stop.TheVariants.{Interrupted, Failed}
+
+-- what a source gave, and how its reads ended
+pub record Given : Type 0 where
+  -- all bytes that it gave
+  pub bytes : List ℕ
+  -- whether its last read told the end of its input
+  pub has_ended : Bool
+  -- how many reads told the end
+  pub ends : ℕ
+  -- how many reads were made
+  pub reads : ℕ
+  -- how many of them failed; an interrupted one did not
+  pub failures : ℕ
+  -- how many of them were interrupted
+  pub interruptions : ℕ
+
+-- 1 where it is so
+abbrev pub one_if : Bool → ℕ
+one_if true = 1
+one_if false = 0
 
 -- the bytes that a read into the buffer gave
 abbrev pub bytes_given : Result ℕ Stop → List ℕ → List ℕ
@@ -13,10 +33,14 @@ abbrev pub bytes_read : Result ℕ Stop → ℕ
 bytes_read (Ok n) = n
 bytes_read (Err stop) = 0
 
+-- whether a read gave no byte, and did not stop
+abbrev pub gives_none : Result ℕ Stop → Bool
+gives_none (Ok n) = n == 0
+gives_none (Err stop) = false
+
 -- A read tells the end where it gives no byte though there is room.
 abbrev pub tells_end : Result ℕ Stop → List ℕ → Bool
-tells_end (Ok n) buffer = (n == 0) && nat_lt 0 (length buffer)
-tells_end (Err stop) buffer = false
+tells_end result buffer = gives_none result && nat_lt 0 (length buffer)
 
 -- how many failures a call adds; an interruption is none
 abbrev pub failure_count_of : Stop → ℕ
@@ -26,3 +50,25 @@ failure_count_of Failed = 1
 abbrev pub failure_count : {A : Type 0} → Result A Stop → ℕ
 failure_count (Ok value) = 0
 failure_count (Err stop) = failure_count_of stop
+
+-- how many interruptions a call adds
+abbrev pub interruption_count_of : Stop → ℕ
+interruption_count_of Interrupted = 1
+interruption_count_of Failed = 0
+
+abbrev pub interruption_count : {A : Type 0} → Result A Stop → ℕ
+interruption_count (Ok value) = 0
+interruption_count (Err stop) = interruption_count_of stop
+
+-- One read was made into the buffer.
+pub record ReadsOnce (before after : Given) (result : Result ℕ Stop) (buffer : List ℕ) : Type 0 where
+  pub bytes : after.bytes ≡ before.bytes ++ bytes_given result buffer
+  pub has_ended : after.has_ended ≡ tells_end result buffer
+  pub ends : after.ends ≡ before.ends + one_if (tells_end result buffer)
+  pub reads : after.reads ≡ before.reads + 1
+  pub failures : after.failures ≡ before.failures + failure_count result
+  pub interruptions : after.interruptions ≡ before.interruptions + interruption_count result
+
+-- Nothing was read after a read that told the end.
+abbrev pub StopsAtEnd : Given → Given → Type 0
+StopsAtEnd before after = (after.ends ≡ before.ends) ⊎ ((after.ends ≡ before.ends + 1) × IsTrue after.has_ended)

@@ -1,6 +1,7 @@
 -- What calls that write leave, at a fault too.
-use Rattle.std.specs.Prelude.{◌≡◌, ℕ, ◌+◌, ◌≤◌, ◌<◌, Result, Ok, Err, List, ◌++◌, ◌⊎◌}
+use Rattle.std.specs.Prelude.{◌≡◌, ℕ, ◌+◌, ◌≤◌, ◌<◌, Result, Ok, Err, IsTrue, List, ◌++◌, ◌⊎◌}
 use Rattle.trace_types.specs.Name.{Text}
+use Rattle.line_protocol.specs.Sink.{Taken}
 
 -- Of the text a front was written, perhaps all of it.
 pub record WritesFront (old new text : List ℕ) : Type 0 where
@@ -9,20 +10,50 @@ pub record WritesFront (old new text : List ℕ) : Type 0 where
   pub grows : new ≡ old ++ written
   pub front : text ≡ written ++ rest
 
--- A call failed, or 1048576 were interrupted.
-abbrev pub IsWriteFault : ℕ → ℕ → ℕ → ℕ → Type 0
-IsWriteFault failures failures' interruptions interruptions' =
-    (failures < failures') ⊎ (interruptions + 1048576 ≤ interruptions')
+-- The last call failed, and before it fewer than 1048576 were interrupted; or the last one was the 1048576th that was
+-- interrupted, and none failed.
+abbrev pub IsWriteFault : Taken → Taken → Type 0
+IsWriteFault before after =
+    ((after.failures ≡ before.failures + 1) × (after.interruptions < before.interruptions + 1048576))
+    ⊎ ((after.failures ≡ before.failures) × (after.interruptions ≡ before.interruptions + 1048576))
+
+-- No call failed, and fewer than 1048576 were interrupted.
+pub record GoesWell (before after : Taken) : Type 0 where
+  pub failures : after.failures ≡ before.failures
+  pub more : before.interruptions ≤ after.interruptions
+  pub few : after.interruptions < before.interruptions + 1048576
+
+-- A fault came.
+pub record GoesWrong (before after : Taken) : Type 0 where
+  pub more : before.interruptions ≤ after.interruptions
+  pub fault : IsWriteFault before after
 
 -- The text was written, or at a fault a front of it.
-abbrev pub Writes : {A E : Type 0} → List ℕ → List ℕ → Result A E → Text → Type 0
-Writes old new (Ok done) text = new ≡ old ++ text
-Writes old new (Err fault) text = WritesFront old new text
+abbrev pub Writes : {A E : Type 0} → Taken → Taken → Result A E → Text → Type 0
+Writes before after (Ok done) text = (after.bytes ≡ before.bytes ++ text) × GoesWell before after
+Writes before after (Err fault) text = WritesFront before.bytes after.bytes text × GoesWrong before after
 
--- Interruptions take patience, and a fault is a failure or the end of patience.
-abbrev pub Spends : {A E : Type 0} → ℕ → ℕ → ℕ → ℕ → ℕ → ℕ → Result A E → Type 0
-Spends failures failures' interruptions interruptions' patience patience' (Ok done) =
-    (failures' ≡ failures) × (interruptions ≤ interruptions') × (interruptions' + patience' ≡ interruptions + patience) × (0 < patience')
-Spends failures failures' interruptions interruptions' patience patience' (Err fault) =
-    (failures ≤ failures') × (interruptions ≤ interruptions') × (interruptions' + patience' ≡ interruptions + patience)
-    × ((failures < failures') ⊎ (patience' ≡ 0))
+-- What was written was handed on, unless a fault came.
+abbrev pub Flushes : {A E : Type 0} → Taken → Taken → Result A E → Type 0
+Flushes before after (Ok done) = (after.bytes ≡ before.bytes) × IsTrue after.is_flushed × GoesWell before after
+Flushes before after (Err fault) = (after.bytes ≡ before.bytes) × GoesWrong before after
+
+-- The text was written, or at a fault a front of it, whatever patience it took.
+abbrev pub WritesText : {A E : Type 0} → Taken → Taken → Result A E → Text → Type 0
+WritesText before after (Ok done) text = after.bytes ≡ before.bytes ++ text
+WritesText before after (Err fault) text = WritesFront before.bytes after.bytes text
+
+-- Each interruption takes some of the patience, and a fault is a failure or the end of patience.
+abbrev pub Spends : {A E : Type 0} → Taken → Taken → ℕ → ℕ → Result A E → Type 0
+Spends before after patience patience' (Ok done) =
+    (after.failures ≡ before.failures) × (before.interruptions ≤ after.interruptions)
+    × (after.interruptions + patience' ≡ before.interruptions + patience) × (0 < patience')
+Spends before after patience patience' (Err fault) =
+    (before.interruptions ≤ after.interruptions) × (after.interruptions + patience' ≡ before.interruptions + patience)
+    × (((after.failures ≡ before.failures + 1) × (0 < patience')) ⊎ ((after.failures ≡ before.failures) × (patience' ≡ 0)))
+
+-- Over several pieces: the last call failed, and none before it; or none failed, and 1048576 or more were interrupted.
+abbrev pub EndsInFault : Taken → Taken → Type 0
+EndsInFault before after =
+    (after.failures ≡ before.failures + 1)
+    ⊎ ((after.failures ≡ before.failures) × (before.interruptions + 1048576 ≤ after.interruptions))

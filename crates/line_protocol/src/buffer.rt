@@ -1,9 +1,9 @@
 //! The bytes that a line reader has read.
-ghost use Rattle.std.specs.Prelude.{◌≡◌, ◌+◌, ◌-◌, ◌≤◌, ◌<◌, ◌^◌, IsTrue, [], ◌⊎◌, false, IfOk, OnOk, OnErr, IfNone, length, take, drop, slice_range, position, ◌==◌};
+ghost use Rattle.std.specs.Prelude.{◌≡◌, ◌↔◌, ◌+◌, ◌-◌, ◌≤◌, ◌<◌, ◌^◌, IsTrue, [], ◌⊎◌, false, IfOk, OnOk, OnErr, IfNone, length, take, drop, slice_range, position, ◌==◌};
 ghost use Rattle.trace_types.specs.Lines.{without_return};
-ghost use Rattle.line_protocol.specs.LineReading.{Extends, Finds, FindsNone, LeavesLess, work_left, failed_reads, IfTooLong};
+ghost use Rattle.line_protocol.specs.LineReading.{Extends, Finds, FindsNone, LeavesLess, NeedsRead, Reads, work_left, failed_reads, IfTooLong};
 ghost use Rattle.line_protocol.specs.Ends.{IsEnd, HasNoEnd, Comes, Skipped, Skips, kind_of, kind_of_length, last_line};
-ghost use Rattle.line_protocol.specs.Source.{failure_count, bytes_read};
+ghost use Rattle.line_protocol.specs.Source.{failure_count, bytes_read, gives_none, one_if};
 
 use crate::{Line, ReadFault, Source, Stop};
 use std::alloc::Global;
@@ -80,18 +80,25 @@ impl Buffer {
         &self.bytes[self.line_start..self.line_end]
     }
 
+    /// Whether the next line cannot be given without a read.
+    pub fn needs_read(&self) -> bool
+        ensures { IsTrue result ↔ NeedsRead self.now }
+    {
+        !self.is_ended && self.end_of_line().is_none()
+    }
+
     /// Finds the next line of the source. It takes no memory.
     ///
     /// `Read` comes where a read failed, `TooLong` where 2^30 reads were made into this buffer.
     pub fn next_line<R: Source>(&mut self, source: &mut R) -> Result<Line, ReadFault>
-        ensures ok { IfOk result (λ line. Finds (R.given source.old) (R.given source.new) self.old self.new line) }
-        ensures err { OnErr result (FindsNone (R.given source.old) (R.given source.new) self.old) }
+        ensures ok { IfOk result (λ line. Finds (R.seen source.old).bytes (R.seen source.new).bytes self.old self.new line) }
+        ensures err { OnErr result (FindsNone (R.seen source.old).bytes (R.seen source.new).bytes self.old) }
         ensures work { IfOk result (λ line. LeavesLess self.old self.new line) }
-        ensures given { Extends (R.given source.old) (R.given source.new) }
-        ensures failures { R.failures source.new ≡ R.failures source.old + failed_reads result }
+        ensures given { Extends (R.seen source.old).bytes (R.seen source.new).bytes }
+        ensures reads { Reads (R.seen source.old) (R.seen source.new) self.old self.new (failed_reads result) }
         ensures too_long { IfTooLong result self.new.reads }
-        ensures reads { self.new.reads + R.reads source.old ≡ self.old.reads + R.reads source.new }
-        ensures ended { IsTrue self.new.is_ended → IsTrue self.old.is_ended ⊎ IsTrue (R.has_ended source.new) }
+        ensures most { self.new.reads ≤ 2 ^ 30 }
+        ensures ended { IsTrue self.new.is_ended → IsTrue self.old.is_ended ⊎ IsTrue (R.seen source.new).has_ended }
         ensures at_end { IsTrue self.old.is_ended → (source.new ≡ source.old) × IsTrue self.new.is_ended }
     {
         match self.find_end(source)? {
@@ -106,15 +113,15 @@ impl Buffer {
 
     /// Reads until the line has its end, or is seen to be too long or to be the last.
     fn find_end<R: Source>(&mut self, source: &mut R) -> Result<Option<usize>, ReadFault>
-        ensures comes { Comes (R.given source.old) (R.given source.new) self.old.left self.new.left }
+        ensures comes { Comes (R.seen source.old).bytes (R.seen source.new).bytes self.old.left self.new.left }
         ensures found { IfOk result (λ end. IsEnd self.new.left end) }
         ensures err { OnErr result (HasNoEnd self.new.left × (self.old.is_ended ≡ false)) }
         ensures none { IfOk result (λ end. IfNone end (IsTrue self.new.is_ended ⊎ (202 ≤ length self.new.left))) }
         ensures work { work_left self.new ≤ work_left self.old }
-        ensures failures { R.failures source.new ≡ R.failures source.old + failed_reads result }
+        ensures reads { Reads (R.seen source.old) (R.seen source.new) self.old self.new (failed_reads result) }
         ensures too_long { IfTooLong result self.new.reads }
-        ensures reads { self.new.reads + R.reads source.old ≡ self.old.reads + R.reads source.new }
-        ensures ended { IsTrue self.new.is_ended → IsTrue self.old.is_ended ⊎ IsTrue (R.has_ended source.new) }
+        ensures most { self.new.reads ≤ 2 ^ 30 }
+        ensures ended { IsTrue self.new.is_ended → IsTrue self.old.is_ended ⊎ IsTrue (R.seen source.new).has_ended }
         ensures at_end { IsTrue self.old.is_ended → (source.new ≡ source.old) × (self.new ≡ self.old) }
     {
         loop {
@@ -166,14 +173,14 @@ impl Buffer {
     /// Reads on until the line that is left has its end, and keeps nothing of it.
     fn skip_line<R: Source>(&mut self, source: &mut R) -> Result<(), ReadFault>
         requires { self.old.is_ended ≡ false }
-        ensures given { Extends (R.given source.old) (R.given source.new) }
-        ensures ok { OnOk result (Skips (R.given source.old) (R.given source.new) self.new.left self.new.is_ended) }
-        ensures err { OnErr result (Skipped (R.given source.old) (R.given source.new)) }
+        ensures given { Extends (R.seen source.old).bytes (R.seen source.new).bytes }
+        ensures ok { OnOk result (Skips (R.seen source.old).bytes (R.seen source.new).bytes self.new.left self.new.is_ended) }
+        ensures err { OnErr result (Skipped (R.seen source.old).bytes (R.seen source.new).bytes) }
         ensures work { work_left self.new + length self.old.left ≤ work_left self.old }
-        ensures failures { R.failures source.new ≡ R.failures source.old + failed_reads result }
+        ensures reads { Reads (R.seen source.old) (R.seen source.new) self.old self.new (failed_reads result) }
         ensures too_long { IfTooLong result self.new.reads }
-        ensures reads { self.new.reads + R.reads source.old ≡ self.old.reads + R.reads source.new }
-        ensures ended { IsTrue self.new.is_ended → IsTrue (R.has_ended source.new) }
+        ensures most { self.new.reads ≤ 2 ^ 30 }
+        ensures ended { IsTrue self.new.is_ended → IsTrue (R.seen source.new).has_ended }
     {
         while !self.is_ended {
             self.drop_left();
@@ -213,15 +220,14 @@ impl Buffer {
     fn read_more<R: Source>(&mut self, source: &mut R) -> Result<(), ReadFault>
         requires room { length self.old.left < 65536 }
         requires open { self.old.is_ended ≡ false }
-        ensures comes { Comes (R.given source.old) (R.given source.new) self.old.left self.new.left }
+        ensures comes { Comes (R.seen source.old).bytes (R.seen source.new).bytes self.old.left self.new.left }
         ensures same { OnErr result (self.new.left ≡ self.old.left) }
         ensures progress { OnOk result (self.old.reads < self.new.reads) }
-        ensures most { self.new.reads ≤ 2 ^ 30 }
         ensures work { work_left self.new ≤ work_left self.old }
-        ensures failures { R.failures source.new ≡ R.failures source.old + failed_reads result }
+        ensures reads { Reads (R.seen source.old) (R.seen source.new) self.old self.new (failed_reads result) }
         ensures too_long { IfTooLong result self.new.reads }
-        ensures reads { self.new.reads + R.reads source.old ≡ self.old.reads + R.reads source.new }
-        ensures ended { IsTrue self.new.is_ended → IsTrue (R.has_ended source.new) }
+        ensures most { self.new.reads ≤ 2 ^ 30 }
+        ensures ended { IsTrue self.new.is_ended → IsTrue (R.seen source.new).has_ended }
     {
         while self.reads < Buffer::MOST_READS {
             match self.fill(source) {
@@ -238,14 +244,15 @@ impl Buffer {
         requires room { length self.old.left < 65536 }
         requires open { self.old.is_ended ≡ false }
         requires reads { self.old.reads < 2 ^ 30 }
-        ensures comes { Comes (R.given source.old) (R.given source.new) self.old.left self.new.left }
+        ensures comes { Comes (R.seen source.old).bytes (R.seen source.new).bytes self.old.left self.new.left }
         ensures reads { self.new.reads ≡ self.old.reads + 1 }
-        ensures counted { R.reads source.new ≡ R.reads source.old + 1 }
+        ensures counted { (R.seen source.new).reads ≡ (R.seen source.old).reads + 1 }
+        ensures ends { (R.seen source.new).ends ≡ (R.seen source.old).ends + one_if self.new.is_ended }
         ensures length { length self.new.left ≤ length self.old.left + 65536 }
         ensures room { OnErr result (self.new.left ≡ self.old.left) }
-        ensures failures { R.failures source.new ≡ R.failures source.old + failure_count result }
+        ensures failures { (R.seen source.new).failures ≡ (R.seen source.old).failures + failure_count result }
         ensures open { OnErr result (self.new.is_ended ≡ false) }
-        ensures ended { IsTrue self.new.is_ended → IsTrue (R.has_ended source.new) }
+        ensures ended { IsTrue self.new.is_ended → IsTrue (R.seen source.new).has_ended }
     {
         let kept = self.end - self.start;
         let count = refill(&mut self.bytes, self.start, self.end, source);
@@ -272,11 +279,12 @@ fn refill<R: Source>(
     requires to { end ≤ length bytes.old }
     requires room { end - start < length bytes.old }
     ensures bound { IfOk result (λ n. end - start + n ≤ length bytes.old) }
-    ensures comes { Comes (R.given source.old) (R.given source.new) (slice_range bytes.old start end)
+    ensures comes { Comes (R.seen source.old).bytes (R.seen source.new).bytes (slice_range bytes.old start end)
         (take (end - start + bytes_read result) bytes.new) }
-    ensures counted { R.reads source.new ≡ R.reads source.old + 1 }
-    ensures failures { R.failures source.new ≡ R.failures source.old + failure_count result }
-    ensures ended { IfOk result (λ n. n ≡ 0 → IsTrue (R.has_ended source.new)) }
+    ensures counted { (R.seen source.new).reads ≡ (R.seen source.old).reads + 1 }
+    ensures ends { (R.seen source.new).ends ≡ (R.seen source.old).ends + one_if (gives_none result) }
+    ensures failures { (R.seen source.new).failures ≡ (R.seen source.old).failures + failure_count result }
+    ensures ended { IfOk result (λ n. n ≡ 0 → IsTrue (R.seen source.new).has_ended) }
 {
     bytes.copy_within(start..end, 0);
     source.read_some(&mut bytes[end - start..])

@@ -1,6 +1,8 @@
 //! Any reader, as a source.
-ghost use Rattle.std.specs.Prelude.{◌≡◌, []};
-ghost use Rattle.line_protocol.specs.Calls.{bytes_moved, is_last_empty, endings, call_count};
+ghost use Rattle.std.specs.Prelude.{◌≡◌, ◌≤◌, [], false, length, IfOk};
+ghost use Rattle.std.specs.Io.KnownBytes.{ReadConsumes};
+ghost use Rattle.line_protocol.specs.Calls.{given_by};
+ghost use Rattle.line_protocol.specs.Source.{ReadsOnce};
 
 use crate::log::{Log, count_ending};
 use crate::stop::stopped_count;
@@ -17,9 +19,9 @@ pub struct FromReader<R: Read + Drop> {
 impl<R: Read + Drop> FromReader<R> {
     /// The reader, of which no call was made yet.
     pub fn new(reader: R) -> FromReader<R>
-        ensures given { ⟦<FromReader<R> as Source>⟧.given result ≡ [] }
-        ensures reads { ⟦<FromReader<R> as Source>⟧.reads result ≡ 0 }
-        ensures failures { ⟦<FromReader<R> as Source>⟧.failures result ≡ 0 }
+        ensures seen { ⟦<FromReader<R> as Source>⟧.seen result
+            ≡ record { bytes = []; has_ended = false; ends = 0; reads = 0; failures = 0; interruptions = 0 } }
+        ensures reader { result.reader ≡ reader }
     {
         FromReader {
             reader,
@@ -29,15 +31,14 @@ impl<R: Read + Drop> FromReader<R> {
 }
 
 impl<R: Read + Drop> Source for FromReader<R> {
-    ghost given = { λ s. bytes_moved s.log.calls };
+    ghost seen = { λ s. given_by s.log.calls };
 
-    ghost has_ended = { λ s. is_last_empty s.log.calls };
-
-    ghost reads = { λ s. call_count s.log.calls };
-
-    ghost failures = { λ s. endings 2 s.log.calls };
-
-    fn read_some(&mut self, buffer: &mut [u8]) -> Result<usize, Stop> {
+    fn read_some(&mut self, buffer: &mut [u8]) -> Result<usize, Stop>
+        ensures bound { IfOk result (λ n. n ≤ length buffer.new) }
+        ensures reads { ReadsOnce (given_by self.old.log.calls) (given_by self.new.log.calls) result buffer.new }
+        // The reader's own bytes are those that were given.
+        ensures bytes { ReadConsumes (R.remaining self.old.reader) (R.remaining self.new.reader) result buffer.new }
+    {
         let outcome = stopped_count(self.reader.read(buffer));
         let count = outcome.unwrap_or(0);
         self.log

@@ -1,6 +1,8 @@
 //! Any writer, as a sink.
-ghost use Rattle.std.specs.Prelude.{◌≡◌, ◌+◌, []};
-ghost use Rattle.line_protocol.specs.Calls.{bytes_moved, endings, is_last_flush};
+ghost use Rattle.std.specs.Prelude.{◌≡◌, ◌≤◌, [], false, length, IfOk};
+ghost use Rattle.std.specs.Io.KnownBytes.{Keeps, WriteAppends};
+ghost use Rattle.line_protocol.specs.Calls.{taken_by};
+ghost use Rattle.line_protocol.specs.Sink.{WritesOnce, FlushesOnce};
 
 use crate::log::{Log, count_ending, flush_ending};
 use crate::stop::{stopped, stopped_count};
@@ -17,9 +19,9 @@ pub struct IntoWriter<W: Write + Drop> {
 impl<W: Write + Drop> IntoWriter<W> {
     /// The writer, of which no call was made yet.
     pub fn new(writer: W) -> IntoWriter<W>
-        ensures taken { ⟦<IntoWriter<W> as Sink>⟧.taken result ≡ [] }
-        ensures failures { ⟦<IntoWriter<W> as Sink>⟧.failures result ≡ 0 }
-        ensures interruptions { ⟦<IntoWriter<W> as Sink>⟧.interruptions result ≡ 0 }
+        ensures seen { ⟦<IntoWriter<W> as Sink>⟧.seen result
+            ≡ record { bytes = []; is_flushed = false; failures = 0; interruptions = 0 } }
+        ensures writer { result.writer ≡ writer }
     {
         IntoWriter {
             writer,
@@ -29,15 +31,14 @@ impl<W: Write + Drop> IntoWriter<W> {
 }
 
 impl<W: Write + Drop> Sink for IntoWriter<W> {
-    ghost taken = { λ s. bytes_moved s.log.calls };
+    ghost seen = { λ s. taken_by s.log.calls };
 
-    ghost failures = { λ s. endings 1 s.log.calls + endings 2 s.log.calls };
-
-    ghost interruptions = { λ s. endings 3 s.log.calls };
-
-    ghost is_flushed = { λ s. is_last_flush s.log.calls };
-
-    fn write_some(&mut self, bytes: &[u8]) -> Result<usize, Stop> {
+    fn write_some(&mut self, bytes: &[u8]) -> Result<usize, Stop>
+        ensures bound { IfOk result (λ n. n ≤ length bytes.now) }
+        ensures writes { WritesOnce (taken_by self.old.log.calls) (taken_by self.new.log.calls) result bytes.now }
+        // What was taken is what the writer's own bytes grew by.
+        ensures bytes { WriteAppends (W.contents self.old.writer) (W.contents self.new.writer) result bytes.now }
+    {
         let outcome = stopped_count(self.writer.write(bytes));
         let count = outcome.unwrap_or(0);
         self.log
@@ -45,7 +46,10 @@ impl<W: Write + Drop> Sink for IntoWriter<W> {
         outcome
     }
 
-    fn flush(&mut self) -> Result<(), Stop> {
+    fn flush(&mut self) -> Result<(), Stop>
+        ensures flushes { FlushesOnce (taken_by self.old.log.calls) (taken_by self.new.log.calls) result }
+        ensures bytes { Keeps (W.contents self.old.writer) (W.contents self.new.writer) }
+    {
         let outcome = stopped(self.writer.flush());
         self.log.note(&[flush_ending(outcome)], &[]);
         outcome

@@ -1,7 +1,7 @@
 //! Texts and numbers, written piece by piece.
 ghost use Rattle.std.specs.Prelude.{◌≡◌, ◌+◌, ◌<◌, ◌≤◌, ◌++◌, IfOk, OnErr, decimal, codes, length, take};
 ghost use Rattle.trace_types.specs.Text.{numbers_text, list_text};
-ghost use Rattle.line_protocol.specs.Writing.{Writes, Spends};
+ghost use Rattle.line_protocol.specs.Writing.{WritesText, Spends};
 
 use crate::{Sink, Stop, WriteFault};
 use itoa::Buffer;
@@ -14,9 +14,8 @@ pub(crate) fn write_list<W: Sink>(
     numbers: &[u64],
 ) -> Result<(), WriteFault>
     requires { 0 < patience.old }
-    ensures written { Writes (W.taken writer.old) (W.taken writer.new) result (text.now ++ list_text numbers.now) }
-    ensures spent { Spends (W.failures writer.old) (W.failures writer.new)
-        (W.interruptions writer.old) (W.interruptions writer.new) patience.old patience.new result }
+    ensures written { WritesText (W.seen writer.old) (W.seen writer.new) result (text.now ++ list_text numbers.now) }
+    ensures spent { Spends (W.seen writer.old) (W.seen writer.new) patience.old patience.new result }
 {
     write_number(writer, patience, text, numbers.len() as u64)?;
     write_numbers(writer, patience, numbers)
@@ -29,9 +28,8 @@ fn write_numbers<W: Sink>(
     numbers: &[u64],
 ) -> Result<(), WriteFault>
     requires { 0 < patience.old }
-    ensures written { Writes (W.taken writer.old) (W.taken writer.new) result (numbers_text numbers.now) }
-    ensures spent { Spends (W.failures writer.old) (W.failures writer.new)
-        (W.interruptions writer.old) (W.interruptions writer.new) patience.old patience.new result }
+    ensures written { WritesText (W.seen writer.old) (W.seen writer.new) result (numbers_text numbers.now) }
+    ensures spent { Spends (W.seen writer.old) (W.seen writer.new) patience.old patience.new result }
 {
     for number in numbers {
         write_number(writer, patience, b" ", *number)?;
@@ -47,10 +45,9 @@ pub(crate) fn write_two_numbers<W: Sink>(
     second: u64,
 ) -> Result<(), WriteFault>
     requires { 0 < patience.old }
-    ensures written { Writes (W.taken writer.old) (W.taken writer.new) result
+    ensures written { WritesText (W.seen writer.old) (W.seen writer.new) result
         ((codes " " ++ decimal first) ++ (codes " " ++ decimal second)) }
-    ensures spent { Spends (W.failures writer.old) (W.failures writer.new)
-        (W.interruptions writer.old) (W.interruptions writer.new) patience.old patience.new result }
+    ensures spent { Spends (W.seen writer.old) (W.seen writer.new) patience.old patience.new result }
 {
     write_number(writer, patience, b" ", first)?;
     write_number(writer, patience, b" ", second)
@@ -65,9 +62,8 @@ pub(crate) fn write_number<W: Sink>(
     number: u64,
 ) -> Result<(), WriteFault>
     requires { 0 < patience.old }
-    ensures written { Writes (W.taken writer.old) (W.taken writer.new) result (text.now ++ decimal number) }
-    ensures spent { Spends (W.failures writer.old) (W.failures writer.new)
-        (W.interruptions writer.old) (W.interruptions writer.new) patience.old patience.new result }
+    ensures written { WritesText (W.seen writer.old) (W.seen writer.new) result (text.now ++ decimal number) }
+    ensures spent { Spends (W.seen writer.old) (W.seen writer.new) patience.old patience.new result }
 {
     let mut digits = Buffer::new();
     write_pieces(writer, patience, text, digits.format(number).as_bytes())
@@ -82,9 +78,8 @@ pub(crate) fn write_pieces<W: Sink>(
     second: &[u8],
 ) -> Result<(), WriteFault>
     requires { 0 < patience.old }
-    ensures written { Writes (W.taken writer.old) (W.taken writer.new) result (first.now ++ second.now) }
-    ensures spent { Spends (W.failures writer.old) (W.failures writer.new)
-        (W.interruptions writer.old) (W.interruptions writer.new) patience.old patience.new result }
+    ensures written { WritesText (W.seen writer.old) (W.seen writer.new) result (first.now ++ second.now) }
+    ensures spent { Spends (W.seen writer.old) (W.seen writer.new) patience.old patience.new result }
 {
     write_piece(writer, patience, first)?;
     write_piece(writer, patience, second)
@@ -98,9 +93,8 @@ pub(crate) fn write_piece<W: Sink>(
     piece: &[u8],
 ) -> Result<(), WriteFault>
     requires { 0 < patience.old }
-    ensures written { Writes (W.taken writer.old) (W.taken writer.new) result piece.now }
-    ensures spent { Spends (W.failures writer.old) (W.failures writer.new)
-        (W.interruptions writer.old) (W.interruptions writer.new) patience.old patience.new result }
+    ensures written { WritesText (W.seen writer.old) (W.seen writer.new) result piece.now }
+    ensures spent { Spends (W.seen writer.old) (W.seen writer.new) patience.old patience.new result }
 {
     let count = write_once(writer, patience, piece)?;
     if count == piece.len() {
@@ -114,9 +108,8 @@ pub(crate) fn write_piece<W: Sink>(
 #[inline(never)]
 fn write_rest<W: Sink>(writer: &mut W, patience: &mut u64, piece: &[u8]) -> Result<(), WriteFault>
     requires { 0 < patience.old }
-    ensures written { Writes (W.taken writer.old) (W.taken writer.new) result piece.now }
-    ensures spent { Spends (W.failures writer.old) (W.failures writer.new)
-        (W.interruptions writer.old) (W.interruptions writer.new) patience.old patience.new result }
+    ensures written { WritesText (W.seen writer.old) (W.seen writer.new) result piece.now }
+    ensures spent { Spends (W.seen writer.old) (W.seen writer.new) patience.old patience.new result }
 {
     let mut rest = piece;
     while !rest.is_empty() {
@@ -135,11 +128,10 @@ fn write_once<W: Sink>(
 ) -> Result<usize, WriteFault>
     requires { 0 < patience.old }
     ensures bound { IfOk result (λ n. n ≤ length piece.now) }
-    ensures ok { IfOk result (λ n. W.taken writer.new ≡ W.taken writer.old ++ take n piece.now) }
-    ensures err { OnErr result (W.taken writer.new ≡ W.taken writer.old) }
+    ensures ok { IfOk result (λ n. (W.seen writer.new).bytes ≡ (W.seen writer.old).bytes ++ take n piece.now) }
+    ensures err { OnErr result ((W.seen writer.new).bytes ≡ (W.seen writer.old).bytes) }
     ensures progress { IfOk result (λ n. 0 < length piece.now → patience.new < patience.old + n) }
-    ensures spent { Spends (W.failures writer.old) (W.failures writer.new)
-        (W.interruptions writer.old) (W.interruptions writer.new) patience.old patience.new result }
+    ensures spent { Spends (W.seen writer.old) (W.seen writer.new) patience.old patience.new result }
 {
     match writer.write_some(piece) {
         Ok(0) if !piece.is_empty() => Err(WriteFault),

@@ -1,8 +1,8 @@
 //! Replies, written without memory.
-ghost use Rattle.std.specs.Prelude.{◌≡◌, ◌≤◌, ◌<◌, ◌++◌, OnOk, OnErr, decimal, codes, IsTrue};
+ghost use Rattle.std.specs.Prelude.{◌≡◌, ◌<◌, ◌++◌, decimal, codes};
 ghost use Rattle.trace_types.specs.Text.{reply_text, order_text, state_text, kind_text, name_text, list_text};
 ghost use Rattle.trace_types.specs.Code.{code_number, code_text};
-ghost use Rattle.line_protocol.specs.Writing.{WritesFront, IsWriteFault, Writes, Spends};
+ghost use Rattle.line_protocol.specs.Writing.{Writes, Flushes, WritesText, Spends};
 
 use crate::pieces::{write_list, write_number, write_piece, write_pieces, write_two_numbers};
 use crate::{Sink, Stop, WriteFault};
@@ -13,54 +13,54 @@ const MOST_INTERRUPTIONS: u64 = 1048576;
 
 /// Writes these bytes.
 pub fn write_bytes<W: Sink>(writer: &mut W, bytes: &[u8]) -> Result<(), WriteFault>
-    ensures ok { OnOk result (W.taken writer.new ≡ W.taken writer.old ++ bytes.now) }
-    ensures err { OnErr result (WritesFront (W.taken writer.old) (W.taken writer.new) bytes.now) }
-    ensures fault { OnErr result (IsWriteFault (W.failures writer.old) (W.failures writer.new)
-        (W.interruptions writer.old) (W.interruptions writer.new)) }
-    ensures no_failure { OnOk result (W.failures writer.new ≡ W.failures writer.old) }
-    ensures failures { W.failures writer.old ≤ W.failures writer.new }
-    ensures interruptions { W.interruptions writer.old ≤ W.interruptions writer.new }
+    ensures { Writes (W.seen writer.old) (W.seen writer.new) result bytes.now }
 {
     let mut patience = MOST_INTERRUPTIONS;
     write_piece(writer, &mut patience, bytes)
 }
 
-/// Writes the reply, without its end of line.
-#[inline(never)]
-pub fn write_reply<W: Sink>(writer: &mut W, reply: &Reply) -> Result<(), WriteFault>
-    ensures ok { OnOk result (W.taken writer.new ≡ W.taken writer.old ++ reply_text reply.now) }
-    ensures err { OnErr result (WritesFront (W.taken writer.old) (W.taken writer.new) (reply_text reply.now)) }
-    ensures fault { OnErr result (IsWriteFault (W.failures writer.old) (W.failures writer.new)
-        (W.interruptions writer.old) (W.interruptions writer.new)) }
-    ensures no_failure { OnOk result (W.failures writer.new ≡ W.failures writer.old) }
-    ensures failures { W.failures writer.old ≤ W.failures writer.new }
-    ensures interruptions { W.interruptions writer.old ≤ W.interruptions writer.new }
+/// Writes whom a line names, and the blank after it.
+pub fn write_prefix<W: Sink>(writer: &mut W, addressee: &[u8]) -> Result<(), WriteFault>
+    ensures { Writes (W.seen writer.old) (W.seen writer.new) result (addressee.now ++ codes " ") }
 {
     let mut patience = MOST_INTERRUPTIONS;
+    write_pieces(writer, &mut patience, addressee, b" ")
+}
+
+/// Writes the reply, with its end of line.
+#[inline(never)]
+pub fn write_reply<W: Sink>(writer: &mut W, reply: &Reply) -> Result<(), WriteFault>
+    ensures { Writes (W.seen writer.old) (W.seen writer.new) result (reply_text reply.now ++ codes "\n") }
+{
+    let mut patience = MOST_INTERRUPTIONS;
+    write_text(writer, &mut patience, reply)?;
+    write_piece(writer, &mut patience, b"\n")
+}
+
+/// Writes the reply, without its end of line.
+fn write_text<W: Sink>(writer: &mut W, patience: &mut u64, reply: &Reply) -> Result<(), WriteFault>
+    requires { 0 < patience.old }
+    ensures written { WritesText (W.seen writer.old) (W.seen writer.new) result (reply_text reply.now) }
+    ensures spent { Spends (W.seen writer.old) (W.seen writer.new) patience.old patience.new result }
+{
     match reply {
-        Reply::Accepted(event) => write_number(writer, &mut patience, b"201 ", *event),
-        Reply::Ordering(order) => write_pieces(writer, &mut patience, b"200 ", order_text(*order)),
-        Reply::List(events) => write_list(writer, &mut patience, b"200 ", events.as_slice()),
-        Reply::Event(row) => write_event(writer, &mut patience, row),
-        Reply::Stamp(text) => write_pieces(writer, &mut patience, b"200 ", text.as_bytes()),
-        Reply::Task(state, last) => write_task(writer, &mut patience, *state, *last),
-        Reply::Message(sent, receipts) => write_message(writer, &mut patience, *sent, receipts),
+        Reply::Accepted(event) => write_number(writer, patience, b"201 ", *event),
+        Reply::Ordering(order) => write_pieces(writer, patience, b"200 ", order_text(*order)),
+        Reply::List(events) => write_list(writer, patience, b"200 ", events.as_slice()),
+        Reply::Event(row) => write_event(writer, patience, row),
+        Reply::Stamp(text) => write_pieces(writer, patience, b"200 ", text.as_bytes()),
+        Reply::Task(state, last) => write_task(writer, patience, *state, *last),
+        Reply::Message(sent, receipts) => write_message(writer, patience, *sent, receipts),
         Reply::Count(events, tasks, messages) => {
-            write_count(writer, &mut patience, *events, *tasks, *messages)
+            write_count(writer, patience, *events, *tasks, *messages)
         }
-        Reply::Refused(code) => write_refusal(writer, &mut patience, *code),
+        Reply::Refused(code) => write_refusal(writer, patience, *code),
     }
 }
 
 /// Flushes what was written.
 pub fn flush<W: Sink>(writer: &mut W) -> Result<(), WriteFault>
-    ensures taken { W.taken writer.new ≡ W.taken writer.old }
-    ensures flushed { OnOk result (IsTrue (W.is_flushed writer.new)) }
-    ensures fault { OnErr result (IsWriteFault (W.failures writer.old) (W.failures writer.new)
-        (W.interruptions writer.old) (W.interruptions writer.new)) }
-    ensures no_failure { OnOk result (W.failures writer.new ≡ W.failures writer.old) }
-    ensures failures { W.failures writer.old ≤ W.failures writer.new }
-    ensures interruptions { W.interruptions writer.old ≤ W.interruptions writer.new }
+    ensures { Flushes (W.seen writer.old) (W.seen writer.new) result }
 {
     for _ in 0..MOST_INTERRUPTIONS {
         match writer.flush() {
@@ -122,11 +122,10 @@ fn name_text(name: &Option<Name>) -> &[u8]
 /// Writes a row: the kind, the task, the name or `-`, and the predecessors.
 fn write_event<W: Sink>(writer: &mut W, patience: &mut u64, row: &Row) -> Result<(), WriteFault>
     requires { 0 < patience.old }
-    ensures written { Writes (W.taken writer.old) (W.taken writer.new) result
+    ensures written { WritesText (W.seen writer.old) (W.seen writer.new) result
         ((codes "200 " ++ kind_text row.now.kind)
         ++ (((codes " " ++ row.now.task) ++ (codes " " ++ name_text row.now.name)) ++ (codes " " ++ list_text row.now.preds))) }
-    ensures spent { Spends (W.failures writer.old) (W.failures writer.new)
-        (W.interruptions writer.old) (W.interruptions writer.new) patience.old patience.new result }
+    ensures spent { Spends (W.seen writer.old) (W.seen writer.new) patience.old patience.new result }
 {
     write_pieces(writer, patience, b"200 ", kind_text(row.kind))?;
     write_names(writer, patience, &row.task, &row.name)?;
@@ -141,10 +140,9 @@ fn write_names<W: Sink>(
     name: &Option<Name>,
 ) -> Result<(), WriteFault>
     requires { 0 < patience.old }
-    ensures written { Writes (W.taken writer.old) (W.taken writer.new) result
+    ensures written { WritesText (W.seen writer.old) (W.seen writer.new) result
         ((codes " " ++ task.now) ++ (codes " " ++ name_text name.now)) }
-    ensures spent { Spends (W.failures writer.old) (W.failures writer.new)
-        (W.interruptions writer.old) (W.interruptions writer.new) patience.old patience.new result }
+    ensures spent { Spends (W.seen writer.old) (W.seen writer.new) patience.old patience.new result }
 {
     write_pieces(writer, patience, b" ", task.as_bytes())?;
     write_pieces(writer, patience, b" ", name_text(name))
@@ -158,10 +156,9 @@ fn write_task<W: Sink>(
     last: u64,
 ) -> Result<(), WriteFault>
     requires { 0 < patience.old }
-    ensures written { Writes (W.taken writer.old) (W.taken writer.new) result
+    ensures written { WritesText (W.seen writer.old) (W.seen writer.new) result
         ((codes "200 " ++ state_text state) ++ (codes " " ++ decimal last)) }
-    ensures spent { Spends (W.failures writer.old) (W.failures writer.new)
-        (W.interruptions writer.old) (W.interruptions writer.new) patience.old patience.new result }
+    ensures spent { Spends (W.seen writer.old) (W.seen writer.new) patience.old patience.new result }
 {
     write_pieces(writer, patience, b"200 ", state_text(state))?;
     write_number(writer, patience, b" ", last)
@@ -175,10 +172,9 @@ fn write_message<W: Sink>(
     receipts: &Receipts,
 ) -> Result<(), WriteFault>
     requires { 0 < patience.old }
-    ensures written { Writes (W.taken writer.old) (W.taken writer.new) result
+    ensures written { WritesText (W.seen writer.old) (W.seen writer.new) result
         ((codes "200 " ++ decimal sent) ++ (codes " " ++ list_text receipts.now)) }
-    ensures spent { Spends (W.failures writer.old) (W.failures writer.new)
-        (W.interruptions writer.old) (W.interruptions writer.new) patience.old patience.new result }
+    ensures spent { Spends (W.seen writer.old) (W.seen writer.new) patience.old patience.new result }
 {
     write_number(writer, patience, b"200 ", sent)?;
     write_list(writer, patience, b" ", receipts.as_slice())
@@ -193,10 +189,9 @@ fn write_count<W: Sink>(
     messages: u64,
 ) -> Result<(), WriteFault>
     requires { 0 < patience.old }
-    ensures written { Writes (W.taken writer.old) (W.taken writer.new) result
+    ensures written { WritesText (W.seen writer.old) (W.seen writer.new) result
         ((codes "200 " ++ decimal events) ++ ((codes " " ++ decimal tasks) ++ (codes " " ++ decimal messages))) }
-    ensures spent { Spends (W.failures writer.old) (W.failures writer.new)
-        (W.interruptions writer.old) (W.interruptions writer.new) patience.old patience.new result }
+    ensures spent { Spends (W.seen writer.old) (W.seen writer.new) patience.old patience.new result }
 {
     write_number(writer, patience, b"200 ", events)?;
     write_two_numbers(writer, patience, tasks, messages)
@@ -205,10 +200,9 @@ fn write_count<W: Sink>(
 /// Writes a code's number and its words.
 fn write_refusal<W: Sink>(writer: &mut W, patience: &mut u64, code: Code) -> Result<(), WriteFault>
     requires { 0 < patience.old }
-    ensures written { Writes (W.taken writer.old) (W.taken writer.new) result
+    ensures written { WritesText (W.seen writer.old) (W.seen writer.new) result
         (decimal (code_number code) ++ codes " " ++ code_text code) }
-    ensures spent { Spends (W.failures writer.old) (W.failures writer.new)
-        (W.interruptions writer.old) (W.interruptions writer.new) patience.old patience.new result }
+    ensures spent { Spends (W.seen writer.old) (W.seen writer.new) patience.old patience.new result }
 {
     write_number(writer, patience, b"", code.number())?;
     write_pieces(writer, patience, b" ", code.text().as_bytes())

@@ -2,8 +2,8 @@
 ghost use Rattle.std.specs.Prelude.{◌≤◌, length};
 
 use crate::{
-    FromReader, IntoWriter, Line, LineReader, Source, WriteFault, read_addressed, read_request,
-    write_reply,
+    Buffered, FromReader, IntoWriter, Line, LineReader, Source, WriteFault, flush, read_addressed,
+    read_request, write_bytes, write_prefix, write_reply,
 };
 use std::alloc::Global;
 use std::io;
@@ -263,14 +263,14 @@ fn written(alloc: Global, reply: &Reply, room: usize) -> (Vec<u8>, Result<(), Wr
 #[test]
 fn replies_are_written_whole(rt: HostRuntime) {
     let table: [(Reply, &[u8]); 5] = [
-        (Reply::Accepted(17), b"201 17"),
-        (Reply::Ordering(Order::Concurrent), b"200 concurrent"),
+        (Reply::Accepted(17), b"201 17\n"),
+        (Reply::Ordering(Order::Concurrent), b"200 concurrent\n"),
         (
             Reply::Count(0, 1, u64::MAX),
-            b"200 0 1 18446744073709551615",
+            b"200 0 1 18446744073709551615\n",
         ),
-        (Reply::Refused(Code::NoEvent), b"404 no event"),
-        (Reply::Refused(Code::NoMemory), b"507 no memory"),
+        (Reply::Refused(Code::NoEvent), b"404 no event\n"),
+        (Reply::Refused(Code::NoMemory), b"507 no memory\n"),
     ];
     for (reply, want) in table {
         let (text, outcome) = written(rt.alloc(), &reply, 99);
@@ -287,10 +287,10 @@ fn list(alloc: Global, events: &[u64]) -> Result<Reply, Fail> {
 #[test]
 fn a_list_begins_with_its_length(rt: HostRuntime) -> Result<(), Fail> {
     let table: [(&[u64], &[u8]); 4] = [
-        (&[], b"200 0"),
-        (&[4], b"200 1 4"),
-        (&[1, 2, 10], b"200 3 1 2 10"),
-        (&[9, u64::MAX], b"200 2 9 18446744073709551615"),
+        (&[], b"200 0\n"),
+        (&[4], b"200 1 4\n"),
+        (&[1, 2, 10], b"200 3 1 2 10\n"),
+        (&[9, u64::MAX], b"200 2 9 18446744073709551615\n"),
     ];
     for (events, want) in table {
         let (text, outcome) = written(rt.alloc(), &list(rt.alloc(), events)?, 99);
@@ -305,13 +305,13 @@ fn a_long_list_is_written_whole(rt: HostRuntime) -> Result<(), Fail> {
     let reply = Reply::List(Numbers::from(vec![in rt.alloc(); 7; 16383]?));
     let (text, outcome) = written(rt.alloc(), &reply, 65536);
     assert!(rt; outcome.is_ok());
-    assert_eq!(rt; text.len(), 9 + 2 * 16383);
+    assert_eq!(rt; text.len(), 10 + 2 * 16383);
     Ok(())
 }
 
 #[test]
 fn a_list_ends_where_the_writer_is_full(rt: HostRuntime) -> Result<(), Fail> {
-    let whole = b"200 3 10 11 12";
+    let whole = b"200 3 10 11 12\n";
     let reply = list(rt.alloc(), &[10, 11, 12])?;
     for room in 0..whole.len() {
         let (text, outcome) = written(rt.alloc(), &reply, room);
@@ -338,16 +338,16 @@ fn event(alloc: Global, kind: Kind, name: Option<Name>, preds: &[u64]) -> Reply
 #[test]
 fn an_event_tells_its_row(rt: HostRuntime) {
     let table: [(Kind, &[u8], &[u64], &[u8]); 6] = [
-        (Kind::Local, b"", &[], b"200 local root - 0"),
-        (Kind::Spawn, b"child", &[], b"200 spawn root child 0"),
-        (Kind::Send, b"m_1", &[4], b"200 send root m_1 1 4"),
-        (Kind::Recv, b"m_1", &[4, 5], b"200 recv root m_1 2 4 5"),
-        (Kind::End, b"", &[10], b"200 end root - 1 10"),
+        (Kind::Local, b"", &[], b"200 local root - 0\n"),
+        (Kind::Spawn, b"child", &[], b"200 spawn root child 0\n"),
+        (Kind::Send, b"m_1", &[4], b"200 send root m_1 1 4\n"),
+        (Kind::Recv, b"m_1", &[4, 5], b"200 recv root m_1 2 4 5\n"),
+        (Kind::End, b"", &[10], b"200 end root - 1 10\n"),
         (
             Kind::Join,
             b"child",
             &[1, 12],
-            b"200 join root child 2 1 12",
+            b"200 join root child 2 1 12\n",
         ),
     ];
     for (kind, name, preds, want) in table {
@@ -364,8 +364,8 @@ fn a_message_tells_its_send_and_its_receipts(rt: HostRuntime) {
     let mut received = Receipts::none(rt.alloc());
     received.add(9);
     let table: [(Reply, &[u8]); 2] = [
-        (Reply::Message(3, Receipts::none(rt.alloc())), b"200 3 0"),
-        (Reply::Message(3, received), b"200 3 1 9"),
+        (Reply::Message(3, Receipts::none(rt.alloc())), b"200 3 0\n"),
+        (Reply::Message(3, received), b"200 3 1 9\n"),
     ];
     for (reply, want) in table {
         let (text, outcome) = written(rt.alloc(), &reply, 99);
@@ -379,4 +379,105 @@ fn a_full_writer_is_a_fault(rt: HostRuntime) {
     let (text, outcome) = written(rt.alloc(), &Reply::Count(1, 2, 3), 6);
     assert!(rt; outcome.is_err());
     assert_eq!(rt; text.as_slice(), b"200 1 ".as_slice());
+}
+
+/// A writer of which so many calls are interrupted before one takes what it is given, and how often it was flushed.
+#[derive(Drop)]
+struct Interrupted {
+    left: u32,
+    flushes: u32,
+}
+
+impl Write for Interrupted {
+    fn write(&mut self, bytes: &[u8]) -> io::Result<usize> {
+        if self.left == 0 {
+            return Ok(bytes.len());
+        }
+        self.left -= 1;
+        Err(Error::from(ErrorKind::Interrupted))
+    }
+
+    fn flush(&mut self) -> io::Result<()> {
+        if self.flushes < u32::MAX {
+            self.flushes += 1;
+        }
+        Ok(())
+    }
+}
+
+#[test]
+fn a_piece_has_patience_of_its_own(rt: HostRuntime) {
+    for (interruptions, is_written, left) in [
+        (1_048_575, true, 0),
+        (1_048_576, false, 0),
+        (1_048_577, false, 1),
+    ] {
+        let mut stubborn = Interrupted {
+            left: interruptions,
+            flushes: 0,
+        };
+        let mut writer = IntoWriter::new(&mut stubborn);
+        let outcome = write_prefix(&mut writer, b"x");
+        drop(writer);
+        assert_eq!(rt; outcome.is_ok(), is_written);
+        assert_eq!(rt; stubborn.left, left);
+    }
+}
+
+#[test]
+fn a_flush_is_handed_on(rt: HostRuntime) -> Result<(), Fail> {
+    let mut plain = Interrupted {
+        left: 0,
+        flushes: 0,
+    };
+    let mut writer = Buffered::new(rt.alloc(), IntoWriter::new(&mut plain))?;
+    assert!(rt; flush(&mut writer).is_ok());
+    drop(writer);
+    assert_eq!(rt; plain.flushes, 1);
+    Ok(())
+}
+
+/// How many bytes are handed on of these, written one after the other, before any flush.
+fn early(alloc: Global, first: &[u8], second: &[u8]) -> Result<usize, Fail> {
+    let mut taken = Vec::new(alloc);
+    let mut writer = Buffered::new(alloc, IntoWriter::new(&mut taken))?;
+    write_bytes(&mut writer, first)?;
+    write_bytes(&mut writer, second)?;
+    drop(writer);
+    Ok(taken.len())
+}
+
+/// What a narrow writer has of these bytes, written one after the other, after a flush.
+fn gathered(alloc: Global, first: &[u8], second: &[u8]) -> Result<Vec<u8>, Fail> {
+    let mut taken = Vec::new(alloc);
+    let narrow = Narrow {
+        taken: &mut taken,
+        was_interrupted: false,
+        room: usize::MAX,
+    };
+    let mut writer = Buffered::new(alloc, IntoWriter::new(narrow))?;
+    write_bytes(&mut writer, first)?;
+    write_bytes(&mut writer, second)?;
+    flush(&mut writer)?;
+    drop(writer);
+    Ok(taken)
+}
+
+#[test]
+fn bytes_are_gathered_and_handed_on_whole(rt: HostRuntime) -> Result<(), Fail> {
+    let table: [(usize, usize, usize, usize); 4] = [
+        (3, 3, 0, 6),
+        (40000, 3, 0, 40003),
+        (40000, 40000, 40000, 80000),
+        (40000, 150000, 171072, 190000),
+    ];
+    for (first, second, handed_on, all) in table {
+        let first = vec![in rt.alloc(); b'a'; first]?;
+        let second = vec![in rt.alloc(); b'b'; second]?;
+        assert_eq!(rt; early(rt.alloc(), &first, &second)?, handed_on);
+        let taken = gathered(rt.alloc(), &first, &second)?;
+        assert_eq!(rt; taken.len(), all);
+        assert!(rt; taken.starts_with(&first) && taken.ends_with(&second));
+    }
+    Ok(())
 }

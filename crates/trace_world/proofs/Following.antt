@@ -1,5 +1,5 @@
 -- Line after line of a replay.
-use Rattle.std.proofs.Common.{◌≡◌, ℕ, ◌+◌, Bool, IsTrue, List, [], ◌∷◌, ◌++◌, refl, sym, ap, ◌∙◌, subst, append_assoc, cond, zero-add, codes}
+use Rattle.std.proofs.Common.{◌≡◌, ℕ, ◌+◌, Bool, IsTrue, List, [], ◌∷◌, ◌++◌, refl, sym, ap, ◌∙◌, subst, append_assoc, cond, codes, true, false}
 use Rattle.std.proofs.lemmas.List.{append-nil, length-append}
 use Rattle.std.specs.Prelude.{count_by}
 use Rattle.std.proofs.lemmas.List.Sums.{sum_by-append}
@@ -12,9 +12,10 @@ use Rattle.trace_types.specs.World.{World, IsAfter}
 use Rattle.trace_types.specs.declared.reply.Reply.{Reply}
 use Rattle.trace_types.proofs.Replay.{entries-push, calls_by-push, replies_to-push, output-push, MarksMayStand-push}
 use Rattle.line_protocol.specs.Held.{Held}
+use Rattle.line_protocol.specs.Source.{one_if}
 use Rattle.line_protocol.specs.LineReading.{HasRead, GivesLine}
 use Rattle.trace_world.specs.declared.counts.Counts.{Counts}
-use Rattle.trace_world.specs.Counted.{counted_with, one_if}
+use Rattle.trace_world.specs.Counted.{counted_with}
 use Rattle.trace_world.specs.Replayed.{counts_of, LeadsTo, Answers}
 
 -- The lines that were found were replayed.
@@ -43,8 +44,13 @@ LeadsTo-none world = record {
   leads = λ calls after. rw (append-nil calls) after;
 }
 
+-- one more where it is so
+one_more : (b : Bool) → 0 + cond b 1 0 ≡ one_if b
+one_more true = refl
+one_more false = refl
+
 count_by-push : (test : Reply → Bool) (replies : List Reply) (reply : Reply) → count_by test (replies ++ reply ∷ []) ≡ count_by test replies + one_if (test reply)
-count_by-push test replies reply = sum_by-append (λ r. cond (test r) 1 0) replies (reply ∷ []) ∙ ap (λ n. count_by test replies + n) (zero-add (one_if (test reply)))
+count_by-push test replies reply = sum_by-append (λ r. cond (test r) 1 0) replies (reply ∷ []) ∙ ap (λ n. count_by test replies + n) (one_more (test reply))
 
 -- one reply more is counted
 counts_of-push : (replies : List Reply) (reply : Reply) → counts_of (replies ++ reply ∷ []) ≡ counted_with (counts_of replies) reply

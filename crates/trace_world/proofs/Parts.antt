@@ -1,5 +1,5 @@
 -- Replays that a fault cuts short.
-use Rattle.std.proofs.Common.{◌≡◌, ◌≢◌, ℕ, zero, suc, ◌-◌, ◌≤◌, Bool, true, false, IsTrue, List, [], ◌∷◌, ◌++◌, length, take, refl, sym, ap, ◌∙◌, subst, append_assoc, arith, codes, None}
+use Rattle.std.proofs.Common.{◌≡◌, ◌≢◌, ℕ, zero, suc, ◌-◌, ◌≤◌, Bool, true, false, IsTrue, List, [], ◌∷◌, ◌++◌, length, take, refl, sym, ap, ◌∙◌, subst, append_assoc, arith, codes, None, ◌+◌, Result, Ok, Err, IsErrAnd, inl, inr}
 use Rattle.std.proofs.lemmas.List.{append-nil, length-append}
 use Rattle.std.proofs.Math.Seq.{take-append_seam}
 use Rattle.trace_types.specs.Name.{Text}
@@ -14,6 +14,8 @@ use Rattle.trace_types.specs.declared.reply.Reply.{Reply}
 use Rattle.trace_types.specs.declared.reply.Reply.TheVariants.{Refused}
 use Rattle.line_protocol.specs.Held.{Held}
 use Rattle.line_protocol.specs.Ends.{end_count}
+use Rattle.line_protocol.specs.Source.{Given, StopsAtEnd, one_if}
+use Rattle.line_protocol.specs.Sink.{Taken}
 use Rattle.line_protocol.specs.LineReading.{HasRead, GivesLine, Finds, FindsNone}
 use Rattle.line_protocol.specs.declared.line.Line.{Line}
 use Rattle.line_protocol.specs.declared.line.Line.TheVariants.{Whole, TooLong, End}
@@ -23,9 +25,9 @@ use Rattle.line_protocol.specs.Writing.{WritesFront}
 use Rattle.line_protocol.proofs.LineReadingLemmas.{HasRead-line, HasRead-end, HasRead-none}
 use Rattle.trace_world.specs.declared.counts.Counts.{Counts}
 use Rattle.trace_world.specs.declared.replay_fault.ReplayFault.{ReplayFault}
-use Rattle.trace_world.specs.declared.replay_fault.ReplayFault.TheVariants.{Write}
-use Rattle.trace_world.specs.Counted.{counted_with, one_if}
-use Rattle.trace_world.specs.Replayed.{Answers, AreFirstLines, ReplaysInPart, Replays}
+use Rattle.trace_world.specs.declared.replay_fault.ReplayFault.TheVariants.{Read, Write, TooLong, Memory}
+use Rattle.trace_world.specs.Counted.{counted_with}
+use Rattle.trace_world.specs.Replayed.{Answers, AreFirstLines, HandsOn, ReplaysInPart, Replays}
 use Rattle.trace_world.proofs.Answering.{answers_nobody}
 use Rattle.trace_world.proofs.Following.{Follows, no_counts, LeadsTo-none, LeadsTo-line}
 
@@ -83,19 +85,19 @@ output-take-le names limits before (line ∷ found) (mark ∷ marks) (suc n) =
     append-le _ _ _ (output-take-le names limits (before ++ call_of (asked names line) mark) found marks n)
 
 -- all that was found was written
-in_part_whole : {start given given' taken taken' : List ℕ} {old new : World} {held : Held} {counts : Counts} (has_ended : Bool) (gave : List ℕ)
-    → (follows : Follows start given taken taken' old held counts new)
-    → given' ≡ given ++ gave → (IsTrue held.is_ended → (gave ≡ []) × IsTrue has_ended) → (fault : ReplayFault)
-    → (fault ≢ Write → length follows.found ≡ end_count (follows.read.came ++ gave)) → ReplaysInPart fault start given' has_ended taken taken' old new
+pub in_part_whole : (before after : Given) (taken taken' : Taken) {given : List ℕ} {old new : World} {held : Held} {counts : Counts} (gave : List ℕ)
+    → (follows : Follows before.bytes given taken.bytes taken'.bytes old held counts new)
+    → after.bytes ≡ given ++ gave → (IsTrue held.is_ended → (gave ≡ []) × IsTrue after.has_ended) → (fault : ReplayFault)
+    → (fault ≢ Write → length follows.found ≡ end_count (follows.read.came ++ gave)) → ReplaysInPart fault before after taken taken' old new
 unfolding AreFirstLines-from
-in_part_whole {old = old} {counts = counts} has_ended gave follows grows at_end fault all_found = record {
+in_part_whole before after taken taken' {old = old} {counts = counts} gave follows grows at_end fault all_found = record {
   found = follows.found;
   marks = follows.marks;
   text = follows.text;
   counts = counts;
   written = follows.text;
   unwritten = [];
-  first = AreFirstLines-from has_ended gave follows.read grows at_end;
+  first = AreFirstLines-from after.has_ended gave follows.read grows at_end;
   none_lost = all_found;
   writes = follows.writes;
   front = sym (append-nil follows.text);
@@ -108,26 +110,32 @@ in_part_whole {old = old} {counts = counts} has_ended gave follows grows at_end 
 }
 
 -- a read failed
-pub in_part_read : {start given given' taken taken' : List ℕ} {old new : World} {held : Held} {counts : Counts} (has_ended : Bool)
-    → Follows start given taken taken' old held counts new → FindsNone given given' held
-    → (fault : ReplayFault) → ReplaysInPart fault start given' has_ended taken taken' old new
-in_part_read has_ended follows none fault =
-    in_part_whole has_ended none.gave follows none.grows (λ ended. absurd (cc)) fault (λ not_write. HasRead-none follows.read none)
+pub in_part_read : (before after : Given) (taken taken' : Taken) {given : List ℕ} {old new : World} {held : Held} {counts : Counts}
+    → Follows before.bytes given taken.bytes taken'.bytes old held counts new → FindsNone given after.bytes held
+    → (fault : ReplayFault) → ReplaysInPart fault before after taken taken' old new
+in_part_read before after taken taken' follows none fault =
+    in_part_whole before after taken taken' none.gave follows none.grows (λ ended. absurd (cc)) fault (λ not_write. HasRead-none follows.read none)
+
+-- what was answered was not flushed
+pub in_part_held_back : (before after : Given) (taken taken' : Taken) {old new : World} {held : Held} {counts : Counts}
+    → Follows before.bytes after.bytes taken.bytes taken'.bytes old held counts new → (IsTrue held.is_ended → IsTrue after.has_ended) → ReplaysInPart Write before after taken taken' old new
+in_part_held_back before after taken taken' follows ended =
+    in_part_whole before after taken taken' [] follows (sym (append-nil after.bytes)) (λ e. (refl, ended e)) Write (λ not_write. absurd (not_write refl))
 
 -- all was replayed, and it was not flushed
-pub in_part_unflushed : {start given given' taken taken' : List ℕ} {old new : World} {held : Held} {counts : Counts} (held' : Held) (has_ended : Bool)
-    → Follows start given taken taken' old held counts new → Finds given given' held held' End → IsTrue has_ended → ReplaysInPart Write start given' has_ended taken taken' old new
-in_part_unflushed held' has_ended follows finds ended =
-    in_part_whole has_ended [] follows (finds.0 ∙ sym (append-nil _)) (λ _. (refl, ended)) Write (λ not_write. absurd (not_write refl))
+pub in_part_unflushed : (before after : Given) (taken taken' : Taken) {given : List ℕ} {old new : World} {held : Held} {counts : Counts} (held' : Held)
+    → Follows before.bytes given taken.bytes taken'.bytes old held counts new → Finds given after.bytes held held' End → IsTrue after.has_ended → ReplaysInPart Write before after taken taken' old new
+in_part_unflushed before after taken taken' held' follows finds ended =
+    in_part_whole before after taken taken' [] follows (finds.0 ∙ sym (append-nil _)) (λ _. (refl, ended)) Write (λ not_write. absurd (not_write refl))
 
 -- the last line was written in part
-pub in_part_last : {start given given' taken taken' taken'' : List ℕ} {old mid new : World} {held held' : Held} {counts : Counts} {to : Text} {reply : Reply} (has_ended : Bool)
-    → Follows start given taken taken' old held counts mid
-    → Answered given given' held held' mid to reply new
-    → (IsTrue held.is_ended → (given' ≡ given) × IsTrue held'.is_ended) → (IsTrue held'.is_ended → IsTrue has_ended)
-    → WritesFront taken' taken'' (to ++ codes " " ++ reply_text reply ++ 10 ∷ []) → ReplaysInPart Write start given' has_ended taken taken'' old new
-in_part_last {start = start} {given' = given'} {taken = taken} {old = old} {mid = mid} {new = new} {held' = held'} {counts = counts} {to = to} {reply = reply} has_ended follows answered at_end ended front =
-    let read : HasRead start given' held' (follows.found ++ answered.line ∷ []) = HasRead-line follows.read answered.gives at_end in
+pub in_part_last : (before after : Given) (taken taken'' : Taken) {given taken' : List ℕ} {old mid new : World} {held held' : Held} {counts : Counts} {to : Text} {reply : Reply}
+    → Follows before.bytes given taken.bytes taken' old held counts mid
+    → Answered given after.bytes held held' mid to reply new
+    → (IsTrue held.is_ended → (after.bytes ≡ given) × IsTrue held'.is_ended) → (IsTrue held'.is_ended → IsTrue after.has_ended)
+    → WritesFront taken' taken''.bytes (to ++ codes " " ++ reply_text reply ++ 10 ∷ []) → ReplaysInPart Write before after taken taken'' old new
+in_part_last before after taken taken'' {old = old} {mid = mid} {new = new} {held' = held'} {counts = counts} {to = to} {reply = reply} follows answered at_end ended front =
+    let read : HasRead before.bytes after.bytes held' (follows.found ++ answered.line ∷ []) = HasRead-line follows.read answered.gives at_end in
     record {
       found = follows.found ++ answered.line ∷ [];
       marks = follows.marks ++ answered.answers.mark ∷ [];
@@ -135,8 +143,8 @@ in_part_last {start = start} {given' = given'} {taken = taken} {old = old} {mid 
       counts = counted_with counts reply;
       written = follows.text ++ front.written;
       unwritten = front.rest;
-      first = AreFirstLines-from has_ended [] read (sym (append-nil given')) (λ e. (refl, ended e));
-      writes = front.grows ∙ ap (λ bytes. bytes ++ front.written) follows.writes ∙ append_assoc taken follows.text front.written;
+      first = AreFirstLines-from after.has_ended [] read (sym (append-nil after.bytes)) (λ e. (refl, ended e));
+      writes = front.grows ∙ ap (λ bytes. bytes ++ front.written) follows.writes ∙ append_assoc taken.bytes follows.text front.written;
       front = ap (λ bytes. follows.text ++ bytes) front.front ∙ sym (append_assoc follows.text front.written front.rest);
       none_lost = λ not_write. absurd (not_write refl);
       replied = λ not_write. absurd (not_write refl);
@@ -149,17 +157,17 @@ in_part_last {start = start} {given' = given'} {taken = taken} {old = old} {mid 
     }
 
 -- nothing was read or written
-pub in_part_none : (given taken : List ℕ) (has_ended : Bool) (world : World) (fault : ReplayFault) → ReplaysInPart fault given given has_ended taken taken world world
-in_part_none given taken has_ended world fault = record {
+pub in_part_none : (before : Given) (taken : Taken) (world : World) (fault : ReplayFault) → ReplaysInPart fault before before taken taken world world
+in_part_none before taken world fault = record {
   found = [];
   marks = [];
   text = [];
   counts = no_counts;
   written = [];
   unwritten = [];
-  first = record { came = []; left = []; reads = sym (append-nil given); first = λ rest none. refl };
+  first = record { came = []; left = []; reads = sym (append-nil before.bytes); first = λ rest none. refl };
   none_lost = λ not_write. refl;
-  writes = sym (append-nil taken);
+  writes = sym (append-nil taken.bytes);
   front = refl;
   replied = λ not_write. refl;
   leads = LeadsTo-none world;
@@ -167,9 +175,9 @@ in_part_none given taken has_ended world fault = record {
 }
 
 -- all was replayed
-pub replays_all : {start given given' taken taken' : List ℕ} {old new : World} {held : Held} {counts : Counts} (held' : Held) (has_ended : Bool)
-    → Follows start given taken taken' old held counts new → Finds given given' held held' End → IsTrue has_ended → Replays start given' has_ended taken taken' old counts new
-replays_all {old = old} {new = new} {counts = counts} held' has_ended follows finds ended = record {
+pub replays_all : (before after : Given) (taken taken' : Taken) {given : List ℕ} {old new : World} {held : Held} {counts : Counts} (held' : Held)
+    → Follows before.bytes given taken.bytes taken'.bytes old held counts new → Finds given after.bytes held held' End → IsTrue after.has_ended → Replays before after taken taken' old counts new
+replays_all before after taken taken' {old = old} {new = new} {counts = counts} held' follows finds ended = record {
   came = follows.read.came;
   marks = follows.marks;
   text = follows.text;
@@ -178,6 +186,24 @@ replays_all {old = old} {new = new} {counts = counts} held' has_ended follows fi
   writes = follows.writes;
   leads = rw (HasRead-end follows.read finds.1) follows.leads;
 }
+
+-- what was flushed is told so
+pub HandsOn-flushed : {A : Type 0} (result : Result A ReplayFault) (taken : Taken) → IsTrue taken.is_flushed → HandsOn result taken
+HandsOn-flushed (Ok counts) taken flushed = flushed
+HandsOn-flushed (Err Read) taken flushed = flushed
+HandsOn-flushed (Err TooLong) taken flushed = flushed
+HandsOn-flushed (Err Write) taken flushed = tt
+HandsOn-flushed (Err Memory) taken flushed = tt
+
+-- what a fault asks for is there where that fault came
+pub HandsOn-fault : {A : Type 0} (result : Result A ReplayFault) (fault : ReplayFault) (taken : Taken) → IsErrAnd result (λ e. e ≡ fault) → HandsOn {A = A} (Err fault) taken → HandsOn result taken
+HandsOn-fault (Ok counts) fault taken is holds = absurd is
+HandsOn-fault {A = A} (Err e) fault taken is holds = subst (λ one. HandsOn {A = A} (Err one) taken) (sym is) holds
+
+-- the end was told once at most, and by the last read
+pub stops_at_end : (before after : Given) (is_ended : Bool) → after.ends ≡ before.ends + one_if is_ended → (IsTrue is_ended → IsTrue after.has_ended) → StopsAtEnd before after
+stops_at_end before after true ends told = inr (ends, told refl)
+stops_at_end before after false ends told = inl (omega arith)
 
 -- the answer to a line that was found, as the loop knows it
 pub answered_where_too_long : (given given' : List ℕ) (held held' : Held) (world world' : World) (found : Line) (answer result : Answer)

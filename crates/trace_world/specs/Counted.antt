@@ -1,12 +1,9 @@
 -- How replies are counted.
-use Rattle.std.specs.Prelude.{ℕ, ◌+◌, Bool, if◌then◌else◌}
+use Rattle.std.specs.Prelude.{◌+◌}
+use Rattle.line_protocol.specs.Source.{one_if}
 use Rattle.trace_types.specs.Replay.{is_accepted, is_answered, is_refused}
 use Rattle.trace_types.specs.declared.reply.Reply.{Reply}
 use Rattle.trace_world.specs.declared.counts.Counts.{Counts}
-
--- 1 where it is so
-abbrev pub one_if : Bool → ℕ
-one_if b = if b then 1 else 0
 
 -- the counts with one more line that got this reply
 abbrev pub counted_with : Counts → Reply → Counts

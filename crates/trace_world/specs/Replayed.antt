@@ -1,5 +1,5 @@
 -- What a replay did.
-use Rattle.std.specs.Prelude.{◌≡◌, ◌≢◌, ℕ, ◌-◌, ◌≤◌, Bool, IsTrue, List, [], ◌++◌, length, take, count_by}
+use Rattle.std.specs.Prelude.{◌≡◌, ◌≢◌, ℕ, ◌-◌, ◌≤◌, Bool, IsTrue, Result, Ok, Err, List, [], ◌++◌, length, take, count_by}
 use Rattle.trace_types.specs.Name.{Text}
 use Rattle.trace_types.specs.Lines.{lines}
 use Rattle.trace_types.specs.Interleaving.{Call}
@@ -7,9 +7,11 @@ use Rattle.trace_types.specs.World.{World, IsAfter}
 use Rattle.trace_types.specs.Replay.{asked, call_of, reply_to, addressee, entries, calls_by, replies_to, output, MarkMayStand, MarksMayStand, is_accepted, is_answered, is_refused}
 use Rattle.trace_types.specs.declared.reply.Reply.{Reply}
 use Rattle.line_protocol.specs.Ends.{end_count}
+use Rattle.line_protocol.specs.Source.{Given}
+use Rattle.line_protocol.specs.Sink.{Taken}
 use Rattle.trace_world.specs.declared.counts.Counts.{Counts}
 use Rattle.trace_world.specs.declared.replay_fault.ReplayFault.{ReplayFault}
-use Rattle.trace_world.specs.declared.replay_fault.ReplayFault.TheVariants.{Write}
+use Rattle.trace_world.specs.declared.replay_fault.ReplayFault.TheVariants.{Read, Write, TooLong, Memory}
 
 -- how many replies there are, and how many of each sort
 abbrev pub counts_of : List Reply → Counts
@@ -34,13 +36,13 @@ pub record LeadsTo (old : World) (found : List Text) (marks : List Bool) (text :
 
 -- All that the reader gave until it told the end was replayed: for some marks that may stand, what was written is
 -- the output for all the lines, and the counts are those of its replies.
-pub record Replays (given given' : List ℕ) (has_ended : Bool) (taken taken' : List ℕ) (old : World) (counts : Counts) (new : World) : Type 0 where
+pub record Replays (before after : Given) (taken taken' : Taken) (old : World) (counts : Counts) (new : World) : Type 0 where
   pub came : List ℕ
   pub marks : List Bool
   pub text : Text
-  pub reads : given' ≡ given ++ came
-  pub ends : IsTrue has_ended
-  pub writes : taken' ≡ taken ++ text
+  pub reads : after.bytes ≡ before.bytes ++ came
+  pub ends : IsTrue after.has_ended
+  pub writes : taken'.bytes ≡ taken.bytes ++ text
   pub leads : LeadsTo old (lines came) marks text counts new
 
 -- These are the first lines of what the reader gave, however its input goes on; it does not go on once the reader told
@@ -54,21 +56,29 @@ pub record AreFirstLines (given given' : List ℕ) (has_ended : Bool) (found : L
 -- A fault came in between: the first lines were replayed, a front of their output was written, and at most the last
 -- of them lacks its whole reply. Unless the fault is one of writing, none of them does, and as many lines were replayed
 -- as ends of line came.
-pub record ReplaysInPart (fault : ReplayFault) (given given' : List ℕ) (has_ended : Bool) (taken taken' : List ℕ) (old new : World) : Type 0 where
+pub record ReplaysInPart (fault : ReplayFault) (before after : Given) (taken taken' : Taken) (old new : World) : Type 0 where
   pub found : List Text
   pub marks : List Bool
   pub text : Text
   pub counts : Counts
   pub written : List ℕ
   pub unwritten : List ℕ
-  pub first : AreFirstLines given given' has_ended found
+  pub first : AreFirstLines before.bytes after.bytes after.has_ended found
   pub none_lost : fault ≢ Write → length found ≡ end_count first.came
-  pub writes : taken' ≡ taken ++ written
+  pub writes : taken'.bytes ≡ taken.bytes ++ written
   pub front : text ≡ written ++ unwritten
   pub replied : fault ≢ Write → unwritten ≡ []
   pub leads : LeadsTo old found marks text counts new
   pub whole : (calls : List Call) → IsAfter old calls →
       length (output old.names old.limits calls (entries old.names (take (length found - 1) found) (take (length found - 1) marks))) ≤ length written
+
+-- All that was answered was handed on, unless a write failed or nothing was read.
+abbrev pub HandsOn : {A : Type 0} → Result A ReplayFault → Taken → Type 0
+HandsOn (Ok counts) taken = IsTrue taken.is_flushed
+HandsOn (Err Read) taken = IsTrue taken.is_flushed
+HandsOn (Err TooLong) taken = IsTrue taken.is_flushed
+HandsOn (Err Write) taken = Unit {0}
+HandsOn (Err Memory) taken = Unit {0}
 
 -- One line leads from the old world to the new one, and this reply is due to this addressee.
 pub record Answers (old : World) (line : Text) (to : Text) (reply : Reply) (new : World) : Type 0 where

@@ -1,12 +1,12 @@
 //! The answer to one line.
-ghost use Rattle.std.specs.Prelude.{◌≡◌, ◌+◌, ◌++◌, ◌≤◌, false, None, OnOk, OnErr};
+ghost use Rattle.std.specs.Prelude.{◌≡◌, ◌≤◌, false, None, OnOk, OnErr};
 ghost use Rattle.trace_types.specs.Lines.{is_too_long};
-ghost use Rattle.line_protocol.specs.Writing.{WritesFront, IsWriteFault};
+ghost use Rattle.line_protocol.specs.Writing.{WritesText, EndsInFault};
 ghost use Rattle.trace_world.specs.Replayed.{Answers};
 ghost use Rattle.trace_world.specs.Answer.{addressee_text, answer_text};
 
 use crate::World;
-use line_protocol::{Sink, WriteFault, read_addressed, write_bytes, write_reply};
+use line_protocol::{Sink, WriteFault, read_addressed, write_prefix, write_reply};
 use trace_types::{Code, Name, Reply};
 
 /// A reply, and the tenant that it names.
@@ -53,18 +53,13 @@ impl Answer {
 
     /// Writes the answer as a line.
     pub(crate) fn write<W: Sink>(&self, writer: &mut W) -> Result<(), WriteFault>
-        ensures ok { OnOk result (W.taken writer.new ≡ W.taken writer.old ++ answer_text self.now.tenant self.now.reply) }
-        ensures err { OnErr result (WritesFront (W.taken writer.old) (W.taken writer.new) (answer_text self.now.tenant self.now.reply)) }
-        ensures fault { OnErr result (IsWriteFault (W.failures writer.old) (W.failures writer.new)
-            (W.interruptions writer.old) (W.interruptions writer.new)) }
-        ensures no_failure { OnOk result (W.failures writer.new ≡ W.failures writer.old) }
-        ensures failures { W.failures writer.old ≤ W.failures writer.new }
-        ensures interruptions { W.interruptions writer.old ≤ W.interruptions writer.new }
+        ensures written { WritesText (W.seen writer.old) (W.seen writer.new) result (answer_text self.now.tenant self.now.reply) }
+        ensures no_failure { OnOk result ((W.seen writer.new).failures ≡ (W.seen writer.old).failures) }
+        ensures fault { OnErr result (EndsInFault (W.seen writer.old) (W.seen writer.new)) }
+        ensures interruptions { (W.seen writer.old).interruptions ≤ (W.seen writer.new).interruptions }
     {
-        write_bytes(writer, self.addressee())?;
-        write_bytes(writer, b" ")?;
-        write_reply(writer, &self.reply)?;
-        write_bytes(writer, b"\n")
+        write_prefix(writer, self.addressee())?;
+        write_reply(writer, &self.reply)
     }
 
     /// Whom the answer names.

@@ -1,19 +1,22 @@
 //! The replay of lines of many tenants.
-ghost use Rattle.std.specs.Prelude.{◌≡◌, ◌↔◌, ◌+◌, ◌<◌, ◌≤◌, ◌^◌, IfOk, IfErr, IsErrOf, IsTrue, OnOk};
-ghost use Rattle.line_protocol.specs.Writing.{IsWriteFault};
-ghost use Rattle.trace_world.specs.Replayed.{Replays, ReplaysInPart};
+ghost use Rattle.std.specs.Prelude.{◌≡◌, ◌↔◌, ◌+◌, ◌<◌, ◌≤◌, ◌^◌, IfOk, IfErr, IsErrOf, IsTrue, OnOk, OnErr};
+ghost use Rattle.line_protocol.specs.LineReading.{NeedsRead};
+ghost use Rattle.line_protocol.specs.Source.{StopsAtEnd};
+ghost use Rattle.line_protocol.specs.Writing.{EndsInFault, GoesWell, GoesWrong};
+ghost use Rattle.trace_world.specs.Replayed.{HandsOn, Replays, ReplaysInPart};
 
 use crate::answer::Answer;
 use crate::{Counts, ReplayFault, World};
-use line_protocol::{Buffer, Line, Sink, Source, flush};
+use line_protocol::{Buffer, Line, Sink, Source, WriteFault, flush};
 use std::alloc::Global;
 use trace_types::Code;
 
 /// Reads lines of all tenants, `TENANT REQUEST`, does what they ask and writes a line for each, `TENANT REPLY`.
 ///
-/// It reads to the end of the input, and then flushes what it wrote, once. A fault ends it without a flush. Where no
-/// more can be read (`Read`, `TooLong`), each line whose end came is answered, and only an unfinished one is lost; after
-/// a write fault, lines that were read and not answered are lost. Nothing waits on `rt` while the tenants share nothing.
+/// Before it asks for more bytes it flushes what it answered, so each line that came whole is answered before it waits.
+/// It reads to the end of the input. A fault ends it: where no more can be read (`Read`, `TooLong`), each line whose end
+/// came is answered, and only an unfinished one is lost; after a write fault, lines that were read and not answered are
+/// lost. Nothing waits on `rt` while the tenants share nothing.
 pub fn replay<T, R: Source, W: Sink>(
     rt: &T,
     alloc: Global,
@@ -21,25 +24,29 @@ pub fn replay<T, R: Source, W: Sink>(
     reader: &mut R,
     writer: &mut W,
 ) -> Result<Counts, ReplayFault>
-    ensures ok { IfOk result (λ counts. Replays (R.given reader.old) (R.given reader.new) (R.has_ended reader.new)
-        (W.taken writer.old) (W.taken writer.new) world.old counts world.new) }
-    // What was written was flushed.
-    ensures flushed { OnOk result (IsTrue (W.is_flushed writer.new)) }
-    ensures fault { IfErr result (λ fault. ReplaysInPart fault (R.given reader.old) (R.given reader.new) (R.has_ended reader.new)
-        (W.taken writer.old) (W.taken writer.new) world.old world.new) }
+    ensures ok { IfOk result (λ counts. Replays (R.seen reader.old) (R.seen reader.new)
+        (W.seen writer.old) (W.seen writer.new) world.old counts world.new) }
+    ensures fault { IfErr result (λ fault. ReplaysInPart fault (R.seen reader.old) (R.seen reader.new)
+        (W.seen writer.old) (W.seen writer.new) world.old world.new) }
+    // Whichever read failed, no answer was held back from it.
+    ensures flushed { HandsOn result (W.seen writer.new) }
+
+    // How much is read.
+    ensures reads { (R.seen reader.new).reads ≤ (R.seen reader.old).reads + 2 ^ 30 }
+    ensures ends { StopsAtEnd (R.seen reader.old) (R.seen reader.new) }
 
     // When each fault comes. A failed read or write is never passed over.
-    ensures read { IsErrOf result ReplayFault.Read ↔ (R.failures reader.old < R.failures reader.new) }
-    ensures too_long { IsErrOf result ReplayFault.TooLong → R.reads reader.old + 2 ^ 30 ≤ R.reads reader.new }
-    ensures write { IsErrOf result ReplayFault.Write → IsWriteFault (W.failures writer.old) (W.failures writer.new)
-        (W.interruptions writer.old) (W.interruptions writer.new) }
-    ensures write_failed { W.failures writer.old < W.failures writer.new → IsErrOf result ReplayFault.Write }
+    ensures read { IsErrOf result ReplayFault.Read ↔ ((R.seen reader.old).failures < (R.seen reader.new).failures) }
+    ensures too_long { IsErrOf result ReplayFault.TooLong → (R.seen reader.new).reads ≡ (R.seen reader.old).reads + 2 ^ 30 }
+    ensures write { IsErrOf result ReplayFault.Write → EndsInFault (W.seen writer.old) (W.seen writer.new) }
+    ensures write_failed { (W.seen writer.old).failures < (W.seen writer.new).failures → IsErrOf result ReplayFault.Write }
     ensures memory { IsErrOf result ReplayFault.Memory →
         (reader.new ≡ reader.old) × (writer.new ≡ writer.old) × (world.new ≡ world.old) }
 {
     let mut lines = Buffer::new(alloc)?;
     let mut counts = Counts::none();
     loop {
+        hand_on(&lines, writer)?;
         let answer = match lines.next_line(reader)? {
             Line::End => break,
             Line::TooLong => Answer::to_nobody(Code::Line),
@@ -52,6 +59,20 @@ pub fn replay<T, R: Source, W: Sink>(
     }
     flush(writer)?;
     Ok(counts)
+}
+
+/// Flushes what was answered, where the next line wants a read.
+fn hand_on<W: Sink>(lines: &Buffer, writer: &mut W) -> Result<(), WriteFault>
+    ensures flushed { OnOk result (NeedsRead lines.now → IsTrue (W.seen writer.new).is_flushed) }
+    ensures taken { (W.seen writer.new).bytes ≡ (W.seen writer.old).bytes }
+    ensures well { OnOk result (GoesWell (W.seen writer.old) (W.seen writer.new)) }
+    ensures fault { OnErr result (GoesWrong (W.seen writer.old) (W.seen writer.new)) }
+{
+    if lines.needs_read() {
+        flush(writer)
+    } else {
+        Ok(())
+    }
 }
 
 #[cfg(test)]

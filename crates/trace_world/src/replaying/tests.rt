@@ -2,6 +2,7 @@ ghost use Rattle.std.specs.Prelude.{◌≤◌, IfOk};
 
 use super::*;
 use line_protocol::{FromReader, IntoWriter};
+use std::cell::Cell;
 use std::io;
 use std::io::{Error, ErrorKind, Read, Write};
 use std::process::Abort;
@@ -461,5 +462,68 @@ fn a_fault_leaves_a_front_of_the_output(rt: HostRuntime) -> Result<(), Fail> {
     ] {
         stops(&rt, reader, writer, fault, want, count)?;
     }
+    Ok(())
+}
+
+/// A reader that gives one line in each call, and fails where an answer to an earlier one was not flushed.
+#[derive(Drop)]
+struct Asking<'a> {
+    lines: &'a [&'a [u8]],
+    given: usize,
+    answered: &'a Cell<usize>,
+}
+
+impl Read for Asking<'_> {
+    fn read(&mut self, buffer: &mut [u8]) -> io::Result<usize> {
+        if self.answered.get() != self.given {
+            return Err(Error::from(ErrorKind::Other));
+        }
+        let Some(line) = self.lines.get(self.given) else {
+            return Ok(0);
+        };
+        let count = line.len().min(buffer.len());
+        buffer[..count].copy_from_slice(&line[..count]);
+        self.given = self.given.saturating_add(1);
+        Ok(count)
+    }
+}
+
+/// A writer that tells how many lines were flushed.
+#[derive(Drop)]
+struct Answering<'a> {
+    lines: usize,
+    answered: &'a Cell<usize>,
+}
+
+impl Write for Answering<'_> {
+    fn write(&mut self, bytes: &[u8]) -> io::Result<usize> {
+        if bytes.ends_with(b"\n") {
+            self.lines = self.lines.saturating_add(1);
+        }
+        Ok(bytes.len())
+    }
+
+    fn flush(&mut self) -> io::Result<()> {
+        self.answered.set(self.lines);
+        Ok(())
+    }
+}
+
+#[test]
+fn each_line_is_answered_before_the_next_is_waited_for(rt: HostRuntime) -> Result<(), Fail> {
+    let answered = Cell::new(0);
+    let lines: [&[u8]; 3] = [b"x local root\n", b"x count\n", b"q\n"];
+    let mut world = world_of_x(rt.alloc(), DEFAULTS)?;
+    let mut reader = FromReader::new(Asking {
+        lines: &lines,
+        given: 0,
+        answered: &answered,
+    });
+    let mut writer = IntoWriter::new(Answering {
+        lines: 0,
+        answered: &answered,
+    });
+    let outcome = replay(&rt, rt.alloc(), &mut world, &mut reader, &mut writer);
+    assert!(rt; outcome.is_ok());
     Ok(())
 }

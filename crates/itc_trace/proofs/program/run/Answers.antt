@@ -1,10 +1,11 @@
-use Rattle.std.proofs.Common.{rules, ◌≡◌, ◌∙◌, inl, inr, ℕ, Bool, true, false, Option, Some, None, Result, Ok, Err, IfSome, IfErr, OnOk, refl, sym, ap, subst, arith}
+use Rattle.std.proofs.Common.{rules, ◌≡◌, ◌∙◌, inl, inr, Bool, true, false, Option, Some, None, Result, Ok, Err, IfSome, IfErr, OnOk, ◌≢◌, map, refl, sym, ap, subst, arith}
 use Rattle.itc_trace.specs.CommandLine.{Asked, are_taken}
 use Rattle.itc_trace.specs.Fault.{status_of}
-use Rattle.itc_trace.specs.Program.{IsStatusOf, ReplaysFresh, ReplaysFreshInPart, Tells}
+use Rattle.itc_trace.specs.Program.{RefusesTenants, ReplaysFresh, ReplaysFreshInPart, Tells}
+use Rattle.line_protocol.specs.Sink.{Taken}
 use Rattle.itc_trace.specs.declared.fault.Fault.{Fault}
 use Rattle.itc_trace.specs.declared.fault.Fault.TheVariants.{Words, Tenants, Read, Write, TooLong, Memory}
-use Rattle.itc_trace.specs.Reading.{Reads, wanted_of}
+use Rattle.itc_trace.specs.Reading.{IsAnswer, Reads, kinds_of, wanted_of}
 use Rattle.itc_trace.specs.declared.words.Asked.TheVariants.{Replay, Show}
 use Rattle.itc_trace.specs.declared.words.Refusal.TheVariants as refusal
 use Rattle.itc_trace.proofs.program.run.Goals as goal
@@ -23,49 +24,42 @@ at_err result error P is holds = subst (λ r. IfErr r P) is holds
 same_err : {T E : Type 0} (result : Result T E) (a b : E) → result ≡ Err a → result ≡ Err b → a ≡ b
 same_err result a b is other = at_err result b (λ e. a ≡ e) other (subst (λ r. IfErr r (λ e. a ≡ e)) (sym is) refl)
 
-done_taken : (taken : Bool) → taken ≡ true → IsStatusOf taken 0
-done_taken true is = λ e. omega arith
-done_taken false is = cc
+done_taken : (before after : Taken) (taken : Bool) → taken ≡ true → RefusesTenants taken before after 0
+done_taken before after true is = λ e. omega arith
+done_taken before after false is = cc
 
-status_taken : (fault : Fault) (taken : Bool) → (status_of fault ≡ 2 → (fault ≡ Tenants) × (taken ≡ false)) → (status_of fault ≡ 3 → taken ≡ true) → IsStatusOf taken (status_of fault)
-status_taken Words true refused in_part = let no = (refused refl).1 in cc
-status_taken Words false refused in_part = inl refl
-status_taken Tenants true refused in_part = let no = (refused refl).1 in cc
-status_taken Tenants false refused in_part = inl refl
-status_taken Read true refused in_part = λ e. omega arith
-status_taken Read false refused in_part = let no = in_part refl in cc
-status_taken Write true refused in_part = λ e. omega arith
-status_taken Write false refused in_part = let no = in_part refl in cc
-status_taken TooLong true refused in_part = λ e. omega arith
-status_taken TooLong false refused in_part = let no = in_part refl in cc
-status_taken Memory true refused in_part = λ e. omega arith
-status_taken Memory false refused in_part = inr refl
+status_taken : (before after : Taken) (fault : Fault) (taken : Bool) → Tells before after fault → (status_of fault ≡ 2 → (fault ≡ Tenants) × (taken ≡ false)) → (status_of fault ≡ 3 → taken ≡ true)
+    → RefusesTenants taken before after (status_of fault)
+status_taken before after Words true told refused in_part = let no = (refused refl).1 in cc
+status_taken before after Words false told refused in_part = let no = (refused refl).0 in cc
+status_taken before after Tenants true told refused in_part = let no = (refused refl).1 in cc
+status_taken before after Tenants false told refused in_part = inl (refl, told)
+status_taken before after Read true told refused in_part = λ e. omega arith
+status_taken before after Read false told refused in_part = let no = in_part refl in cc
+status_taken before after Write true told refused in_part = λ e. omega arith
+status_taken before after Write false told refused in_part = let no = in_part refl in cc
+status_taken before after TooLong true told refused in_part = λ e. omega arith
+status_taken before after TooLong false told refused in_part = let no = in_part refl in cc
+status_taken before after Memory true told refused in_part = λ e. omega arith
+status_taken before after Memory false told refused in_part = inr refl
 
-four_or_two : (status : ℕ) → status ≡ 4 → status ≡ 2 → ⊥
-four_or_two status four two = omega arith
+memory_taken : (before after : Taken) (taken : Bool) → RefusesTenants taken before after 4
+memory_taken before after true = λ e. omega arith
+memory_taken before after false = inr refl
 
-memory_taken : (taken : Bool) → IsStatusOf taken 4
-memory_taken true = λ e. omega arith
-memory_taken false = inr refl
-
-pub returns-in-Err-Words-clause-taken : goal.returns-in-Err-Words-clause-taken
-returns-in-Err-Words-clause-taken g c = on_asked _ (λ asked. Reads asked (Err c.in-Err-Words.field-0)) _ c.in-Err-Words.ensures (λ asked read.
+pub returns-in-Err-Words-clause-tenants_refused : goal.returns-in-Err-Words-clause-tenants_refused
+returns-in-Err-Words-clause-tenants_refused g c = on_asked _ (λ asked. Reads asked (Err c.in-Err-Words.field-0)) _ c.in-Err-Words.ensures.asked (λ asked read.
     let field : c.in-Err-Words.field-0 ≡ refusal.Words c.in-Err-Words.text = search rules in
     absurd (subst (λ one. Reads asked (Err one)) field read))
 
-pub returns-in-Err-Words-clause-no_tenants : goal.returns-in-Err-Words-clause-no_tenants
-returns-in-Err-Words-clause-no_tenants g c two = on_asked _ (λ asked. Reads asked (Err c.in-Err-Words.field-0)) _ c.in-Err-Words.ensures (λ asked read.
-    let field : c.in-Err-Words.field-0 ≡ refusal.Words c.in-Err-Words.text = search rules in
-    absurd (subst (λ one. Reads asked (Err one)) field read))
-
-pub returns-in-Ok-clause-taken : goal.returns-in-Ok-clause-taken
-returns-in-Ok-clause-taken g c = elim c.match-read_words.branch [
-  | in-Ok-Replay w ↦ on_asked _ (λ asked. Reads asked (Ok w.in-Ok-Replay.field-0)) _ w.in-Ok-Replay.ensures (λ asked read.
+pub returns-in-Ok-clause-tenants_refused : goal.returns-in-Ok-clause-tenants_refused
+returns-in-Ok-clause-tenants_refused g c = elim c.match-read_words.branch [
+  | in-Ok-Replay w ↦ on_asked _ (λ asked. Reads asked (Ok w.in-Ok-Replay.field-0)) _ w.in-Ok-Replay.ensures.asked (λ asked read.
       let field : w.in-Ok-Replay.field-0 ≡ Replay w.in-Ok-Replay.wanted = search rules in
       let is : wanted_of w.in-Ok-Replay.wanted ≡ asked = subst (λ one. Reads asked (Ok one)) field read in
       let taken = at_ok w.replay_tenants-done.result c.in-Ok.field-0 _ (sym w.done-is ∙ c.in-Ok.is) w.replay_tenants-done.ensures.taken in
-      done_taken (are_taken asked.tenants) (ap (λ (one : Asked). are_taken one.tenants) (sym is) ∙ taken))
-  | in-Ok-Show w ↦ on_asked _ (λ asked. Reads asked (Ok w.in-Ok-Show.field-0)) _ w.in-Ok-Show.ensures (λ asked read.
+      done_taken _ _ (are_taken asked.tenants) (ap (λ (one : Asked). are_taken one.tenants) (sym is) ∙ taken))
+  | in-Ok-Show w ↦ on_asked _ (λ asked. Reads asked (Ok w.in-Ok-Show.field-0)) _ w.in-Ok-Show.ensures.asked (λ asked read.
       let field : w.in-Ok-Show.field-0 ≡ Show w.in-Ok-Show.text = search rules in
       absurd (subst (λ one. Reads asked (Ok one)) field read))
   | in-Err-Memory w ↦ let no = sym w.done-is ∙ c.in-Ok.is in cc
@@ -73,70 +67,116 @@ returns-in-Ok-clause-taken g c = elim c.match-read_words.branch [
 
 pub returns-in-Ok-clause-replayed : goal.returns-in-Ok-clause-replayed
 returns-in-Ok-clause-replayed g c zero = elim c.match-read_words.branch [
-  | in-Ok-Replay w ↦ on_asked _ (λ asked. Reads asked (Ok w.in-Ok-Replay.field-0)) _ w.in-Ok-Replay.ensures (λ asked read.
+  | in-Ok-Replay w ↦ on_asked _ (λ asked. Reads asked (Ok w.in-Ok-Replay.field-0)) _ w.in-Ok-Replay.ensures.asked (λ asked read.
       let field : w.in-Ok-Replay.field-0 ≡ Replay w.in-Ok-Replay.wanted = search rules in
       let is : wanted_of w.in-Ok-Replay.wanted ≡ asked = subst (λ one. Reads asked (Ok one)) field read in
       let fresh = at_ok w.replay_tenants-done.result c.in-Ok.field-0 _ (sym w.done-is ∙ c.in-Ok.is) w.replay_tenants-done.ensures.ok in
-      subst (λ (one : Asked). ReplaysFresh one.limits one.tenants (g.R.Source.given c.args.reader.now) (g.R.Source.given c.match-read_words.reader)
-      (g.R.Source.has_ended c.match-read_words.reader) (g.W.Sink.taken c.args.writer.now) (g.W.Sink.taken c.match-read_words.writer)) is (rw (w.reader-is, w.writer-is) fresh))
-  | in-Ok-Show w ↦ on_asked _ (λ asked. Reads asked (Ok w.in-Ok-Show.field-0)) _ w.in-Ok-Show.ensures (λ asked read.
+      subst (λ (one : Asked). ReplaysFresh one.limits one.tenants (g.R.Source.seen c.args.reader.now) (g.R.Source.seen c.match-read_words.reader)
+      (g.W.Sink.seen c.args.writer.now) (g.W.Sink.seen c.match-read_words.writer)) is (rw (w.reader-is, w.writer-is) fresh))
+  | in-Ok-Show w ↦ on_asked _ (λ asked. Reads asked (Ok w.in-Ok-Show.field-0)) _ w.in-Ok-Show.ensures.asked (λ asked read.
       let field : w.in-Ok-Show.field-0 ≡ Show w.in-Ok-Show.text = search rules in
       absurd (subst (λ one. Reads asked (Ok one)) field read))
   | in-Err-Memory w ↦ let no = sym w.done-is ∙ c.in-Ok.is in cc
 ]
 
-pub returns-in-Err-clause-taken : goal.returns-in-Err-clause-taken
-returns-in-Err-clause-taken g c = elim c.match-read_words.branch [
-  | in-Ok-Replay w ↦ on_asked _ (λ asked. Reads asked (Ok w.in-Ok-Replay.field-0)) _ w.in-Ok-Replay.ensures (λ asked read.
+pub returns-in-Err-clause-tenants_refused : goal.returns-in-Err-clause-tenants_refused
+returns-in-Err-clause-tenants_refused g c = elim c.match-read_words.branch [
+  | in-Ok-Replay w ↦ on_asked _ (λ asked. Reads asked (Ok w.in-Ok-Replay.field-0)) _ w.in-Ok-Replay.ensures.asked (λ asked read.
       let field : w.in-Ok-Replay.field-0 ≡ Replay w.in-Ok-Replay.wanted = search rules in
       let is : wanted_of w.in-Ok-Replay.wanted ≡ asked = subst (λ one. Reads asked (Ok one)) field read in
       let same = ap (λ (one : Asked). are_taken one.tenants) (sym is) in
       let err = sym w.done-is ∙ c.in-Err.is in
       let refused = at_err w.replay_tenants-done.result c.in-Err.fault _ err w.replay_tenants-done.ensures.refused in
       let in_part = at_err w.replay_tenants-done.result c.in-Err.fault _ err w.replay_tenants-done.ensures.in_part in
-      subst (λ status. IsStatusOf (are_taken asked.tenants) status) (sym c.tell.ensures.status)
-      (status_taken c.in-Err.fault (are_taken asked.tenants) (λ two. ((refused two).0, same ∙ (refused two).1)) (λ three. same ∙ (in_part three).0)))
-  | in-Ok-Show w ↦ on_asked _ (λ asked. Reads asked (Ok w.in-Ok-Show.field-0)) _ w.in-Ok-Show.ensures (λ asked read.
+      subst (λ status. RefusesTenants (are_taken asked.tenants) (g.E.Sink.seen c.args.errors.now) (g.E.Sink.seen c.tell.new.errors) status) (sym c.tell.ensures.status)
+      (status_taken _ _ c.in-Err.fault (are_taken asked.tenants) c.tell.ensures.told (λ two. ((refused two).0, same ∙ (refused two).1)) (λ three. same ∙ (in_part three).0)))
+  | in-Ok-Show w ↦ on_asked _ (λ asked. Reads asked (Ok w.in-Ok-Show.field-0)) _ w.in-Ok-Show.ensures.asked (λ asked read.
       let field : w.in-Ok-Show.field-0 ≡ Show w.in-Ok-Show.text = search rules in
       absurd (subst (λ one. Reads asked (Ok one)) field read))
-  | in-Err-Memory w ↦ on_asked _ (λ asked. Reads asked (Err w.in-Err-Memory.field-0)) _ w.in-Err-Memory.ensures (λ asked read.
+  | in-Err-Memory w ↦ on_asked _ (λ asked. Reads asked (Err w.in-Err-Memory.field-0)) _ w.in-Err-Memory.ensures.asked (λ asked read.
       let fault_is = same_err c.match-read_words.done c.in-Err.fault Memory c.in-Err.is w.done-is in
-      subst (λ status. IsStatusOf (are_taken asked.tenants) status) (sym (c.tell.ensures.status ∙ ap status_of fault_is)) (memory_taken (are_taken asked.tenants)))
+      subst (λ status. RefusesTenants (are_taken asked.tenants) (g.E.Sink.seen c.args.errors.now) (g.E.Sink.seen c.tell.new.errors) status) (sym (c.tell.ensures.status ∙ ap status_of fault_is)) (memory_taken _ _ (are_taken asked.tenants)))
 ]
 
-pub returns-in-Err-clause-failed : goal.returns-in-Err-clause-failed
-returns-in-Err-clause-failed g c three = (
-  c.in-Err.fault,
+three_only : (fault : Fault) → status_of fault ≢ 0 → status_of fault ≢ 2 → status_of fault ≢ 4 → status_of fault ≡ 3
+three_only Words zero two four = absurd (two refl)
+three_only Tenants zero two four = absurd (two refl)
+three_only Read zero two four = refl
+three_only Write zero two four = refl
+three_only TooLong zero two four = refl
+three_only Memory zero two four = absurd (four refl)
+
+pub returns-in-Err-clause-broken_off : goal.returns-in-Err-clause-broken_off
+returns-in-Err-clause-broken_off g c others =
+    let is = c.tell.ensures.status in
+    let three : c.tell.result ≡ 3 = is ∙ three_only c.in-Err.fault (λ e. others.0 (is ∙ e)) (λ e. others.1 (is ∙ e)) (λ e. others.2 (is ∙ e)) in (
+      three,
+      c.in-Err.fault,
+      (
+        search rules,
+        elim c.match-read_words.branch [
+          | in-Ok-Replay w ↦ on_asked _ (λ asked. Reads asked (Ok w.in-Ok-Replay.field-0)) _ w.in-Ok-Replay.ensures.asked (λ asked read.
+              let field : w.in-Ok-Replay.field-0 ≡ Replay w.in-Ok-Replay.wanted = search rules in
+              let is : wanted_of w.in-Ok-Replay.wanted ≡ asked = subst (λ one. Reads asked (Ok one)) field read in
+              let in_part = at_err w.replay_tenants-done.result c.in-Err.fault _ (sym w.done-is ∙ c.in-Err.is) w.replay_tenants-done.ensures.in_part in
+              subst (λ (one : Asked). ReplaysFreshInPart c.in-Err.fault one.limits one.tenants (g.R.Source.seen c.args.reader.now) (g.R.Source.seen c.match-read_words.reader)
+              (g.W.Sink.seen c.args.writer.now) (g.W.Sink.seen c.match-read_words.writer)) is
+              (rw (w.reader-is, w.writer-is) (in_part (sym c.tell.ensures.status ∙ three)).1))
+          | in-Ok-Show w ↦ on_asked _ (λ asked. Reads asked (Ok w.in-Ok-Show.field-0)) _ w.in-Ok-Show.ensures.asked (λ asked read.
+              let field : w.in-Ok-Show.field-0 ≡ Show w.in-Ok-Show.text = search rules in
+              absurd (subst (λ one. Reads asked (Ok one)) field read))
+          | in-Err-Memory w ↦
+              let fault_is = same_err c.match-read_words.done c.in-Err.fault Memory c.in-Err.is w.done-is in
+              let no : 4 ≡ 3 = sym (c.tell.ensures.status ∙ ap status_of fault_is) ∙ three in
+              absurd (omega arith)
+        ],
+      ),
+      search rules,
+      search rules,
+    )
+
+pub returns-in-Err-Words-clause-words_refused : goal.returns-in-Err-Words-clause-words_refused
+returns-in-Err-Words-clause-words_refused g c two =
+    let field : c.in-Err-Words.field-0 ≡ refusal.Words c.in-Err-Words.text = search rules in
+    (subst (λ one. IsAnswer (kinds_of (map g.S.AsStr.text c.args.words.now)) (Err one)) field c.in-Err-Words.ensures.kinds, search rules, search rules)
+
+pub returns-in-Err-clause-words_refused : goal.returns-in-Err-clause-words_refused
+returns-in-Err-clause-words_refused g c two = (
+  elim c.match-read_words.branch [
+    | in-Ok-Replay w ↦
+        let field : w.in-Ok-Replay.field-0 ≡ Replay w.in-Ok-Replay.wanted = search rules in
+        inl (subst (λ one. IsAnswer (kinds_of (map g.S.AsStr.text c.args.words.now)) (Ok one)) field w.in-Ok-Replay.ensures.kinds)
+    | in-Ok-Show w ↦
+        let fault = at_err w.show_help-done.result c.in-Err.fault _ (sym w.done-is ∙ c.in-Err.is) w.show_help-done.ensures.err in
+        let no : 3 ≡ 2 = sym (c.tell.ensures.status ∙ ap status_of fault.0) ∙ two in
+        absurd (omega arith)
+    | in-Err-Memory w ↦
+        let fault_is = same_err c.match-read_words.done c.in-Err.fault Memory c.in-Err.is w.done-is in
+        let no : 4 ≡ 2 = sym (c.tell.ensures.status ∙ ap status_of fault_is) ∙ two in
+        absurd (omega arith)
+  ],
+  search rules,
+  search rules,
+)
+
+pub returns-in-Ok-clause-help : goal.returns-in-Ok-clause-help
+returns-in-Ok-clause-help g c zero = (
   search rules,
   search rules,
   elim c.match-read_words.branch [
-    | in-Ok-Replay w ↦ on_asked _ (λ asked. Reads asked (Ok w.in-Ok-Replay.field-0)) _ w.in-Ok-Replay.ensures (λ asked read.
+    | in-Ok-Replay w ↦
         let field : w.in-Ok-Replay.field-0 ≡ Replay w.in-Ok-Replay.wanted = search rules in
-        let is : wanted_of w.in-Ok-Replay.wanted ≡ asked = subst (λ one. Reads asked (Ok one)) field read in
-        let in_part = at_err w.replay_tenants-done.result c.in-Err.fault _ (sym w.done-is ∙ c.in-Err.is) w.replay_tenants-done.ensures.in_part in
-        subst (λ (one : Asked). ReplaysFreshInPart c.in-Err.fault one.limits one.tenants (g.R.Source.given c.args.reader.now) (g.R.Source.given c.match-read_words.reader)
-        (g.R.Source.has_ended c.match-read_words.reader) (g.W.Sink.taken c.args.writer.now) (g.W.Sink.taken c.match-read_words.writer)) is
-        (rw (w.reader-is, w.writer-is) (in_part (sym c.tell.ensures.status ∙ three)).1))
-    | in-Ok-Show w ↦ on_asked _ (λ asked. Reads asked (Ok w.in-Ok-Show.field-0)) _ w.in-Ok-Show.ensures (λ asked read.
+        inr (
+          subst (λ one. IsAnswer (kinds_of (map g.S.AsStr.text c.args.words.now)) (Ok one)) field w.in-Ok-Replay.ensures.kinds,
+          search rules,
+        )
+    | in-Ok-Show w ↦
         let field : w.in-Ok-Show.field-0 ≡ Show w.in-Ok-Show.text = search rules in
-        absurd (subst (λ one. Reads asked (Ok one)) field read))
-    | in-Err-Memory w ↦
-        let fault_is = same_err c.match-read_words.done c.in-Err.fault Memory c.in-Err.is w.done-is in
-        let no : 4 ≡ 3 = sym (c.tell.ensures.status ∙ ap status_of fault_is) ∙ three in
-        absurd (omega arith)
+        inl (
+          subst (λ one. IsAnswer (kinds_of (map g.S.AsStr.text c.args.words.now)) (Ok one)) field w.in-Ok-Show.ensures.kinds,
+          search rules,
+          search rules,
+        )
+    | in-Err-Memory w ↦ let no = sym w.done-is ∙ c.in-Ok.is in cc
   ],
 )
-
-pub returns-in-Err-clause-no_tenants : goal.returns-in-Err-clause-no_tenants
-returns-in-Err-clause-no_tenants g c two = elim c.match-read_words.branch [
-  | in-Ok-Replay w ↦ on_asked _ (λ asked. Reads asked (Ok w.in-Ok-Replay.field-0)) _ w.in-Ok-Replay.ensures (λ asked read.
-      let refused = at_err w.replay_tenants-done.result c.in-Err.fault _ (sym w.done-is ∙ c.in-Err.is) w.replay_tenants-done.ensures.refused in
-      subst (λ fault. Tells (g.E.Sink.taken c.args.errors.now) (g.E.Sink.taken c.tell.new.errors) (g.E.Sink.failures c.args.errors.now) (g.E.Sink.failures c.tell.new.errors)
-      (g.E.Sink.interruptions c.args.errors.now) (g.E.Sink.interruptions c.tell.new.errors) fault) (refused (sym c.tell.ensures.status ∙ two)).0 c.tell.ensures.told)
-  | in-Ok-Show w ↦ on_asked _ (λ asked. Reads asked (Ok w.in-Ok-Show.field-0)) _ w.in-Ok-Show.ensures (λ asked read.
-      let field : w.in-Ok-Show.field-0 ≡ Show w.in-Ok-Show.text = search rules in
-      absurd (subst (λ one. Reads asked (Ok one)) field read))
-  | in-Err-Memory w ↦
-      let fault_is = same_err c.match-read_words.done c.in-Err.fault Memory c.in-Err.is w.done-is in
-      absurd (four_or_two c.tell.result (c.tell.ensures.status ∙ ap status_of fault_is) two)
-]

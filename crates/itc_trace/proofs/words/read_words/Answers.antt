@@ -1,16 +1,53 @@
-use Rattle.std.proofs.Common.{rules, ◌≤◌, arith, map, length}
+use Rattle.std.proofs.Common.{rules, ◌≡◌, ◌≤◌, ◌∙◌, ◌⊎◌, true, ap, sym, subst, inl, inr, refl, arith, map, length, [], Result, Ok, Err}
 use Rattle.std.proofs.lemmas.List.{length-map}
+use Rattle.clap.specs.Words.{App}
+use Rattle.clap.specs.Faults.{fault_of, is_simple_and_free}
+use Rattle.clap.specs.Kinds.{IsAmong, Kinds}
+use Rattle.clap.specs.declared.error.kind.ErrorKind.{ErrorKind}
+use Rattle.clap.specs.declared.error.kind.ErrorKind.TheVariants.{OutOfMemory}
+use Rattle.itc_trace.specs.Reading.{IsAnswer, IsToldOf, kinds_of, program_app}
+use Rattle.itc_trace.specs.declared.words.Asked.{Asked}
+use Rattle.itc_trace.specs.declared.words.Asked.TheVariants.{Replay, Show}
+use Rattle.itc_trace.specs.declared.words.Refusal.{Refusal}
+use Rattle.itc_trace.specs.declared.words.Refusal.TheVariants.{Words, Memory}
 use Rattle.itc_trace.proofs.Asking.{asks, has_asked, takes_asked}
 use Rattle.itc_trace.proofs.words.read_words.Goals as goal
 
-pub returns-in-Ok : goal.returns-in-Ok
-returns-in-Ok g c = asks (map g.S.AsStr.text c.args.words.now) _ (λ asked asks.
-    let words_bound : length c.args.words.now ≤ 18446744073709551615 = search rules in
-    let bound : length (map g.S.AsStr.text c.args.words.now) ≤ 18446744073709551615 = omega (length-map c.args.words.now g.S.AsStr.text, arith) in
-    c.asked_of.ensures asked (has_asked _ _ c.in-Ok.matches asked c.in_ok-command.ensures asks bound c.in-Ok.ensures.matches))
+free : (app : App) → app ≡ program_app → is_simple_and_free app ≡ true
+free app is = ap is_simple_and_free is ∙ refl
 
-pub returns-in-Err : goal.returns-in-Err
-returns-in-Err g c = asks (map g.S.AsStr.text c.args.words.now) _ (λ asked asks.
+-- a fault of one of the kinds
+of_kinds : (kind : ErrorKind) (kinds : Kinds) (result : Result Asked Refusal) → IsAmong kind kinds → IsToldOf kind result → IsAnswer kinds result
+of_kinds kind kinds (Ok (Replay replay)) among told = absurd told
+of_kinds kind kinds (Ok (Show text)) among told = (kind, among, told)
+of_kinds kind kinds (Err (Words text)) among told = inr (kind, among, told)
+of_kinds kind kinds (Err Memory) among told = tt
+
+of_fault : (kind : ErrorKind) (kinds : Kinds) (result : Result Asked Refusal) → (kind ≡ OutOfMemory) ⊎ IsAmong kind kinds
+    → (kind ≡ OutOfMemory → result ≡ Err Memory) → IsToldOf kind result → IsAnswer kinds result
+of_fault kind kinds result (inl is) memory told = subst (IsAnswer kinds) (sym (memory is)) tt
+of_fault kind kinds result (inr among) memory told = of_kinds kind kinds result among told
+
+pub returns-in-Ok-clause-asked : goal.returns-in-Ok-clause-asked
+returns-in-Ok-clause-asked g c = asks (map g.S.AsStr.text c.args.words.now) _ (λ asked asks.
     let words_bound : length c.args.words.now ≤ 18446744073709551615 = search rules in
     let bound : length (map g.S.AsStr.text c.args.words.now) ≤ 18446744073709551615 = omega (length-map c.args.words.now g.S.AsStr.text, arith) in
-    rw (c.shown.ensures (c.in-Err.ensures.passes (takes_asked _ _ asked c.in_ok-command.ensures asks bound))) tt)
+    c.asked_of.ensures.asked asked (has_asked _ _ c.in-Ok.matches asked c.in_ok-command.ensures asks bound c.in-Ok.ensures.matches))
+
+pub returns-in-Ok-clause-kinds : goal.returns-in-Ok-clause-kinds
+returns-in-Ok-clause-kinds g c =
+    let none = c.in-Ok.ensures.kinds (free _ c.in_ok-command.ensures) in
+    let is : kinds_of (map g.S.AsStr.text c.args.words.now) ≡ [] = ap (λ app. fault_of app (map g.S.AsStr.text c.args.words.now)) (sym c.in_ok-command.ensures) ∙ none in
+    subst (λ kinds. IsAnswer kinds c.asked_of.result) (sym is) c.asked_of.ensures.kinds
+
+pub returns-in-Err-clause-asked : goal.returns-in-Err-clause-asked
+returns-in-Err-clause-asked g c = asks (map g.S.AsStr.text c.args.words.now) _ (λ asked asks.
+    let words_bound : length c.args.words.now ≤ 18446744073709551615 = search rules in
+    let bound : length (map g.S.AsStr.text c.args.words.now) ≤ 18446744073709551615 = omega (length-map c.args.words.now g.S.AsStr.text, arith) in
+    rw (c.shown.ensures.memory (c.in-Err.ensures.passes (takes_asked _ _ asked c.in_ok-command.ensures asks bound))) tt)
+
+pub returns-in-Err-clause-kinds : goal.returns-in-Err-clause-kinds
+returns-in-Err-clause-kinds g c =
+    let fails = c.in-Err.ensures.kinds (free _ c.in_ok-command.ensures) in
+    let answer = of_fault _ _ c.shown.result fails c.shown.ensures.memory c.shown.ensures.told in
+    subst (λ app. IsAnswer (fault_of app (map g.S.AsStr.text c.args.words.now)) c.shown.result) c.in_ok-command.ensures answer

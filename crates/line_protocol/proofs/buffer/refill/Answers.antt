@@ -10,5 +10,5 @@ fits (Err stop) buffer h = omega arith
 
 pub returns-clause-comes : goal.returns-clause-comes
 returns-clause-comes g c =
-    refilled _ _ _ _ _ _ _ _ c.read_some.result c.requires.from c.requires.to c.copy_within.ensures.after c.read_some.ensures.given
+    refilled _ _ _ _ _ _ _ _ c.read_some.result c.requires.from c.requires.to c.copy_within.ensures.after c.read_some.ensures.reads.bytes
     (fits c.read_some.result c.read_some.new.buffer c.read_some.ensures.bound)

@@ -4,10 +4,10 @@ use Rattle.line_protocol.proofs.pieces.write_rest.Given as goal
 
 abbrev pub invariant-loop-rest : goal.invariant-loop-rest
 invariant-loop-rest g l = record {
-  wrote : Wrote (g.W.Sink.taken l.fn.writer) (g.W.Sink.taken l.writer) l.fn.piece l.rest;
-  failures : g.W.Sink.failures l.writer ≡ g.W.Sink.failures l.fn.writer;
-  interruptions : g.W.Sink.interruptions l.writer + l.patience ≡ g.W.Sink.interruptions l.fn.writer + l.fn.patience;
-  more : g.W.Sink.interruptions l.fn.writer ≤ g.W.Sink.interruptions l.writer;
+  wrote : Wrote (g.W.Sink.seen l.fn.writer).bytes (g.W.Sink.seen l.writer).bytes l.fn.piece l.rest;
+  failures : (g.W.Sink.seen l.writer).failures ≡ (g.W.Sink.seen l.fn.writer).failures;
+  interruptions : (g.W.Sink.seen l.writer).interruptions + l.patience ≡ (g.W.Sink.seen l.fn.writer).interruptions + l.fn.patience;
+  more : (g.W.Sink.seen l.fn.writer).interruptions ≤ (g.W.Sink.seen l.writer).interruptions;
   patient : 0 < l.patience;
 }
 

@@ -1,46 +1,77 @@
-use Rattle.std.proofs.Common.{◌≡◌, ◌<◌, IsTrue, true, false, [], refl, sym, ap, ◌∙◌, subst, arith}
+use Rattle.std.proofs.Common.{ℕ, List, ◌≡◌, ◌<◌, IsTrue, true, false, [], refl, sym, ap, ◌∙◌, subst, arith}
 use Rattle.std.proofs.lemmas.List.{append-nil}
+use Rattle.line_protocol.proofs.EndsLemmas.{HasNoEnd-front}
 use Rattle.line_protocol.proofs.LineReadingLemmas.{HasRead-start, is_ended-next}
 use Rattle.line_protocol.specs.Held.{Held}
-use Rattle.line_protocol.specs.LineReading.{Finds, LeavesLess, work_left}
+use Rattle.line_protocol.specs.LineReading.{Finds, FindsNone, LeavesLess, NeedsRead, Reads, work_left}
+use Rattle.line_protocol.specs.Source.{StopsAtEnd}
 use Rattle.line_protocol.specs.declared.line.Line.TheVariants.{End}
 use Rattle.trace_types.specs.Replay.{is_accepted, is_answered, is_refused}
 use Rattle.trace_world.specs.Answer.{addressee_text}
 use Rattle.trace_world.proofs.Fronts.{IfErr-always, IfErr-equal}
-use Rattle.trace_world.proofs.Following.{LeadsTo-none, Follows-line}
-use Rattle.trace_world.proofs.Parts.{in_part_none, in_part_read, in_part_unflushed, in_part_last, replays_all, Answered, answered_where_too_long, answered_where_whole, Follows-flushed, one_if-le}
+use Rattle.trace_world.proofs.Following.{Follows, LeadsTo-none, Follows-line}
+use Rattle.trace_world.proofs.Parts.{in_part_none, in_part_read, in_part_held_back, in_part_unflushed, in_part_last, replays_all, HandsOn-flushed, HandsOn-fault, stops_at_end, Answered, answered_where_too_long, answered_where_whole, Follows-flushed, one_if-le}
 use Rattle.trace_world.proofs.replaying.replay.Goals as goal
 use Rattle.trace_world.proofs.replaying.replay.Given.{Over}
 use Rattle.trace_world.proofs.replaying.replay.Goals.{After-next_line, After-write, After-flush, in-TooLong, in-Whole}
 
 -- what the buffer knows of the end, the reader told
-told : (g : Over) (c : After-next_line g) → IsTrue c.next_line.new.self.is_ended → IsTrue (g.R.Source.has_ended c.next_line.new.source)
-told g c = is_ended-next g.R.Source.has_ended c.loop-lines.reader c.next_line.new.source c.loop-lines.invariant.ended c.next_line.ensures.ended c.next_line.ensures.at_end
+told : (g : Over) (c : After-next_line g) → IsTrue c.next_line.new.self.is_ended → IsTrue (g.R.Source.seen c.next_line.new.source).has_ended
+told g c = is_ended-next (λ source. (g.R.Source.seen source).has_ended) c.loop-lines.reader c.next_line.new.source c.loop-lines.invariant.ended c.next_line.ensures.ended c.next_line.ensures.at_end
 
 -- once it told the end, the reader gives nothing more
 gives_no_more : (g : Over) (c : After-next_line g) → IsTrue c.loop-lines.lines.is_ended
-    → (g.R.Source.given c.next_line.new.source ≡ g.R.Source.given c.loop-lines.reader) × IsTrue c.next_line.new.self.is_ended
-gives_no_more g c ended = let at_end = c.next_line.ensures.at_end ended in (ap g.R.Source.given at_end.0, at_end.1)
+    → ((g.R.Source.seen c.next_line.new.source).bytes ≡ (g.R.Source.seen c.loop-lines.reader).bytes) × IsTrue c.next_line.new.self.is_ended
+gives_no_more g c ended = let at_end = c.next_line.ensures.at_end ended in (ap (λ source. (g.R.Source.seen source).bytes) at_end.0, at_end.1)
 
 -- the answer to the line that was found
 answered : (g : Over) (c : After-write g)
-    → Answered (g.R.Source.given c.loop-lines.reader) (g.R.Source.given c.next_line.new.source) c.loop-lines.lines c.next_line.new.self c.loop-lines.world
-    (addressee_text c.match-branch-3.answer.tenant) c.match-branch-3.answer.reply c.match-branch-3.world
+    → Answered (g.R.Source.seen c.loop-lines.reader).bytes (g.R.Source.seen c.next_line.new.source).bytes c.loop-lines.lines c.next_line.new.self c.loop-lines.world
+    (addressee_text c.match-branch-4.answer.tenant) c.match-branch-4.answer.reply c.match-branch-4.world
 answered g c =
-    elim c.match-branch-3.branch [
-      | in-TooLong w ↦ answered_where_too_long _ _ c.loop-lines.lines c.next_line.new.self c.loop-lines.world c.match-branch-3.world c.in_ok-next_line.field-0 c.match-branch-3.answer w.to_nobody-answer.result
+    elim c.match-branch-4.branch [
+      | in-TooLong w ↦ answered_where_too_long _ _ c.loop-lines.lines c.next_line.new.self c.loop-lines.world c.match-branch-4.world c.in_ok-next_line.field-0 c.match-branch-4.answer w.to_nobody-answer.result
           w.in-TooLong.is c.in_ok-next_line.ensures.ok w.answer-is w.to_nobody-answer.ensures w.world-is
-      | in-Whole w ↦ answered_where_whole _ _ c.loop-lines.lines c.next_line.new.self c.loop-lines.world w.to_line-answer.new.world c.match-branch-3.world c.in_ok-next_line.field-0 c.match-branch-3.answer w.to_line-answer.result w.line.result.now
+      | in-Whole w ↦ answered_where_whole _ _ c.loop-lines.lines c.next_line.new.self c.loop-lines.world w.to_line-answer.new.world c.match-branch-4.world c.in_ok-next_line.field-0 c.match-branch-4.answer w.to_line-answer.result w.line.result.now
           w.in-Whole.is c.in_ok-next_line.ensures.ok w.answer-is w.line.ensures w.world-is w.to_line-answer.ensures
     ]
 
 -- no line was found any more
-finds_end : (g : Over) (c : After-flush g) → Finds (g.R.Source.given c.loop-lines.reader) (g.R.Source.given c.next_line.new.source) c.loop-lines.lines c.next_line.new.self End
+finds_end : (g : Over) (c : After-flush g) → Finds (g.R.Source.seen c.loop-lines.reader).bytes (g.R.Source.seen c.next_line.new.source).bytes c.loop-lines.lines c.next_line.new.self End
 finds_end g c =
-    subst (Finds (g.R.Source.given c.loop-lines.reader) (g.R.Source.given c.next_line.new.source) c.loop-lines.lines c.next_line.new.self) c.in-End.is c.in_ok-next_line.ensures.ok
+    subst (Finds (g.R.Source.seen c.loop-lines.reader).bytes (g.R.Source.seen c.next_line.new.source).bytes c.loop-lines.lines c.next_line.new.self) c.in-End.is c.in_ok-next_line.ensures.ok
+
+-- what was replayed so far, once it was handed on
+follows : (g : Over) (c : After-next_line g)
+    → Follows (g.R.Source.seen c.args.reader.now).bytes (g.R.Source.seen c.loop-lines.reader).bytes (g.W.Sink.seen c.args.writer.now).bytes (g.W.Sink.seen c.hand_on.new.writer).bytes
+    c.args.world.now c.loop-lines.lines c.loop-lines.counts c.loop-lines.world
+follows g c = Follows-flushed c.in_ok-hand_on.ensures.taken c.loop-lines.invariant.follows
+
+needs_read : {given given' : List ℕ} {held : Held} → FindsNone given given' held → NeedsRead held
+needs_read {held = held} none = (HasNoEnd-front held.left none.gave none.no_end, none.goes_on)
+
+-- how often the end was told
+ends : (g : Over) (c : After-next_line g) → (failed : ℕ) → Reads (g.R.Source.seen c.loop-lines.reader) (g.R.Source.seen c.next_line.new.source) c.loop-lines.lines c.next_line.new.self failed
+    → StopsAtEnd (g.R.Source.seen c.args.reader.now) (g.R.Source.seen c.next_line.new.source)
+ends g c failed reads =
+    stops_at_end (g.R.Source.seen c.args.reader.now) (g.R.Source.seen c.next_line.new.source) c.next_line.new.self.is_ended
+    (omega (arith, reads, c.loop-lines.invariant.ends)) (told g c)
 
 pub returns-in_err-lines-clause-fault : goal.returns-in_err-lines-clause-fault
-returns-in_err-lines-clause-fault g c = IfErr-always _ (in_part_none _ _ _ c.args.world.now)
+returns-in_err-lines-clause-fault g c = IfErr-always _ (in_part_none (g.R.Source.seen c.args.reader.now) (g.W.Sink.seen c.args.writer.now) c.args.world.now)
+
+pub returns-in_err-lines-clause-flushed : goal.returns-in_err-lines-clause-flushed
+returns-in_err-lines-clause-flushed g c = HandsOn-fault _ _ _ c.from_residual.ensures.1 tt
+
+pub returns-in_err-hand_on-clause-fault : goal.returns-in_err-hand_on-clause-fault
+returns-in_err-hand_on-clause-fault g c =
+    IfErr-equal _ _ _ c.from_residual-in_err-hand_on.ensures.1
+    (in_part_held_back (g.R.Source.seen c.args.reader.now) (g.R.Source.seen c.loop-lines.reader) (g.W.Sink.seen c.args.writer.now) (g.W.Sink.seen c.hand_on.new.writer)
+    (Follows-flushed c.in_err-hand_on.ensures.taken c.loop-lines.invariant.follows) c.loop-lines.invariant.ended)
+
+pub returns-in_err-hand_on-clause-ends : goal.returns-in_err-hand_on-clause-ends
+returns-in_err-hand_on-clause-ends g c =
+    stops_at_end (g.R.Source.seen c.args.reader.now) (g.R.Source.seen c.loop-lines.reader) c.loop-lines.lines.is_ended c.loop-lines.invariant.ends c.loop-lines.invariant.ended
 
 pub loop-lines-init : goal.loop-lines-init
 loop-lines-init g c =
@@ -56,8 +87,10 @@ loop-lines-init g c =
         leads = rw none (LeadsTo-none c.args.world.now);
       };
       ended = λ e. let bad : true ≡ false = sym e ∙ ap (λ (h : Held). h.is_ended) held in absurd (cc);
+      ends = rw held (omega arith);
       failures = refl;
       reads = rw held (omega arith);
+      most = rw held (omega arith);
       write_failures = refl;
       interruptions = omega arith;
       room = rw (none, held) (omega arith);
@@ -68,13 +101,25 @@ loop-lines-init g c =
 
 pub returns-in_err-next_line-clause-fault : goal.returns-in_err-next_line-clause-fault
 returns-in_err-next_line-clause-fault g c =
-    IfErr-always _ (in_part_read _ c.loop-lines.invariant.follows c.in_err-next_line.ensures.err)
+    let at = goal.at.returns-in_err-next_line-clause-fault g c in
+    IfErr-always _ (in_part_read (g.R.Source.seen c.args.reader.now) (g.R.Source.seen c.next_line.new.source) (g.W.Sink.seen c.args.writer.now) (g.W.Sink.seen c.hand_on.new.writer)
+    (follows g at.After-next_line) c.in_err-next_line.ensures.err)
+
+pub returns-in_err-next_line-clause-flushed : goal.returns-in_err-next_line-clause-flushed
+returns-in_err-next_line-clause-flushed g c = HandsOn-flushed _ _ (c.in_ok-hand_on.ensures.flushed (needs_read c.in_err-next_line.ensures.err))
+
+pub returns-in_err-next_line-clause-ends : goal.returns-in_err-next_line-clause-ends
+returns-in_err-next_line-clause-ends g c = ends g (goal.at.returns-in_err-next_line-clause-ends g c).After-next_line _ c.in_err-next_line.ensures.reads
 
 pub returns-in_err-write-clause-fault : goal.returns-in_err-write-clause-fault
 returns-in_err-write-clause-fault g c =
     let at = goal.at.returns-in_err-write-clause-fault g c in
     IfErr-equal _ _ _ c.from_residual-in_err-write.ensures.1
-    (in_part_last _ c.loop-lines.invariant.follows (answered g at.After-write) (gives_no_more g at.After-next_line) (told g at.After-next_line) c.in_err-write.ensures.err)
+    (in_part_last (g.R.Source.seen c.args.reader.now) (g.R.Source.seen c.next_line.new.source) (g.W.Sink.seen c.args.writer.now) (g.W.Sink.seen c.write.new.writer)
+    (follows g at.After-next_line) (answered g at.After-write) (gives_no_more g at.After-next_line) (told g at.After-next_line) c.in_err-write.ensures.written)
+
+pub returns-in_err-write-clause-ends : goal.returns-in_err-write-clause-ends
+returns-in_err-write-clause-ends g c = ends g (goal.at.returns-in_err-write-clause-ends g c).After-next_line _ c.in_ok-next_line.ensures.reads
 
 pub loop-lines-preserved : goal.loop-lines-preserved
 loop-lines-preserved g c =
@@ -84,21 +129,23 @@ loop-lines-preserved g c =
     let step = c.in_ok-next_line.ensures in
     let wrote = c.in_ok-write.ensures in
     let less : work_left c.next_line.new.self < work_left c.loop-lines.lines =
-    elim c.match-branch-3.branch [
+    elim c.match-branch-4.branch [
       | in-TooLong w ↦ subst (LeavesLess c.loop-lines.lines c.next_line.new.self) w.in-TooLong.is step.work
       | in-Whole w ↦ subst (LeavesLess c.loop-lines.lines c.next_line.new.self) w.in-Whole.is step.work
     ] in
     record {
-      follows = rw c.count.ensures (Follows-line answered.line _ _ before.follows answered.gives (gives_no_more g at.After-next_line) answered.answers wrote.ok);
+      follows = rw c.count.ensures (Follows-line answered.line _ _ (follows g at.After-next_line) answered.gives (gives_no_more g at.After-next_line) answered.answers wrote.written);
       ended = told g at.After-next_line;
-      failures = omega (arith, step.failures, before.failures);
+      ends = omega (arith, step.reads, before.ends);
+      failures = omega (arith, step.reads, before.failures);
       reads = omega (arith, before.reads, step.reads);
-      write_failures = omega (arith, before.write_failures, wrote.no_failure);
-      interruptions = omega (arith, before.interruptions, wrote.interruptions);
+      most = step.most;
+      write_failures = omega (arith, before.write_failures, c.in_ok-hand_on.ensures.well, wrote.no_failure);
+      interruptions = omega (arith, before.interruptions, c.in_ok-hand_on.ensures.well, wrote.interruptions);
       room = rw c.count.ensures (omega (arith, before.room, less));
-      accepted = rw c.count.ensures (omega (arith, before.accepted, one_if-le (is_accepted c.match-branch-3.answer.reply)));
-      answered = rw c.count.ensures (omega (arith, before.answered, one_if-le (is_answered c.match-branch-3.answer.reply)));
-      refused = rw c.count.ensures (omega (arith, before.refused, one_if-le (is_refused c.match-branch-3.answer.reply)));
+      accepted = rw c.count.ensures (omega (arith, before.accepted, one_if-le (is_accepted c.match-branch-4.answer.reply)));
+      answered = rw c.count.ensures (omega (arith, before.answered, one_if-le (is_answered c.match-branch-4.answer.reply)));
+      refused = rw c.count.ensures (omega (arith, before.refused, one_if-le (is_refused c.match-branch-4.answer.reply)));
     }
 
 pub returns-in_err-flush-clause-fault : goal.returns-in_err-flush-clause-fault
@@ -106,10 +153,27 @@ returns-in_err-flush-clause-fault g c =
     let at = goal.at.returns-in_err-flush-clause-fault g c in
     let finds = finds_end g at.After-flush in
     IfErr-equal _ _ _ c.from_residual-in_err-flush.ensures.1
-    (in_part_unflushed c.next_line.new.self _ (Follows-flushed c.in_err-flush.ensures.taken c.loop-lines.invariant.follows) finds (told g at.After-next_line finds.3))
+    (in_part_unflushed (g.R.Source.seen c.args.reader.now) (g.R.Source.seen c.next_line.new.source) (g.W.Sink.seen c.args.writer.now) (g.W.Sink.seen c.flush.new.writer)
+    c.next_line.new.self (Follows-flushed c.in_err-flush.ensures.0 (follows g at.After-next_line)) finds (told g at.After-next_line finds.3))
+
+pub returns-in_err-flush-clause-ends : goal.returns-in_err-flush-clause-ends
+returns-in_err-flush-clause-ends g c = ends g (goal.at.returns-in_err-flush-clause-ends g c).After-next_line _ c.in_ok-next_line.ensures.reads
 
 pub returns-clause-ok : goal.returns-clause-ok
 returns-clause-ok g c =
     let at = goal.at.returns-clause-ok g c in
     let finds = finds_end g at.After-flush in
-    replays_all c.next_line.new.self _ (Follows-flushed c.in_ok-flush.ensures.taken c.loop-lines.invariant.follows) finds (told g at.After-next_line finds.3)
+    replays_all (g.R.Source.seen c.args.reader.now) (g.R.Source.seen c.next_line.new.source) (g.W.Sink.seen c.args.writer.now) (g.W.Sink.seen c.flush.new.writer)
+    c.next_line.new.self (Follows-flushed c.in_ok-flush.ensures.0 (follows g at.After-next_line)) finds (told g at.After-next_line finds.3)
+
+pub returns-clause-ends : goal.returns-clause-ends
+returns-clause-ends g c = ends g (goal.at.returns-clause-ends g c).After-next_line _ c.in_ok-next_line.ensures.reads
+
+pub returns-in_err-hand_on-clause-flushed : goal.returns-in_err-hand_on-clause-flushed
+returns-in_err-hand_on-clause-flushed g c = HandsOn-fault _ _ _ c.from_residual-in_err-hand_on.ensures.1 tt
+
+pub returns-in_err-write-clause-flushed : goal.returns-in_err-write-clause-flushed
+returns-in_err-write-clause-flushed g c = HandsOn-fault _ _ _ c.from_residual-in_err-write.ensures.1 tt
+
+pub returns-in_err-flush-clause-flushed : goal.returns-in_err-flush-clause-flushed
+returns-in_err-flush-clause-flushed g c = HandsOn-fault _ _ _ c.from_residual-in_err-flush.ensures.1 tt

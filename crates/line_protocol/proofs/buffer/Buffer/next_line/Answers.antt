@@ -38,7 +38,7 @@ returns-in_ok-skip_line-in-None-2-clause-ok g c =
 pub returns-in_err-skip_line-in-None-2-clause-err : goal.returns-in_err-skip_line-in-None-2-clause-err
 returns-in_err-skip_line-in-None-2-clause-err g c =
     let going = going g (goal.at.returns-in_err-skip_line-in-None-2-clause-err g c).After-skip_line in
-    let none : FindsNone (g.R.Source.given c.args.source.now) (g.R.Source.given c.skip_line.new.source) c.args.self.now =
+    let none : FindsNone (g.R.Source.seen c.args.source.now).bytes (g.R.Source.seen c.skip_line.new.source).bytes c.args.self.now =
     FindsNone-skipped c.in_ok-at.ensures.comes (rw c.in-None-2.is at c.in_ok-at.ensures.found) c.in_err-skip_line-in-None-2.ensures.err
     (goes_on c.args.self.now.is_ended c.find_end.new.self.is_ended going (λ e. ap (λ held. held.is_ended) (c.in_ok-at.ensures.at_end e).1)) in
     search rules

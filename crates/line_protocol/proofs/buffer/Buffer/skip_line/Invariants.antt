@@ -1,14 +1,14 @@
-use Rattle.std.proofs.Common.{◌≡◌, ◌+◌, ◌-◌, ◌^◌, ◌≤◌, IsTrue}
+use Rattle.std.proofs.Common.{◌-◌, ◌^◌, ◌≤◌, IsTrue}
+use Rattle.line_protocol.specs.LineReading.{Reads}
 use Rattle.line_protocol.specs.Ends.{Skipped}
 use Rattle.line_protocol.proofs.buffer.Buffer.skip_line.Given as goal
 
 abbrev pub invariant-loop-self : goal.invariant-loop-self
 invariant-loop-self g l = record {
-  skipped : Skipped (g.R.Source.given l.fn.source) (g.R.Source.given l.source);
+  skipped : Skipped (g.R.Source.seen l.fn.source).bytes (g.R.Source.seen l.source).bytes;
   more : l.fn.self.reads ≤ l.self.reads;
-  failures : g.R.Source.failures l.source ≡ g.R.Source.failures l.fn.source;
-  reads : l.self.reads + g.R.Source.reads l.fn.source ≡ l.fn.self.reads + g.R.Source.reads l.source;
-  ended : IsTrue l.self.is_ended → IsTrue (g.R.Source.has_ended l.source);
+  reads : Reads (g.R.Source.seen l.fn.source) (g.R.Source.seen l.source) l.fn.self l.self 0;
+  ended : IsTrue l.self.is_ended → IsTrue (g.R.Source.seen l.source).has_ended;
 }
 
 abbrev pub decreases-loop-self : goal.decreases-loop-self

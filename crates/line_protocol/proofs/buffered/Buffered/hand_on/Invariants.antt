@@ -1,0 +1,12 @@
+use Rattle.std.proofs.Common.{◌≡◌, ◌-◌, ◌++◌, drop, vec_len}
+use Rattle.line_protocol.proofs.buffered.Buffered.hand_on.Given as goal
+
+abbrev pub invariant-loop-self : goal.invariant-loop-self
+invariant-loop-self g l = record {
+  taken : (g.W.Sink.seen l.self.sink).bytes ++ drop l.self.start l.self.bytes.items ≡ (g.W.Sink.seen l.fn.self.sink).bytes ++ drop l.fn.self.start l.fn.self.bytes.items;
+  failures : (g.W.Sink.seen l.self.sink).failures ≡ (g.W.Sink.seen l.fn.self.sink).failures;
+  interruptions : (g.W.Sink.seen l.self.sink).interruptions ≡ (g.W.Sink.seen l.fn.self.sink).interruptions;
+}
+
+abbrev pub decreases-loop-self : goal.decreases-loop-self
+decreases-loop-self g l = vec_len l.self.bytes - l.self.start

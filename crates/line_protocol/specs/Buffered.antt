@@ -1,0 +1,17 @@
+-- What is seen of a sink that holds bytes back.
+use Rattle.std.specs.Prelude.{ℕ, Bool, true, false, ◌&&◌, List, [], ◌∷◌, ◌++◌}
+use Rattle.line_protocol.specs.Sink.{Taken}
+
+-- whether nothing is held
+abbrev pub is_none_held : List ℕ → Bool
+is_none_held [] = true
+is_none_held (byte ∷ bytes) = false
+
+-- These bytes were taken and not handed on to the sink of which this is seen.
+abbrev pub held_back : List ℕ → Taken → Taken
+held_back held inside = record {
+  bytes = inside.bytes ++ held;
+  is_flushed = inside.is_flushed && is_none_held held;
+  failures = inside.failures;
+  interruptions = inside.interruptions;
+}
