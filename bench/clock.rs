@@ -1,16 +1,25 @@
 // The operations of ids and event trees in plain Rust, by the published algorithms, for `plain.rs` and `trees.rs`: no
 // proofs, and a refused request for memory ends the program.
+//
+// Trees share their parts: both children of a node stand in one block behind one `Arc`, and what an operation leaves as it
+// was is kept by a count. To clone an id or a tree takes no memory.
+use std::sync::Arc;
 
 #[derive(Clone)]
 pub enum Id {
     Zero,
     One,
-    Pair(Box<Id>, Box<Id>),
+    Pair(Arc<Halves>),
+}
+
+pub struct Halves {
+    left: Id,
+    right: Id,
 }
 
 impl Id {
     pub fn pair(left: Id, right: Id) -> Id {
-        Id::Pair(Box::new(left), Box::new(right))
+        Id::Pair(Arc::new(Halves { left, right }))
     }
 
     fn norm(left: Id, right: Id) -> Id {
@@ -22,31 +31,29 @@ impl Id {
     }
 
     pub fn split(&self) -> (Id, Id) {
-        match self {
-            Id::Zero => (Id::Zero, Id::Zero),
-            Id::One => (Id::pair(Id::One, Id::Zero), Id::pair(Id::Zero, Id::One)),
-            Id::Pair(left, right) => match (&**left, &**right) {
-                (Id::Zero, right) => {
-                    let (first, second) = right.split();
-                    (Id::pair(Id::Zero, first), Id::pair(Id::Zero, second))
-                }
-                (left, Id::Zero) => {
-                    let (first, second) = left.split();
-                    (Id::pair(first, Id::Zero), Id::pair(second, Id::Zero))
-                }
-                (left, right) => (
-                    Id::pair(left.clone(), Id::Zero),
-                    Id::pair(Id::Zero, right.clone()),
-                ),
-            },
+        let halves = match self {
+            Id::Zero => return (Id::Zero, Id::Zero),
+            Id::One => return (Id::pair(Id::One, Id::Zero), Id::pair(Id::Zero, Id::One)),
+            Id::Pair(halves) => halves,
+        };
+        match (&halves.left, &halves.right) {
+            (Id::Zero, right) => {
+                let (first, second) = right.split();
+                (Id::pair(Id::Zero, first), Id::pair(Id::Zero, second))
+            }
+            (left, Id::Zero) => {
+                let (first, second) = left.split();
+                (Id::pair(first, Id::Zero), Id::pair(second, Id::Zero))
+            }
+            (left, right) => (Id::pair(left.clone(), Id::Zero), Id::pair(Id::Zero, right.clone())),
         }
     }
 
     pub fn sum(&self, other: &Id) -> Id {
         match (self, other) {
             (Id::Zero, id) | (id, Id::Zero) => id.clone(),
-            (Id::Pair(left, right), Id::Pair(other_left, other_right)) => {
-                Id::norm(left.sum(other_left), right.sum(other_right))
+            (Id::Pair(halves), Id::Pair(others)) => {
+                Id::norm(halves.left.sum(&others.left), halves.right.sum(&others.right))
             }
             _ => Id::One,
         }
@@ -55,8 +62,8 @@ impl Id {
     pub fn disjoint(&self, other: &Id) -> bool {
         match (self, other) {
             (Id::Zero, _) | (_, Id::Zero) => true,
-            (Id::Pair(left, right), Id::Pair(other_left, other_right)) => {
-                left.disjoint(other_left) && right.disjoint(other_right)
+            (Id::Pair(halves), Id::Pair(others)) => {
+                halves.left.disjoint(&others.left) && halves.right.disjoint(&others.right)
             }
             _ => false,
         }
@@ -66,11 +73,11 @@ impl Id {
         match self {
             Id::Zero => text.push(b'0'),
             Id::One => text.push(b'1'),
-            Id::Pair(left, right) => {
+            Id::Pair(halves) => {
                 text.push(b'(');
-                left.write(text);
+                halves.left.write(text);
                 text.push(b',');
-                right.write(text);
+                halves.right.write(text);
                 text.push(b')');
             }
         }
@@ -84,12 +91,45 @@ pub enum Tree {
     Fork {
         base: u64,
         spread: u64,
-        left: Box<Tree>,
-        right: Box<Tree>,
+        children: Arc<Children>,
     },
 }
 
+/// The least of the two has the least value 0.
+pub struct Children {
+    left: Tree,
+    right: Tree,
+}
+
 pub static ZERO: Tree = Tree::Leaf(0);
+
+/// A tree as a node: a number counts as a node over 0 and 0, and to make it one is an expansion.
+struct Opened<'a> {
+    left: &'a Tree,
+    right: &'a Tree,
+    expansions: u32,
+}
+
+/// What growing costs: expansions, and then steps down.
+type Cost = (u32, u32);
+
+/// Which tree a join is: one of the two, where both are the same either, or a new one.
+enum Joined {
+    One,
+    Other,
+    Either,
+    New(Tree),
+}
+
+impl Joined {
+    fn tree(self, one: &Tree, lift: u64, other: &Tree, other_lift: u64) -> Tree {
+        match self {
+            Joined::One | Joined::Either => one.lifted(lift),
+            Joined::Other => other.lifted(other_lift),
+            Joined::New(tree) => tree,
+        }
+    }
+}
 
 impl Tree {
     pub fn min(&self) -> u64 {
@@ -106,11 +146,17 @@ impl Tree {
         }
     }
 
-    fn lower(&mut self, by: u64) {
+    fn number(&mut self) -> &mut u64 {
         match self {
-            Tree::Leaf(n) => *n -= by,
-            Tree::Fork { base, .. } => *base -= by,
+            Tree::Leaf(n) => n,
+            Tree::Fork { base, .. } => base,
         }
+    }
+
+    fn lifted(&self, by: u64) -> Tree {
+        let mut tree = self.clone();
+        *tree.number() += by;
+        tree
     }
 
     pub fn fork(n: u64, mut left: Tree, mut right: Tree) -> Tree {
@@ -121,102 +167,89 @@ impl Tree {
         }
         let common = left.min().min(right.min());
         let spread = left.max().max(right.max()) - common;
-        left.lower(common);
-        right.lower(common);
-        let (left, right) = (Box::new(left), Box::new(right));
-        Tree::Fork { base: n + common, spread, left, right }
+        *left.number() -= common;
+        *right.number() -= common;
+        Tree::Fork { base: n + common, spread, children: Arc::new(Children { left, right }) }
     }
 
-    /// Brings an inner node to normal form, of which a child was changed.
-    fn renew(&mut self) {
-        let Tree::Fork { base, spread, left, right } = self else {
-            return;
-        };
-        if let (Tree::Leaf(one), Tree::Leaf(other)) = (&**left, &**right) {
-            if one == other {
-                *self = Tree::Leaf(*base + one);
-                return;
-            }
-        }
-        let common = left.min().min(right.min());
-        *base += common;
-        *spread = left.max().max(right.max()) - common;
-        left.lower(common);
-        right.lower(common);
-    }
-
-    pub fn join(&self, lift: u64, other: &Tree, other_lift: u64) -> Tree {
-        match (self, other) {
-            (Tree::Leaf(n), _) => other.join_number(other_lift, lift + n),
-            (_, Tree::Leaf(n)) => self.join_number(lift, other_lift + n),
-            (
-                Tree::Fork { base, left, right, .. },
-                Tree::Fork { base: other_base, left: other_left, right: other_right, .. },
-            ) => {
-                let (root, other_root) = (lift + base, other_lift + other_base);
-                let low = root.min(other_root);
-                let (lift, other_lift) = (root - low, other_root - low);
-                let left = left.join(lift, other_left, other_lift);
-                let right = right.join(lift, other_right, other_lift);
-                Tree::fork(low, left, right)
-            }
-        }
-    }
-
-    fn join_number(&self, lift: u64, number: u64) -> Tree {
-        if lift + self.max() <= number {
-            return Tree::Leaf(number);
-        }
+    fn opened(&self) -> Opened<'_> {
         match self {
-            Tree::Leaf(n) => Tree::Leaf(lift + n),
-            Tree::Fork { base, left, right, .. } => {
-                let root = lift + base;
-                let low = number.min(root);
-                let (number, lift) = (number - low, root - low);
-                let left = left.join_number(lift, number);
-                let right = right.join_number(lift, number);
-                Tree::fork(low, left, right)
-            }
+            Tree::Leaf(_) => Opened { left: &ZERO, right: &ZERO, expansions: 1 },
+            Tree::Fork { children, .. } => Opened { left: &children.left, right: &children.right, expansions: 0 },
         }
     }
 
-    /// Which of `below` and `above` hold.
-    fn compare(&self, lift: u64, other: &Tree, other_lift: u64, asked: (bool, bool)) -> (bool, bool) {
+    pub fn join(&self, other: &Tree) -> Tree {
+        self.joined(0, other, 0).tree(self, 0, other, 0)
+    }
+
+    fn joined(&self, lift: u64, other: &Tree, other_lift: u64) -> Joined {
+        let (low, other_low) = (lift + self.min(), other_lift + other.min());
+        let is_below = lift + self.max() <= other_low;
+        let is_above = other_lift + other.max() <= low;
+        match (is_above, is_below) {
+            (true, true) => return Joined::Either,
+            (true, false) => return Joined::One,
+            (false, true) => return Joined::Other,
+            (false, false) => {}
+        }
+        let base = low.min(other_low);
+        let (lift, other_lift) = (low - base, other_low - base);
+        let (one, other) = (self.opened(), other.opened());
+        let left = one.left.joined(lift, other.left, other_lift);
+        let right = one.right.joined(lift, other.right, other_lift);
+        match (left, right) {
+            (Joined::Either, Joined::Either) => Joined::Either,
+            (Joined::One | Joined::Either, Joined::One | Joined::Either) => Joined::One,
+            (Joined::Other | Joined::Either, Joined::Other | Joined::Either) => Joined::Other,
+            (left, right) => Joined::New(Tree::fork(
+                base,
+                left.tree(one.left, lift, other.left, other_lift),
+                right.tree(one.right, lift, other.right, other_lift),
+            )),
+        }
+    }
+
+    /// Whether no value is above that of the other at the same point.
+    pub fn leq(&self, other: &Tree) -> bool {
+        self.is_below(0, other, 0)
+    }
+
+    fn is_below(&self, lift: u64, other: &Tree, other_lift: u64) -> bool {
         let (low, high) = (lift + self.min(), lift + self.max());
         let (other_low, other_high) = (other_lift + other.min(), other_lift + other.max());
-        let possible = (
-            asked.0 && low <= other_low && high <= other_high,
-            asked.1 && other_low <= low && other_high <= high,
-        );
-        if !(possible.0 || possible.1) || high <= other_low || other_high <= low {
-            return possible;
+        if high <= other_low {
+            return true;
         }
-        let (
-            Tree::Fork { base, left, right, .. },
-            Tree::Fork { base: other_base, left: other_left, right: other_right, .. },
-        ) = (self, other)
-        else {
-            return possible;
+        if low > other_low || high > other_high {
+            return false;
+        }
+        let (Tree::Fork { children, .. }, Tree::Fork { children: others, .. }) = (self, other) else {
+            unreachable!("one value stands to a range somehow")
         };
-        let (lift, other_lift) = (lift + base, other_lift + other_base);
-        let possible = left.compare(lift, other_left, other_lift, possible);
-        if !(possible.0 || possible.1) {
-            return possible;
+        children.left.is_below(low, &others.left, other_low) && children.right.is_below(low, &others.right, other_low)
+    }
+
+    /// Whether it is below the other, and whether it is above: both ways at once, until one is refuted.
+    fn stands(&self, lift: u64, other: &Tree, other_lift: u64) -> (bool, bool) {
+        let (low, high) = (lift + self.min(), lift + self.max());
+        if (low, high) != (other_lift + other.min(), other_lift + other.max()) {
+            return (self.is_below(lift, other, other_lift), other.is_below(other_lift, self, lift));
         }
-        right.compare(lift, other_right, other_lift, possible)
-    }
-
-    pub fn leq(&self, other: &Tree) -> bool {
-        self.compare(0, other, 0, (true, false)).0
-    }
-
-    /// Whether it is below the other, and whether it is above; both where they are the same.
-    pub fn stands(&self, other: &Tree) -> (bool, bool) {
-        self.compare(0, other, 0, (true, true))
+        let (Tree::Fork { children, .. }, Tree::Fork { children: others, .. }) = (self, other) else {
+            return (true, true);
+        };
+        let (right, other_right) = (&children.right, &others.right);
+        match children.left.stands(low, &others.left, low) {
+            (true, true) => right.stands(low, other_right, low),
+            (true, false) => (right.is_below(low, other_right, low), false),
+            (false, true) => (false, other_right.is_below(low, right, low)),
+            (false, false) => (false, false),
+        }
     }
 
     pub fn order(&self, other: &Tree) -> &'static str {
-        match self.stands(other) {
+        match self.stands(0, other, 0) {
             (true, true) => "same",
             (true, false) => "before",
             (false, true) => "after",
@@ -224,106 +257,98 @@ impl Tree {
         }
     }
 
-    /// Makes the tree one number of at least `least`, and tells whether that is another tree.
-    fn flatten(&mut self, least: u64) -> bool {
-        let number = self.max().max(least);
-        let changes = !matches!(self, Tree::Leaf(n) if *n == number);
-        *self = Tree::Leaf(number);
-        changes
-    }
-
-    /// Fills the tree in its place, and tells whether that changed it.
-    fn fill(&mut self, id: &Id) -> bool {
-        let (left_id, right_id) = match id {
-            Id::Zero => return false,
-            Id::One => return self.flatten(0),
-            Id::Pair(left_id, right_id) => (&**left_id, &**right_id),
-        };
-        let Tree::Fork { left, right, .. } = self else {
-            return false;
-        };
-        let changes = match (left_id, right_id) {
-            (Id::One, _) => right.fill(right_id) | left.flatten(right.min()),
-            (_, Id::One) => left.fill(left_id) | right.flatten(left.min()),
-            _ => left.fill(left_id) | right.fill(right_id),
-        };
-        if changes {
-            self.renew();
+    /// The number that is the greatest value, and at least `least`, where that is another tree.
+    fn flattened(&self, least: u64) -> Option<Tree> {
+        match self {
+            Tree::Leaf(n) if *n >= least => None,
+            _ => Some(Tree::Leaf(self.max().max(least))),
         }
-        changes
     }
 
-    /// The least cost of growing: expansions before steps.
-    fn cost(&self, id: &Id) -> Option<(u64, u64)> {
-        let (left_id, right_id) = match id {
+    /// The filled tree, where that is another tree.
+    fn filled(&self, id: &Id) -> Option<Tree> {
+        let halves = match id {
+            Id::Zero => return None,
+            Id::One => return self.flattened(0),
+            Id::Pair(halves) => halves,
+        };
+        let Tree::Fork { base, children, .. } = self else {
+            return None;
+        };
+        let Children { left, right } = &**children;
+        let (new_left, new_right) = match (&halves.left, &halves.right) {
+            (Id::One, right_id) => {
+                let new_right = right.filled(right_id);
+                (left.flattened(new_right.as_ref().unwrap_or(right).min()), new_right)
+            }
+            (left_id, Id::One) => {
+                let new_left = left.filled(left_id);
+                let new_right = right.flattened(new_left.as_ref().unwrap_or(left).min());
+                (new_left, new_right)
+            }
+            (left_id, right_id) => (left.filled(left_id), right.filled(right_id)),
+        };
+        if new_left.is_none() && new_right.is_none() {
+            return None;
+        }
+        Some(Tree::fork(
+            *base,
+            new_left.unwrap_or_else(|| left.clone()),
+            new_right.unwrap_or_else(|| right.clone()),
+        ))
+    }
+
+    /// The least cost of growing.
+    fn cost(&self, id: &Id) -> Option<Cost> {
+        let halves = match id {
             Id::Zero => return None,
             Id::One => return Some((0, 0)),
-            Id::Pair(left_id, right_id) => (left_id, right_id),
+            Id::Pair(halves) => halves,
         };
-        let (left, right, expansion) = match self {
-            Tree::Leaf(_) => (&ZERO, &ZERO, 1),
-            Tree::Fork { left, right, .. } => (&**left, &**right, 0),
-        };
-        let cheaper = match (left.cost(left_id), right.cost(right_id)) {
-            (Some(left), Some(right)) => Some(if left < right { left } else { right }),
+        let opened = self.opened();
+        let left = opened.left.cost(&halves.left);
+        let right = opened.right.cost(&halves.right);
+        let cheaper = match (left, right) {
+            (Some(left), Some(right)) => Some(left.min(right)),
             (left, right) => left.or(right),
         };
-        cheaper.map(|(expansions, steps)| (expansions + expansion, steps + 1))
+        cheaper.map(|(expansions, steps)| (expansions + opened.expansions, steps + 1))
     }
 
-    /// Grows the tree in its place for exactly this cost, which is the least; else it changes nothing and tells so.
-    fn grow(&mut self, id: &Id, cost: (u64, u64)) -> bool {
-        let (left_id, right_id) = match id {
-            Id::Zero => return false,
-            Id::One if cost == (0, 0) => {
-                *self = Tree::Leaf(self.max() + 1);
-                return true;
-            }
-            Id::One => return false,
-            Id::Pair(left_id, right_id) => (left_id, right_id),
+    /// The tree grown for exactly this cost, where it can be; it is to be had for no less.
+    fn grown(&self, id: &Id, cost: Cost) -> Option<Tree> {
+        let halves = match id {
+            Id::Zero => return None,
+            Id::One => return (cost == (0, 0)).then(|| Tree::Leaf(self.max() + 1)),
+            Id::Pair(halves) => halves,
         };
-        let expansion = u64::from(matches!(self, Tree::Leaf(_)));
-        let (Some(expansions), Some(steps)) = (cost.0.checked_sub(expansion), cost.1.checked_sub(1)) else {
-            return false;
-        };
-        let cost = (expansions, steps);
-        match self {
-            Tree::Leaf(n) => {
-                let (mut left, mut right) = (Tree::Leaf(0), Tree::Leaf(0));
-                if !right.grow(right_id, cost) && !left.grow(left_id, cost) {
-                    return false;
-                }
-                *self = Tree::fork(*n, left, right);
-            }
-            Tree::Fork { left, right, .. } => {
-                if !right.grow(right_id, cost) && !left.grow(left_id, cost) {
-                    return false;
-                }
-                self.renew();
-            }
+        let opened = self.opened();
+        let cost = (cost.0.checked_sub(opened.expansions)?, cost.1.checked_sub(1)?);
+        if let Some(right) = opened.right.grown(&halves.right, cost) {
+            return Some(Tree::fork(self.min(), opened.left.clone(), right));
         }
-        true
+        let left = opened.left.grown(&halves.left, cost)?;
+        Some(Tree::fork(self.min(), left, opened.right.clone()))
     }
 
-    /// The tree after an event, in the memory of this one.
-    pub fn event(mut self, id: &Id) -> Tree {
-        if !self.fill(id) {
+    /// The tree after an event, which makes anew only the path that it raises.
+    pub fn event(&self, id: &Id) -> Tree {
+        self.filled(id).unwrap_or_else(|| {
             let cost = self.cost(id).expect("an id of some points");
-            self.grow(id, cost);
-        }
-        self
+            self.grown(id, cost).expect("what costs this much")
+        })
     }
 
     pub fn write(&self, text: &mut Vec<u8>) {
         match self {
             Tree::Leaf(n) => write_number(text, *n),
-            Tree::Fork { base, left, right, .. } => {
+            Tree::Fork { base, children, .. } => {
                 text.push(b'(');
                 write_number(text, *base);
                 text.push(b',');
-                left.write(text);
+                children.left.write(text);
                 text.push(b',');
-                right.write(text);
+                children.right.write(text);
                 text.push(b')');
             }
         }

@@ -24,3 +24,9 @@ build_rattle() {
         exit 1
     fi
 }
+
+# build_trees: the program of the operations of the trees, in both.
+build_trees() {
+    build_plain trees
+    build_rattle trees trace_types id_tree event_tree stamp_codec
+}

@@ -6,12 +6,13 @@
 // they stand). A line that one buffer does not hold is kept whole until its end is read.
 //
 // A message has room for one receipt, as no more is taken. No predecessor is followed: order and lists are told by the
-// trees, a list by comparing with each event, also with those that by their numbers alone cannot be in it.
+// trees, a list by comparing with each event that by its number can be in it, one way.
 #[allow(dead_code)]
 #[path = "clock.rs"]
 mod clock;
 
 use clock::{write_number, write_stamp, Id, Tree, ZERO};
+use std::cmp::Ordering;
 use std::collections::hash_map::{Entry, HashMap};
 use std::hash::{Hash, Hasher};
 use std::io::{stdin, stdout, BufRead, BufReader, Result as IoResult, Write};
@@ -182,6 +183,22 @@ fn write_list(out: &mut Vec<u8>, events: &[u64]) {
     }
 }
 
+/// Writes `200`, how many events these are, and the events.
+fn tell_list(events: impl Iterator<Item = u64>, out: &mut Vec<u8>) {
+    out.extend_from_slice(b"200 ");
+    let start = out.len();
+    let mut count = 0;
+    for event in events {
+        out.push(b' ');
+        write_number(out, event);
+        count += 1;
+    }
+    let end = out.len();
+    write_number(out, count);
+    let digits = out.len() - end;
+    out[start..].rotate_right(digits);
+}
+
 struct Tenant {
     limits: Limits,
     rows: Vec<Row>,
@@ -248,7 +265,7 @@ impl Tenant {
     /// Adds an event with which the task of this place takes nothing in and keeps its id.
     fn add_alone(&mut self, place: usize, task_name: Name, kind: Kind, name: Option<Name>) -> u64 {
         let task = self.tasks[place];
-        let tree = self.known(task.last).clone().event(&self.ids[task.id]);
+        let tree = self.known(task.last).event(&self.ids[task.id]);
         let preds = [task.last, 0];
         let last = self.add(Row { task: task_name, kind, name, preds, tree, id: task.id });
         self.tasks[place].last = last;
@@ -296,7 +313,7 @@ impl Tenant {
             }
         };
         let task = self.tasks[place];
-        let tree = self.known(task.last).join(0, self.known(sent), 0).event(&self.ids[task.id]);
+        let tree = self.known(task.last).join(self.known(sent)).event(&self.ids[task.id]);
         let preds = preds(task.last, sent);
         let last = self.add(Row { task: name, kind: Kind::Recv, name: Some(message), preds, tree, id: task.id });
         self.tasks[place].last = last;
@@ -314,7 +331,7 @@ impl Tenant {
             Entry::Vacant(entry) => entry.insert(started),
         };
         let task = self.tasks[place];
-        let tree = self.known(task.last).clone().event(&self.ids[task.id]);
+        let tree = self.known(task.last).event(&self.ids[task.id]);
         let (kept, given) = self.ids[task.id].split();
         let (kept, given) = (self.add_id(kept), self.add_id(given));
         let preds = [task.last, 0];
@@ -330,7 +347,7 @@ impl Tenant {
         self.check_room()?;
         let (task, joined) = (self.tasks[place], self.tasks[other]);
         let id = self.ids[task.id].sum(&self.ids[joined.id]);
-        let tree = self.known(task.last).join(0, self.known(joined.last), 0).event(&id);
+        let tree = self.known(task.last).join(self.known(joined.last)).event(&id);
         let id = self.add_id(id);
         let preds = preds(task.last, joined.last);
         let last = self.add(Row { task: name, kind: Kind::Join, name: Some(child), preds, tree, id });
@@ -353,8 +370,8 @@ impl Tenant {
             Request::End(task) => self.end(task)?,
             Request::Join(task, child) => self.join(task, child)?,
             Request::Order(first, second) => return self.tell_order(first, second, out),
-            Request::Past(event) => return self.tell_standing(event, (true, false), out),
-            Request::Concurrent(event) => return self.tell_standing(event, (false, false), out),
+            Request::Past(event) => return self.tell_past(event, out),
+            Request::Concurrent(event) => return self.tell_concurrent(event, out),
             Request::Event(event) => return self.tell_event(event, out),
             Request::Stamp(event) => return self.tell_stamp(event, out),
             Request::Task(task) => return self.tell_task(task, out),
@@ -373,23 +390,24 @@ impl Tenant {
         Ok(())
     }
 
-    /// Tells the events of which the trees stand so to the tree of this one.
-    fn tell_standing(&self, event: u64, asked: (bool, bool), out: &mut Vec<u8>) -> Result<(), Refusal> {
+    /// No later event happened before this one, so only the trees of the earlier ones are compared, and one way.
+    fn tell_past(&self, event: u64, out: &mut Vec<u8>) -> Result<(), Refusal> {
         let tree = &self.row(event)?.tree;
-        out.extend_from_slice(b"200 ");
-        let start = out.len();
-        let mut count = 0;
-        for (place, row) in self.rows.iter().enumerate() {
-            if row.tree.stands(tree) == asked {
-                out.push(b' ');
-                write_number(out, place as u64 + 1);
-                count += 1;
-            }
-        }
-        let end = out.len();
-        write_number(out, count);
-        let digits = out.len() - end;
-        out[start..].rotate_right(digits);
+        let earlier = &self.rows[..event as usize - 1];
+        let past = (1..).zip(earlier).filter(|(_, row)| row.tree.leq(tree));
+        tell_list(past.map(|(number, _)| number), out);
+        Ok(())
+    }
+
+    /// No earlier event happened after this one, and no later one before it, so each tree is compared one way.
+    fn tell_concurrent(&self, event: u64, out: &mut Vec<u8>) -> Result<(), Refusal> {
+        let tree = &self.row(event)?.tree;
+        let concurrent = (1..).zip(&self.rows).filter(|(number, row)| match number.cmp(&event) {
+            Ordering::Less => !row.tree.leq(tree),
+            Ordering::Equal => false,
+            Ordering::Greater => !tree.leq(&row.tree),
+        });
+        tell_list(concurrent.map(|(number, _)| number), out);
         Ok(())
     }
 

@@ -51,9 +51,11 @@ def talk(tasks):
             yield f"recv {receiver} message_{number}"
 
 
-def build(jobs):
-    """Jobs that start jobs, with so many at a time: each works, and then ends and is joined by the one that started it."""
-    spawns, locals_left = len(NAMES), MOST_EVENTS - 3 * len(NAMES)
+def build(jobs, events):
+    """Jobs that start jobs, with so many at a time, one started for eight events: each works, and then ends and is joined by
+    the one that started it."""
+    spawns = events // 8 - 1
+    locals_left = events - 3 * spawns
     names, started = iter(NAMES), {"root": None}
     while spawns or len(started) > 1:
         if spawns and len(started) <= jobs:
@@ -94,18 +96,34 @@ def named_last(reports, keyword):
     return [words[-1] for words in map(str.split, reports) if words[0] == keyword]
 
 
+def query(tasks, messages, events):
+    """A query of any kind but lists."""
+    return random.choice([
+        f"order {random.randint(1, events)} {random.randint(1, events)}",
+        f"event {random.randint(1, events)}",
+        f"stamp {random.randint(1, events)}",
+        f"task {random.choice(tasks)}",
+        f"message {random.choice(messages)}" if messages else "count",
+        "count",
+    ])
+
+
 def queries(reports, count):
-    """Queries of all kinds but lists."""
-    tasks, messages, events = ["root", *named_last(reports, "spawn")], named_last(reports, "send"), len(reports)
-    for _ in range(count):
-        yield random.choice([
-            f"order {random.randint(1, events)} {random.randint(1, events)}",
-            f"event {random.randint(1, events)}",
-            f"stamp {random.randint(1, events)}",
-            f"task {random.choice(tasks)}",
-            f"message {random.choice(messages)}",
-            "count",
-        ])
+    tasks, messages = ["root", *named_last(reports, "spawn")], named_last(reports, "send")
+    return (query(tasks, messages, len(reports)) for _ in range(count))
+
+
+def growing(reports):
+    """After each report a query of what there is by then."""
+    tasks, messages = ["root"], []
+    for events, report in enumerate(reports, 1):
+        yield report
+        keyword, *_, name = report.split()
+        if keyword == "spawn":
+            tasks.append(name)
+        if keyword == "send":
+            messages.append(name)
+        yield query(tasks, messages, events)
 
 
 def addressed(tenant, *requests):
@@ -134,7 +152,7 @@ def write(name, words, lines):
 
 random.seed(1)
 without_messages, with_messages = list(churn(EVENTS, TASKS, 0)), list(churn(EVENTS, TASKS, MESSAGES))
-long_lived, built = list(talk(64)), list(build(64))
+long_lived, built = list(talk(64)), list(build(64, MOST_EVENTS))
 chain = list(zip(["root", *NAMES], NAMES))
 fan = [("root", name) for name in NAMES]
 after = list(orders(4 * len(NAMES), 4_000))
@@ -152,3 +170,6 @@ write("chain", GREATEST, addressed("x", grown(["root", *NAMES], reversed(chain))
 write("chain_joined_by_root", GREATEST, addressed("x", grown(["root", *NAMES], fan), after))
 write("fan_first_made_first", GREATEST, addressed("x", grown(["root"] * len(NAMES), fan), after))
 write("fan_last_made_first", GREATEST, addressed("x", grown(["root"] * len(NAMES), reversed(fan)), after))
+write("growing", f"--messages {MOST_EVENTS} {GREATEST}", addressed("x", growing(churn(MOST_EVENTS, MOST_TASKS, MOST_EVENTS))))
+for events in (1024, 2048, 4096, 8192, 16384):
+    write(f"live64_{events}", GREATEST, addressed("x", build(64, events)))

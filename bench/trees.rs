@@ -146,6 +146,16 @@ fn answer(line: &str) {
     let one = read(text).expect("a stamp");
     let other = read(words[3].as_bytes()).expect("a stamp");
     match words[0] {
+        "share" => tell(
+            count,
+            || (black_box(&one).id.clone(), one.tree.clone()),
+            |(id, tree)| Stamp { id, tree }.write(),
+        ),
+        "fork" => tell(
+            count,
+            || Tree::fork(0, black_box(&one).tree.clone(), other.tree.clone()),
+            text_of_tree,
+        ),
         "split" => tell(
             count,
             || black_box(&one).id.split(),
@@ -159,8 +169,8 @@ fn answer(line: &str) {
             || black_box(&one).tree.order(&other.tree),
             |word| word.as_bytes().to_vec(),
         ),
-        "join" => tell(count, || black_box(&one).tree.join(0, &other.tree, 0), text_of_tree),
-        "event" => tell(count, || black_box(&one).tree.clone().event(&one.id), text_of_tree),
+        "join" => tell(count, || black_box(&one).tree.join(&other.tree), text_of_tree),
+        "event" => tell(count, || black_box(&one).tree.event(&one.id), text_of_tree),
         "write" => tell(count, || black_box(&one).write(), |text| text),
         "read" => tell(count, || read(black_box(text)), |stamp| stamp.expect("a stamp").write()),
         _ => panic!("no such operation"),
