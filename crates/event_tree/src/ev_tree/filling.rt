@@ -17,7 +17,14 @@ struct Filling<'a> {
     after: Option<EvTree>,
 }
 
-impl Filling<'_> {
+impl<'a> Filling<'a> {
+    fn of(before: &'a EvTree, after: Option<EvTree>) -> Filling<'a>
+        ensures before { result.before.now ≡ before.now }
+        ensures after { result.after ≡ after }
+    {
+        Filling { before, after }
+    }
+
     /// The least value after filling.
     fn min(&self) -> u64
         ensures { result ≡ minimum (filled_over self.now.after self.now.before.now) }
@@ -70,47 +77,17 @@ impl EvTree {
             (IdParts::Pair(left_id, right_id), Node::Fork { base, children, .. }) => {
                 let (left, right) = (&children.left, &children.right);
                 if left_id.is_one() {
-                    let after = right.filled(alloc, right_id)?;
-                    let right = Filling {
-                        before: right,
-                        after,
-                    };
-                    let after = left.flattened(right.min());
-                    Filling {
-                        before: left,
-                        after,
-                    }
-                    .beside(alloc, *base, right)
+                    let right = Filling::of(right, right.filled(alloc, right_id)?);
+                    let left = Filling::of(left, left.flattened(right.min()));
+                    left.beside(alloc, *base, right)
                 } else if right_id.is_one() {
-                    let after = left.filled(alloc, left_id)?;
-                    let left = Filling {
-                        before: left,
-                        after,
-                    };
-                    let after = right.flattened(left.min());
-                    left.beside(
-                        alloc,
-                        *base,
-                        Filling {
-                            before: right,
-                            after,
-                        },
-                    )
+                    let left = Filling::of(left, left.filled(alloc, left_id)?);
+                    let right = Filling::of(right, right.flattened(left.min()));
+                    left.beside(alloc, *base, right)
                 } else {
-                    let after = left.filled(alloc, left_id)?;
-                    let left = Filling {
-                        before: left,
-                        after,
-                    };
-                    let after = right.filled(alloc, right_id)?;
-                    left.beside(
-                        alloc,
-                        *base,
-                        Filling {
-                            before: right,
-                            after,
-                        },
-                    )
+                    let left = Filling::of(left, left.filled(alloc, left_id)?);
+                    let right = Filling::of(right, right.filled(alloc, right_id)?);
+                    left.beside(alloc, *base, right)
                 }
             }
         }

@@ -11,59 +11,52 @@ pub beside-requires-clause-fits : goal.beside-requires-clause-fits
 beside-requires-clause-fits t c =
     let fits = rw c.in-Pair-Fork.is-1 at c.self.invariant.fits in
     let normal = rw c.in-Pair-Fork.is-1 at c.self.invariant.normal in
-    let left = rw c.deref.ensures at (ap maximum c.flattened-after.ensures.exact) in
-    let right = rw c.deref-in-Pair-Fork.ensures at (ap maximum c.in_ok-after-in-Pair-Fork.ensures.exact) in
-    let least = rw c.deref-in-Pair-Fork.ensures at c.min.ensures in
-    rw (c.deref.ensures, c.deref-in-Pair-Fork.ensures)
-    (omega (arith, fits, left, right, least, maximum-fill-le c.in-Pair-Fork.right_id.now c.in-Pair-Fork.children.value.right normal.1, minimum-le-maximum (filled_over c.in_ok-after-in-Pair-Fork.after c.in-Pair-Fork.children.value.right)))
+    let left = rw c.deref.ensures at (ap maximum c.flattened.ensures.exact) in
+    let right = rw c.deref-in-Pair-Fork.ensures at (ap maximum c.in_ok-filled-in-Pair-Fork.ensures.exact) in
+    let least = rw (c.of-right.ensures.before, c.of-right.ensures.after, c.deref-in-Pair-Fork.ensures) at c.min.ensures in
+    rw (c.of-left.ensures.before, c.of-left.ensures.after, c.of-right.ensures.before, c.of-right.ensures.after, c.deref.ensures, c.deref-in-Pair-Fork.ensures)
+    (omega (arith, fits, left, right, least, maximum-fill-le c.in-Pair-Fork.right_id.now c.in-Pair-Fork.children.value.right normal.1, minimum-le-maximum (filled_over c.in_ok-filled-in-Pair-Fork.field-0 c.in-Pair-Fork.children.value.right)))
 
 pub beside-requires-clause-right_normal : goal.beside-requires-clause-right_normal
 beside-requires-clause-right_normal t c =
     let normal = rw c.in-Pair-Fork.is-1 at c.self.invariant.normal in
-    rw c.in_ok-after-in-Pair-Fork.ensures.exact (rw c.deref-in-Pair-Fork.ensures (normal_fill c.in-Pair-Fork.right_id.now c.in-Pair-Fork.children.value.right normal.1))
+    rw (c.of-right.ensures.before, c.of-right.ensures.after, c.in_ok-filled-in-Pair-Fork.ensures.exact) (rw c.deref-in-Pair-Fork.ensures (normal_fill c.in-Pair-Fork.right_id.now c.in-Pair-Fork.children.value.right normal.1))
 
 pub beside-requires-then-is_one-2-clause-fits : goal.beside-requires-then-is_one-2-clause-fits
 beside-requires-then-is_one-2-clause-fits t c =
     let fits = rw c.in-Pair-Fork.is-1 at c.self.invariant.fits in
     let normal = rw c.in-Pair-Fork.is-1 at c.self.invariant.normal in
-    let left = rw c.deref.ensures at (ap maximum c.in_ok-after-in-Pair-Fork-2.ensures.exact) in
-    let right = rw c.deref-in-Pair-Fork.ensures at (ap maximum c.flattened-after-then-is_one-2.ensures.exact) in
-    let least = rw c.deref.ensures at c.min-then-is_one-2.ensures in
-    rw (c.deref.ensures, c.deref-in-Pair-Fork.ensures)
-    (omega (arith, fits, left, right, least, maximum-fill-le c.in-Pair-Fork.left_id.now c.in-Pair-Fork.children.value.left normal.0, minimum-le-maximum (filled_over c.in_ok-after-in-Pair-Fork-2.after c.in-Pair-Fork.children.value.left)))
+    let left = rw c.deref.ensures at (ap maximum c.in_ok-filled-in-Pair-Fork-2.ensures.exact) in
+    let right = rw c.deref-in-Pair-Fork.ensures at (ap maximum c.flattened-then-is_one-2.ensures.exact) in
+    let least = rw (c.of-left-then-is_one-2.ensures.before, c.of-left-then-is_one-2.ensures.after, c.deref.ensures) at c.min-then-is_one-2.ensures in
+    rw (c.of-left-then-is_one-2.ensures.before, c.of-left-then-is_one-2.ensures.after, c.of-right-then-is_one-2.ensures.before, c.of-right-then-is_one-2.ensures.after, c.deref.ensures, c.deref-in-Pair-Fork.ensures)
+    (omega (arith, fits, left, right, least, maximum-fill-le c.in-Pair-Fork.left_id.now c.in-Pair-Fork.children.value.left normal.0, minimum-le-maximum (filled_over c.in_ok-filled-in-Pair-Fork-2.field-0 c.in-Pair-Fork.children.value.left)))
 
 pub beside-requires-then-is_one-2-clause-left_normal : goal.beside-requires-then-is_one-2-clause-left_normal
 beside-requires-then-is_one-2-clause-left_normal t c =
     let normal = rw c.in-Pair-Fork.is-1 at c.self.invariant.normal in
-    rw c.in_ok-after-in-Pair-Fork-2.ensures.exact (rw c.deref.ensures (normal_fill c.in-Pair-Fork.left_id.now c.in-Pair-Fork.children.value.left normal.0))
+    rw (c.of-left-then-is_one-2.ensures.before, c.of-left-then-is_one-2.ensures.after, c.in_ok-filled-in-Pair-Fork-2.ensures.exact) (rw c.deref.ensures (normal_fill c.in-Pair-Fork.left_id.now c.in-Pair-Fork.children.value.left normal.0))
 
 pub beside-requires-else-is_one-2-clause-fits : goal.beside-requires-else-is_one-2-clause-fits
 beside-requires-else-is_one-2-clause-fits t c =
     let fits = rw c.in-Pair-Fork.is-1 at c.self.invariant.fits in
     let normal = rw c.in-Pair-Fork.is-1 at c.self.invariant.normal in
-    let left = rw c.deref.ensures at (ap maximum c.in_ok-after-in-Pair-Fork-3.ensures.exact) in
-    let right = rw c.deref-in-Pair-Fork.ensures at (ap maximum c.in_ok-after-in-Pair-Fork-4.ensures.exact) in
-    rw (c.deref.ensures, c.deref-in-Pair-Fork.ensures)
+    let left = rw c.deref.ensures at (ap maximum c.in_ok-filled-in-Pair-Fork-3.ensures.exact) in
+    let right = rw c.deref-in-Pair-Fork.ensures at (ap maximum c.in_ok-filled-in-Pair-Fork-4.ensures.exact) in
+    rw (c.of-left-else-is_one-2.ensures.before, c.of-left-else-is_one-2.ensures.after, c.of-right-else-is_one-2.ensures.before, c.of-right-else-is_one-2.ensures.after, c.deref.ensures, c.deref-in-Pair-Fork.ensures)
     (omega (arith, fits, left, right, maximum-fill-le c.in-Pair-Fork.left_id.now c.in-Pair-Fork.children.value.left normal.0, maximum-fill-le c.in-Pair-Fork.right_id.now c.in-Pair-Fork.children.value.right normal.1))
 
 pub beside-requires-else-is_one-2-clause-left_normal : goal.beside-requires-else-is_one-2-clause-left_normal
 beside-requires-else-is_one-2-clause-left_normal t c =
     let normal = rw c.in-Pair-Fork.is-1 at c.self.invariant.normal in
-    rw c.in_ok-after-in-Pair-Fork-3.ensures.exact (rw c.deref.ensures (normal_fill c.in-Pair-Fork.left_id.now c.in-Pair-Fork.children.value.left normal.0))
+    rw (c.of-left-else-is_one-2.ensures.before, c.of-left-else-is_one-2.ensures.after, c.in_ok-filled-in-Pair-Fork-3.ensures.exact) (rw c.deref.ensures (normal_fill c.in-Pair-Fork.left_id.now c.in-Pair-Fork.children.value.left normal.0))
 
 pub beside-requires-else-is_one-2-clause-right_normal : goal.beside-requires-else-is_one-2-clause-right_normal
 beside-requires-else-is_one-2-clause-right_normal t c =
     let normal = rw c.in-Pair-Fork.is-1 at c.self.invariant.normal in
-    rw c.in_ok-after-in-Pair-Fork-4.ensures.exact (rw c.deref-in-Pair-Fork.ensures (normal_fill c.in-Pair-Fork.right_id.now c.in-Pair-Fork.children.value.right normal.1))
+    rw (c.of-right-else-is_one-2.ensures.before, c.of-right-else-is_one-2.ensures.after, c.in_ok-filled-in-Pair-Fork-4.ensures.exact) (rw c.deref-in-Pair-Fork.ensures (normal_fill c.in-Pair-Fork.right_id.now c.in-Pair-Fork.children.value.right normal.1))
 
 pub returns-in-One-Fork : goal.returns-in-One-Fork
 returns-in-One-Fork t c =
     let normal = rw c.in-One-Fork.is-1 at c.self.invariant.normal in
     rw (c.leaf.ensures, c.max.ensures, ← c.self.view_is, c.in-One-Fork.is-1, ← c.in-One-Fork.ensures.exact) (gives_number _ _ _ _ normal (omega arith))
-
-pub returns-in_ok-after-in-Pair-Fork-4 : goal.returns-in_ok-after-in-Pair-Fork-4
-returns-in_ok-after-in-Pair-Fork-4 t c =
-    let left = rw c.deref.ensures at c.in_ok-after-in-Pair-Fork-3.ensures.exact in
-    let right = rw c.deref-in-Pair-Fork.ensures at c.in_ok-after-in-Pair-Fork-4.ensures.exact in
-    let both = node_filled-both c.in-Pair-Fork.base c.in-Pair-Fork.left_id.now c.in-Pair-Fork.right_id.now c.in-Pair-Fork.children.value.left c.in-Pair-Fork.children.value.right (fill c.in-Pair-Fork.left_id.now c.in-Pair-Fork.children.value.left) (fill c.in-Pair-Fork.right_id.now c.in-Pair-Fork.children.value.right) (λ e. false≢true (c.if-is_one.ensures.1 e)) (λ e. false≢true (c.if-is_one-2.ensures.1 e)) in
-    rw (← c.self.view_is, c.in-Pair-Fork.is-1, ← c.in-Pair-Fork.ensures.exact, both) (rw (c.deref.ensures, c.deref-in-Pair-Fork.ensures, left, right) at c.beside-else-is_one-2.ensures)
