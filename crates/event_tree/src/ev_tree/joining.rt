@@ -79,14 +79,8 @@ pub(super) fn joined(
         return Ok(Join::Given(holding));
     }
     match (&one.node, &other.node) {
-        (Node::Leaf(n), _) => {
-            let tree = other.raised_to(alloc, other_lift, one_lift + *n)?;
-            Ok(Join::Made(tree))
-        }
-        (_, Node::Leaf(n)) => {
-            let tree = one.raised_to(alloc, one_lift, other_lift + *n)?;
-            Ok(Join::Made(tree))
-        }
+        (Node::Leaf(n), _) => other.made_with(alloc, other_lift, one_lift + *n),
+        (_, Node::Leaf(n)) => one.made_with(alloc, one_lift, other_lift + *n),
         (
             Node::Fork { base, children, .. },
             Node::Fork {
@@ -105,7 +99,7 @@ pub(super) fn joined(
             if let Some(holding) = left.given_beside(&right) {
                 return Ok(Join::Given(holding));
             }
-            let tree = node_over(
+            node_over(
                 alloc,
                 low,
                 left,
@@ -114,13 +108,13 @@ pub(super) fn joined(
                 lift,
                 other_children,
                 other_lift,
-            )?;
-            Ok(Join::Made(tree))
+            )
         }
     }
 }
 
-/// The node over the joins of both sides, in normal form.
+/// The node over the joins of both sides, in normal form. It is a function of its own, as making a tree with a number
+/// is, so that the walk has small frames.
 #[inline(never)]
 fn node_over(
     alloc: Global,
@@ -131,21 +125,30 @@ fn node_over(
     one_lift: u64,
     other: &Children,
     other_lift: u64,
-) -> Result<EvTree, Memory>
+) -> Result<Join, Memory>
     requires left { IsJoin left one_lift one.now.left other_lift other.now.left }
     requires right { IsJoin right one_lift one.now.right other_lift other.now.right }
     requires fits { low + (one_lift + max (maximum one.now.left) (maximum one.now.right)) < 2 ^ 64 }
     requires other_fits { low + (other_lift + max (maximum other.now.left) (maximum other.now.right)) < 2 ^ 64 }
-    ensures { IfOk result (λ tree. tree ≡ norm low
+    ensures { IfOk result (λ join. join ≡ Join.Made (norm low
         (joined one_lift one.now.left other_lift other.now.left)
-        (joined one_lift one.now.right other_lift other.now.right)) }
+        (joined one_lift one.now.right other_lift other.now.right))) }
 {
     let left = left.tree(&one.left, one_lift, &other.left, other_lift)?;
     let right = right.tree(&one.right, one_lift, &other.right, other_lift)?;
-    EvTree::fork(alloc, low, left, right)
+    Ok(Join::Made(EvTree::fork(alloc, low, left, right)?))
 }
 
 impl EvTree {
+    /// What [`EvTree::raised_to`] gives, as a join that is neither of the two.
+    #[inline(never)]
+    fn made_with(&self, alloc: Global, lift: u64, number: u64) -> Result<Join, Memory>
+        requires { lift + maximum self.now < 2 ^ 64 }
+        ensures { IfOk result (λ join. join ≡ Join.Made (joined_number number lift self.now)) }
+    {
+        Ok(Join::Made(self.raised_to(alloc, lift, number)?))
+    }
+
     /// The join of this tree lifted by `lift` and of `number`.
     fn raised_to(&self, alloc: Global, lift: u64, number: u64) -> Result<EvTree, Memory>
         requires { lift + maximum self.now < 2 ^ 64 }
