@@ -6,6 +6,7 @@ pub mod Events
 pub mod Filled
 pub mod Grown
 pub mod Joined
+pub mod Lifts
 pub mod NormLemmas
 pub mod Pricing
 pub mod Raising

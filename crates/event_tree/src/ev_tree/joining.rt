@@ -1,6 +1,6 @@
 //! Joining two lifted trees.
 ghost use Rattle.std.specs.Prelude.{◌≡◌, ◌+◌, ◌^◌, ◌<◌, max, IfOk, IfSome};
-ghost use Rattle.trace_types.specs.EventTree.{maximum};
+ghost use Rattle.trace_types.specs.EventTree.{maximum, Node as plain_Node};
 ghost use Rattle.trace_types.specs.Norm.{norm};
 ghost use Rattle.trace_types.specs.Join.{joined_number, joined};
 ghost use Rattle.event_tree.specs.Joins.{IsJoin, HoldsBeside};
@@ -58,6 +58,7 @@ impl Join {
 /// The join of two trees, each lifted by the number beside it.
 ///
 /// A part that one of the two has is not made again.
+#[cycle(joined)]
 pub(super) fn joined(
     alloc: Global,
     one: &EvTree,
@@ -90,27 +91,33 @@ pub(super) fn joined(
             },
         ) => {
             let (root, other_root) = (one_lift + *base, other_lift + *other_base);
-            let low = root.min(other_root);
-            let (lift, other_lift) = (root - low, other_root - low);
-            let (one_left, other_left) = (&children.left, &other_children.left);
-            let (one_right, other_right) = (&children.right, &other_children.right);
-            let left = joined(alloc, one_left, lift, other_left, other_lift)?;
-            let right = joined(alloc, one_right, lift, other_right, other_lift)?;
-            if let Some(holding) = left.given_beside(&right) {
-                return Ok(Join::Given(holding));
-            }
-            node_over(
-                alloc,
-                low,
-                left,
-                right,
-                children,
-                lift,
-                other_children,
-                other_lift,
-            )
+            joined_below(alloc, children, root, other_children, other_root)
         }
     }
+}
+
+/// The join of two nodes with these numbers at the root.
+#[cycle(joined)]
+fn joined_below(
+    alloc: Global,
+    one: &Children,
+    root: u64,
+    other: &Children,
+    other_root: u64,
+) -> Result<Join, Memory>
+    requires one_fits { root + max (maximum one.now.left) (maximum one.now.right) < 2 ^ 64 }
+    requires other_fits { other_root + max (maximum other.now.left) (maximum other.now.right) < 2 ^ 64 }
+    ensures { IfOk result (λ join. IsJoin join
+        0 (plain_Node root one.now.left one.now.right) 0 (plain_Node other_root other.now.left other.now.right)) }
+{
+    let low = root.min(other_root);
+    let (lift, other_lift) = (root - low, other_root - low);
+    let left = joined(alloc, &one.left, lift, &other.left, other_lift)?;
+    let right = joined(alloc, &one.right, lift, &other.right, other_lift)?;
+    if let Some(holding) = left.given_beside(&right) {
+        return Ok(Join::Given(holding));
+    }
+    node_over(alloc, low, left, right, one, lift, other, other_lift)
 }
 
 /// The node over the joins of both sides, in normal form. It is a function of its own, as making a tree with a number
