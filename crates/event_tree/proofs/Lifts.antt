@@ -17,9 +17,9 @@ module _ (a m b n : ℕ) (l r l' r' : EventTree) where
   some_nodes : (join : Join) → IsSome join 0 (Node (a + m) l r) 0 (Node (b + n) l' r') → IsSome join a (Node m l r) b (Node n l' r')
   some_nodes (Given holding) some = some
   some_nodes (Made tree) some =
-    let root : 0 + (a + m) ≡ a + m = omega arith in
-    let other_root : 0 + (b + n) ≡ b + n = omega arith in
-    rw (root, other_root) at some
+      let root : 0 + (a + m) ≡ a + m = omega arith in
+      let other_root : 0 + (b + n) ≡ b + n = omega arith in
+      rw (root, other_root) at some
 
   -- the join of two nodes, each with what lifts it in its number
   pub lifted_nodes : (found : Result Join Memory) → IfOk found (λ join. IsJoin join 0 (Node (a + m) l r) 0 (Node (b + n) l' r')) → IfOk found (λ join. IsJoin join a (Node m l r) b (Node n l' r'))

@@ -1,11 +1,12 @@
 //! Filling a tree below an id.
 ghost use Rattle.std.specs.Prelude.{◌≡◌, ◌+◌, ◌^◌, ◌<◌, max, IfOk};
+ghost use Rattle.trace_types.specs.Id.{Pair};
 ghost use Rattle.trace_types.specs.EventTree.{Leaf, Node as plain_Node, minimum, maximum, IsNormal};
 ghost use Rattle.trace_types.specs.Norm.{norm};
 ghost use Rattle.trace_types.specs.Fill.{fill};
 ghost use Rattle.event_tree.specs.Filled.{filled_over, Rises, GivesFilled};
 
-use super::{EvTree, Node};
+use super::{Children, EvTree, Node};
 use id_tree::{IdTree, Parts as IdParts};
 use std::alloc::Global;
 use trace_types::Memory;
@@ -46,6 +47,7 @@ impl<'a> Filling<'a> {
     }
 
     /// The node over this part and the one on its right, if either is another tree.
+    #[inline(always)]
     fn beside(self, alloc: Global, base: u64, right: Filling<'_>) -> Result<Option<EvTree>, Memory>
         requires normal { IsNormal (plain_Node base self.before.now right.before.now) }
         requires fits { base + max (maximum (filled_over self.after self.before.now)) (maximum (filled_over right.after right.before.now)) < 2 ^ 64 }
@@ -60,14 +62,25 @@ impl<'a> Filling<'a> {
         if self.after.is_none() && right.after.is_none() {
             return Ok(None);
         }
+        Ok(Some(self.node_over(alloc, base, right)?))
+    }
+
+    /// The node over both parts as they are after filling.
+    #[inline(never)]
+    fn node_over(self, alloc: Global, base: u64, right: Filling<'_>) -> Result<EvTree, Memory>
+        requires { base + max (maximum (filled_over self.after self.before.now)) (maximum (filled_over right.after right.before.now)) < 2 ^ 64 }
+        ensures { IfOk result (λ tree. tree ≡ norm base
+            (filled_over self.entry.after self.entry.before.now) (filled_over right.entry.after right.entry.before.now)) }
+    {
         let left = self.tree(alloc)?;
         let right = right.tree(alloc)?;
-        Ok(Some(EvTree::fork(alloc, base, left, right)?))
+        EvTree::fork(alloc, base, left, right)
     }
 }
 
 impl EvTree {
     /// The filled tree, if it is another.
+    #[cycle(filled)]
     pub(super) fn filled(&self, alloc: Global, id: &IdTree) -> Result<Option<EvTree>, Memory>
         ensures { IfOk result (λ found. GivesFilled found self.now (fill id.now self.now)) }
     {
@@ -75,20 +88,7 @@ impl EvTree {
             (IdParts::Zero, _) | (_, Node::Leaf(_)) => Ok(None),
             (IdParts::One, Node::Fork { .. }) => Ok(Some(EvTree::leaf(self.max()))),
             (IdParts::Pair(left_id, right_id), Node::Fork { base, children, .. }) => {
-                let (left, right) = (&children.left, &children.right);
-                if left_id.is_one() {
-                    let right = Filling::of(right, right.filled(alloc, right_id)?);
-                    let left = Filling::of(left, left.flattened(right.min()));
-                    left.beside(alloc, *base, right)
-                } else if right_id.is_one() {
-                    let left = Filling::of(left, left.filled(alloc, left_id)?);
-                    let right = Filling::of(right, right.flattened(left.min()));
-                    left.beside(alloc, *base, right)
-                } else {
-                    let left = Filling::of(left, left.filled(alloc, left_id)?);
-                    let right = Filling::of(right, right.filled(alloc, right_id)?);
-                    left.beside(alloc, *base, right)
-                }
+                children.filled_under(alloc, *base, left_id, right_id)
             }
         }
     }
@@ -102,6 +102,38 @@ impl EvTree {
             Node::Leaf(n) if n < least => Some(EvTree::leaf(least)),
             Node::Leaf(_) => None,
             Node::Fork { .. } => Some(EvTree::leaf(self.max().max(least))),
+        }
+    }
+}
+
+impl Children {
+    /// The node over these two with this number, filled, if it is another.
+    #[cycle(filled)]
+    fn filled_under(
+        &self,
+        alloc: Global,
+        base: u64,
+        left_id: &IdTree,
+        right_id: &IdTree,
+    ) -> Result<Option<EvTree>, Memory>
+        requires normal { IsNormal (plain_Node base self.now.left self.now.right) }
+        requires fits { base + max (maximum self.now.left) (maximum self.now.right) < 2 ^ 64 }
+        ensures { IfOk result (λ found. GivesFilled found (plain_Node base self.now.left self.now.right)
+            (fill (Pair left_id.now right_id.now) (plain_Node base self.now.left self.now.right))) }
+    {
+        let (left, right) = (&self.left, &self.right);
+        if left_id.is_one() {
+            let right = Filling::of(right, right.filled(alloc, right_id)?);
+            let left = Filling::of(left, left.flattened(right.min()));
+            left.beside(alloc, base, right)
+        } else if right_id.is_one() {
+            let left = Filling::of(left, left.filled(alloc, left_id)?);
+            let right = Filling::of(right, right.flattened(left.min()));
+            left.beside(alloc, base, right)
+        } else {
+            let left = Filling::of(left, left.filled(alloc, left_id)?);
+            let right = Filling::of(right, right.filled(alloc, right_id)?);
+            left.beside(alloc, base, right)
         }
     }
 }

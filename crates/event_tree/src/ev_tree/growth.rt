@@ -1,5 +1,6 @@
 //! Growing a tree below an id at the least cost.
 ghost use Rattle.std.specs.Prelude.{◌≡◌, ◌+◌, ◌^◌, ◌<◌, ◌⊎◌, false, Some, IfOk, IfSome, IfNone};
+ghost use Rattle.trace_types.specs.Id.{Pair};
 ghost use Rattle.trace_types.specs.EventTree.{Leaf, maximum, IsNormal};
 ghost use Rattle.trace_types.specs.Grow.{root, left_of, right_of, expansion, is_less, is_cheaper, cheaper, dearer, cost};
 ghost use Rattle.event_tree.specs.GrownFor.{grown_for};
@@ -113,6 +114,7 @@ impl EvTree {
     }
 
     /// The least cost of growing the tree. Below a number stands `zero`.
+    #[cycle(growth_cost)]
     pub(super) fn growth_cost(&self, id: &IdTree, zero: &EvTree) -> Result<Option<Cost>, Memory>
         requires { zero.now ≡ Leaf 0 }
         ensures { IfOk result (λ price. price ≡ cost id.now self.now) }
@@ -120,15 +122,27 @@ impl EvTree {
         match id.parts() {
             IdParts::Zero => Ok(None),
             IdParts::One => Ok(Some(Cost::NOTHING)),
-            IdParts::Pair(left_id, right_id) => {
-                let opened = self.opened(zero);
-                let left = opened.left.growth_cost(left_id, zero)?;
-                let right = opened.right.growth_cost(right_id, zero)?;
-                match Cost::cheaper(left, right) {
-                    Some(cost) => Ok(Some(cost.further(opened.expansion)?)),
-                    None => Ok(None),
-                }
-            }
+            IdParts::Pair(left_id, right_id) => self.growth_cost_below(left_id, right_id, zero),
+        }
+    }
+
+    /// That of growing it below an id of these two halves.
+    #[cycle(growth_cost)]
+    fn growth_cost_below(
+        &self,
+        left_id: &IdTree,
+        right_id: &IdTree,
+        zero: &EvTree,
+    ) -> Result<Option<Cost>, Memory>
+        requires { zero.now ≡ Leaf 0 }
+        ensures { IfOk result (λ price. price ≡ cost (Pair left_id.now right_id.now) self.now) }
+    {
+        let opened = self.opened(zero);
+        let left = opened.left.growth_cost(left_id, zero)?;
+        let right = opened.right.growth_cost(right_id, zero)?;
+        match Cost::cheaper(left, right) {
+            Some(cost) => Ok(Some(cost.further(opened.expansion)?)),
+            None => Ok(None),
         }
     }
 

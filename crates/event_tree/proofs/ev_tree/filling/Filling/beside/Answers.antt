@@ -12,8 +12,8 @@ returns c =
       | else-is_none-via-else-is_none w ↦ grind (arith, common_steps)
     ] in
     record {
-      exact = rw (sym c.in_ok-left.ensures, sym c.in_ok-right.ensures) c.in_ok-fork.ensures;
+      exact = c.in_ok-node_over.ensures;
       rises =
-          rw (c.in_ok-fork.ensures, c.in_ok-left.ensures, c.in_ok-right.ensures)
+          rw c.in_ok-node_over.ensures
           (rises_beside c.args.base c.args.self.before.now c.args.right.before.now c.requires.normal _ _ c.requires.left_normal c.requires.right_normal c.args.self.after c.args.right.after c.requires.left_rises c.requires.right_rises refl refl some);
     }
