@@ -59,6 +59,7 @@ impl Join {
 ///
 /// A part that one of the two has is not made again.
 #[cycle(joined)]
+#[inline(always)]
 pub(super) fn joined(
     alloc: Global,
     one: &EvTree,
@@ -98,6 +99,7 @@ pub(super) fn joined(
 
 /// The join of two nodes with these numbers at the root.
 #[cycle(joined)]
+#[inline(never)]
 fn joined_below(
     alloc: Global,
     one: &Children,
