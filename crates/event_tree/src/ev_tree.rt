@@ -296,6 +296,3 @@ impl fmt::Debug for EvTree {
         }
     }
 }
-
-#[cfg(test)]
-mod tests;

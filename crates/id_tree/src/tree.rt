@@ -259,6 +259,3 @@ impl fmt::Debug for IdTree {
         }
     }
 }
-
-#[cfg(test)]
-mod tests;

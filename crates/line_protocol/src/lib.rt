@@ -19,8 +19,6 @@ mod request;
 mod sink;
 mod source;
 mod stop;
-#[cfg(test)]
-mod tests;
 mod write_fault;
 
 pub use buffer::Buffer;

@@ -8,8 +8,6 @@
 
 mod entry;
 mod message_book;
-#[cfg(test)]
-mod tests;
 
 pub use entry::Entry;
 pub use message_book::MessageBook;

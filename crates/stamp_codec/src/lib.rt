@@ -28,7 +28,5 @@ pub mod laws;
 mod reading;
 mod shape;
 mod stamp;
-#[cfg(test)]
-mod tests;
 mod walk;
 mod writing;

@@ -240,6 +240,3 @@ fn is_report(request: &Request) -> bool
             | Request::Join(..)
     )
 }
-
-#[cfg(test)]
-mod tests;

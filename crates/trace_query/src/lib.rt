@@ -19,6 +19,3 @@ pub use meant::Meant;
 pub use plain::Plain;
 pub use queries::{concurrent_in_order, concurrent_with, order, past, past_in_order};
 pub use query_fault::QueryFault;
-
-#[cfg(test)]
-mod tests;

@@ -112,36 +112,3 @@ impl From<Memory> for Code {
         Code::NoMemory
     }
 }
-
-#[cfg(test)]
-mod tests {
-    use super::*;
-
-    #[test]
-    fn each_refusal_is_written_with_its_own_number_and_words(rt: HostRuntime) {
-        for (code, number, text) in [
-            (Code::Line, 400, "line"),
-            (Code::NoTask, 401, "no task"),
-            (Code::TaskExists, 402, "task exists"),
-            (Code::TaskEnded, 403, "task ended"),
-            (Code::NoEvent, 404, "no event"),
-            (Code::NoMessage, 405, "no message"),
-            (Code::MessageExists, 406, "message exists"),
-            (Code::AlreadyReceived, 407, "already received"),
-            (Code::NotEnded, 408, "not ended"),
-            (Code::AlreadyJoined, 409, "already joined"),
-            (Code::ViewOnly, 410, "view only"),
-            (Code::EventsFull, 413, "events full"),
-            (Code::TasksFull, 414, "tasks full"),
-            (Code::MessagesFull, 415, "messages full"),
-            (Code::NoTenant, 420, "no tenant"),
-            (Code::DeskTaken, 421, "desk taken"),
-            (Code::NoPlace, 422, "no place"),
-            (Code::SessionOver, 423, "session over"),
-            (Code::NoMemory, 507, "no memory"),
-        ] {
-            assert_eq!(rt; code.number(), number, "{code:?}");
-            assert_eq!(rt; code.text(), text, "{code:?}");
-        }
-    }
-}

@@ -104,36 +104,3 @@ fn is_within(amount: u64, most: u64) -> bool
 {
     1 <= amount && amount <= most
 }
-
-#[cfg(test)]
-mod tests {
-    use super::*;
-
-    #[test]
-    fn limits_are_read_within_their_ranges_alone(rt: HostRuntime) {
-        for (amounts, are_limits) in [
-            ((1, 1, 1), true),
-            ((16384, 2048, 16384), true),
-            ((0, 1, 1), false),
-            ((1, 0, 1), false),
-            ((1, 1, 0), false),
-            ((16385, 2048, 16384), false),
-            ((16384, 2049, 16384), false),
-            ((16384, 2048, 16385), false),
-        ] {
-            let (events, tasks, messages) = amounts;
-            let read = Limits::read(events, tasks, messages);
-            assert_eq!(rt; read.is_some(), are_limits, "{amounts:?}");
-        }
-    }
-
-    #[test]
-    fn each_limit_is_the_one_asked_for_and_the_defaults_are_4096_512_and_2048(rt: HostRuntime) {
-        assert_eq!(rt; Limits::read(3, 4, 5).map(amounts), Some((3, 4, 5)));
-        assert_eq!(rt; amounts(Limits::default()), (4096, 512, 2048));
-    }
-
-    fn amounts(limits: Limits) -> (u64, u64, u64) {
-        (limits.events(), limits.tasks(), limits.messages())
-    }
-}

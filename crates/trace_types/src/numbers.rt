@@ -56,17 +56,3 @@ impl PartialEq for Numbers {
 impl Eq for Numbers {
     ghost laws = { nat_list_eq_equiv };
 }
-
-#[cfg(test)]
-mod tests {
-    use super::*;
-    use std::test::Fail;
-
-    #[test]
-    fn numbers_lend_and_give_back_the_list_they_are_made_from(rt: HostRuntime) -> Result<(), Fail> {
-        let numbers = Numbers::from([1, 2, 4].to_vec(rt.alloc())?);
-        assert_eq!(rt; numbers.as_slice(), [1, 2, 4].as_slice());
-        assert_eq!(rt; numbers.into_vec().as_slice(), [1, 2, 4].as_slice());
-        Ok(())
-    }
-}

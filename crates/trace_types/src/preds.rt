@@ -64,18 +64,3 @@ impl PartialEq for Preds {
 impl Eq for Preds {
     ghost laws = { nat_list_eq_equiv };
 }
-
-#[cfg(test)]
-mod tests {
-    use super::*;
-
-    #[test]
-    fn predecessors_and_what_shares_them_are_those_given(rt: HostRuntime) {
-        for events in [&[][..], &[4], &[4, 5]] {
-            assert!(rt; events.len() <= 2);
-            let preds = Preds::of(rt.alloc(), events);
-            assert_eq!(rt; preds.as_slice(), events);
-            assert_eq!(rt; preds.share().as_slice(), events);
-        }
-    }
-}

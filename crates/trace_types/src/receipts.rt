@@ -73,18 +73,3 @@ impl PartialEq for Receipts {
 impl Eq for Receipts {
     ghost laws = { nat_list_eq_equiv };
 }
-
-#[cfg(test)]
-mod tests {
-    use super::*;
-
-    #[test]
-    fn receipts_and_what_shares_them_are_those_added(rt: HostRuntime) {
-        let mut receipts = Receipts::none(rt.alloc());
-        assert_eq!(rt; receipts.as_slice(), [].as_slice());
-        assert_eq!(rt; receipts.share().as_slice(), [].as_slice());
-        receipts.add(4);
-        assert_eq!(rt; receipts.as_slice(), [4].as_slice());
-        assert_eq!(rt; receipts.share().as_slice(), [4].as_slice());
-    }
-}

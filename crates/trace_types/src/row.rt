@@ -46,23 +46,3 @@ impl Row {
         }
     }
 }
-
-#[cfg(test)]
-mod tests {
-    use super::*;
-
-    #[test]
-    fn a_shared_row_has_every_part_of_the_row(rt: HostRuntime) {
-        let row = Row {
-            task: Name::root(),
-            kind: Kind::Local,
-            name: Name::read(b"m"),
-            preds: Preds::of(rt.alloc(), &[4, 5]),
-        };
-        let shared = row.share();
-        assert_eq!(rt; shared.task, Name::root());
-        assert_eq!(rt; shared.kind, Kind::Local);
-        assert_eq!(rt; shared.name, Name::read(b"m"));
-        assert_eq!(rt; shared.preds.as_slice(), [4, 5].as_slice());
-    }
-}

@@ -49,16 +49,3 @@ impl PartialEq for Text {
 impl Eq for Text {
     ghost laws = { nat_list_eq_equiv };
 }
-
-#[cfg(test)]
-mod tests {
-    use super::*;
-    use std::test::Fail;
-
-    #[test]
-    fn a_text_lends_the_bytes_it_is_made_from(rt: HostRuntime) -> Result<(), Fail> {
-        let text = Text::from(b"[1;0]".to_vec(rt.alloc())?);
-        assert_eq!(rt; text.as_bytes(), b"[1;0]".as_slice());
-        Ok(())
-    }
-}

@@ -74,6 +74,3 @@ fn hand_on<W: Sink>(lines: &Buffer, writer: &mut W) -> Result<(), WriteFault>
         Ok(())
     }
 }
-
-#[cfg(test)]
-mod tests;

@@ -1,9 +1,11 @@
-use crate::{Stamp, StampFault, read_stamp, write_stamp};
-use std::alloc::{AllocError, Global};
+//! Stamps and their texts, and by them the operations of ids and event trees.
+
+use stamp_codec::{Stamp, StampFault, read_stamp, write_stamp};
+use std::alloc::Global;
 use std::test::Fail;
 use trace_types::{Memory, Order};
 
-fn fault_of(alloc: Global, text: &[u8]) -> Option<StampFault> {
+pub fn fault_of(alloc: Global, text: &[u8]) -> Option<StampFault> {
     read_stamp(alloc, text).err()
 }
 
@@ -12,7 +14,7 @@ fn stamp_of(alloc: Global, text: &str) -> Result<Stamp, StampFault> {
 }
 
 /// The text of what the text is read as.
-fn text_again(alloc: Global, text: &str) -> Result<Vec<u8>, StampFault> {
+pub fn text_again(alloc: Global, text: &str) -> Result<Vec<u8>, StampFault> {
     let stamp = stamp_of(alloc, text)?;
     Ok(write_stamp(alloc, &stamp)?)
 }
@@ -29,19 +31,19 @@ fn add(text: &mut Vec<u8>, more: &[u8]) -> Result<(), Memory> {
     Ok(text.extend_from_slice(more)?)
 }
 
-fn text_of_fork(alloc: Global, text: &str) -> Result<Vec<u8>, StampFault> {
+pub fn text_of_fork(alloc: Global, text: &str) -> Result<Vec<u8>, StampFault> {
     let (first, second) = stamp_of(alloc, text)?.fork(alloc)?;
     text_of_both(alloc, &first, &second)
 }
 
-fn text_of_peek(alloc: Global, text: &str) -> Result<Vec<u8>, StampFault> {
+pub fn text_of_peek(alloc: Global, text: &str) -> Result<Vec<u8>, StampFault> {
     let stamp = stamp_of(alloc, text)?;
     let peek = stamp.peek(alloc)?;
     text_of_both(alloc, &peek, &stamp)
 }
 
 /// The text of the stamp after an event, or nothing where there can be none.
-fn text_of_event(alloc: Global, text: &str) -> Result<Vec<u8>, StampFault> {
+pub fn text_of_event(alloc: Global, text: &str) -> Result<Vec<u8>, StampFault> {
     let stamp = stamp_of(alloc, text)?;
     if stamp.id.is_zero() || stamp.tree.max() >= u64::MAX - 1 {
         return Ok(Vec::new(alloc));
@@ -51,7 +53,7 @@ fn text_of_event(alloc: Global, text: &str) -> Result<Vec<u8>, StampFault> {
 }
 
 /// The text of the join, or nothing where the ids overlap.
-fn text_of_join(alloc: Global, text: &str, other: &str) -> Result<Vec<u8>, StampFault> {
+pub fn text_of_join(alloc: Global, text: &str, other: &str) -> Result<Vec<u8>, StampFault> {
     let stamp = stamp_of(alloc, text)?;
     let other = stamp_of(alloc, other)?;
     if !stamp.id.disjoint(&other.id) {
@@ -61,35 +63,11 @@ fn text_of_join(alloc: Global, text: &str, other: &str) -> Result<Vec<u8>, Stamp
     Ok(write_stamp(alloc, &joined)?)
 }
 
-/// `open` parentheses before a 0, and as many times `close` behind it, inside `front` and `back`.
-fn nested(
-    alloc: Global,
-    front: &[u8],
-    count: usize,
-    open: &[u8],
-    close: &[u8],
-    back: &[u8],
-) -> Result<Vec<u8>, AllocError> {
-    let mut text = Vec::from_slice(alloc, front)?;
-    for _ in 0..count {
-        text.extend_from_slice(open)?;
-    }
-    text.push(b'0')?;
-    for _ in 0..count {
-        text.extend_from_slice(close)?;
-    }
-    text.extend_from_slice(back)?;
-    Ok(text)
-}
-
-fn fault_of_nested_id(alloc: Global, count: usize) -> Result<Option<StampFault>, AllocError> {
-    let text = nested(alloc, b"[", count, b"(", b",1)", b";0]")?;
-    Ok(fault_of(alloc, text.as_slice()))
-}
-
-fn fault_of_nested_tree(alloc: Global, count: usize) -> Result<Option<StampFault>, AllocError> {
-    let text = nested(alloc, b"[1;", count, b"(0,", b",1)", b"]")?;
-    Ok(fault_of(alloc, text.as_slice()))
+/// How the trees of the two stand to each other.
+fn compared(alloc: Global, text: &str, other: &str) -> Result<(Order, bool), StampFault> {
+    let stamp = stamp_of(alloc, text)?;
+    let other = stamp_of(alloc, other)?;
+    Ok((stamp.tree.order(&other.tree), stamp.tree.leq(&other.tree)))
 }
 
 #[test]
@@ -174,72 +152,86 @@ fn a_stamp_is_written_as_it_was_read(rt: HostRuntime) -> Result<(), Fail> {
 }
 
 #[test]
-fn fork_and_peek_give_the_published_stamps(rt: HostRuntime) -> Result<(), Fail> {
-    let alloc = rt.alloc();
+fn trees_stand_as_their_values_do(rt: HostRuntime) -> Result<(), Fail> {
+    for (one, other, want) in [
+        ("[0;(2,1,0)]", "[0;(2,0,2)]", (Order::Concurrent, false)),
+        ("[0;(2,0,2)]", "[0;4]", (Order::Before, true)),
+        ("[0;4]", "[0;(2,0,3)]", (Order::Concurrent, false)),
+        ("[0;4]", "[0;(2,0,2)]", (Order::After, false)),
+        ("[1;(3,0,1)]", "[0;(3,0,1)]", (Order::Same, true)),
+    ] {
+        assert_eq!(rt; compared(rt.alloc(), one, other)?, want);
+    }
+    Ok(())
+}
+
+#[test]
+fn fork_gives_the_published_stamps(rt: HostRuntime) -> Result<(), Fail> {
+    for (stamp, both) in [
+        ("[0;0]", "[0;0] and [0;0]"),
+        ("[1;0]", "[(1,0);0] and [(0,1);0]"),
+        (
+            "[(1,0);(2,1,0)]",
+            "[((1,0),0);(2,1,0)] and [((0,1),0);(2,1,0)]",
+        ),
+        ("[(0,1);4]", "[(0,(1,0));4] and [(0,(0,1));4]"),
+        ("[((1,0),(0,1));4]", "[((1,0),0);4] and [(0,(0,1));4]"),
+    ] {
+        assert_eq!(rt;
+            text_of_fork(rt.alloc(), stamp)?.as_slice(),
+            both.as_bytes()
+        );
+    }
+    Ok(())
+}
+
+#[test]
+fn peek_gives_a_stamp_that_owns_nothing(rt: HostRuntime) -> Result<(), Fail> {
     assert_eq!(rt;
-        text_of_fork(alloc, "[1;0]")?.as_slice(),
-        b"[(1,0);0] and [(0,1);0]".as_slice()
-    );
-    assert_eq!(rt;
-        text_of_fork(alloc, "[(1,0);(2,1,0)]")?.as_slice(),
-        b"[((1,0),0);(2,1,0)] and [((0,1),0);(2,1,0)]".as_slice()
-    );
-    assert_eq!(rt;
-        text_of_peek(alloc, "[(1,0);(2,1,0)]")?.as_slice(),
+        text_of_peek(rt.alloc(), "[(1,0);(2,1,0)]")?.as_slice(),
         b"[0;(2,1,0)] and [(1,0);(2,1,0)]".as_slice()
     );
     Ok(())
 }
 
 #[test]
-fn event_and_join_give_the_published_stamps(rt: HostRuntime) -> Result<(), Fail> {
+fn event_fills_or_grows_as_published(rt: HostRuntime) -> Result<(), Fail> {
     for (before, after) in [
         ("[(1,0);(3,0,1)]", "[(1,0);4]"),
         ("[1;(4,0,1)]", "[1;5]"),
+        ("[(1,0);(0,0,2)]", "[(1,0);2]"),
         ("[(0,1);2]", "[(0,1);(2,0,1)]"),
         (
             "[((1,0),(1,0));(2,0,(0,1,0))]",
             "[((1,0),(1,0));(2,0,(0,2,0))]",
         ),
+        ("[((1,0),(1,0));0]", "[((1,0),(1,0));(0,0,(0,1,0))]"),
     ] {
         assert_eq!(rt;
             text_of_event(rt.alloc(), before)?.as_slice(),
             after.as_bytes()
         );
     }
-    for (one, other, joined) in [
-        ("[(1,0);(2,1,0)]", "[(0,1);(2,0,2)]", "[1;(3,0,1)]"),
-        ("[(1,0);4]", "[(0,1);(2,0,3)]", "[1;(4,0,1)]"),
-    ] {
-        assert_eq!(rt;
-            text_of_join(rt.alloc(), one, other)?.as_slice(),
-            joined.as_bytes()
-        );
-    }
     Ok(())
 }
 
 #[test]
-fn deep_texts_are_answered_without_deep_recursion(rt: HostRuntime) -> Result<(), Fail> {
-    let alloc = rt.alloc();
-    let open = nested(alloc, b"[", 50_000, b"(", b"", b"")?;
-    assert_eq!(rt;
-        fault_of(alloc, open.as_slice()),
-        Some(StampFault::Shape(50_002))
-    );
-    assert_eq!(rt; fault_of_nested_id(alloc, 2048)?, None);
-    assert_eq!(rt;
-        fault_of_nested_id(alloc, 2049)?,
-        Some(StampFault::TooLarge(2049))
-    );
-    assert_eq!(rt;
-        fault_of_nested_id(alloc, 50_000)?,
-        Some(StampFault::TooLarge(2049))
-    );
-    assert_eq!(rt; fault_of_nested_tree(alloc, 2048)?, None);
-    assert_eq!(rt;
-        fault_of_nested_tree(alloc, 2049)?,
-        Some(StampFault::TooLarge(6147))
-    );
+fn join_has_the_points_and_the_greater_values_of_both(rt: HostRuntime) -> Result<(), Fail> {
+    for (one, other, joined) in [
+        ("[(1,0);(2,1,0)]", "[(0,1);(2,0,2)]", "[1;(3,0,1)]"),
+        ("[(1,0);4]", "[(0,1);(2,0,3)]", "[1;(4,0,1)]"),
+        (
+            "[(1,0);(1,1,0)]",
+            "[(0,1);(1,0,(1,1,0))]",
+            "[1;(2,0,(0,1,0))]",
+        ),
+        ("[((1,0),0);1]", "[(0,(1,0));2]", "[((1,0),(1,0));2]"),
+        ("[0;3]", "[(0,1);2]", "[(0,1);3]"),
+        ("[(1,0);1]", "[((0,1),1);1]", ""),
+    ] {
+        let want = joined.as_bytes();
+        assert_eq!(rt; text_of_join(rt.alloc(), one, other)?.as_slice(), want);
+        assert_eq!(rt; text_of_join(rt.alloc(), other, one)?.as_slice(), want);
+    }
     Ok(())
 }

@@ -1,7 +1,7 @@
 //! Lines, requests and replies as they come and go, over readers and writers that are slow, interrupted or fail.
 ghost use Rattle.std.specs.Prelude.{◌≤◌, length};
 
-use crate::{
+use line_protocol::{
     Buffered, FromReader, IntoWriter, Line, LineReader, Source, WriteFault, flush, read_addressed,
     read_request, write_bytes, write_prefix, write_reply,
 };

@@ -1,13 +1,16 @@
+//! Queries about the order of events, by trees that are made by hand.
 ghost use Rattle.std.specs.Prelude.{◌≡◌, ◌+◌, ◌^◌, ◌<◌, max, map, IfOk};
 ghost use Rattle.trace_types.specs.EventTree.{Leaf};
 ghost use Rattle.trace_types.specs.Norm.{norm};
 ghost use Rattle.trace_query.specs.Queries.{StandInOrder};
 
-use super::*;
 use event_tree::EvTree;
 use std::alloc::Global;
 use std::cell::Cell;
 use std::test::Fail;
+use trace_query::{
+    Compare, Plain, QueryFault, concurrent_in_order, concurrent_with, order, past, past_in_order,
+};
 use trace_types::{Memory, Order};
 
 /// Compares as `Plain`, and counts how often.
@@ -131,6 +134,34 @@ fn no_event_has_a_list(rt: HostRuntime) -> Result<(), Fail> {
     Ok(())
 }
 
+/// The trees of two tasks that act in turn, 8192 times each.
+fn trees_in_turn(alloc: Global) -> Result<Vec<EvTree>, Memory> {
+    let mut trees = Vec::new(alloc);
+    for count in 1..8193u64 {
+        trees.push(node(alloc, 1, count, 0)?)?;
+        trees.push(node(alloc, 1, 0, count)?)?;
+    }
+    Ok(trees)
+}
+
+/// Each second number of a range.
+fn each_second(alloc: Global, first: u64, end: u64) -> Result<Vec<u64>, Memory> {
+    let mut numbers = Vec::new(alloc);
+    for number in (first..end).step_by(2) {
+        numbers.push(number)?;
+    }
+    Ok(numbers)
+}
+
+#[test]
+fn lists_of_16384_events_are_whole(rt: HostRuntime) -> Result<(), Fail> {
+    let trees = trees_in_turn(rt.alloc())?;
+    let (past, concurrent) = lists(rt.alloc(), &trees, 16384)?;
+    assert!(rt; past == each_second(rt.alloc(), 2, 16384)?);
+    assert!(rt; concurrent == each_second(rt.alloc(), 1, 16384)?);
+    Ok(())
+}
+
 #[test]
 fn each_event_before_is_compared_once(rt: HostRuntime) -> Result<(), Fail> {
     let trees = run(rt.alloc())?;
@@ -143,18 +174,5 @@ fn each_event_before_is_compared_once(rt: HostRuntime) -> Result<(), Fail> {
     let found = concurrent_in_order(&counted, rt.alloc(), &trees, 4)?;
     assert_eq!(rt; found.as_slice(), [3, 5].as_slice());
     assert_eq!(rt; counted.comparisons.get(), 8);
-    Ok(())
-}
-
-#[test]
-fn faults_say_what_is_wanting(rt: HostRuntime) -> Result<(), Fail> {
-    for (fault, text) in [
-        (QueryFault::Unknown, "no event"),
-        (QueryFault::Memory, "no memory"),
-    ] {
-        let written = format!(in rt.alloc(); "{fault}")?;
-        assert_eq!(rt; written.as_str(), text);
-    }
-    assert_eq!(rt; QueryFault::from(Memory), QueryFault::Memory);
     Ok(())
 }

@@ -1,4 +1,6 @@
-use super::*;
+//! The messages of one tenant, by the calls of their book.
+
+use message_book::MessageBook;
 use std::process::Abort;
 use std::test::Fail;
 use trace_types::{Code, Name};

@@ -2,7 +2,7 @@ use Rattle.std.proofs.Common.{◌≡◌, List, [], ◌∷◌, sym, subst}
 use Rattle.trace_types.specs.EventTree.{EventTree}
 use Rattle.trace_query.specs.Queries.{StandInOrder}
 use Rattle.trace_query.proofs.Vectors.{run, run-in_order}
-use Rattle.trace_query.proofs.tests.run.Goals as goal
+use Rattle.collector_tests.proofs.queries.run.Goals as goal
 
 pub returns : goal.returns
 returns c =

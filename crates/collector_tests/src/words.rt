@@ -1,0 +1,212 @@
+//! The words that all crates share: refusals, limits, names, rows, and the texts of faults.
+
+use line_protocol::{ReadFault, WriteFault};
+use stamp_codec::StampFault;
+use std::fmt::Display;
+use std::process::Abort;
+use std::test::Fail;
+use trace_query::QueryFault;
+use trace_types::{
+    Code, Kind, Limits, Memory, Name, Numbers, Preds, Receipts, Row, Text, WorldFault,
+};
+use trace_world::{ReplayFault, World};
+
+#[test]
+fn each_refusal_is_written_with_its_own_number_and_words(rt: HostRuntime) {
+    for (code, number, text) in [
+        (Code::Line, 400, "line"),
+        (Code::NoTask, 401, "no task"),
+        (Code::TaskExists, 402, "task exists"),
+        (Code::TaskEnded, 403, "task ended"),
+        (Code::NoEvent, 404, "no event"),
+        (Code::NoMessage, 405, "no message"),
+        (Code::MessageExists, 406, "message exists"),
+        (Code::AlreadyReceived, 407, "already received"),
+        (Code::NotEnded, 408, "not ended"),
+        (Code::AlreadyJoined, 409, "already joined"),
+        (Code::ViewOnly, 410, "view only"),
+        (Code::EventsFull, 413, "events full"),
+        (Code::TasksFull, 414, "tasks full"),
+        (Code::MessagesFull, 415, "messages full"),
+        (Code::NoTenant, 420, "no tenant"),
+        (Code::DeskTaken, 421, "desk taken"),
+        (Code::NoPlace, 422, "no place"),
+        (Code::SessionOver, 423, "session over"),
+        (Code::NoMemory, 507, "no memory"),
+    ] {
+        assert_eq!(rt; code.number(), number, "{code:?}");
+        assert_eq!(rt; code.text(), text, "{code:?}");
+    }
+}
+
+fn amounts(limits: Limits) -> (u64, u64, u64) {
+    (limits.events(), limits.tasks(), limits.messages())
+}
+
+#[test]
+fn limits_are_read_within_their_ranges_alone(rt: HostRuntime) {
+    for (asked, are_limits) in [
+        ((1, 1, 1), true),
+        ((3, 4, 5), true),
+        ((16384, 2048, 16384), true),
+        ((0, 1, 1), false),
+        ((1, 0, 1), false),
+        ((1, 1, 0), false),
+        ((16385, 2048, 16384), false),
+        ((16384, 2049, 16384), false),
+        ((16384, 2048, 16385), false),
+    ] {
+        let (events, tasks, messages) = asked;
+        let read = Limits::read(events, tasks, messages).map(amounts);
+        let want = if are_limits { Some(asked) } else { None };
+        assert_eq!(rt; read, want);
+    }
+    assert_eq!(rt; amounts(Limits::default()), (4096, 512, 2048));
+    assert_eq!(rt; World::MOST_TENANTS, 16);
+}
+
+#[test]
+fn names_are_1_to_24_letters_digits_and_underscores(rt: HostRuntime) {
+    for (text, is_name) in [
+        ("a", true),
+        ("_", true),
+        ("0", true),
+        ("AZaz09_", true),
+        ("abcdefghijklmnopqrstuvwx", true),
+        ("abcdefghijklmnopqrstuvwxy", false),
+        ("", false),
+        ("a/", false),
+        (":a", false),
+        ("a@a", false),
+        ("[", false),
+        ("^", false),
+        ("`", false),
+        ("{", false),
+        ("a b", false),
+        ("a-b", false),
+        ("a\r", false),
+        ("a\0", false),
+        ("ä", false),
+    ] {
+        assert_eq!(rt; Name::read(text.as_bytes()).is_some(), is_name, "{text}");
+    }
+}
+
+#[test]
+fn names_keep_their_text(rt: HostRuntime) {
+    for text in ["a", "root", "abcdefghijklmnopqrstuvwx"] {
+        let name = Name::read(text.as_bytes()).expect(&rt, text);
+        assert_eq!(rt; name.as_bytes(), text.as_bytes());
+        assert_eq!(rt; name == Name::root(), text == "root", "{text}");
+    }
+}
+
+#[test]
+fn lists_and_texts_lend_what_they_are_made_from(rt: HostRuntime) -> Result<(), Fail> {
+    let numbers = Numbers::from([1, 2, 4].to_vec(rt.alloc())?);
+    assert_eq!(rt; numbers.as_slice(), [1, 2, 4].as_slice());
+    assert_eq!(rt; numbers.into_vec().as_slice(), [1, 2, 4].as_slice());
+    let text = Text::from(b"[1;0]".to_vec(rt.alloc())?);
+    assert_eq!(rt; text.as_bytes(), b"[1;0]".as_slice());
+    Ok(())
+}
+
+#[test]
+fn predecessors_and_what_shares_them_are_those_given(rt: HostRuntime) {
+    for events in [&[][..], &[4], &[4, 5]] {
+        assert!(rt; events.len() <= 2);
+        let preds = Preds::of(rt.alloc(), events);
+        assert_eq!(rt; preds.as_slice(), events);
+        assert_eq!(rt; preds.share().as_slice(), events);
+    }
+}
+
+#[test]
+fn receipts_and_what_shares_them_are_those_added(rt: HostRuntime) {
+    let mut receipts = Receipts::none(rt.alloc());
+    assert_eq!(rt; receipts.as_slice(), [].as_slice());
+    assert_eq!(rt; receipts.share().as_slice(), [].as_slice());
+    receipts.add(4);
+    assert_eq!(rt; receipts.as_slice(), [4].as_slice());
+    assert_eq!(rt; receipts.share().as_slice(), [4].as_slice());
+}
+
+#[test]
+fn a_shared_row_has_every_part_of_the_row(rt: HostRuntime) {
+    let row = Row {
+        task: Name::root(),
+        kind: Kind::Local,
+        name: Name::read(b"m"),
+        preds: Preds::of(rt.alloc(), &[4, 5]),
+    };
+    let shared = row.share();
+    assert_eq!(rt; shared.task, Name::root());
+    assert_eq!(rt; shared.kind, Kind::Local);
+    assert_eq!(rt; shared.name, Name::read(b"m"));
+    assert_eq!(rt; shared.preds.as_slice(), [4, 5].as_slice());
+}
+
+/// Looks that the fault tells itself so.
+fn assert_tells<R: Abort + AllocGlobal>(
+    rt: &R,
+    fault: &impl Display,
+    want: &str,
+) -> Result<(), Fail> {
+    let text = format!(in rt.alloc(); "{fault}")?;
+    assert_eq!(rt; text.as_str(), want);
+    Ok(())
+}
+
+#[test]
+fn faults_of_stamps_tell_their_place(rt: HostRuntime) -> Result<(), Fail> {
+    for (fault, want) in [
+        (StampFault::Shape(0), "no stamp from byte 0 on"),
+        (StampFault::TooLarge(3), "stamp too large at byte 3"),
+        (
+            StampFault::NotNormal(1234567),
+            "node not normal at byte 1234567",
+        ),
+        (StampFault::Memory, "no memory"),
+        (StampFault::from(Memory), "no memory"),
+    ] {
+        assert_tells(&rt, &fault, want)?;
+    }
+    Ok(())
+}
+
+#[test]
+fn faults_of_replays_tell_their_cause(rt: HostRuntime) -> Result<(), Fail> {
+    for (fault, want) in [
+        (ReplayFault::from(ReadFault::Read), "read fault"),
+        (ReplayFault::from(ReadFault::TooLong), "input too long"),
+        (ReplayFault::from(WriteFault), "write fault"),
+        (ReplayFault::from(Memory), "no memory"),
+    ] {
+        assert_tells(&rt, &fault, want)?;
+    }
+    Ok(())
+}
+
+#[test]
+fn faults_of_reads_and_writes_tell_their_cause(rt: HostRuntime) -> Result<(), Fail> {
+    assert_tells(&rt, &ReadFault::Read, "read")?;
+    assert_tells(&rt, &ReadFault::TooLong, "input too long")?;
+    assert_tells(&rt, &WriteFault, "write")
+}
+
+#[test]
+fn faults_of_queries_and_worlds_tell_their_cause(rt: HostRuntime) -> Result<(), Fail> {
+    for (fault, want) in [
+        (QueryFault::Unknown, "no event"),
+        (QueryFault::from(Memory), "no memory"),
+    ] {
+        assert_tells(&rt, &fault, want)?;
+    }
+    for (fault, want) in [
+        (WorldFault::Names, "bad tenants"),
+        (WorldFault::from(Memory), "no memory"),
+    ] {
+        assert_tells(&rt, &fault, want)?;
+    }
+    assert_tells(&rt, &Memory, "no memory")
+}
