@@ -5,3 +5,4 @@ pub mod SkipLemmas
 pub mod LineReadingLemmas
 pub mod WordsLemmas
 pub mod WritingLemmas
+pub mod GatherLemmas

@@ -54,7 +54,7 @@ numbers_text-append (x ∷ xs) ys =
     ap (λ text. codes " " ++ decimal x ++ text) (numbers_text-append xs ys) ∙ sym (append_assoc (codes " " ++ decimal x) (numbers_text xs) (numbers_text ys))
 
 -- one number more
-numbers_text-take : (numbers : List ℕ) (i : ℕ) → i < length numbers
+pub numbers_text-take : (numbers : List ℕ) (i : ℕ) → i < length numbers
     → numbers_text (take (i + 1) numbers) ≡ numbers_text (take i numbers) ++ (codes " " ++ decimal (get_or numbers i 0))
 numbers_text-take numbers i within =
     ap (λ k. numbers_text (take k numbers)) (add-one i)
@@ -73,7 +73,7 @@ written-number old numbers i within came more =
     ∙ ap (λ bytes. old ++ bytes) (sym (numbers_text-take numbers i within))
 
 -- the numbers before one, the number, and those after it
-numbers_text-at : (numbers : List ℕ) (i : ℕ) → i < length numbers
+pub numbers_text-at : (numbers : List ℕ) (i : ℕ) → i < length numbers
     → numbers_text numbers ≡ numbers_text (take i numbers) ++ (codes " " ++ decimal (get_or numbers i 0) ++ numbers_text (drop (suc i) numbers))
 numbers_text-at numbers i within =
     ap numbers_text (sym (take-append-drop i numbers))

@@ -9,3 +9,4 @@ pub mod LineReading
 pub mod Ends
 pub mod Words
 pub mod Writing
+pub mod Answer

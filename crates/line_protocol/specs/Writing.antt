@@ -43,6 +43,17 @@ abbrev pub WritesText : {A E : Type 0} → Taken → Taken → Result A E → Te
 WritesText before after (Ok done) text = after.bytes ≡ before.bytes ++ text
 WritesText before after (Err fault) text = WritesFront before.bytes after.bytes text
 
+-- Of the text that is held and one behind it a front was written, and the rest is held.
+pub record Gathers (old new held held' text : List ℕ) : Type 0 where
+  pub written : List ℕ
+  pub grows : new ≡ old ++ written
+  pub splits : held ++ text ≡ written ++ held'
+
+-- The text was written or is held, behind what was held; or at a fault a front of it was written.
+abbrev pub GathersText : {A E : Type 0} → Taken → Taken → Text → Text → Result A E → Text → Type 0
+GathersText before after held held' (Ok done) text = Gathers before.bytes after.bytes held held' text
+GathersText before after held held' (Err fault) text = WritesFront before.bytes after.bytes (held ++ text)
+
 -- Each interruption takes some of the patience, and a fault is a failure or the end of patience.
 abbrev pub Spends : {A E : Type 0} → Taken → Taken → ℕ → ℕ → Result A E → Type 0
 Spends before after patience patience' (Ok done) =

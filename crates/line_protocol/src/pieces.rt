@@ -1,73 +1,8 @@
-//! Texts and numbers, written piece by piece.
-ghost use Rattle.std.specs.Prelude.{◌≡◌, ◌+◌, ◌<◌, ◌≤◌, ◌++◌, IfOk, OnErr, decimal, codes, length, take};
-ghost use Rattle.trace_types.specs.Text.{numbers_text, list_text};
+//! Texts, written piece by piece.
+ghost use Rattle.std.specs.Prelude.{◌≡◌, ◌+◌, ◌<◌, ◌≤◌, ◌++◌, IfOk, OnErr, length, take};
 ghost use Rattle.line_protocol.specs.Writing.{WritesText, Spends};
 
 use crate::{Sink, Stop, WriteFault};
-use itoa::Buffer;
-
-/// Writes a text and a list after it: how many numbers there are, and the numbers.
-pub(crate) fn write_list<W: Sink>(
-    writer: &mut W,
-    patience: &mut u64,
-    text: &[u8],
-    numbers: &[u64],
-) -> Result<(), WriteFault>
-    requires { 0 < patience.old }
-    ensures written { WritesText (W.seen writer.old) (W.seen writer.new) result (text.now ++ list_text numbers.now) }
-    ensures spent { Spends (W.seen writer.old) (W.seen writer.new) patience.old patience.new result }
-{
-    write_number(writer, patience, text, numbers.len() as u64)?;
-    write_numbers(writer, patience, numbers)
-}
-
-/// Writes numbers, each after a blank.
-fn write_numbers<W: Sink>(
-    writer: &mut W,
-    patience: &mut u64,
-    numbers: &[u64],
-) -> Result<(), WriteFault>
-    requires { 0 < patience.old }
-    ensures written { WritesText (W.seen writer.old) (W.seen writer.new) result (numbers_text numbers.now) }
-    ensures spent { Spends (W.seen writer.old) (W.seen writer.new) patience.old patience.new result }
-{
-    for number in numbers {
-        write_number(writer, patience, b" ", *number)?;
-    }
-    Ok(())
-}
-
-/// Writes two numbers, each after a blank.
-pub(crate) fn write_two_numbers<W: Sink>(
-    writer: &mut W,
-    patience: &mut u64,
-    first: u64,
-    second: u64,
-) -> Result<(), WriteFault>
-    requires { 0 < patience.old }
-    ensures written { WritesText (W.seen writer.old) (W.seen writer.new) result
-        ((codes " " ++ decimal first) ++ (codes " " ++ decimal second)) }
-    ensures spent { Spends (W.seen writer.old) (W.seen writer.new) patience.old patience.new result }
-{
-    write_number(writer, patience, b" ", first)?;
-    write_number(writer, patience, b" ", second)
-}
-
-/// Writes a text and a number after it.
-#[inline(always)]
-pub(crate) fn write_number<W: Sink>(
-    writer: &mut W,
-    patience: &mut u64,
-    text: &[u8],
-    number: u64,
-) -> Result<(), WriteFault>
-    requires { 0 < patience.old }
-    ensures written { WritesText (W.seen writer.old) (W.seen writer.new) result (text.now ++ decimal number) }
-    ensures spent { Spends (W.seen writer.old) (W.seen writer.new) patience.old patience.new result }
-{
-    let mut digits = Buffer::new();
-    write_pieces(writer, patience, text, digits.format(number).as_bytes())
-}
 
 /// Writes two texts.
 #[inline(always)]

@@ -1,12 +1,15 @@
 //! Replies, written without memory.
-ghost use Rattle.std.specs.Prelude.{◌≡◌, ◌<◌, ◌++◌, decimal, codes};
-ghost use Rattle.trace_types.specs.Text.{reply_text, order_text, state_text, kind_text, name_text, list_text};
-ghost use Rattle.trace_types.specs.Code.{code_number, code_text};
-ghost use Rattle.line_protocol.specs.Writing.{Writes, Flushes, WritesText, Spends};
+ghost use Rattle.std.specs.Prelude.{◌≡◌, ◌+◌, ◌<◌, ◌≤◌, [], ◌++◌, OnOk, decimal, codes, length};
+ghost use Rattle.trace_types.specs.Text.{reply_text, order_text, state_text, kind_text, name_text};
+ghost use Rattle.trace_types.specs.Code.{code_text};
+ghost use Rattle.line_protocol.specs.Answer.{addressee_text, answer_text, reply_head, reply_tail};
+ghost use Rattle.line_protocol.specs.Writing.{Writes, Flushes, WritesText, GathersText, Spends};
 
-use crate::pieces::{write_list, write_number, write_piece, write_pieces, write_two_numbers};
+use crate::gather::{gather_bytes, gather_numbers};
+use crate::pieces::{write_piece, write_pieces};
+use crate::reply_text::ReplyText;
 use crate::{Sink, Stop, WriteFault};
-use trace_types::{Code, Kind, Name, Order, Receipts, Reply, Row, TaskState};
+use trace_types::{Code, Kind, Name, Order, Reply, Row, TaskState};
 
 /// How many interruptions end one call.
 const MOST_INTERRUPTIONS: u64 = 1048576;
@@ -33,28 +36,66 @@ pub fn write_reply<W: Sink>(writer: &mut W, reply: &Reply) -> Result<(), WriteFa
     ensures { Writes (W.seen writer.old) (W.seen writer.new) result (reply_text reply.now ++ codes "\n") }
 {
     let mut patience = MOST_INTERRUPTIONS;
-    write_text(writer, &mut patience, reply)?;
-    write_piece(writer, &mut patience, b"\n")
+    write_behind(writer, &mut patience, &mut ReplyText::new(), reply)
 }
 
-/// Writes the reply, without its end of line.
-fn write_text<W: Sink>(writer: &mut W, patience: &mut u64, reply: &Reply) -> Result<(), WriteFault>
-    requires { 0 < patience.old }
-    ensures written { WritesText (W.seen writer.old) (W.seen writer.new) result (reply_text reply.now) }
+/// Writes the answer to a line: the tenant or `?`, a blank, the reply and the end of line.
+#[inline(never)]
+pub fn write_answer<W: Sink>(
+    writer: &mut W,
+    tenant: &Option<Name>,
+    reply: &Reply,
+) -> Result<(), WriteFault>
+    ensures { Writes (W.seen writer.old) (W.seen writer.new) result (answer_text tenant.now reply.now) }
+{
+    let mut patience = MOST_INTERRUPTIONS;
+    let mut text = ReplyText::new();
+    push_addressee(&mut text, tenant);
+    write_behind(writer, &mut patience, &mut text, reply)
+}
+
+/// Writes a text, and the reply with its end of line after it.
+#[inline(always)]
+fn write_behind<W: Sink>(
+    writer: &mut W,
+    patience: &mut u64,
+    text: &mut ReplyText,
+    reply: &Reply,
+) -> Result<(), WriteFault>
+    requires room { length text.old ≤ 25 }
+    requires patience { 0 < patience.old }
+    ensures written { WritesText (W.seen writer.old) (W.seen writer.new) result (text.old ++ (reply_text reply.now ++ codes "\n")) }
+    ensures spent { Spends (W.seen writer.old) (W.seen writer.new) patience.old patience.new result }
+{
+    push_head(text, reply);
+    gather_tail(writer, patience, text, reply)?;
+    text.push(b"\n");
+    write_piece(writer, patience, text.as_bytes())
+}
+
+/// Gathers the numbers of a reply or its stamp, where it has any.
+fn gather_tail<W: Sink>(
+    writer: &mut W,
+    patience: &mut u64,
+    text: &mut ReplyText,
+    reply: &Reply,
+) -> Result<(), WriteFault>
+    requires room { length text.old ≤ 127 }
+    requires patience { 0 < patience.old }
+    ensures gathered { GathersText (W.seen writer.old) (W.seen writer.new) text.old text.new result (reply_tail reply.now) }
+    ensures room { OnOk result (length text.new ≤ 127) }
     ensures spent { Spends (W.seen writer.old) (W.seen writer.new) patience.old patience.new result }
 {
     match reply {
-        Reply::Accepted(event) => write_number(writer, patience, b"201 ", *event),
-        Reply::Ordering(order) => write_pieces(writer, patience, b"200 ", order_text(*order)),
-        Reply::List(events) => write_list(writer, patience, b"200 ", events.as_slice()),
-        Reply::Event(row) => write_event(writer, patience, row),
-        Reply::Stamp(text) => write_pieces(writer, patience, b"200 ", text.as_bytes()),
-        Reply::Task(state, last) => write_task(writer, patience, *state, *last),
-        Reply::Message(sent, receipts) => write_message(writer, patience, *sent, receipts),
-        Reply::Count(events, tasks, messages) => {
-            write_count(writer, patience, *events, *tasks, *messages)
-        }
-        Reply::Refused(code) => write_refusal(writer, patience, *code),
+        Reply::List(events) => gather_numbers(writer, patience, text, events.as_slice()),
+        Reply::Event(row) => gather_numbers(writer, patience, text, row.preds.as_slice()),
+        Reply::Stamp(stamp) => gather_bytes(writer, patience, text, stamp.as_bytes()),
+        Reply::Message(_, receipts) => gather_numbers(writer, patience, text, receipts.as_slice()),
+        Reply::Accepted(_)
+        | Reply::Ordering(_)
+        | Reply::Task(..)
+        | Reply::Count(..)
+        | Reply::Refused(_) => Ok(()),
     }
 }
 
@@ -72,9 +113,114 @@ pub fn flush<W: Sink>(writer: &mut W) -> Result<(), WriteFault>
     Err(WriteFault)
 }
 
+/// Adds whom an answer names, and the blank after it.
+fn push_addressee(text: &mut ReplyText, tenant: &Option<Name>)
+    requires { text.old ≡ [] }
+    ensures text { text.new ≡ addressee_text tenant.now ++ codes " " }
+    ensures short { length text.new ≤ 25 }
+{
+    match tenant {
+        Some(name) => text.push_name(name),
+        None => text.push(b"?"),
+    }
+    text.push(b" ");
+}
+
+/// Adds a reply up to its list or its stamp.
+#[inline(always)]
+fn push_head(text: &mut ReplyText, reply: &Reply)
+    requires { length text.old ≤ 25 }
+    ensures text { text.new ≡ text.old ++ reply_head reply.now }
+    ensures short { length text.new ≤ 127 }
+{
+    match reply {
+        Reply::Accepted(event) => text.push_before_number(b"201 ", *event),
+        Reply::Ordering(order) => push_pieces(text, b"200 ", order_text(*order)),
+        Reply::List(events) => text.push_before_number(b"200 ", events.as_slice().len() as u64),
+        Reply::Event(row) => push_event(text, row),
+        Reply::Stamp(_) => text.push(b"200 "),
+        Reply::Task(state, last) => push_task(text, *state, *last),
+        Reply::Message(sent, receipts) => push_message(
+            text,
+            *sent,
+            receipts.as_slice().len() as u64,
+        ),
+        Reply::Count(events, tasks, messages) => push_count(text, *events, *tasks, *messages),
+        Reply::Refused(code) => push_refusal(text, *code),
+    }
+}
+
+/// Adds two short pieces.
+#[inline(always)]
+fn push_pieces(text: &mut ReplyText, first: &[u8], second: &[u8])
+    requires room { length text.old ≤ 98 }
+    requires first { length first.now ≤ 4 }
+    requires second { length second.now ≤ 24 }
+    ensures text { text.new ≡ text.old ++ (first.now ++ second.now) }
+    ensures short { length text.new ≤ length text.old + (length first.now + length second.now) }
+{
+    text.push(first);
+    text.push(second);
+}
+
+/// Adds a row up to its predecessors: the kind, the task, the name or `-`, and how many predecessors there are.
+fn push_event(text: &mut ReplyText, row: &Row)
+    requires { length text.old ≤ 25 }
+    ensures text { text.new ≡ text.old ++ reply_head (Reply.Event row.now) }
+    ensures short { length text.new ≤ 127 }
+{
+    push_pieces(text, b"200 ", kind_text(row.kind));
+    push_pieces(text, b" ", row.task.as_bytes());
+    push_pieces(text, b" ", name_text(&row.name));
+    text.push_before_number(b" ", row.preds.as_slice().len() as u64);
+}
+
+/// Adds the state and the last event of a task.
+fn push_task(text: &mut ReplyText, state: TaskState, last: u64)
+    requires { length text.old ≤ 25 }
+    ensures text { text.new ≡ text.old ++ reply_text (Reply.Task state last) }
+    ensures short { length text.new ≤ 127 }
+{
+    push_pieces(text, b"200 ", state_text(state));
+    text.push_before_number(b" ", last);
+}
+
+/// Adds the event that sent a message, and how many receipts there are.
+fn push_message(text: &mut ReplyText, sent: u64, receipt_count: u64)
+    requires { length text.old ≤ 25 }
+    ensures text { text.new ≡ text.old ++ (codes "200 " ++ decimal sent ++ codes " " ++ decimal receipt_count) }
+    ensures short { length text.new ≤ 127 }
+{
+    text.push_before_number(b"200 ", sent);
+    text.push_before_number(b" ", receipt_count);
+}
+
+/// Adds the three numbers of a count.
+#[inline(always)]
+fn push_count(text: &mut ReplyText, events: u64, tasks: u64, messages: u64)
+    requires { length text.old ≤ 25 }
+    ensures text { text.new ≡ text.old ++ reply_text (Reply.Count events tasks messages) }
+    ensures short { length text.new ≤ 127 }
+{
+    text.push_before_number(b"200 ", events);
+    text.push_before_number(b" ", tasks);
+    text.push_before_number(b" ", messages);
+}
+
+/// Adds a code's number and its words.
+fn push_refusal(text: &mut ReplyText, code: Code)
+    requires { length text.old ≤ 25 }
+    ensures text { text.new ≡ text.old ++ reply_text (Reply.Refused code) }
+    ensures short { length text.new ≤ 127 }
+{
+    text.push_number(code.number());
+    push_pieces(text, b" ", code_text(code));
+}
+
 /// The words for an order.
 fn order_text(order: Order) -> &'static [u8]
-    ensures { result.now ≡ order_text order }
+    ensures text { result.now ≡ order_text order }
+    ensures short { length result.now ≤ 24 }
 {
     match order {
         Order::Same => b"same",
@@ -86,7 +232,8 @@ fn order_text(order: Order) -> &'static [u8]
 
 /// The word for how far a task has come.
 fn state_text(state: TaskState) -> &'static [u8]
-    ensures { result.now ≡ state_text state }
+    ensures text { result.now ≡ state_text state }
+    ensures short { length result.now ≤ 24 }
 {
     match state {
         TaskState::Live => b"live",
@@ -97,7 +244,8 @@ fn state_text(state: TaskState) -> &'static [u8]
 
 /// The word for the kind of a report.
 fn kind_text(kind: Kind) -> &'static [u8]
-    ensures { result.now ≡ kind_text kind }
+    ensures text { result.now ≡ kind_text kind }
+    ensures short { length result.now ≤ 5 }
 {
     match kind {
         Kind::Local => b"local",
@@ -111,7 +259,8 @@ fn kind_text(kind: Kind) -> &'static [u8]
 
 /// The name, or `-` where there is none.
 fn name_text(name: &Option<Name>) -> &[u8]
-    ensures { result.now ≡ name_text name.now }
+    ensures text { result.now ≡ name_text name.now }
+    ensures short { length result.now ≤ 24 }
 {
     match name {
         Some(name) => name.as_bytes(),
@@ -119,91 +268,10 @@ fn name_text(name: &Option<Name>) -> &[u8]
     }
 }
 
-/// Writes a row: the kind, the task, the name or `-`, and the predecessors.
-fn write_event<W: Sink>(writer: &mut W, patience: &mut u64, row: &Row) -> Result<(), WriteFault>
-    requires { 0 < patience.old }
-    ensures written { WritesText (W.seen writer.old) (W.seen writer.new) result
-        ((codes "200 " ++ kind_text row.now.kind)
-        ++ (((codes " " ++ row.now.task) ++ (codes " " ++ name_text row.now.name)) ++ (codes " " ++ list_text row.now.preds))) }
-    ensures spent { Spends (W.seen writer.old) (W.seen writer.new) patience.old patience.new result }
+/// The words for a code.
+fn code_text(code: Code) -> &'static [u8]
+    ensures text { result.now ≡ code_text code }
+    ensures short { length result.now ≤ 24 }
 {
-    write_pieces(writer, patience, b"200 ", kind_text(row.kind))?;
-    write_names(writer, patience, &row.task, &row.name)?;
-    write_list(writer, patience, b" ", row.preds.as_slice())
-}
-
-/// Writes the task and the name or `-`, each after a blank.
-fn write_names<W: Sink>(
-    writer: &mut W,
-    patience: &mut u64,
-    task: &Name,
-    name: &Option<Name>,
-) -> Result<(), WriteFault>
-    requires { 0 < patience.old }
-    ensures written { WritesText (W.seen writer.old) (W.seen writer.new) result
-        ((codes " " ++ task.now) ++ (codes " " ++ name_text name.now)) }
-    ensures spent { Spends (W.seen writer.old) (W.seen writer.new) patience.old patience.new result }
-{
-    write_pieces(writer, patience, b" ", task.as_bytes())?;
-    write_pieces(writer, patience, b" ", name_text(name))
-}
-
-/// Writes the state and the last event of a task.
-fn write_task<W: Sink>(
-    writer: &mut W,
-    patience: &mut u64,
-    state: TaskState,
-    last: u64,
-) -> Result<(), WriteFault>
-    requires { 0 < patience.old }
-    ensures written { WritesText (W.seen writer.old) (W.seen writer.new) result
-        ((codes "200 " ++ state_text state) ++ (codes " " ++ decimal last)) }
-    ensures spent { Spends (W.seen writer.old) (W.seen writer.new) patience.old patience.new result }
-{
-    write_pieces(writer, patience, b"200 ", state_text(state))?;
-    write_number(writer, patience, b" ", last)
-}
-
-/// Writes the event that sent a message, and the receipts.
-fn write_message<W: Sink>(
-    writer: &mut W,
-    patience: &mut u64,
-    sent: u64,
-    receipts: &Receipts,
-) -> Result<(), WriteFault>
-    requires { 0 < patience.old }
-    ensures written { WritesText (W.seen writer.old) (W.seen writer.new) result
-        ((codes "200 " ++ decimal sent) ++ (codes " " ++ list_text receipts.now)) }
-    ensures spent { Spends (W.seen writer.old) (W.seen writer.new) patience.old patience.new result }
-{
-    write_number(writer, patience, b"200 ", sent)?;
-    write_list(writer, patience, b" ", receipts.as_slice())
-}
-
-/// Writes the three numbers of a count.
-fn write_count<W: Sink>(
-    writer: &mut W,
-    patience: &mut u64,
-    events: u64,
-    tasks: u64,
-    messages: u64,
-) -> Result<(), WriteFault>
-    requires { 0 < patience.old }
-    ensures written { WritesText (W.seen writer.old) (W.seen writer.new) result
-        ((codes "200 " ++ decimal events) ++ ((codes " " ++ decimal tasks) ++ (codes " " ++ decimal messages))) }
-    ensures spent { Spends (W.seen writer.old) (W.seen writer.new) patience.old patience.new result }
-{
-    write_number(writer, patience, b"200 ", events)?;
-    write_two_numbers(writer, patience, tasks, messages)
-}
-
-/// Writes a code's number and its words.
-fn write_refusal<W: Sink>(writer: &mut W, patience: &mut u64, code: Code) -> Result<(), WriteFault>
-    requires { 0 < patience.old }
-    ensures written { WritesText (W.seen writer.old) (W.seen writer.new) result
-        (decimal (code_number code) ++ codes " " ++ code_text code) }
-    ensures spent { Spends (W.seen writer.old) (W.seen writer.new) patience.old patience.new result }
-{
-    write_number(writer, patience, b"", code.number())?;
-    write_pieces(writer, patience, b" ", code.text().as_bytes())
+    code.text().as_bytes()
 }

@@ -20,7 +20,7 @@ use Rattle.line_protocol.specs.LineReading.{HasRead, GivesLine, Finds, FindsNone
 use Rattle.line_protocol.specs.declared.line.Line.{Line}
 use Rattle.line_protocol.specs.declared.line.Line.TheVariants.{Whole, TooLong, End}
 use Rattle.trace_world.specs.declared.answer.Answer.{Answer}
-use Rattle.trace_world.specs.Answer.{addressee_text}
+use Rattle.line_protocol.specs.Answer.{addressee_text}
 use Rattle.line_protocol.specs.Writing.{WritesFront}
 use Rattle.line_protocol.proofs.LineReadingLemmas.{HasRead-line, HasRead-end, HasRead-none}
 use Rattle.trace_world.specs.declared.counts.Counts.{Counts}

@@ -1,6 +1,5 @@
 pub mod Replayed
 pub mod Faults
-pub mod Answer
 pub mod Counted
 pub mod Tenants
 pub mod Isolation

@@ -3,10 +3,10 @@ ghost use Rattle.std.specs.Prelude.{◌≡◌, ◌≤◌, false, None, OnOk, OnE
 ghost use Rattle.trace_types.specs.Lines.{is_too_long};
 ghost use Rattle.line_protocol.specs.Writing.{WritesText, EndsInFault};
 ghost use Rattle.trace_world.specs.Replayed.{Answers};
-ghost use Rattle.trace_world.specs.Answer.{addressee_text, answer_text};
+ghost use Rattle.line_protocol.specs.Answer.{addressee_text, answer_text};
 
 use crate::World;
-use line_protocol::{Sink, WriteFault, read_addressed, write_prefix, write_reply};
+use line_protocol::{Sink, WriteFault, read_addressed, write_answer};
 use trace_types::{Code, Name, Reply};
 
 /// A reply, and the tenant that it names.
@@ -58,17 +58,6 @@ impl Answer {
         ensures fault { OnErr result (EndsInFault (W.seen writer.old) (W.seen writer.new)) }
         ensures interruptions { (W.seen writer.old).interruptions ≤ (W.seen writer.new).interruptions }
     {
-        write_prefix(writer, self.addressee())?;
-        write_reply(writer, &self.reply)
-    }
-
-    /// Whom the answer names.
-    fn addressee(&self) -> &[u8]
-        ensures { result.now ≡ addressee_text self.now.tenant }
-    {
-        match &self.tenant {
-            Some(name) => name.as_bytes(),
-            None => b"?",
-        }
+        write_answer(writer, &self.tenant, &self.reply)
     }
 }

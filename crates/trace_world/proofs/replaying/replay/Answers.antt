@@ -7,7 +7,7 @@ use Rattle.line_protocol.specs.LineReading.{Finds, FindsNone, LeavesLess, NeedsR
 use Rattle.line_protocol.specs.Source.{StopsAtEnd}
 use Rattle.line_protocol.specs.declared.line.Line.TheVariants.{End}
 use Rattle.trace_types.specs.Replay.{is_accepted, is_answered, is_refused}
-use Rattle.trace_world.specs.Answer.{addressee_text}
+use Rattle.line_protocol.specs.Answer.{addressee_text}
 use Rattle.trace_world.proofs.Fronts.{IfErr-always, IfErr-equal}
 use Rattle.trace_world.proofs.Following.{Follows, LeadsTo-none, Follows-line}
 use Rattle.trace_world.proofs.Parts.{in_part_none, in_part_read, in_part_held_back, in_part_unflushed, in_part_last, replays_all, HandsOn-flushed, HandsOn-fault, stops_at_end, Answered, answered_where_too_long, answered_where_whole, Follows-flushed, one_if-le}
