@@ -1,8 +1,10 @@
 mod Distinct
 mod Fresh
 mod Isolation
+mod Leading
 mod Places
 mod Fronts
 mod Answering
 mod Following
 mod Parts
+mod Standing

@@ -1,7 +1,14 @@
--- Which names a world can have.
-use Rattle.std.specs.Prelude.{Bool, true, not, ◌&&◌, List, [], ◌∷◌, length}
-use Rattle.std.specs.List.{list_any}
+-- The tenants of a world.
+use Rattle.std.specs.Prelude.{◌≡◌, ℕ, Bool, true, not, IsTrue, ◌&&◌, List, [], ◌∷◌, length, Some, slice_get, slice_set}
+use Rattle.std.specs.List.{All, AllByRecursion, list_any}
 use Rattle.trace_types.specs.Name.{Text, is_same, is_between}
+use Rattle.trace_types.specs.Limits.{Limits}
+use Rattle.trace_types.specs.Text.{CanBeWritten}
+use Rattle.trace_types.specs.Tenant.{Tenant, AreLegal, Steps}
+use Rattle.trace_types.specs.Interleaving.{Call}
+use Rattle.trace_types.specs.World.{World, IsAfter}
+use Rattle.trace_types.specs.declared.request.Request.{Request}
+use Rattle.trace_types.specs.declared.reply.Reply.{Reply}
 
 -- whether no name stands twice
 abbrev pub are_distinct : List Text → Bool
@@ -11,3 +18,29 @@ are_distinct (name ∷ names) = not (list_any (λ other. is_same other name) nam
 -- whether these can be the tenants of a world: 1 to 16 names, none twice
 abbrev pub can_be_tenants : List Text → Bool
 can_be_tenants names = is_between 1 16 (length names) && are_distinct names
+
+-- The tenant has these limits, and its rows are what some requests leave.
+pub record IsTenantWith (limits : Limits) (tenant : Tenant) : Type 0 where
+  pub has : tenant.limits ≡ limits
+  pub legal : AreLegal limits tenant.rows
+
+-- What holds of every world: its names can be those of tenants, and for each there is a tenant with the limits.
+pub record IsWorld (world : World) : Type 0 where
+  pub names : IsTrue (can_be_tenants world.names)
+  pub one_each : length world.tenants ≡ length world.names
+  pub tenants : All (IsTenantWith world.limits) world.tenants
+
+-- Some calls of the tenants, each of which can be written, led to the world.
+pub record IsLedTo (world : World) : Type 0 where
+  pub calls : List Call
+  pub written : AllByRecursion (λ call. CanBeWritten call.request) calls
+  pub after : IsAfter world calls
+
+-- The tenant at the place did a step, after which its rows are legal, and every other tenant is as it was.
+pub record StepsAt (old : List Tenant) (place : ℕ) (request : Request) (reply : Reply) (new : List Tenant) : Type 0 where
+  pub before : Tenant
+  pub later : Tenant
+  pub was : slice_get old place ≡ Some before
+  pub steps : Steps before request reply later
+  pub legal : AreLegal later.limits later.rows
+  pub is : new ≡ slice_set old place later

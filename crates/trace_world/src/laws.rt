@@ -1,11 +1,12 @@
 //! What tenant isolation means, and the places of names. Each law is the contract of a function that does nothing.
-ghost use Rattle.std.specs.Prelude.{◌≡◌, ◌↔◌, ℕ, IsTrue, List, [], Some, slice_get};
+ghost use Rattle.std.specs.Prelude.{◌≡◌, ◌↔◌, ℕ, List, [], Some, slice_get};
 ghost use Rattle.trace_types.specs.Name.{Text};
 ghost use Rattle.trace_types.specs.Limits.{Limits};
 ghost use Rattle.trace_types.specs.Interleaving.{Call, calls_of, kept, alone};
 ghost use Rattle.trace_types.specs.Replay.{Entry, calls_by, output, place_of};
 ghost use Rattle.trace_world.specs.Isolation.{due_replies, replies_to_tenant, lines_of, output_to};
-ghost use Rattle.trace_world.specs.Tenants.{are_distinct};
+
+use crate::World;
 
 /// Isolation of the calls that `World::step` does.
 ///
@@ -42,8 +43,10 @@ pub fn isolation_in_bytes()
         → replies_to_tenant limits tenant [] first ≡ replies_to_tenant limits tenant [] second }
 {}
 
-/// Among names of which none stands twice, as those of a world, a name is found exactly at the place where it stands.
-pub fn places()
-    ensures { (names : List Text) → IsTrue (are_distinct names) → (name : Text) (place : ℕ)
-        → (place_of names name ≡ Some place) ↔ (slice_get names place ≡ Some name) }
-{}
+/// In any world a name is found exactly at the place where it stands.
+pub fn places(world: &World)
+    ensures { (name : Text) (place : ℕ)
+        → (place_of world.now.names name ≡ Some place) ↔ (slice_get world.now.names place ≡ Some name) }
+{
+    world.law();
+}

@@ -1,9 +1,9 @@
 //! The tenants.
-ghost use Rattle.std.specs.Prelude.{◌≡◌, ◌↔◌, ◌<◌, false, [], length, map, ◌++◌, ◌∷◌, IfOk, IfSome, OnOk, IsErrOf};
+ghost use Rattle.std.specs.Prelude.{◌≡◌, ◌↔◌, ◌<◌, ℕ, false, [], length, map, Some, slice_get, IfOk, IfSome, IsErrOf};
 ghost use Rattle.trace_types.specs.Tenant.{fresh};
 ghost use Rattle.trace_types.specs.Replay.{place_of};
 ghost use Rattle.trace_types.specs.World.{StepsOne, IsAfter, IsDue};
-ghost use Rattle.trace_world.specs.Tenants.{are_distinct, can_be_tenants};
+ghost use Rattle.trace_world.specs.Tenants.{IsLedTo, IsWorld, StepsAt, are_distinct, can_be_tenants};
 
 use std::alloc::Global;
 use std::marker::Model;
@@ -20,14 +20,14 @@ pub struct World {
 }
 
 impl Model for World {
-    ghost use Rattle.std.specs.Prelude.{◌≡◌, length};
     ghost use Rattle.trace_types.specs.World.{World as Tenants};
+    ghost use Rattle.trace_world.specs.Tenants.{IsWorld};
 
     ghost Value = { Tenants };
 
     ghost view = { λ w. record { names = w.names.items; limits = w.limits; tenants = w.ledgers.items } };
 
-    ghost invariant = { λ w. length w.ledgers.items ≡ length w.names.items };
+    ghost invariant = { λ w. IsWorld (record { names = w.names.items; limits = w.limits; tenants = w.ledgers.items }) };
 }
 
 impl World {
@@ -44,37 +44,27 @@ impl World {
         if !can_be_tenants(names) {
             return Err(WorldFault::Names);
         }
-        let mut world = World::with_room(alloc, names.len(), limits)?;
-        for name in names {
-            world.add(*name, Ledger::new(alloc, limits)?)?;
-        }
-        Ok(world)
-    }
-
-    /// No tenant yet, and room for so many.
-    fn with_room(alloc: Global, count: usize, limits: Limits) -> Result<World, Memory>
-        ensures { IfOk result (λ world. world ≡ record { names = []; limits = limits; tenants = [] }) }
-    {
         Ok(World {
-            names: Vec::with_capacity(alloc, count)?,
+            names: copied(alloc, names)?,
             limits,
-            ledgers: Vec::with_capacity(alloc, count)?,
+            ledgers: fresh_ledgers(alloc, names, limits)?,
         })
     }
 
-    /// Adds a tenant.
-    fn add(&mut self, name: Name, ledger: Ledger) -> Result<(), Memory>
-        ensures { OnOk result (self.new ≡ record self.old { names = self.old.names ++ name ∷ []; tenants = self.old.tenants ++ ledger ∷ [] }) }
+    /// What holds of every world; and some calls of its tenants led to it.
+    ///
+    /// It does nothing.
+    pub fn law(&self)
+        ensures world { IsWorld self.now }
+        ensures led { IsLedTo self.now }
     {
-        self.ledgers.reserve(1)?;
-        self.names.push(name)?;
-        self.ledgers.push(ledger).unwrap();
-        Ok(())
+        let _ = &self.names;
     }
 
     /// How many tenants there are.
     pub fn tenant_count(&self) -> usize
-        ensures { result ≡ length self.now.tenants }
+        ensures tenants { result ≡ length self.now.tenants }
+        ensures names { result ≡ length self.now.names }
     {
         self.ledgers.len()
     }
@@ -82,6 +72,7 @@ impl World {
     /// The place of the tenant of this name.
     pub fn find(&self, name: &Name) -> Option<usize>
         ensures place { result ≡ place_of self.now.names name.now }
+        ensures stands { (place : ℕ) → (result ≡ Some place) ↔ (slice_get self.now.names place ≡ Some name.now) }
         ensures within { IfSome result (λ place. place < length self.now.tenants) }
     {
         place_of(&self.names, name)
@@ -94,16 +85,41 @@ impl World {
         requires { tenant < length self.old.tenants }
         ensures step { StepsOne self.old tenant request.now result self.new }
         ensures due { IsDue self.old tenant request.now result self.new }
+        // There are such calls as `due` speaks of, whatever the world.
+        ensures led { IsLedTo self.old }
     {
-        self.report(rt, tenant, request)
+        report(rt, &mut self.ledgers, tenant, request)
     }
+}
 
-    fn report<R>(&mut self, rt: &R, tenant: usize, request: &Request) -> Reply
-        requires { tenant < length self.old.tenants }
-        ensures { StepsOne self.old tenant request.now result self.new }
-    {
-        self.ledgers[tenant].report(rt, &PlainShare, request)
+/// The names once more.
+fn copied(alloc: Global, names: &[Name]) -> Result<Vec<Name>, Memory>
+    ensures { IfOk result (λ copies. copies.items ≡ names.now) }
+{
+    Ok(names.to_vec(alloc)?)
+}
+
+/// The ledgers of tenants of these names that have reported nothing.
+fn fresh_ledgers(alloc: Global, names: &[Name], limits: Limits) -> Result<Vec<Ledger>, Memory>
+    ensures { IfOk result (λ ledgers. ledgers.items ≡ map (λ name. fresh limits) names.now) }
+{
+    let mut ledgers = Vec::with_capacity(alloc, names.len())?;
+    for _ in names {
+        ledgers.push(Ledger::new(alloc, limits)?)?;
     }
+    Ok(ledgers)
+}
+
+/// Does one request of the tenant whose ledger stands at this place.
+fn report<R>(rt: &R, ledgers: &mut [Ledger], tenant: usize, request: &Request) -> Reply
+    requires { tenant < length ledgers.old }
+    ensures { StepsAt ledgers.old tenant request.now result ledgers.new }
+{
+    let ledger = &mut ledgers[tenant];
+    let reply = ledger.report(rt, &PlainShare, request);
+    // Says that the rows are legal.
+    let _ = ledger.rows();
+    reply
 }
 
 fn can_be_tenants(names: &[Name]) -> bool

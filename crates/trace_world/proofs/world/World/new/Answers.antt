@@ -1,6 +1,10 @@
-use Rattle.std.proofs.Common.{take}
+use Rattle.std.proofs.Common.{refl, rules}
 use Rattle.trace_world.proofs.Fresh.{IsAfter-fresh}
+use Rattle.trace_world.proofs.Standing.{IsWorld-fresh}
 use Rattle.trace_world.proofs.world.World.new.Goals as goal
 
+pub invariant_of-result : goal.invariant_of-result
+invariant_of-result c = rw (c.in_ok-copied.ensures, c.in_ok-fresh_ledgers.ensures) (IsWorld-fresh c.args.names.now c.args.limits (search rules))
+
 pub returns-clause-fresh : goal.returns-clause-fresh
-returns-clause-fresh c = IsAfter-fresh c.args.limits (take c.loop-name.name-index c.args.names.now) _ c.loop-name.world c.loop-name.invariant
+returns-clause-fresh c = rw c.in_ok-fresh_ledgers.ensures (IsAfter-fresh c.args.limits c.args.names.now c.args.names.now _ refl)
