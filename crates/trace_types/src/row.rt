@@ -23,10 +23,10 @@ pub enum Kind {
 /// An accepted report, which is one event. Event k is the k-th row of its tenant, from 1.
 #[derive(Debug, Drop, PartialEq, Eq)]
 pub struct Row {
+    /// What the task did.
+    pub kind: Kind,
     /// The acting task.
     pub task: Name,
-    /// What it did.
-    pub kind: Kind,
     /// The task or message that the report names beside the acting task.
     pub name: Option<Name>,
     /// The predecessors, increasing and each once.
