@@ -20,12 +20,14 @@ pub struct Buffer {
     /// The bytes that belong to no line yet are `bytes[start..end]`.
     start: usize,
     end: usize,
+    /// Where these have their first end of line.
+    line_feed: Option<usize>,
     is_ended: bool,
     reads: u64,
 }
 
 impl Model for Buffer {
-    ghost use Rattle.std.specs.Prelude.{◌≡◌, ◌≤◌, ◌^◌, slice_range, vec_len};
+    ghost use Rattle.std.specs.Prelude.{◌≡◌, ◌≤◌, ◌^◌, ◌==◌, position, slice_range, vec_len};
     ghost use Rattle.line_protocol.specs.Held.{Held};
 
     ghost Value = { Held };
@@ -44,6 +46,7 @@ impl Model for Buffer {
       left_to : b.end ≤ 65536;
       room : vec_len b.bytes ≡ 65536;
       reads : b.reads ≤ 2 ^ 30;
+      line_feed : b.line_feed ≡ position (λ byte. byte == 10) (slice_range b.bytes.items b.start b.end);
     } };
 }
 
@@ -68,6 +71,7 @@ impl Buffer {
             line_end: 0,
             start: 0,
             end: 0,
+            line_feed: None,
             is_ended: false,
             reads: 0,
         })
@@ -137,7 +141,7 @@ impl Buffer {
     fn end_of_line(&self) -> Option<usize>
         ensures { IsEnd self.now.left result }
     {
-        first_end(&self.bytes[self.start..self.end])
+        self.line_feed
     }
 
     /// Takes the first `at` bytes that are left as a line, and the end of line after them.
@@ -153,6 +157,7 @@ impl Buffer {
         self.line_start = self.start;
         self.line_end = self.start + len;
         self.start += at + 1;
+        self.line_feed = first_end(&self.bytes[self.start..self.end]);
         kind_of(len)
     }
 
@@ -167,6 +172,7 @@ impl Buffer {
         self.line_start = self.start;
         self.line_end = self.end;
         self.start = self.end;
+        self.line_feed = None;
         if len == 0 { Line::End } else { kind_of(len) }
     }
 
@@ -207,6 +213,7 @@ impl Buffer {
         ensures { self.new ≡ record self.old { left = drop count self.old.left } }
     {
         self.start += count;
+        self.line_feed = first_end(&self.bytes[self.start..self.end]);
     }
 
     /// Throws the bytes away that are left.
@@ -214,6 +221,7 @@ impl Buffer {
         ensures { self.new ≡ record self.old { left = [] } }
     {
         self.start = self.end;
+        self.line_feed = None;
     }
 
     /// Reads once; an interrupted read is tried again.
@@ -261,8 +269,10 @@ impl Buffer {
         self.line_start = 0;
         self.line_end = 0;
         self.reads += 1;
+        self.line_feed = first_end(&self.bytes[..self.end]);
         let count = count?;
         self.end += count;
+        self.line_feed = first_end(&self.bytes[..self.end]);
         self.is_ended = count == 0;
         Ok(())
     }

@@ -67,7 +67,7 @@ fn read_arguments(keyword: &[u8], arguments: &[u8]) -> Option<Request>
 
 /// The tenant that the line names first, and the request that the rest of it spells; `None` where the first word is
 /// no name.
-#[inline(never)]
+#[inline]
 pub fn read_addressed(line: &[u8]) -> Option<(Name, Option<Request>)>
     ensures { result ≡ addressed_by line.now }
 {

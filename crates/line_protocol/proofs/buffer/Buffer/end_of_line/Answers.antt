@@ -4,5 +4,5 @@ use Rattle.line_protocol.proofs.buffer.Buffer.end_of_line.Goals as goal
 
 pub returns : goal.returns
 returns c =
-    rw (c.first_end.ensures, ← c.self.view_is, c.deref.ensures.value)
+    rw (c.self.invariant.line_feed, ← c.self.view_is)
     (IsEnd-position (slice_range c.self.inside.bytes.items c.self.inside.start c.self.inside.end))
