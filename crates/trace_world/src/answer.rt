@@ -30,10 +30,13 @@ impl Answer {
             return Answer::to_nobody(Code::NoTenant);
         };
         match request {
-            Some(request) => Answer {
-                tenant: Some(name),
-                reply: world.step(rt, tenant, &request),
-            },
+            Some(request) => {
+                let reply = world.step(rt, tenant, &request);
+                Answer {
+                    tenant: Some(name),
+                    reply,
+                }
+            }
             None => Answer {
                 tenant: Some(name),
                 reply: Reply::Refused(Code::Line),

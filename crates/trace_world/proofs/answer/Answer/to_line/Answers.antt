@@ -4,8 +4,8 @@ use Rattle.trace_world.proofs.answer.Answer.to_line.Goals as goal
 
 pub returns-in-Some-request : goal.returns-in-Some-request
 returns-in-Some-request g c =
-    answers_request c.args.world.now c.step.new.self c.args.line.now _ c.in-Some-find.tenant c.in-Some-request.request c.step.result c.requires
-    (sym c.in-Some.ensures) c.in-Some-request.is (sym c.find.ensures.place ∙ c.in-Some-find.is) c.step.ensures.step c.step.ensures.due
+    answers_request c.args.world.now c.step-reply.new.self c.args.line.now _ c.in-Some-find.tenant c.in-Some-request.request c.step-reply.result c.requires
+    (sym c.in-Some.ensures) c.in-Some-request.is (sym c.find.ensures.place ∙ c.in-Some-find.is) c.step-reply.ensures.step c.step-reply.ensures.due
 
 pub returns-in-None : goal.returns-in-None
 returns-in-None g c =
