@@ -1,5 +1,7 @@
 -- How the program's faults are told.
 use Rattle.std.specs.Prelude.{ℕ, List, codes}
+use Rattle.std.specs.declared.io.ErrorKind.{ErrorKind}
+use Rattle.std.specs.declared.io.ErrorKind.TheVariants.{OutOfMemory}
 use Rattle.trace_types.specs.declared.world_fault.WorldFault.{WorldFault}
 use Rattle.trace_types.specs.declared.world_fault.WorldFault.TheVariants as world
 use Rattle.trace_world.specs.declared.replay_fault.ReplayFault.{ReplayFault}
@@ -36,3 +38,8 @@ fault_of_replay replay.Read = Read
 fault_of_replay replay.Write = Write
 fault_of_replay replay.TooLong = TooLong
 fault_of_replay replay.Memory = Memory
+
+-- the program's fault where its words cannot be had
+abbrev pub fault_of_words : ErrorKind → Fault
+fault_of_words OutOfMemory = Memory
+fault_of_words kind = Words

@@ -2,3 +2,4 @@ pub mod CommandLine
 pub mod Fault
 pub mod Program
 pub mod Reading
+pub mod Runs

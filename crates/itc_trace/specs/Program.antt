@@ -44,10 +44,6 @@ ReplaysSomeInPart fault before after taken taken' = (limits : Limits) × (tenant
     × IsTrue (are_limits limits.events limits.tasks limits.messages) × IsTrue (are_taken tenants)
     × ReplaysFreshInPart fault limits tenants before after taken taken'
 
--- one of the statuses with which the program ends
-abbrev pub IsStatus : ℕ → Type 0
-IsStatus status = (status ≡ 0) ⊎ ((status ≡ 2) ⊎ ((status ≡ 3) ⊎ (status ≡ 4)))
-
 -- Nothing was read, and nothing written on the output.
 abbrev pub IsUntouched : {R W : Type 0} → R → R → W → W → Type 0
 IsUntouched reader reader' writer writer' = (reader' ≡ reader) × (writer' ≡ writer)

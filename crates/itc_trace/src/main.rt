@@ -3,12 +3,16 @@
 //! `itc_trace replay [--events N] [--tasks N] [--messages N] TENANT..` serves 1 to 16 tenants, each of which has the
 //! limits for itself. `itc_trace help replay` tells more.
 //!
-//! `main` hands the words, standard input and standard output to [`program::run`], whose one contract is that of
-//! `replay` of `trace_world`, and which says how the program ends.
+//! `main` hands its words and the standard streams to [`start`], and ends with the status that it answers. `start` runs what
+//! the words after the first ask: [`program::run`] says what comes of it, by the contract of `replay` of `trace_world`.
 #![tactic(auto)]
 
-ghost use Rattle.std.specs.Prelude.{IfOk};
-ghost use Rattle.itc_trace.specs.Program.{IsStatus};
+ghost use Rattle.std.specs.Prelude.{◌≡◌, drop, map, IfOk, IfErr, string_bytes};
+ghost use Rattle.std.specs.IoError.{error_kind};
+ghost use Rattle.std.specs.Process.{exit_status};
+ghost use Rattle.itc_trace.specs.Fault.{fault_of_words, status_of};
+ghost use Rattle.itc_trace.specs.Program.{IsUntouched, Tells};
+ghost use Rattle.itc_trace.specs.Runs.{Runs};
 
 mod fault;
 mod program;
@@ -17,30 +21,65 @@ mod tests;
 mod words;
 
 use fault::Fault;
-use line_protocol::{Buffered, FromReader, IntoWriter};
+use line_protocol::{Buffered, FromReader, IntoWriter, Sink, Source};
+use program::run;
 use std::io::ErrorKind;
 use std::process::ExitCode;
 use std::{env, io};
 
 fn main(rt: HostRuntime) -> ExitCode {
     let mut errors = IntoWriter::new(rt.stderr());
-    let status = match start(&rt, &mut errors) {
-        Ok(status) => status,
-        Err(error) if error.kind() == ErrorKind::OutOfMemory => Fault::Memory.tell(&mut errors),
-        Err(_) => Fault::Words.tell(&mut errors),
+    let mut reader = FromReader::new(rt.stdin());
+    match Buffered::new(rt.alloc(), IntoWriter::new(rt.stdout())) {
+        Ok(mut writer) => start(&rt, all_words(&rt), &mut reader, &mut writer, &mut errors),
+        Err(_) => ExitCode::from(Fault::Memory.tell(&mut errors)),
+    }
+}
+
+/// The words that the program was given. An error comes where one of them is no text, or for want of memory.
+fn all_words(rt: &HostRuntime) -> io::Result<Vec<String>> {
+    let words = env::args(rt)?.collect(rt.alloc())?;
+    Ok(words)
+}
+
+/// Runs what these words ask, of which the first is the program's own name; the status of the run is that with which the
+/// program ends.
+fn start<T: AllocGlobal, R: Source, W: Sink, E: Sink>(
+    rt: &T,
+    words: io::Result<Vec<String>>,
+    reader: &mut R,
+    writer: &mut W,
+    errors: &mut E,
+) -> ExitCode
+    ensures run { IfOk words (λ words. Runs R.seen W.seen E.seen (map string_bytes (drop 1 words.items))
+        (exit_status result) reader.old reader.new writer.old writer.new errors.old errors.new) }
+    ensures no_words { IfErr words (λ error. (exit_status result ≡ status_of (fault_of_words (error_kind error)))
+        × Tells (E.seen errors.old) (E.seen errors.new) (fault_of_words (error_kind error))
+        × IsUntouched reader.old reader.new writer.old writer.new) }
+{
+    let status = match words {
+        Ok(words) => run(rt, after_the_first(&words), reader, writer, errors),
+        Err(error) => fault_of(error.kind()).tell(errors),
     };
     ExitCode::from(status)
 }
 
-/// Runs the program. An error comes where the words are no text, or for want of memory.
-fn start(rt: &HostRuntime, errors: &mut IntoWriter<io::Stderr>) -> io::Result<u8>
-    ensures { IfOk result IsStatus }
+/// All words but the first.
+fn after_the_first(words: &[String]) -> &[String]
+    ensures { result.now ≡ drop 1 words.now }
 {
-    let words: Vec<String> = env::args(rt)?.skip(1).collect(rt.alloc())?;
-    let mut reader = FromReader::new(rt.stdin());
-    let mut writer = match Buffered::new(rt.alloc(), IntoWriter::new(rt.stdout())) {
-        Ok(writer) => writer,
-        Err(_) => return Ok(Fault::Memory.tell(errors)),
-    };
-    Ok(program::run(rt, &words, &mut reader, &mut writer, errors))
+    if words.is_empty() {
+        return words;
+    }
+    &words[1..]
+}
+
+/// Why there are no words.
+fn fault_of(kind: ErrorKind) -> Fault
+    ensures { result ≡ fault_of_words kind }
+{
+    match kind {
+        ErrorKind::OutOfMemory => Fault::Memory,
+        _ => Fault::Words,
+    }
 }

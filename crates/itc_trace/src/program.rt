@@ -4,10 +4,10 @@ ghost use Rattle.line_protocol.specs.Writing.{EndsInFault};
 ghost use Rattle.std.specs.List.{list_all};
 ghost use Rattle.trace_types.specs.Name.{Text, is_name};
 ghost use Rattle.trace_types.specs.Limits.{Limits as Bounds, are_limits};
-ghost use Rattle.itc_trace.specs.CommandLine.{are_taken, asked_in};
+ghost use Rattle.itc_trace.specs.CommandLine.{are_taken};
 ghost use Rattle.itc_trace.specs.Fault.{status_of};
-ghost use Rattle.itc_trace.specs.Reading.{AsksForHelp, MayBeRefused, kinds_of};
-ghost use Rattle.itc_trace.specs.Program.{BreaksOff, GoesThrough, IsFailure, IsUntouched, RefusesTenants, ReplaysFresh, ReplaysFreshInPart, ReplaysSome, ReplaysSomeInPart, Shows, ShowsAll, ShowsSome, ShowsSomeAll, Tells};
+ghost use Rattle.itc_trace.specs.Program.{IsFailure, ReplaysFresh, ReplaysFreshInPart, Shows, ShowsAll, ShowsSome, ShowsSomeAll};
+ghost use Rattle.itc_trace.specs.Runs.{Runs};
 
 use crate::fault::Fault;
 use crate::words::{Asked, Refusal, Replay, read_words};
@@ -21,8 +21,9 @@ use trace_world::{World, replay};
 ///
 /// Taken are `replay` and then, in any order, 1 to 16 tenants, none twice, and each of these options once at most:
 /// `--events N` with N from 1 to 16384 (4096 where it is left out), `--tasks N` with N from 1 to 2048 (512) and
-/// `--messages N` with N from 1 to 16384 (2048). The status is 0 where all lines were replayed or help was shown, 2 where
-/// the words or the tenants are refused, 3 for a failed read or write or too long an input, and 4 for want of memory.
+/// `--messages N` with N from 1 to 16384 (2048). The status is 0 where all lines were replayed or all of the help was
+/// shown, 2 where the words or the tenants are refused, 3 for a failed read or write or too long an input, and 4 for want
+/// of memory.
 pub fn run<T: AllocGlobal, S: AsStr, R: Source, W: Sink, E: Sink>(
     rt: &T,
     words: &[S],
@@ -30,28 +31,7 @@ pub fn run<T: AllocGlobal, S: AsStr, R: Source, W: Sink, E: Sink>(
     writer: &mut W,
     errors: &mut E,
 ) -> u8
-    // Status 2: the command line refuses the words, or takes them and the tenants are refused. Nothing was read or written,
-    // but for a text on standard error.
-    ensures words_refused { result ≡ 2 → MayBeRefused (kinds_of (map S.text words.now)) × IsUntouched reader.old reader.new writer.old writer.new × ShowsSome (E.seen errors.old) (E.seen errors.new) }
-    // Where the words ask for a replay, its tenants alone decide whether they are refused, and the line says so.
-    ensures tenants_refused { IfSome (asked_in (map S.text words.now)) (λ asked.
-        RefusesTenants (are_taken asked.tenants) (E.seen errors.old) (E.seen errors.new) result) }
-    // Status 4: nothing was read, and nothing written on the output.
-    ensures memory { result ≡ 4 → IsUntouched reader.old reader.new writer.old writer.new × Tells (E.seen errors.old) (E.seen errors.new) Fault.Memory }
-    // Status 0: no read or write failed, and help was asked for and shown and nothing read, or the words are taken and all
-    // lines of some tenants were replayed.
-    ensures help { result ≡ 0 → (errors.new ≡ errors.old)
-        × GoesThrough (R.seen reader.old) (R.seen reader.new) (W.seen writer.old) (W.seen writer.new)
-        × ((AsksForHelp (kinds_of (map S.text words.now)) × (reader.new ≡ reader.old) × ShowsSomeAll (W.seen writer.old) (W.seen writer.new))
-        ⊎ ((kinds_of (map S.text words.now) ≡ []) × ReplaysSome (R.seen reader.old) (R.seen reader.new) (W.seen writer.old) (W.seen writer.new))) }
-    // Where the words ask for a replay, it is done for these tenants, with these limits.
-    ensures replayed { result ≡ 0 → IfSome (asked_in (map S.text words.now)) (λ asked. ReplaysFresh asked.limits asked.tenants
-        (R.seen reader.old) (R.seen reader.new) (W.seen writer.old) (W.seen writer.new)) }
-    // Any other status is 3: showing help, or the replay that the words ask for, was broken off by a fault that is told.
-    ensures broken_off { (result ≢ 0) × (result ≢ 2) × (result ≢ 4) → (result ≡ 3) × (fault : Fault)
-        × BreaksOff (R.seen reader.old) (R.seen reader.new) (W.seen writer.old) (W.seen writer.new) (asked_in (map S.text words.now)) fault
-        × Tells (E.seen errors.old) (E.seen errors.new) fault
-        × ((reader.new ≡ reader.old) ⊎ ReplaysSomeInPart fault (R.seen reader.old) (R.seen reader.new) (W.seen writer.old) (W.seen writer.new)) }
+    ensures { Runs R.seen W.seen E.seen (map S.text words.now) result reader.old reader.new writer.old writer.new errors.old errors.new }
 {
     let alloc = rt.alloc();
     let done = match read_words(alloc, words) {
@@ -80,6 +60,7 @@ fn refuse<E: Sink>(errors: &mut E, text: &str) -> u8
 
 /// Shows help, were it by the program's name alone.
 fn show_help<W: Sink>(writer: &mut W, text: &str) -> Result<(), Fault>
+    ensures shown { ShowsSome (W.seen writer.old) (W.seen writer.new) }
     ensures ok { OnOk result (ShowsSomeAll (W.seen writer.old) (W.seen writer.new)) }
     ensures err { IfErr result (λ fault. (fault ≡ Fault.Write) × EndsInFault (W.seen writer.old) (W.seen writer.new)) }
     ensures failed { (W.seen writer.old).failures < (W.seen writer.new).failures → IsErr result }

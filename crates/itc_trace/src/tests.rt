@@ -1,7 +1,9 @@
 use crate::program::run;
+use crate::start;
 use line_protocol::{FromReader, IntoWriter};
 use std::io;
 use std::io::{Read, Write};
+use std::process::ExitCode;
 use std::test::Fail;
 
 /// What a run of the program gives: its status, what it wrote, and what it wrote as errors.
@@ -305,5 +307,84 @@ fn a_failed_write_ends_with_status_3(rt: HostRuntime) -> Result<(), Fail> {
     );
     assert_eq!(rt; status, 3);
     assert_eq!(rt; errors.as_slice(), b"itc_trace: write fault\n".as_slice());
+    Ok(())
+}
+
+/// A writer that takes all and hands nothing on.
+#[derive(Drop)]
+struct Stuck;
+
+impl Write for Stuck {
+    fn write(&mut self, bytes: &[u8]) -> io::Result<usize> {
+        Ok(bytes.len())
+    }
+
+    fn flush(&mut self) -> io::Result<()> {
+        Err(io::Error::from(io::ErrorKind::PermissionDenied))
+    }
+}
+
+const SHOWING: [&[&str]; 4] = [&["--help"], &["help"], &["help", "replay"], &["--version"]];
+
+fn ends_in_a_write_fault<W: Write + Drop>(rt: &HostRuntime, words: &[&str], output: W) -> bool {
+    let mut errors = Vec::new(rt.alloc());
+    let input: &[u8] = b"x count\n";
+    let status = run(
+        rt,
+        words,
+        &mut FromReader::new(input),
+        &mut IntoWriter::new(output),
+        &mut IntoWriter::new(&mut errors),
+    );
+    status == 3 && errors.as_slice() == b"itc_trace: write fault\n".as_slice()
+}
+
+#[test]
+fn help_that_is_not_written_or_not_handed_on_ends_with_status_3(rt: HostRuntime) {
+    for words in SHOWING {
+        assert!(rt; ends_in_a_write_fault(&rt, words, Broken));
+        assert!(rt; ends_in_a_write_fault(&rt, words, Stuck));
+    }
+}
+
+#[test]
+fn a_tenant_may_be_called_help(rt: HostRuntime) {
+    let outcome = run_on(&rt, &["replay", "help"], b"help count\n");
+    assert_eq!(rt; outcome.status, 0);
+    assert_eq!(rt; outcome.output.as_slice(), b"help 200 0 1 0\n".as_slice());
+}
+
+fn started_with(
+    rt: &HostRuntime,
+    words: &[&str],
+    input: &[u8],
+) -> Result<(ExitCode, Vec<u8>), Fail> {
+    let mut given = Vec::new(rt.alloc());
+    for word in words {
+        given.push(String::from_str(rt.alloc(), word)?)?;
+    }
+    let mut output = Vec::new(rt.alloc());
+    let mut errors = Vec::new(rt.alloc());
+    let ended = start(
+        rt,
+        Ok(given),
+        &mut FromReader::new(input),
+        &mut IntoWriter::new(&mut output),
+        &mut IntoWriter::new(&mut errors),
+    );
+    Ok((ended, output))
+}
+
+#[test]
+fn the_first_word_alone_is_passed_over(rt: HostRuntime) -> Result<(), Fail> {
+    let (ended, output) = started_with(
+        &rt,
+        &["itc_trace", "replay", "x", "y"],
+        b"x count\ny count\n",
+    )?;
+    assert_eq!(rt; ended, ExitCode::from(0));
+    assert_eq!(rt; output.as_slice(), b"x 200 0 1 0\ny 200 0 1 0\n".as_slice());
+    let (refused, _) = started_with(&rt, &["itc_trace"], b"")?;
+    assert_eq!(rt; refused, ExitCode::from(2));
     Ok(())
 }

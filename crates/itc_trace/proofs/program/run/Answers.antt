@@ -47,57 +47,6 @@ memory_taken : (before after : Taken) (taken : Bool) → RefusesTenants taken be
 memory_taken before after true = λ e. omega arith
 memory_taken before after false = inr refl
 
-pub returns-in-Err-Words-clause-tenants_refused : goal.returns-in-Err-Words-clause-tenants_refused
-returns-in-Err-Words-clause-tenants_refused g c = on_asked _ (λ asked. Reads asked (Err c.in-Err-Words.field-0)) _ c.in-Err-Words.ensures.asked (λ asked read.
-    let field : c.in-Err-Words.field-0 ≡ refusal.Words c.in-Err-Words.text = search rules in
-    absurd (subst (λ one. Reads asked (Err one)) field read))
-
-pub returns-in-Ok-clause-tenants_refused : goal.returns-in-Ok-clause-tenants_refused
-returns-in-Ok-clause-tenants_refused g c = elim c.match-read_words.branch [
-  | in-Ok-Replay w ↦ on_asked _ (λ asked. Reads asked (Ok w.in-Ok-Replay.field-0)) _ w.in-Ok-Replay.ensures.asked (λ asked read.
-      let field : w.in-Ok-Replay.field-0 ≡ Replay w.in-Ok-Replay.wanted = search rules in
-      let is : wanted_of w.in-Ok-Replay.wanted ≡ asked = subst (λ one. Reads asked (Ok one)) field read in
-      let taken = at_ok w.replay_tenants-done.result c.in-Ok.field-0 _ (sym w.done-is ∙ c.in-Ok.is) w.replay_tenants-done.ensures.taken in
-      done_taken _ _ (are_taken asked.tenants) (ap (λ (one : Asked). are_taken one.tenants) (sym is) ∙ taken))
-  | in-Ok-Show w ↦ on_asked _ (λ asked. Reads asked (Ok w.in-Ok-Show.field-0)) _ w.in-Ok-Show.ensures.asked (λ asked read.
-      let field : w.in-Ok-Show.field-0 ≡ Show w.in-Ok-Show.text = search rules in
-      absurd (subst (λ one. Reads asked (Ok one)) field read))
-  | in-Err-Memory w ↦ let no = sym w.done-is ∙ c.in-Ok.is in cc
-]
-
-pub returns-in-Ok-clause-replayed : goal.returns-in-Ok-clause-replayed
-returns-in-Ok-clause-replayed g c zero = elim c.match-read_words.branch [
-  | in-Ok-Replay w ↦ on_asked _ (λ asked. Reads asked (Ok w.in-Ok-Replay.field-0)) _ w.in-Ok-Replay.ensures.asked (λ asked read.
-      let field : w.in-Ok-Replay.field-0 ≡ Replay w.in-Ok-Replay.wanted = search rules in
-      let is : wanted_of w.in-Ok-Replay.wanted ≡ asked = subst (λ one. Reads asked (Ok one)) field read in
-      let fresh = at_ok w.replay_tenants-done.result c.in-Ok.field-0 _ (sym w.done-is ∙ c.in-Ok.is) w.replay_tenants-done.ensures.ok in
-      subst (λ (one : Asked). ReplaysFresh one.limits one.tenants (g.R.Source.seen c.args.reader.now) (g.R.Source.seen c.match-read_words.reader)
-      (g.W.Sink.seen c.args.writer.now) (g.W.Sink.seen c.match-read_words.writer)) is (rw (w.reader-is, w.writer-is) fresh))
-  | in-Ok-Show w ↦ on_asked _ (λ asked. Reads asked (Ok w.in-Ok-Show.field-0)) _ w.in-Ok-Show.ensures.asked (λ asked read.
-      let field : w.in-Ok-Show.field-0 ≡ Show w.in-Ok-Show.text = search rules in
-      absurd (subst (λ one. Reads asked (Ok one)) field read))
-  | in-Err-Memory w ↦ let no = sym w.done-is ∙ c.in-Ok.is in cc
-]
-
-pub returns-in-Err-clause-tenants_refused : goal.returns-in-Err-clause-tenants_refused
-returns-in-Err-clause-tenants_refused g c = elim c.match-read_words.branch [
-  | in-Ok-Replay w ↦ on_asked _ (λ asked. Reads asked (Ok w.in-Ok-Replay.field-0)) _ w.in-Ok-Replay.ensures.asked (λ asked read.
-      let field : w.in-Ok-Replay.field-0 ≡ Replay w.in-Ok-Replay.wanted = search rules in
-      let is : wanted_of w.in-Ok-Replay.wanted ≡ asked = subst (λ one. Reads asked (Ok one)) field read in
-      let same = ap (λ (one : Asked). are_taken one.tenants) (sym is) in
-      let err = sym w.done-is ∙ c.in-Err.is in
-      let refused = at_err w.replay_tenants-done.result c.in-Err.fault _ err w.replay_tenants-done.ensures.refused in
-      let in_part = at_err w.replay_tenants-done.result c.in-Err.fault _ err w.replay_tenants-done.ensures.in_part in
-      subst (λ status. RefusesTenants (are_taken asked.tenants) (g.E.Sink.seen c.args.errors.now) (g.E.Sink.seen c.tell.new.errors) status) (sym c.tell.ensures.status)
-      (status_taken _ _ c.in-Err.fault (are_taken asked.tenants) c.tell.ensures.told (λ two. ((refused two).0, same ∙ (refused two).1)) (λ three. same ∙ (in_part three).0)))
-  | in-Ok-Show w ↦ on_asked _ (λ asked. Reads asked (Ok w.in-Ok-Show.field-0)) _ w.in-Ok-Show.ensures.asked (λ asked read.
-      let field : w.in-Ok-Show.field-0 ≡ Show w.in-Ok-Show.text = search rules in
-      absurd (subst (λ one. Reads asked (Ok one)) field read))
-  | in-Err-Memory w ↦ on_asked _ (λ asked. Reads asked (Err w.in-Err-Memory.field-0)) _ w.in-Err-Memory.ensures.asked (λ asked read.
-      let fault_is = same_err c.match-read_words.done c.in-Err.fault Memory c.in-Err.is w.done-is in
-      subst (λ status. RefusesTenants (are_taken asked.tenants) (g.E.Sink.seen c.args.errors.now) (g.E.Sink.seen c.tell.new.errors) status) (sym (c.tell.ensures.status ∙ ap status_of fault_is)) (memory_taken _ _ (are_taken asked.tenants)))
-]
-
 three_only : (fault : Fault) → status_of fault ≢ 0 → status_of fault ≢ 2 → status_of fault ≢ 4 → status_of fault ≡ 3
 three_only Words zero two four = absurd (two refl)
 three_only Tenants zero two four = absurd (two refl)
@@ -106,77 +55,151 @@ three_only Write zero two four = refl
 three_only TooLong zero two four = refl
 three_only Memory zero two four = absurd (four refl)
 
-pub returns-in-Err-clause-broken_off : goal.returns-in-Err-clause-broken_off
-returns-in-Err-clause-broken_off g c others =
-    let is = c.tell.ensures.status in
-    let three : c.tell.result ≡ 3 = is ∙ three_only c.in-Err.fault (λ e. others.0 (is ∙ e)) (λ e. others.1 (is ∙ e)) (λ e. others.2 (is ∙ e)) in (
-      three,
-      c.in-Err.fault,
-      (
+pub returns-in-Err-Words : goal.returns-in-Err-Words
+returns-in-Err-Words g c = record {
+  words_refused = λ two.
+      let field : c.in-Err-Words.field-0 ≡ refusal.Words c.in-Err-Words.text = search rules in
+      (subst (λ one. IsAnswer (kinds_of (map g.S.AsStr.text c.args.words.now)) (Err one)) field c.in-Err-Words.ensures.kinds, search rules, search rules);
+  tenants_refused = on_asked _ (λ asked. Reads asked (Err c.in-Err-Words.field-0)) _ c.in-Err-Words.ensures.asked (λ asked read.
+      let field : c.in-Err-Words.field-0 ≡ refusal.Words c.in-Err-Words.text = search rules in
+      absurd (subst (λ one. Reads asked (Err one)) field read));
+  memory = search rules;
+  done = search rules;
+  replayed = search rules;
+  broken_off = search rules;
+}
+
+pub returns-in-Ok : goal.returns-in-Ok
+returns-in-Ok g c = record {
+  words_refused = search rules;
+  tenants_refused = elim c.match-read_words.branch [
+    | in-Ok-Replay w ↦ on_asked _ (λ asked. Reads asked (Ok w.in-Ok-Replay.field-0)) _ w.in-Ok-Replay.ensures.asked (λ asked read.
+        let field : w.in-Ok-Replay.field-0 ≡ Replay w.in-Ok-Replay.wanted = search rules in
+        let is : wanted_of w.in-Ok-Replay.wanted ≡ asked = subst (λ one. Reads asked (Ok one)) field read in
+        let taken = at_ok w.replay_tenants-done.result c.in-Ok.field-0 _ (sym w.done-is ∙ c.in-Ok.is) w.replay_tenants-done.ensures.taken in
+        done_taken _ _ (are_taken asked.tenants) (ap (λ (one : Asked). are_taken one.tenants) (sym is) ∙ taken))
+    | in-Ok-Show w ↦ on_asked _ (λ asked. Reads asked (Ok w.in-Ok-Show.field-0)) _ w.in-Ok-Show.ensures.asked (λ asked read.
+        let field : w.in-Ok-Show.field-0 ≡ Show w.in-Ok-Show.text = search rules in
+        absurd (subst (λ one. Reads asked (Ok one)) field read))
+    | in-Err-Memory w ↦ let no = sym w.done-is ∙ c.in-Ok.is in cc
+  ];
+  memory = search rules;
+  done = λ zero. (
+    search rules,
+    search rules,
+    elim c.match-read_words.branch [
+      | in-Ok-Replay w ↦
+          let field : w.in-Ok-Replay.field-0 ≡ Replay w.in-Ok-Replay.wanted = search rules in
+          inr (
+            subst (λ one. IsAnswer (kinds_of (map g.S.AsStr.text c.args.words.now)) (Ok one)) field w.in-Ok-Replay.ensures.kinds,
+            search rules,
+          )
+      | in-Ok-Show w ↦
+          let field : w.in-Ok-Show.field-0 ≡ Show w.in-Ok-Show.text = search rules in
+          inl (
+            subst (λ one. IsAnswer (kinds_of (map g.S.AsStr.text c.args.words.now)) (Ok one)) field w.in-Ok-Show.ensures.kinds,
+            search rules,
+            search rules,
+          )
+      | in-Err-Memory w ↦ let no = sym w.done-is ∙ c.in-Ok.is in cc
+    ],
+  );
+  replayed = λ zero. elim c.match-read_words.branch [
+    | in-Ok-Replay w ↦ on_asked _ (λ asked. Reads asked (Ok w.in-Ok-Replay.field-0)) _ w.in-Ok-Replay.ensures.asked (λ asked read.
+        let field : w.in-Ok-Replay.field-0 ≡ Replay w.in-Ok-Replay.wanted = search rules in
+        let is : wanted_of w.in-Ok-Replay.wanted ≡ asked = subst (λ one. Reads asked (Ok one)) field read in
+        let fresh = at_ok w.replay_tenants-done.result c.in-Ok.field-0 _ (sym w.done-is ∙ c.in-Ok.is) w.replay_tenants-done.ensures.ok in
+        subst (λ (one : Asked). ReplaysFresh one.limits one.tenants (g.R.Source.seen c.args.reader.now) (g.R.Source.seen c.match-read_words.reader)
+        (g.W.Sink.seen c.args.writer.now) (g.W.Sink.seen c.match-read_words.writer)) is (rw (w.reader-is, w.writer-is) fresh))
+    | in-Ok-Show w ↦ on_asked _ (λ asked. Reads asked (Ok w.in-Ok-Show.field-0)) _ w.in-Ok-Show.ensures.asked (λ asked read.
+        let field : w.in-Ok-Show.field-0 ≡ Show w.in-Ok-Show.text = search rules in
+        absurd (subst (λ one. Reads asked (Ok one)) field read))
+    | in-Err-Memory w ↦ let no = sym w.done-is ∙ c.in-Ok.is in cc
+  ];
+  broken_off = search rules;
+}
+
+pub returns-in-Err : goal.returns-in-Err
+returns-in-Err g c = record {
+  words_refused = λ two. (
+    elim c.match-read_words.branch [
+      | in-Ok-Replay w ↦
+          let field : w.in-Ok-Replay.field-0 ≡ Replay w.in-Ok-Replay.wanted = search rules in
+          inl (subst (λ one. IsAnswer (kinds_of (map g.S.AsStr.text c.args.words.now)) (Ok one)) field w.in-Ok-Replay.ensures.kinds)
+      | in-Ok-Show w ↦
+          let fault = at_err w.show_help-done.result c.in-Err.fault _ (sym w.done-is ∙ c.in-Err.is) w.show_help-done.ensures.err in
+          let no : 3 ≡ 2 = sym (c.tell.ensures.status ∙ ap status_of fault.0) ∙ two in
+          absurd (omega arith)
+      | in-Err-Memory w ↦
+          let fault_is = same_err c.match-read_words.done c.in-Err.fault Memory c.in-Err.is w.done-is in
+          let no : 4 ≡ 2 = sym (c.tell.ensures.status ∙ ap status_of fault_is) ∙ two in
+          absurd (omega arith)
+    ],
+    search rules,
+    search rules,
+  );
+  tenants_refused = elim c.match-read_words.branch [
+    | in-Ok-Replay w ↦ on_asked _ (λ asked. Reads asked (Ok w.in-Ok-Replay.field-0)) _ w.in-Ok-Replay.ensures.asked (λ asked read.
+        let field : w.in-Ok-Replay.field-0 ≡ Replay w.in-Ok-Replay.wanted = search rules in
+        let is : wanted_of w.in-Ok-Replay.wanted ≡ asked = subst (λ one. Reads asked (Ok one)) field read in
+        let same = ap (λ (one : Asked). are_taken one.tenants) (sym is) in
+        let err = sym w.done-is ∙ c.in-Err.is in
+        let refused = at_err w.replay_tenants-done.result c.in-Err.fault _ err w.replay_tenants-done.ensures.refused in
+        let in_part = at_err w.replay_tenants-done.result c.in-Err.fault _ err w.replay_tenants-done.ensures.in_part in
+        subst (λ status. RefusesTenants (are_taken asked.tenants) (g.E.Sink.seen c.args.errors.now) (g.E.Sink.seen c.tell.new.errors) status) (sym c.tell.ensures.status)
+        (status_taken _ _ c.in-Err.fault (are_taken asked.tenants) c.tell.ensures.told (λ two. ((refused two).0, same ∙ (refused two).1)) (λ three. same ∙ (in_part three).0)))
+    | in-Ok-Show w ↦ on_asked _ (λ asked. Reads asked (Ok w.in-Ok-Show.field-0)) _ w.in-Ok-Show.ensures.asked (λ asked read.
+        let field : w.in-Ok-Show.field-0 ≡ Show w.in-Ok-Show.text = search rules in
+        absurd (subst (λ one. Reads asked (Ok one)) field read))
+    | in-Err-Memory w ↦ on_asked _ (λ asked. Reads asked (Err w.in-Err-Memory.field-0)) _ w.in-Err-Memory.ensures.asked (λ asked read.
+        let fault_is = same_err c.match-read_words.done c.in-Err.fault Memory c.in-Err.is w.done-is in
+        subst (λ status. RefusesTenants (are_taken asked.tenants) (g.E.Sink.seen c.args.errors.now) (g.E.Sink.seen c.tell.new.errors) status) (sym (c.tell.ensures.status ∙ ap status_of fault_is)) (memory_taken _ _ (are_taken asked.tenants)))
+  ];
+  memory = search rules;
+  done = search rules;
+  replayed = search rules;
+  broken_off = λ others.
+      let is = c.tell.ensures.status in
+      let three : c.tell.result ≡ 3 = is ∙ three_only c.in-Err.fault (λ e. others.0 (is ∙ e)) (λ e. others.1 (is ∙ e)) (λ e. others.2 (is ∙ e)) in (
+        three,
+        c.in-Err.fault,
+        (
+          search rules,
+          elim c.match-read_words.branch [
+            | in-Ok-Replay w ↦ on_asked _ (λ asked. Reads asked (Ok w.in-Ok-Replay.field-0)) _ w.in-Ok-Replay.ensures.asked (λ asked read.
+                let field : w.in-Ok-Replay.field-0 ≡ Replay w.in-Ok-Replay.wanted = search rules in
+                let is : wanted_of w.in-Ok-Replay.wanted ≡ asked = subst (λ one. Reads asked (Ok one)) field read in
+                let in_part = at_err w.replay_tenants-done.result c.in-Err.fault _ (sym w.done-is ∙ c.in-Err.is) w.replay_tenants-done.ensures.in_part in
+                subst (λ (one : Asked). ReplaysFreshInPart c.in-Err.fault one.limits one.tenants (g.R.Source.seen c.args.reader.now) (g.R.Source.seen c.match-read_words.reader)
+                (g.W.Sink.seen c.args.writer.now) (g.W.Sink.seen c.match-read_words.writer)) is
+                (rw (w.reader-is, w.writer-is) (in_part (sym c.tell.ensures.status ∙ three)).1))
+            | in-Ok-Show w ↦ on_asked _ (λ asked. Reads asked (Ok w.in-Ok-Show.field-0)) _ w.in-Ok-Show.ensures.asked (λ asked read.
+                let field : w.in-Ok-Show.field-0 ≡ Show w.in-Ok-Show.text = search rules in
+                absurd (subst (λ one. Reads asked (Ok one)) field read))
+            | in-Err-Memory w ↦
+                let fault_is = same_err c.match-read_words.done c.in-Err.fault Memory c.in-Err.is w.done-is in
+                let no : 4 ≡ 3 = sym (c.tell.ensures.status ∙ ap status_of fault_is) ∙ three in
+                absurd (omega arith)
+          ],
+        ),
         search rules,
         elim c.match-read_words.branch [
-          | in-Ok-Replay w ↦ on_asked _ (λ asked. Reads asked (Ok w.in-Ok-Replay.field-0)) _ w.in-Ok-Replay.ensures.asked (λ asked read.
+          | in-Ok-Replay w ↦
               let field : w.in-Ok-Replay.field-0 ≡ Replay w.in-Ok-Replay.wanted = search rules in
-              let is : wanted_of w.in-Ok-Replay.wanted ≡ asked = subst (λ one. Reads asked (Ok one)) field read in
-              let in_part = at_err w.replay_tenants-done.result c.in-Err.fault _ (sym w.done-is ∙ c.in-Err.is) w.replay_tenants-done.ensures.in_part in
-              subst (λ (one : Asked). ReplaysFreshInPart c.in-Err.fault one.limits one.tenants (g.R.Source.seen c.args.reader.now) (g.R.Source.seen c.match-read_words.reader)
-              (g.W.Sink.seen c.args.writer.now) (g.W.Sink.seen c.match-read_words.writer)) is
-              (rw (w.reader-is, w.writer-is) (in_part (sym c.tell.ensures.status ∙ three)).1))
-          | in-Ok-Show w ↦ on_asked _ (λ asked. Reads asked (Ok w.in-Ok-Show.field-0)) _ w.in-Ok-Show.ensures.asked (λ asked read.
+              inr (subst (λ one. IsAnswer (kinds_of (map g.S.AsStr.text c.args.words.now)) (Ok one)) field w.in-Ok-Replay.ensures.kinds, search rules)
+          | in-Ok-Show w ↦
               let field : w.in-Ok-Show.field-0 ≡ Show w.in-Ok-Show.text = search rules in
-              absurd (subst (λ one. Reads asked (Ok one)) field read))
+              let fault = at_err w.show_help-done.result c.in-Err.fault _ (sym w.done-is ∙ c.in-Err.is) w.show_help-done.ensures.err in
+              inl (
+                subst (λ one. IsAnswer (kinds_of (map g.S.AsStr.text c.args.words.now)) (Ok one)) field w.in-Ok-Show.ensures.kinds,
+                search rules,
+                fault.0,
+                search rules,
+              )
           | in-Err-Memory w ↦
               let fault_is = same_err c.match-read_words.done c.in-Err.fault Memory c.in-Err.is w.done-is in
               let no : 4 ≡ 3 = sym (c.tell.ensures.status ∙ ap status_of fault_is) ∙ three in
               absurd (omega arith)
         ],
-      ),
-      search rules,
-      search rules,
-    )
-
-pub returns-in-Err-Words-clause-words_refused : goal.returns-in-Err-Words-clause-words_refused
-returns-in-Err-Words-clause-words_refused g c two =
-    let field : c.in-Err-Words.field-0 ≡ refusal.Words c.in-Err-Words.text = search rules in
-    (subst (λ one. IsAnswer (kinds_of (map g.S.AsStr.text c.args.words.now)) (Err one)) field c.in-Err-Words.ensures.kinds, search rules, search rules)
-
-pub returns-in-Err-clause-words_refused : goal.returns-in-Err-clause-words_refused
-returns-in-Err-clause-words_refused g c two = (
-  elim c.match-read_words.branch [
-    | in-Ok-Replay w ↦
-        let field : w.in-Ok-Replay.field-0 ≡ Replay w.in-Ok-Replay.wanted = search rules in
-        inl (subst (λ one. IsAnswer (kinds_of (map g.S.AsStr.text c.args.words.now)) (Ok one)) field w.in-Ok-Replay.ensures.kinds)
-    | in-Ok-Show w ↦
-        let fault = at_err w.show_help-done.result c.in-Err.fault _ (sym w.done-is ∙ c.in-Err.is) w.show_help-done.ensures.err in
-        let no : 3 ≡ 2 = sym (c.tell.ensures.status ∙ ap status_of fault.0) ∙ two in
-        absurd (omega arith)
-    | in-Err-Memory w ↦
-        let fault_is = same_err c.match-read_words.done c.in-Err.fault Memory c.in-Err.is w.done-is in
-        let no : 4 ≡ 2 = sym (c.tell.ensures.status ∙ ap status_of fault_is) ∙ two in
-        absurd (omega arith)
-  ],
-  search rules,
-  search rules,
-)
-
-pub returns-in-Ok-clause-help : goal.returns-in-Ok-clause-help
-returns-in-Ok-clause-help g c zero = (
-  search rules,
-  search rules,
-  elim c.match-read_words.branch [
-    | in-Ok-Replay w ↦
-        let field : w.in-Ok-Replay.field-0 ≡ Replay w.in-Ok-Replay.wanted = search rules in
-        inr (
-          subst (λ one. IsAnswer (kinds_of (map g.S.AsStr.text c.args.words.now)) (Ok one)) field w.in-Ok-Replay.ensures.kinds,
-          search rules,
-        )
-    | in-Ok-Show w ↦
-        let field : w.in-Ok-Show.field-0 ≡ Show w.in-Ok-Show.text = search rules in
-        inl (
-          subst (λ one. IsAnswer (kinds_of (map g.S.AsStr.text c.args.words.now)) (Ok one)) field w.in-Ok-Show.ensures.kinds,
-          search rules,
-          search rules,
-        )
-    | in-Err-Memory w ↦ let no = sym w.done-is ∙ c.in-Ok.is in cc
-  ],
-)
+      );
+}
