@@ -3,7 +3,7 @@ ghost use Rattle.std.specs.Prelude.{◌≤◌, length};
 
 use line_protocol::{
     Buffered, FromReader, IntoWriter, Line, LineReader, Source, WriteFault, flush, read_addressed,
-    read_request, write_bytes, write_prefix, write_reply,
+    read_request, write_answer, write_bytes, write_prefix, write_reply,
 };
 use std::alloc::Global;
 use std::io;
@@ -276,6 +276,20 @@ fn replies_are_written_whole(rt: HostRuntime) {
         let (text, outcome) = written(rt.alloc(), &reply, 99);
         assert!(rt; outcome.is_ok());
         assert_eq!(rt; text.as_slice(), want);
+    }
+}
+
+#[test]
+fn an_answer_names_its_tenant_or_nobody(rt: HostRuntime) {
+    let table: [(&[u8], Reply, &[u8]); 2] = [
+        (b"tenant_7", Reply::Accepted(17), b"tenant_7 201 17\n"),
+        (b"", Reply::Refused(Code::Line), b"? 400 line\n"),
+    ];
+    for (name, reply, want) in table {
+        let mut taken = Vec::new(rt.alloc());
+        let outcome = write_answer(&mut IntoWriter::new(&mut taken), &Name::read(name), &reply);
+        assert!(rt; outcome.is_ok());
+        assert_eq!(rt; taken.as_slice(), want);
     }
 }
 
