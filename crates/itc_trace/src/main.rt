@@ -37,6 +37,8 @@ fn main(rt: HostRuntime) -> ExitCode {
 }
 
 /// The words that the program was given. An error comes where one of them is no text, or for want of memory.
+///
+/// No contract of the runtime says which words it gives, so none here can.
 fn all_words(rt: &HostRuntime) -> io::Result<Vec<String>> {
     let words = env::args(rt)?.collect(rt.alloc())?;
     Ok(words)
