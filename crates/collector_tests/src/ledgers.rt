@@ -57,15 +57,36 @@ fn abandoned<R>(rt: &R, ledger: Ledger, request: &Request) -> Ledger {
     }
 }
 
-/// What is answered to a report that is prepared and committed, or to a query.
+/// What is answered to a query, which is asked again where it finds no memory.
+fn asked_again(ledger: &Ledger, query: &Request) -> Reply {
+    match ledger.ask(&PlainShare, query) {
+        Reply::Refused(Code::NoMemory) => ledger.ask(&PlainShare, query),
+        reply => reply,
+    }
+}
+
+/// What is answered to a report that is prepared, again where it finds no memory, and committed, or to a query.
 fn committed<R>(rt: &R, ledger: Ledger, request: &Request) -> (Ledger, Reply) {
     if !is_report(request) {
-        let reply = ledger.ask(&PlainShare, request);
+        let reply = asked_again(&ledger, request);
         return (ledger, reply);
     }
+    let ledger = match ledger.prepare(rt, &PlainShare, request) {
+        Ok(prepared) => return prepared.commit(),
+        Err((ledger, Reply::Refused(Code::NoMemory))) => ledger,
+        Err(refused) => return refused,
+    };
     match ledger.prepare(rt, &PlainShare, request) {
         Ok(prepared) => prepared.commit(),
         Err(refused) => refused,
+    }
+}
+
+/// The reply to the request, which is made again where it finds no memory.
+fn report_again<R>(rt: &R, ledger: &mut Ledger, request: &Request) -> Reply {
+    match ledger.report(rt, &PlainShare, request) {
+        Reply::Refused(Code::NoMemory) => ledger.report(rt, &PlainShare, request),
+        reply => reply,
     }
 }
 
@@ -83,12 +104,13 @@ fn answers_though_all_are_abandoned<R: Abort + AllocGlobal>(
         }
         let (next, reply) = committed(rt, ledger, request);
         ledger = next;
-        let want = plain.report(rt, &PlainShare, request);
+        let want = report_again(rt, &mut plain, request);
         assert_eq!(rt; reply, want, "{request:?}");
     }
     Ok(())
 }
 
+/// It passes also where an allocation fails once the ledgers are made.
 #[test]
 fn a_report_that_was_abandoned_leaves_no_trace(rt: HostRuntime) -> Result<(), Fail> {
     for (amounts, run) in RUNS {
@@ -158,14 +180,6 @@ fn a_view_answers_each_query_and_refuses_each_report(rt: HostRuntime) -> Result<
         }
     }
     Ok(())
-}
-
-/// The reply to the request, which is made again where it finds no memory.
-fn report_again<R>(rt: &R, ledger: &mut Ledger, request: &Request) -> Reply {
-    match ledger.report(rt, &PlainShare, request) {
-        Reply::Refused(Code::NoMemory) => ledger.report(rt, &PlainShare, request),
-        reply => reply,
-    }
 }
 
 /// It passes also where an allocation fails once the ledgers are made.

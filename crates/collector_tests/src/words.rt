@@ -62,7 +62,21 @@ fn limits_are_read_within_their_ranges_alone(rt: HostRuntime) {
         assert_eq!(rt; read, want);
     }
     assert_eq!(rt; amounts(Limits::default()), (4096, 512, 2048));
-    assert_eq!(rt; World::MOST_TENANTS, 16);
+}
+
+#[test]
+fn the_amounts_that_have_names_are_those_that_are_kept(rt: HostRuntime) {
+    for (amount, want) in [
+        (Limits::MOST_EVENTS, 16384),
+        (Limits::DEFAULT_EVENTS, 4096),
+        (Limits::MOST_TASKS, 2048),
+        (Limits::DEFAULT_TASKS, 512),
+        (Limits::MOST_MESSAGES, 16384),
+        (Limits::DEFAULT_MESSAGES, 2048),
+    ] {
+        assert_eq!(rt; amount, want);
+    }
+    assert_eq!(rt; (Name::MOST, World::MOST_TENANTS), (24, 16));
 }
 
 #[test]
