@@ -14,7 +14,7 @@ ghost use Rattle.message_book.specs.Book.{refusal_of_send, refusal_of_receive, e
 ghost use Rattle.message_book.specs.Book.{Book as Messages};
 ghost use Rattle.tenant_ledger.specs.Ledger.{IsBook, HasRoom, HaveTheSame, task_in, tenant_of, Decides, LeavesState, task_with, count_with, task_with_some, count_with_some, Notes, IsReady, Drafts, Prepares};
 
-use crate::share::{MeantId, Share};
+use crate::share::{Keep, MeantId, Share};
 use event_tree::EvTree;
 use id_tree::IdTree;
 use indexmap::IndexMap;
@@ -26,7 +26,7 @@ use trace_types::{Code, Kind, Limits, Memory, Name, Preds, Request, Row, TaskSta
 
 /// The rows, and what is kept beside them.
 #[derive(Drop)]
-pub(crate) struct Book<S: Share> {
+pub(crate) struct Book<S: Keep> {
     pub(crate) limits: Limits,
     pub(crate) rows: Vec<Row>,
     alloc: Global,
@@ -51,7 +51,7 @@ pub(crate) struct Task {
 }
 
 /// A report that is not refused, and what is to be kept with its row.
-pub(crate) struct Draft<S: Share> {
+pub(crate) struct Draft<S: Keep> {
     pub(crate) row: Row,
     tree: S::Kept,
     /// The ids that it makes, which are to stand after those that the book has.
@@ -63,7 +63,7 @@ pub(crate) struct Draft<S: Share> {
     named: Option<Task>,
 }
 
-impl<S: Share> Draft<S> {
+impl<S: Keep> Draft<S> {
     /// What its event knows, as it is kept.
     pub(crate) fn tree(&self) -> &S::Kept
         ensures { result.now ≡ self.now.tree }
@@ -88,7 +88,7 @@ impl<S: Share> Draft<S> {
     }
 }
 
-impl<S: Share> Book<S> {
+impl<S: Keep> Book<S> {
     /// The book of a tenant that has reported nothing: it has the task `root`.
     pub(crate) fn new(alloc: Global, limits: Limits) -> Result<Book<S>, Memory>
         ensures book { IfOk result (IsBook S.Kept.tree S.Id.id) }
@@ -284,12 +284,14 @@ impl<S: Share> Book<S> {
     }
 
     /// Prepares a report: its draft is to be committed or abandoned.
-    pub(crate) fn prepare<T>(
+    pub(crate) fn prepare<R>(
         &mut self,
-        rt: &T,
+        rt: &R,
         share: &S,
         request: &Request,
     ) -> Result<Draft<S>, Code>
+    where
+        S: Share<R>,
         requires book { IsBook S.Kept.tree S.Id.id self.old }
         requires report { is_report request.now ≡ true }
         ensures { Prepares S.Kept.tree S.Id.id result (tenant_of self.old) request.now self.new }
@@ -313,7 +315,9 @@ impl<S: Share> Book<S> {
     }
 
     /// Prepares the report that the task did something by itself.
-    fn local<T>(&mut self, rt: &T, share: &S, name: Name) -> Result<Draft<S>, Code>
+    fn local<R>(&mut self, rt: &R, share: &S, name: Name) -> Result<Draft<S>, Code>
+    where
+        S: Share<R>,
         requires { IsBook S.Kept.tree S.Id.id self.old }
         ensures { Prepares S.Kept.tree S.Id.id result (tenant_of self.old) (request.Local name) self.new }
     {
@@ -324,7 +328,9 @@ impl<S: Share> Book<S> {
     }
 
     /// Prepares the report that the task sends the message.
-    fn send<T>(&mut self, rt: &T, share: &S, name: Name, message: Name) -> Result<Draft<S>, Code>
+    fn send<R>(&mut self, rt: &R, share: &S, name: Name, message: Name) -> Result<Draft<S>, Code>
+    where
+        S: Share<R>,
         requires { IsBook S.Kept.tree S.Id.id self.old }
         ensures { Prepares S.Kept.tree S.Id.id result (tenant_of self.old) (request.Send name message) self.new }
     {
@@ -336,7 +342,9 @@ impl<S: Share> Book<S> {
     }
 
     /// Prepares the report that the task receives the message.
-    fn receive<T>(&mut self, rt: &T, share: &S, name: Name, message: Name) -> Result<Draft<S>, Code>
+    fn receive<R>(&mut self, rt: &R, share: &S, name: Name, message: Name) -> Result<Draft<S>, Code>
+    where
+        S: Share<R>,
         requires { IsBook S.Kept.tree S.Id.id self.old }
         ensures { Prepares S.Kept.tree S.Id.id result (tenant_of self.old) (request.Recv name message) self.new }
     {
@@ -348,7 +356,9 @@ impl<S: Share> Book<S> {
     }
 
     /// Prepares the report that the task ends: its id stays with it.
-    fn end<T>(&mut self, rt: &T, share: &S, name: Name) -> Result<Draft<S>, Code>
+    fn end<R>(&mut self, rt: &R, share: &S, name: Name) -> Result<Draft<S>, Code>
+    where
+        S: Share<R>,
         requires { IsBook S.Kept.tree S.Id.id self.old }
         ensures { Prepares S.Kept.tree S.Id.id result (tenant_of self.old) (request.End name) self.new }
     {
@@ -359,7 +369,9 @@ impl<S: Share> Book<S> {
     }
 
     /// Prepares the report that the task starts `child`.
-    fn spawn<T>(&mut self, rt: &T, share: &S, name: Name, child: Name) -> Result<Draft<S>, Code>
+    fn spawn<R>(&mut self, rt: &R, share: &S, name: Name, child: Name) -> Result<Draft<S>, Code>
+    where
+        S: Share<R>,
         requires { IsBook S.Kept.tree S.Id.id self.old }
         ensures { Prepares S.Kept.tree S.Id.id result (tenant_of self.old) (request.Spawn name child) self.new }
     {
@@ -371,7 +383,9 @@ impl<S: Share> Book<S> {
     }
 
     /// Prepares the report that the task takes in `child`, which has ended.
-    fn join<T>(&mut self, rt: &T, share: &S, name: Name, child: Name) -> Result<Draft<S>, Code>
+    fn join<R>(&mut self, rt: &R, share: &S, name: Name, child: Name) -> Result<Draft<S>, Code>
+    where
+        S: Share<R>,
         requires { IsBook S.Kept.tree S.Id.id self.old }
         ensures { Prepares S.Kept.tree S.Id.id result (tenant_of self.old) (request.Join name child) self.new }
     {
@@ -383,15 +397,17 @@ impl<S: Share> Book<S> {
     }
 
     /// The draft of an event of a task that keeps its id, and is left in this state.
-    fn alone<T>(
+    fn alone<R>(
         &self,
-        rt: &T,
+        rt: &R,
         share: &S,
         name: Name,
         kind: Kind,
         task: Task,
         state: TaskState,
     ) -> Result<Draft<S>, Memory>
+    where
+        S: Share<R>,
         requires book { IsBook S.Kept.tree S.Id.id self.now }
         requires space { HasRoom self.now }
         requires seeded { 0 < length self.now.ids.items }
@@ -421,14 +437,16 @@ impl<S: Share> Book<S> {
     }
 
     /// The draft of the event with which the task sends the message, which the book has then.
-    fn sent<T>(
+    fn sent<R>(
         &mut self,
-        rt: &T,
+        rt: &R,
         share: &S,
         name: Name,
         message: Name,
         task: Task,
     ) -> Result<Draft<S>, Memory>
+    where
+        S: Share<R>,
         requires book { IsBook S.Kept.tree S.Id.id self.old }
         requires space { HasRoom self.old }
         requires seeded { 0 < length self.old.ids.items }
@@ -461,15 +479,17 @@ impl<S: Share> Book<S> {
 
     /// The draft of the event with which the task receives the message that the event `sent` sent; the book has the
     /// receipt then.
-    fn received<T>(
+    fn received<R>(
         &mut self,
-        rt: &T,
+        rt: &R,
         share: &S,
         name: Name,
         message: Name,
         task: Task,
         sent: u64,
     ) -> Result<Draft<S>, Memory>
+    where
+        S: Share<R>,
         requires book { IsBook S.Kept.tree S.Id.id self.old }
         requires space { HasRoom self.old }
         requires seeded { 0 < length self.old.ids.items }
@@ -503,14 +523,16 @@ impl<S: Share> Book<S> {
     }
 
     /// The draft of the event with which the task starts `child`.
-    fn forked<T>(
+    fn forked<R>(
         &self,
-        rt: &T,
+        rt: &R,
         share: &S,
         name: Name,
         child: Name,
         task: Task,
     ) -> Result<Draft<S>, Memory>
+    where
+        S: Share<R>,
         requires book { IsBook S.Kept.tree S.Id.id self.now }
         requires space { HasRoom self.now }
         requires seeded { 0 < length self.now.ids.items }
@@ -550,15 +572,17 @@ impl<S: Share> Book<S> {
     }
 
     /// The draft of the event with which the task takes in `child`.
-    fn summed<T>(
+    fn summed<R>(
         &self,
-        rt: &T,
+        rt: &R,
         share: &S,
         name: Name,
         child: Name,
         task: Task,
         joined: Task,
     ) -> Result<Draft<S>, Memory>
+    where
+        S: Share<R>,
         requires book { IsBook S.Kept.tree S.Id.id self.now }
         requires space { HasRoom self.now }
         requires seeded { 0 < length self.now.ids.items }
@@ -658,7 +682,9 @@ impl<S: Share> Book<S> {
     }
 
     /// Keeps the id of `root`, unless that was done. It changes nothing else.
-    fn seed<T>(&mut self, rt: &T, share: &S) -> Result<(), Memory>
+    fn seed<R>(&mut self, rt: &R, share: &S) -> Result<(), Memory>
+    where
+        S: Share<R>,
         requires { IsBook S.Kept.tree S.Id.id self.old }
         ensures book { IsBook S.Kept.tree S.Id.id self.new }
         ensures seeded { OnOk result (0 < length self.new.ids.items) }
@@ -672,7 +698,9 @@ impl<S: Share> Book<S> {
     }
 
     /// Keeps the id of `root`, and makes room for one event, its ids and its tasks. It changes nothing else.
-    fn make_room<T>(&mut self, rt: &T, share: &S) -> Result<(), Memory>
+    fn make_room<R>(&mut self, rt: &R, share: &S) -> Result<(), Memory>
+    where
+        S: Share<R>,
         requires { IsBook S.Kept.tree S.Id.id self.old }
         ensures book { IsBook S.Kept.tree S.Id.id self.new }
         ensures same { HaveTheSame self.old self.new }

@@ -9,7 +9,7 @@ ghost use Rattle.event_tree.specs.Comparison.{StandsAs};
 ghost use Rattle.tenant_ledger.specs.Ledger.{code_of};
 
 use crate::book::Book;
-use crate::share::{MeantId, Share, Through};
+use crate::share::{Keep, MeantId, Share, Through};
 use crate::{PlainShare, Prepared, laws};
 use std::alloc::Global;
 use std::marker::Model;
@@ -18,11 +18,11 @@ use trace_types::{Code, Limits, Memory, Name, Numbers, Reply, Request, Row};
 
 /// What one tenant has reported. Its ids and trees are kept by a share, the same in each call.
 #[derive(Drop)]
-pub struct Ledger<S: Share = PlainShare> {
+pub struct Ledger<S: Keep = PlainShare> {
     pub(crate) book: Book<S>,
 }
 
-impl<S: Share> Model for Ledger<S> {
+impl<S: Keep> Model for Ledger<S> {
     ghost use Rattle.trace_types.specs.Tenant.{Tenant};
     ghost use Rattle.tenant_ledger.specs.Ledger.{IsBook, tenant_of};
 
@@ -33,7 +33,7 @@ impl<S: Share> Model for Ledger<S> {
     ghost invariant = { λ l. IsBook S.Kept.tree S.Id.id l.book };
 }
 
-impl<S: Share> Ledger<S> {
+impl<S: Keep> Ledger<S> {
     /// The ledger of a tenant that has reported nothing.
     pub fn new(alloc: Global, limits: Limits) -> Result<Ledger<S>, Memory>
         ensures ledger { IfOk result (λ ledger. ledger ≡ fresh limits) }
@@ -76,7 +76,9 @@ impl<S: Share> Ledger<S> {
     /// A request is refused with the first code that applies of those that `refusals` of `trace_types` has for it, and
     /// last with `NoMemory` (507), where a request for memory was refused: a report, `past`, `concurrent` or `stamp`. A
     /// refused request changes nothing.
-    pub fn report<T>(&mut self, rt: &T, share: &S, request: &Request) -> Reply
+    pub fn report<R>(&mut self, rt: &R, share: &S, request: &Request) -> Reply
+    where
+        S: Share<R>,
         ensures { Steps self.old request.now result self.new }
     {
         if !is_report(request) {
@@ -91,12 +93,14 @@ impl<S: Share> Ledger<S> {
     /// Does all of a report that may be refused, and leaves the rows: what it gives is to be committed or abandoned.
     ///
     /// Where [`Ledger::report`] would refuse the report it gives that refusal, with the ledger as it was.
-    pub fn prepare<T>(
+    pub fn prepare<R>(
         self,
-        rt: &T,
+        rt: &R,
         share: &S,
         request: &Request,
     ) -> Result<Prepared<S>, (Ledger<S>, Reply)>
+    where
+        S: Share<R>,
         requires { is_report request.now ≡ true }
         ensures same { IfOk result (λ prepared. prepared.tenant ≡ self) }
         ensures accepted { IfOk result (λ prepared. step self request.now ≡ (Reply.Accepted (suc (length self.rows)), with_row self (Some prepared.row))) }

@@ -14,4 +14,4 @@ mod share;
 pub use ledger::Ledger;
 pub use plain_share::PlainShare;
 pub use prepared::Prepared;
-pub use share::{MeantId, Share};
+pub use share::{Keep, MeantId, Share};

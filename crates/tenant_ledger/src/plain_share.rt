@@ -1,6 +1,6 @@
 //! Ids and trees that are kept as they are.
 
-use crate::Share;
+use crate::{Keep, Share};
 use event_tree::EvTree;
 use id_tree::IdTree;
 use trace_query::Compare;
@@ -22,16 +22,8 @@ impl Compare for PlainShare {
     }
 }
 
-impl Share for PlainShare {
+impl Keep for PlainShare {
     type Id = IdTree;
-
-    fn keep_id<T>(&self, _rt: &T, id: IdTree) -> Result<IdTree, Memory> {
-        Ok(id)
-    }
-
-    fn keep_tree<T>(&self, _rt: &T, tree: EvTree) -> Result<EvTree, Memory> {
-        Ok(tree)
-    }
 
     fn id_value(kept: &IdTree) -> &IdTree {
         kept
@@ -40,12 +32,22 @@ impl Share for PlainShare {
     fn tree_value(kept: &EvTree) -> &EvTree {
         kept
     }
+}
 
-    fn order_kept<T>(&self, _rt: &T, first: &EvTree, second: &EvTree) -> Order {
+impl<R> Share<R> for PlainShare {
+    fn keep_id(&self, _rt: &R, id: IdTree) -> Result<IdTree, Memory> {
+        Ok(id)
+    }
+
+    fn keep_tree(&self, _rt: &R, tree: EvTree) -> Result<EvTree, Memory> {
+        Ok(tree)
+    }
+
+    fn order_kept(&self, _rt: &R, first: &EvTree, second: &EvTree) -> Order {
         first.order(second)
     }
 
-    fn below_kept<T>(&self, _rt: &T, first: &EvTree, second: &EvTree) -> bool {
+    fn below_kept(&self, _rt: &R, first: &EvTree, second: &EvTree) -> bool {
         first.leq(second)
     }
 }

@@ -7,7 +7,7 @@ ghost use Rattle.trace_types.specs.Tenant.{with_row};
 ghost use Rattle.trace_types.specs.declared.reply.Reply.TheVariants as reply;
 
 use crate::book::{Book, Draft};
-use crate::share::{MeantId, Share};
+use crate::share::{Keep, MeantId};
 use crate::{Ledger, PlainShare};
 use std::marker::Model;
 use trace_query::Meant;
@@ -16,12 +16,12 @@ use trace_types::{Reply, Row};
 /// A ledger with a report that will be accepted: it has to be committed or abandoned, and neither takes memory.
 ///
 /// Contracts see the tenant as it is before the report, and the row of the report.
-pub struct Prepared<S: Share = PlainShare> {
+pub struct Prepared<S: Keep = PlainShare> {
     pub(crate) book: Book<S>,
     pub(crate) draft: Draft<S>,
 }
 
-impl<S: Share> Model for Prepared<S> {
+impl<S: Keep> Model for Prepared<S> {
     ghost use Rattle.tenant_ledger.specs.Upcoming.{Upcoming};
     ghost use Rattle.tenant_ledger.specs.Ledger.{IsReady, tenant_of};
 
@@ -32,7 +32,7 @@ impl<S: Share> Model for Prepared<S> {
     ghost invariant = { λ p. IsReady S.Kept.tree S.Id.id p.book p.draft };
 }
 
-impl<S: Share> Prepared<S> {
+impl<S: Keep> Prepared<S> {
     /// The row that the report adds.
     pub fn row(&self) -> &Row
         ensures { result.now ≡ self.now.row }

@@ -18,20 +18,10 @@ impl MeantId for IdTree {
     ghost id = { λ id. id };
 }
 
-/// Keeps the ids and event trees of ledgers, and compares kept trees.
-///
-/// What is kept means what was handed in, whatever else is held.
-pub trait Share: Compare {
+/// What a ledger keeps of ids and event trees, and how it is read.
+pub trait Keep: Compare {
     /// What is kept of an id.
     type Id: MeantId + Drop;
-
-    /// Keeps an id. It may wait on `rt`.
-    fn keep_id<T>(&self, rt: &T, id: IdTree) -> Result<Self::Id, Memory>
-        ensures { IfOk result (λ kept. Self.Id.id kept ≡ id) };
-
-    /// Keeps an event tree. It may wait on `rt`.
-    fn keep_tree<T>(&self, rt: &T, tree: EvTree) -> Result<Self::Kept, Memory>
-        ensures { IfOk result (λ kept. Self.Kept.tree kept ≡ tree) };
 
     /// The id that is kept. It takes no memory.
     fn id_value(kept: &Self::Id) -> &IdTree
@@ -40,25 +30,38 @@ pub trait Share: Compare {
     /// The tree that is kept. It takes no memory.
     fn tree_value(kept: &Self::Kept) -> &EvTree
         ensures { result.now ≡ Self.Kept.tree kept.now };
+}
 
-    /// How the tree of `first` stands to that of `second`. It takes no memory, and may wait on `rt`.
-    fn order_kept<T>(&self, rt: &T, first: &Self::Kept, second: &Self::Kept) -> Order
+/// Keeps the ids and event trees of ledgers, and compares kept trees.
+///
+/// What is kept means what was handed in, whatever else is held. A share that takes a lock asks of `R` that it may wait;
+/// one that waits for nobody takes any `R`, as `()`.
+pub trait Share<R>: Keep {
+    /// Keeps an id.
+    fn keep_id(&self, rt: &R, id: IdTree) -> Result<Self::Id, Memory>
+        ensures { IfOk result (λ kept. Self.Id.id kept ≡ id) };
+
+    /// Keeps an event tree.
+    fn keep_tree(&self, rt: &R, tree: EvTree) -> Result<Self::Kept, Memory>
+        ensures { IfOk result (λ kept. Self.Kept.tree kept ≡ tree) };
+
+    /// How the tree of `first` stands to that of `second`. It takes no memory.
+    fn order_kept(&self, rt: &R, first: &Self::Kept, second: &Self::Kept) -> Order
         ensures { StandsAs result (Self.Kept.tree first.now) (Self.Kept.tree second.now) };
 
-    /// Whether no value of the tree of `first` is above that of `second` at the same point. It takes no memory, and may
-    /// wait on `rt`.
-    fn below_kept<T>(&self, rt: &T, first: &Self::Kept, second: &Self::Kept) -> bool
+    /// Whether no value of the tree of `first` is above that of `second` at the same point. It takes no memory.
+    fn below_kept(&self, rt: &R, first: &Self::Kept, second: &Self::Kept) -> bool
         ensures { IsTrue result ↔ IsBelow (Self.Kept.tree first.now) (Self.Kept.tree second.now) };
 }
 
 /// Compares kept trees as a share does that may wait.
 #[derive(Drop)]
-pub(crate) struct Through<'a, T, S> {
-    pub(crate) rt: &'a T,
+pub(crate) struct Through<'a, R, S> {
+    pub(crate) rt: &'a R,
     pub(crate) share: &'a S,
 }
 
-impl<T, S: Share> Compare for Through<'_, T, S> {
+impl<R, S: Share<R>> Compare for Through<'_, R, S> {
     type Kept = S::Kept;
 
     fn order(&self, first: &S::Kept, second: &S::Kept) -> Order {
@@ -69,3 +72,6 @@ impl<T, S: Share> Compare for Through<'_, T, S> {
         self.share.below_kept(self.rt, first, second)
     }
 }
+
+#[cfg(test)]
+mod tests;

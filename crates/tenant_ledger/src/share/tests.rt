@@ -1,0 +1,90 @@
+use super::*;
+use crate::Ledger;
+use std::sync::{Mutex, Wait};
+use std::test::Fail;
+use trace_types::{Code, Limits, Name, Reply, Request};
+
+/// Counts under a lock what it keeps and what it compares.
+#[derive(Drop)]
+struct Counted {
+    kept: Mutex<u64>,
+    compared: Mutex<u64>,
+}
+
+impl Counted {
+    fn new() -> Counted {
+        Counted {
+            kept: Mutex::new(0),
+            compared: Mutex::new(0),
+        }
+    }
+}
+
+/// Counts one more.
+fn count<R: Wait>(rt: &R, number: &Mutex<u64>) {
+    let mut number = number.lock(rt);
+    *number = number.saturating_add(1);
+}
+
+impl Compare for Counted {
+    type Kept = EvTree;
+
+    fn order(&self, first: &EvTree, second: &EvTree) -> Order {
+        first.order(second)
+    }
+
+    fn is_below(&self, first: &EvTree, second: &EvTree) -> bool {
+        first.leq(second)
+    }
+}
+
+impl Keep for Counted {
+    type Id = IdTree;
+
+    fn id_value(kept: &IdTree) -> &IdTree {
+        kept
+    }
+
+    fn tree_value(kept: &EvTree) -> &EvTree {
+        kept
+    }
+}
+
+impl<R: Wait> Share<R> for Counted {
+    fn keep_id(&self, rt: &R, id: IdTree) -> Result<IdTree, Memory> {
+        count(rt, &self.kept);
+        Ok(id)
+    }
+
+    fn keep_tree(&self, rt: &R, tree: EvTree) -> Result<EvTree, Memory> {
+        count(rt, &self.kept);
+        Ok(tree)
+    }
+
+    fn order_kept(&self, rt: &R, first: &EvTree, second: &EvTree) -> Order {
+        count(rt, &self.compared);
+        first.order(second)
+    }
+
+    fn below_kept(&self, rt: &R, first: &EvTree, second: &EvTree) -> bool {
+        count(rt, &self.compared);
+        first.leq(second)
+    }
+}
+
+#[test]
+fn a_share_that_takes_a_lock_keeps_what_is_reported(rt: HostRuntime) -> Result<(), Fail> {
+    let share = Counted::new();
+    let mut ledger = Ledger::<Counted>::new(rt.alloc(), Limits::default())?;
+    for (request, reply) in [
+        (Request::Local(Name::root()), Reply::Accepted(1)),
+        (Request::Local(Name::root()), Reply::Accepted(2)),
+        (Request::Order(1, 2), Reply::Ordering(Order::Before)),
+        (Request::Order(1, 3), Reply::Refused(Code::NoEvent)),
+    ] {
+        assert_eq!(rt; ledger.report(&rt, &share, &request), reply, "{request:?}");
+    }
+    assert_eq!(rt; *share.kept.lock(&rt), 3);
+    assert_eq!(rt; *share.compared.lock(&rt), 1);
+    Ok(())
+}
