@@ -1,45 +1,80 @@
 -- What a ledger keeps beside the rows.
-use Rattle.std.specs.Prelude.{◌≡◌, ◌≢◌, ℕ, suc, ◌+◌, ◌-◌, ◌≤◌, ◌<◌, true, false, Bool, if◌then◌else◌, List, [], ◌∷◌, ◌++◌, ◌⊎◌, length, map, Option, Some, None, is_some, option_to_list, Result, Ok, Err, slice_get, vec_len, vec_capacity}
-use Rattle.indexmap.specs.IndexMap.{get, index_map_len, spare}
-use Rattle.trace_types.specs.Name.{Text, is_same}
+use Rattle.std.specs.Prelude.{◌≡◌, ℕ, not, IsTrue, suc, ◌+◌, ◌≤◌, ◌<◌, false, true, Bool, if◌then◌else◌, List, [], ◌∷◌, ◌++◌, length, map, Option, Some, None, is_some, Result, Ok, Err, slice_get}
+use Rattle.std.specs.Map.{lookup}
+use Rattle.trace_types.specs.Name.{Text, is_name, is_same}
 use Rattle.trace_types.specs.Limits.{Limits}
-use Rattle.trace_types.specs.Rows.{History, history_of, is_known, state_of, last_event, is_sent, send_event, receipts, task_count, message_count}
-use Rattle.trace_types.specs.Refusal.{first_code}
+use Rattle.trace_types.specs.Rows.{History, history_of, is_known, is_ended, is_joined, state_of, last_event, is_sent, is_received, send_event, receipts, task_count, message_count}
+use Rattle.trace_types.specs.Reachability.{second_event}
+use Rattle.trace_types.specs.Refusal.{first_code, refusals, has_all_events, has_all_tasks, has_all_messages}
 use Rattle.trace_types.specs.Clock.{tree_clock}
-use Rattle.trace_types.specs.Stamps.{id_of, tree_of, stamp_of}
-use Rattle.trace_types.specs.Tenant.{Tenant, AreLegal, with_row, step, Steps}
-use Rattle.trace_types.specs.Id.{Id, One}
+use Rattle.trace_types.specs.Stamps.{id_of, tree_of, stamp_of, of_named}
+use Rattle.trace_types.specs.Tenant.{Tenant, AreLegal, row_after, with_row, step, Steps, answer_to, accepted}
+use Rattle.trace_types.specs.Text.{CanBeWritten}
+use Rattle.trace_types.specs.Id.{Id, Zero, One}
+use Rattle.trace_types.specs.IdOperations.{split, sum}
 use Rattle.trace_types.specs.EventTree.{EventTree}
 use Rattle.trace_types.specs.declared.row.Row.{Row}
 use Rattle.trace_types.specs.declared.code.Code.{Code}
 use Rattle.trace_types.specs.declared.task_state.TaskState.{TaskState}
-use Rattle.trace_types.specs.declared.task_state.TaskState.TheVariants.{Live, Ended, Joined}
+use Rattle.trace_types.specs.declared.task_state.TaskState.TheVariants as state
 use Rattle.trace_types.specs.declared.row.Kind.{Kind}
 use Rattle.trace_types.specs.declared.row.Kind.TheVariants.{Local, Spawn, Send, Recv, End, Join}
-use Rattle.trace_types.specs.declared.memory.Memory.{Memory}
 use Rattle.trace_types.specs.declared.reply.Reply.TheVariants as reply
 use Rattle.trace_types.specs.declared.request.Request.{Request}
-use Rattle.trace_types.specs.declared.code.Code.TheVariants.{NoEvent, NoMemory}
+use Rattle.trace_types.specs.declared.code.Code.TheVariants.{NoTask, TaskExists, TaskEnded, NoMessage, MessageExists, AlreadyReceived, NotEnded, AlreadyJoined, EventsFull, TasksFull, MessagesFull, NoEvent, NoMemory}
 use Rattle.trace_query.specs.declared.query_fault.QueryFault.{QueryFault}
 use Rattle.trace_query.specs.declared.query_fault.QueryFault.TheVariants as fault
-use Rattle.tenant_ledger.specs.declared.book.Book.{Book}
-use Rattle.tenant_ledger.specs.declared.book.Draft.{Draft}
 use Rattle.tenant_ledger.specs.declared.book.Task.{Task}
-use Rattle.message_book.specs.Book.{entry_of, with_message, with_receipt, refusal_of_receive}
+use Rattle.tenant_ledger.specs.declared.book.Report.{Report}
+use Rattle.tenant_ledger.specs.declared.book.Ids.{Ids}
+use Rattle.tenant_ledger.specs.declared.book.Ids.TheVariants as ids
+use Rattle.message_book.specs.Book.{entry_of, with_message, with_receipt, refusal_of_send, refusal_of_receive}
 use Rattle.message_book.specs.Book as message_book
 use Rattle.message_book.specs.declared.entry.Entry.{Entry}
+
+-- for how many more of each there is room
+pub record Room : Type 0 where
+  pub rows : ℕ
+  pub trees : ℕ
+  pub places : ℕ
+  pub ids : ℕ
+  pub tasks : ℕ
+
+-- What a book has: the trees and the ids as what they mean. Until the first id is kept, that of `root` stands for it.
+pub record Contents : Type 0 where
+  pub limits : Limits
+  pub rows : List Row
+  pub trees : List EventTree
+  pub places : List ℕ
+  pub ids : List Id
+  pub kept_ids : ℕ
+  pub tasks : List (Text × Task)
+  pub messages : message_book.Book
+  pub room : Room
+
+-- the ids that are kept: until the first is, that of `root`, which has every point
+abbrev pub with_seed : List Id → List Id
+with_seed [] = One ∷ []
+with_seed (first ∷ ids) = first ∷ ids
+
+-- the rows, the newest first
+abbrev pub history_in : Contents → History
+history_in book = history_of book.rows
+
+-- the tenant whose book it is
+abbrev pub tenant_of : Contents → Tenant
+tenant_of book = record { limits = book.limits; rows = book.rows }
+
+-- the task that the book has under the name
+abbrev pub task_in : Contents → Text → Option Task
+task_in book name = lookup (is_same name) book.tasks
 
 -- what is kept of a name: nothing where there is no such task; of a joined task the id is not told
 abbrev pub IsTask : List Id → History → Text → Option Task → Type 0
 IsTask ids history name None = is_known history name ≡ false
 IsTask ids history name (Some task) =
     (is_known history name ≡ true) × (task.state ≡ state_of history name) × (task.last ≡ last_event history name)
-    × (task.state ≢ Joined → slice_get ids task.id ≡ Some (id_of tree_clock history name))
-
--- what is kept of an event beside its tree: the place of its task's id after it
-abbrev pub IsPlace : List Id → History → ℕ → Option ℕ → Type 0
-IsPlace ids history event None = ⊥
-IsPlace ids history event (Some place) = slice_get ids place ≡ Some (stamp_of tree_clock history event).0
+    × ((task.state ≡ state.Joined → ⊥) → slice_get ids task.id ≡ Some (id_of tree_clock history name))
 
 -- what is kept of a message: nothing where none of this name was sent
 abbrev pub IsMessage : History → Text → Option Entry → Type 0
@@ -53,84 +88,169 @@ pub record AreMessages (limits : Limits) (history : History) (messages : message
   pub entries : (name : Text) → IsMessage history name (entry_of messages.messages name)
   pub counted : length messages.messages ≡ message_count history
 
--- what is kept beside these rows
-pub record IsKept (limits : Limits) (rows : List Row) (trees : List EventTree) (places : List ℕ) (ids : List Id) (task_of : Text → Option Task) (count : ℕ) : Type 0 where
-  pub legal : AreLegal limits rows
-  pub few : length rows ≤ limits.events
-  pub small : length rows ≤ 16384
-  pub one_tree : length trees ≡ length rows
-  pub one_place : length places ≡ length rows
-  pub trees_are : (event : ℕ) → 0 < event → event ≤ length rows → slice_get trees (event - 1) ≡ Some (tree_of tree_clock (history_of rows) event)
-  pub places_are : (event : ℕ) → 0 < event → event ≤ length rows → IsPlace ids (history_of rows) event (slice_get places (event - 1))
-  pub tasks : (name : Text) → IsTask ids (history_of rows) name (task_of name)
-  pub counted : count ≡ task_count (history_of rows)
+-- what is told of each event, in the order of the events
+abbrev pub of_each : {A : Type 0} → (History → ℕ → A) → History → List A
+of_each told [] = []
+of_each told (row ∷ earlier) = of_each told earlier ++ told (row ∷ earlier) (suc (length earlier)) ∷ []
 
--- the ids that are kept: until the first is, that of `root`, which has every point
-abbrev pub with_seed : List Id → List Id
-with_seed [] = One ∷ []
-with_seed (first ∷ ids) = first ∷ ids
+-- the id of an event's task after it
+abbrev pub id_after : History → ℕ → Id
+id_after history event = (stamp_of tree_clock history event).0
 
--- the ids and the trees that the book has, each as what it means
-abbrev pub ids_in : {S I K : Type 0} → (I → Id) → Book S I K → List Id
-ids_in id book = with_seed (map id book.ids.items)
+-- The book is kept for its rows, with these tasks.
+pub record IsKeptWith (book : Contents) (tasks : Text → Option Task) (count : ℕ) : Type 0 where
+  pub legal : AreLegal book.limits book.rows
+  pub small : length book.rows ≤ 16384
+  pub trees : book.trees ≡ of_each (tree_of tree_clock) (history_in book)
+  pub places : map (slice_get book.ids) book.places ≡ map Some (of_each id_after (history_in book))
+  pub tasks_are : (name : Text) → IsTask book.ids (history_in book) name (tasks name)
+  pub counted : count ≡ task_count (history_in book)
+  pub messages : AreMessages book.limits (history_in book) book.messages
+  pub seeded : 0 < length book.rows → 0 < book.kept_ids
 
-abbrev pub trees_in : {S I K : Type 0} → (K → EventTree) → Book S I K → List EventTree
-trees_in tree book = map tree book.trees.items
+-- and with those that it has
+abbrev pub IsKept : Contents → Type 0
+IsKept book = IsKeptWith book (task_in book) (length book.tasks)
 
--- the task that the book has under the name
-abbrev pub task_in : {S I K : Type 0} → Book S I K → Text → Option Task
-task_in book name = get is_same book.tasks name
-
--- the book is kept for its rows
-pub record IsBook {S I K : Type 0} (tree : K → EventTree) (id : I → Id) (book : Book S I K) : Type 0 where
-  pub kept : IsKept book.limits book.rows.items (trees_in tree book) book.places.items (ids_in id book) (task_in book) (index_map_len book.tasks)
-  pub messages : AreMessages book.limits (history_of book.rows.items) book.messages
-  pub seeded : 0 < length book.rows.items → 0 < length book.ids.items
-
--- the tenant whose book it is
-abbrev pub tenant_of : {S I K : Type 0} → Book S I K → Tenant
-tenant_of book = record { limits = book.limits; rows = book.rows.items }
+-- there is an id, and room for an event, for two ids and for two tasks
+pub record HasRoom (book : Contents) : Type 0 where
+  pub rows : 0 < book.room.rows
+  pub trees : 0 < book.room.trees
+  pub places : 0 < book.room.places
+  pub ids : 2 ≤ book.room.ids
+  pub tasks : 2 ≤ book.room.tasks
+  pub seeded : 0 < book.kept_ids
 
 -- A refusal is the first of these; where there is none, none of these applies.
 abbrev pub Decides : {A : Type 0} → List (Bool × Code) → Result A Code → Type 0
 Decides refusals (Ok value) = (others : List (Bool × Code)) → first_code (refusals ++ others) ≡ first_code others
 Decides refusals (Err code) = (others : List (Bool × Code)) → first_code (refusals ++ others) ≡ Some code
 
--- there is room for an event, for two ids and for two tasks
-pub record HasRoom {S I K : Type 0} (book : Book S I K) : Type 0 where
-  pub rows : vec_len book.rows < vec_capacity book.rows
-  pub trees : vec_len book.trees < vec_capacity book.trees
-  pub places : vec_len book.places < vec_capacity book.places
-  pub ids : vec_len book.ids + 2 ≤ vec_capacity book.ids
-  pub tasks : 2 ≤ spare book.tasks
+-- what each report is refused for first, and last
+abbrev pub refusals_of_task : Contents → Text → List (Bool × Code)
+refusals_of_task book task = (not (is_known (history_in book) task), NoTask) ∷ (is_ended (history_in book) task, TaskEnded) ∷ []
 
--- both have the same in them, but for the seed
-pub record HaveTheSame {S I K : Type 0} (old new : Book S I K) : Type 0 where
-  pub limits : new.limits ≡ old.limits
-  pub rows : new.rows.items ≡ old.rows.items
-  pub trees : new.trees.items ≡ old.trees.items
-  pub places : new.places.items ≡ old.places.items
-  pub tasks : new.tasks.entries ≡ old.tasks.entries
-  pub messages : new.messages ≡ old.messages
+abbrev pub refusals_of_room : Contents → List (Bool × Code)
+refusals_of_room book = (has_all_events book.limits (history_in book), EventsFull) ∷ []
 
--- a report of this kind about itself leaves its task in this state
-abbrev pub LeavesState : Kind → TaskState → Type 0
-LeavesState kind state = ((kind ≡ Local) × (state ≡ Live)) ⊎ ((kind ≡ End) × (state ≡ Ended))
+-- what it is refused for in between, for what it names
+abbrev pub refusals_of_named : Contents → Option Text → Kind → List (Bool × Code)
+refusals_of_named book None kind = []
+refusals_of_named book (Some name) Local = []
+refusals_of_named book (Some child) Spawn =
+    (is_known (history_in book) child, TaskExists) ∷ (has_all_tasks book.limits (history_in book), TasksFull) ∷ []
+refusals_of_named book (Some message) Send =
+    (is_sent (history_in book) message, MessageExists) ∷ (has_all_messages book.limits (history_in book), MessagesFull) ∷ []
+refusals_of_named book (Some message) Recv =
+    (not (is_sent (history_in book) message), NoMessage) ∷ (is_received (history_in book) message, AlreadyReceived) ∷ []
+refusals_of_named book (Some name) End = []
+refusals_of_named book (Some child) Join =
+    (not (is_known (history_in book) child), NoTask) ∷ (not (is_ended (history_in book) child), NotEnded)
+    ∷ (is_joined (history_in book) child, AlreadyJoined) ∷ []
 
--- each id stands where it stood
-abbrev pub Stay : List Id → List Id → Type 0
-Stay ids ids' = (place : ℕ) (id : Id) → slice_get ids place ≡ Some id → slice_get ids' place ≡ Some id
+-- all of it, in the order in which it is looked at
+abbrev pub refusals_of_report : Contents → Text → Kind → Option Text → List (Bool × Code)
+refusals_of_report book task kind name = refusals_of_task book task ++ refusals_of_named book name kind ++ refusals_of_room book
 
--- what is asked of what is kept with one more row
-pub record IsNext (limits : Limits) (rows : List Row) (ids : List Id) (row : Row) (tree : EventTree) (place : ℕ) (ids' : List Id) (task_of' : Text → Option Task) (count' : ℕ) : Type 0 where
-  pub legal : AreLegal limits (rows ++ row ∷ [])
-  pub few : length rows < limits.events
-  pub small : limits.events ≤ 16384
-  pub tree_is : tree ≡ tree_of tree_clock (row ∷ history_of rows) (suc (length (history_of rows)))
-  pub place_is : slice_get ids' place ≡ Some (id_of tree_clock (row ∷ history_of rows) row.task)
-  pub stay : Stay ids ids'
-  pub tasks : (name : Text) → IsTask ids' (row ∷ history_of rows) name (task_of' name)
-  pub counted : count' ≡ task_count (row ∷ history_of rows)
+-- the name, where there is one, can be written
+abbrev pub IsWritten : Option Text → Type 0
+IsWritten None = Unit {0}
+IsWritten (Some name) = IsTrue (is_name name)
+
+-- the request reports this
+pub record Reports (book : Contents) (request : Request) (task : Text) (kind : Kind) (name : Option Text) : Type 0 where
+  pub answer : answer_to (history_in book) request ≡ accepted (history_in book) task kind name
+  pub refused_for : refusals book.limits (history_in book) request ≡ refusals_of_report book task kind name
+  pub written : IsTrue (is_name task) → IsWritten name → CanBeWritten request
+
+-- what the book has of the task that a report of this kind takes in
+abbrev pub joined_by : (Text → Option Task) → Kind → Option Text → Option Task
+joined_by tasks Local name = None
+joined_by tasks Spawn name = None
+joined_by tasks Send name = None
+joined_by tasks Recv name = None
+joined_by tasks End name = None
+joined_by tasks Join name = of_named None tasks name
+
+-- the message that such a report sends or receives is not refused
+abbrev pub MayNote : message_book.Book → Option Text → Kind → Type 0
+MayNote messages None kind = Unit {0}
+MayNote messages (Some name) Local = Unit {0}
+MayNote messages (Some name) Spawn = Unit {0}
+MayNote messages (Some name) Send = refusal_of_send messages name ≡ None
+MayNote messages (Some name) Recv = refusal_of_receive messages name ≡ None
+MayNote messages (Some name) End = Unit {0}
+MayNote messages (Some name) Join = Unit {0}
+
+-- the row of a report
+abbrev pub row_of_report : Contents → Report → Row
+row_of_report book report = row_after (history_in book) report.task report.kind report.name
+
+-- The report is not refused, and this is what the book has of those that it speaks of.
+pub record IsReport (book : Contents) (report : Report) : Type 0 where
+  pub legal : AreLegal book.limits (book.rows ++ row_of_report book report ∷ [])
+  pub few : length book.rows < 16384
+  pub acting : task_in book report.task ≡ Some report.acting
+  pub second : report.second ≡ second_event (history_in book) report.kind report.name
+  pub joined : report.joined ≡ joined_by (task_in book) report.kind report.name
+  pub may : MayNote book.messages report.name report.kind
+
+-- the ids that a report of this kind makes, of its task's id and of that of the task that it names
+abbrev pub ids_made : Kind → Id → Id → Ids
+ids_made Local own named = ids.Same
+ids_made Spawn own named = ids.Split (split own).0 (split own).1
+ids_made Send own named = ids.Same
+ids_made Recv own named = ids.Same
+ids_made End own named = ids.Same
+ids_made Join own named = ids.Sum (sum own named)
+
+abbrev pub made_ids : Ids → List Id
+made_ids ids.Same = []
+made_ids (ids.Split kept given) = kept ∷ given ∷ []
+made_ids (ids.Sum id) = id ∷ []
+
+-- the id with which the event is made, of a task that has this one
+abbrev pub id_for : Ids → Id → Id
+id_for ids.Same own = own
+id_for (ids.Split kept given) own = own
+id_for (ids.Sum id) own = id
+
+-- what is to be kept of its task, as this event and with the first of these ids at this place
+abbrev pub acting_after : Kind → ℕ → ℕ → Task → Task
+acting_after Local event place task = record task { last = event }
+acting_after Spawn event place task = record task { last = event; id = place }
+acting_after Send event place task = record task { last = event }
+acting_after Recv event place task = record task { last = event }
+acting_after End event place task = record task { last = event; state = state.Ended }
+acting_after Join event place task = record task { last = event; id = place }
+
+-- what is to be kept of the task that it names, where it starts or takes in one
+abbrev pub named_after : Kind → ℕ → ℕ → Option Task → Option Task
+named_after Local event place joined = None
+named_after Spawn event place joined = Some (record { state = state.Live; last = event; id = suc place })
+named_after Send event place joined = None
+named_after Recv event place joined = None
+named_after End event place joined = None
+named_after Join event place None = None
+named_after Join event place (Some task) = Some (record task { state = state.Joined })
+
+-- What is to be kept of an event: its row, what it knows, the ids that it makes, and its tasks.
+pub record Event : Type 0 where
+  pub row : Row
+  pub tree : EventTree
+  pub ids : List Id
+  pub acting : Task
+  pub named : Option Task
+
+-- what is to be kept of a report
+abbrev pub event_of : Contents → Report → Event
+event_of book report = record {
+  row = row_of_report book report;
+  tree = tree_of tree_clock (row_of_report book report ∷ history_in book) (suc (length (history_in book)));
+  ids = made_ids (ids_made report.kind (id_of tree_clock (history_in book) report.task) (of_named Zero (id_of tree_clock (history_in book)) report.name));
+  acting = acting_after report.kind (suc (length (history_in book))) (length book.ids) report.acting;
+  named = named_after report.kind (suc (length (history_in book))) (length book.ids) report.joined;
+}
 
 -- what is kept under each name, and how many tasks there are, once a task is kept under this one
 abbrev pub task_with : Text → Task → (Text → Option Task) → Text → Option Task
@@ -150,43 +270,50 @@ count_with_some None name task_of count = count
 count_with_some (Some task) None task_of count = count
 count_with_some (Some task) (Some name) task_of count = count_with name task_of count
 
+-- the book with the event, but for its message and its tasks
+abbrev pub with_event : Event → Contents → Contents
+with_event event book = record book {
+  rows = book.rows ++ event.row ∷ [];
+  trees = book.trees ++ event.tree ∷ [];
+  places = book.places ++ event.acting.id ∷ [];
+  ids = book.ids ++ event.ids;
+}
+
+-- its tasks, and how many they are
+abbrev pub tasks_with : Event → Contents → Text → Option Task
+tasks_with event book = task_with event.row.task event.acting (task_with_some event.named event.row.name (task_in book))
+
+abbrev pub task_count_with : Event → Contents → ℕ
+task_count_with event book =
+    count_with event.row.task (task_with_some event.named event.row.name (task_in book)) (count_with_some event.named event.row.name (task_in book) (length book.tasks))
+
 -- what a report of this kind, with this name and as this event, makes of the messages
-abbrev pub Notes : Kind → Option Text → ℕ → message_book.Book → message_book.Book → Type 0
-Notes Local name event before after = after ≡ before
-Notes Spawn name event before after = after ≡ before
-Notes Send None event before after = ⊥
-Notes Send (Some name) event before after = after ≡ record before { messages = with_message name event before.messages }
-Notes Recv None event before after = ⊥
-Notes Recv (Some name) event before after =
+abbrev pub Notes : Option Text → Kind → ℕ → message_book.Book → message_book.Book → Type 0
+Notes None kind event before after = after ≡ before
+Notes (Some name) Local event before after = after ≡ before
+Notes (Some name) Spawn event before after = after ≡ before
+Notes (Some name) Send event before after = after ≡ record before { messages = with_message name event before.messages }
+Notes (Some name) Recv event before after =
     (refusal_of_receive before name ≡ None) × (after ≡ record before { messages = with_receipt name event before.messages })
-Notes End name event before after = after ≡ before
-Notes Join name event before after = after ≡ before
+Notes (Some name) End event before after = after ≡ before
+Notes (Some name) Join event before after = after ≡ before
 
--- The report of the draft can be added to the book, which has its message and room for all else; and it can be dropped.
-pub record IsReady {S I K : Type 0} (tree : K → EventTree) (id : I → Id) (book : Book S I K) (draft : Draft S I K) : Type 0 where
+-- The event can be added to the book, which has its message and room for all else; and it can be dropped.
+pub record IsReady (book : Contents) (event : Event) : Type 0 where
   pub before : message_book.Book
-  pub was : IsBook tree id (record book { messages = before })
-  pub notes : Notes draft.row.kind draft.row.name (length book.rows.items + 1) before book.messages
-  pub messages : AreMessages book.limits (draft.row ∷ history_of book.rows.items) book.messages
-  pub next : IsNext book.limits book.rows.items (ids_in id book) draft.row (tree draft.tree) draft.acting.id
-      (ids_in id book ++ map id (option_to_list draft.first) ++ map id (option_to_list draft.second))
-      (task_with draft.row.task draft.acting (task_with_some draft.named draft.row.name (task_in book)))
-      (count_with draft.row.task (task_with_some draft.named draft.row.name (task_in book)) (count_with_some draft.named draft.row.name (task_in book) (index_map_len book.tasks)))
+  pub was : IsKept (record book { messages = before })
+  pub notes : Notes event.row.name event.row.kind (suc (length book.rows)) before book.messages
+  pub next : IsKeptWith (with_event event book) (tasks_with event book) (task_count_with event book)
   pub room : HasRoom book
-  pub seeded : 0 < length book.ids.items
 
--- The draft of the row is ready; or there was no memory, and the book is kept for the rows that it had.
-abbrev pub Drafts : {S I K : Type 0} → (K → EventTree) → (I → Id) → Result (Draft S I K) Memory → Book S I K → Row → Book S I K → Type 0
-Drafts tree id (Ok draft) old row new = IsReady tree id new draft × (tenant_of new ≡ tenant_of old) × (draft.row ≡ row)
-Drafts tree id (Err memory) old row new = IsBook tree id new × (tenant_of new ≡ tenant_of old)
-
--- The draft of the request is ready, and with its row the tenant's step is done; or the request was refused, or there
+-- The event of the request is ready, and with its row the tenant's step is done; or the request was refused, or there
 -- was no memory where that may be.
-abbrev pub Prepares : {S I K : Type 0} → (K → EventTree) → (I → Id) → Result (Draft S I K) Code → Tenant → Request → Book S I K → Type 0
-Prepares tree id (Ok draft) old request new =
-    IsReady tree id new draft × (tenant_of new ≡ old) × (step old request ≡ (reply.Accepted (suc (length old.rows)), with_row old (Some draft.row)))
-Prepares tree id (Err code) old request new =
-    IsBook tree id new × (tenant_of new ≡ old) × Steps old request (reply.Refused code) old
+abbrev pub Prepares : Result Event Code → Contents → Request → Contents → Type 0
+Prepares (Ok event) old request new =
+    IsReady new event × (tenant_of new ≡ tenant_of old)
+    × (step (tenant_of old) request ≡ (reply.Accepted (suc (length old.rows)), with_row (tenant_of old) (Some event.row)))
+Prepares (Err code) old request new =
+    IsKept new × (tenant_of new ≡ tenant_of old) × Steps (tenant_of old) request (reply.Refused code) (tenant_of old)
 
 -- the code with which a query about events is refused
 abbrev pub code_of : QueryFault → Code

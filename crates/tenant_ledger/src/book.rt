@@ -1,18 +1,19 @@
 //! What a ledger keeps.
-ghost use Rattle.std.specs.Prelude.{◌≡◌, ℕ, ◌+◌, ◌-◌, ◌<◌, ◌≤◌, ◌∷◌, [], true, IfOk, OnOk, IfErr, IsTrue, Some, None, length, not, option_to_list, slice_get, vec_len, vec_capacity, ◌++◌, map};
-ghost use Rattle.indexmap.specs.IndexMap.{index_map_len, spare};
+ghost use Rattle.std.specs.Prelude.{◌≡◌, ℕ, suc, ◌+◌, ◌-◌, false, ◌<◌, ◌≤◌, ◌∷◌, [], true, IfOk, OnOk, OnErr, IfErr, IfSome, IsTrue, is_some, Some, None, length, not, option_to_list, slice_get, vec_len, vec_capacity, ◌++◌, map};
+ghost use Rattle.std.specs.Result.{result_err};
+ghost use Rattle.indexmap.specs.IndexMap.{get, index_map_len, spare};
 ghost use Rattle.trace_types.specs.Name.{Text as Characters, is_name, is_same};
-ghost use Rattle.trace_types.specs.Rows.{history_of, is_event, is_known, is_ended, is_joined, is_sent, is_received, send_event};
-ghost use Rattle.trace_types.specs.Reachability.{increasing};
-ghost use Rattle.trace_types.specs.Refusal.{has_all_events, has_all_tasks, has_all_messages};
+ghost use Rattle.trace_types.specs.Id.{Zero};
+ghost use Rattle.trace_types.specs.Rows.{history_of, row_of, is_event, is_known, is_ended, is_joined, is_sent, is_received, send_event};
+ghost use Rattle.trace_types.specs.Reachability.{increasing, second_event};
+ghost use Rattle.trace_types.specs.Refusal.{has_all_events, has_all_tasks, has_all_messages, refusal_of, first_code};
 ghost use Rattle.trace_types.specs.Clock.{tree_clock};
-ghost use Rattle.trace_types.specs.Stamps.{tree_of, stamp_text_of};
-ghost use Rattle.trace_types.specs.Tenant.{fresh, is_report, row_after, with_row};
+ghost use Rattle.trace_types.specs.Stamps.{id_of, tree_of, acting_id, of_named, takes_in, stamp_text_of};
+ghost use Rattle.trace_types.specs.Tenant.{fresh, is_report, row_after, with_row, answer_to, accepted};
 ghost use Rattle.trace_types.specs.EventTree.{Leaf};
-ghost use Rattle.trace_types.specs.declared.request.Request.TheVariants as request;
 ghost use Rattle.message_book.specs.Book.{refusal_of_send, refusal_of_receive, entry_of};
 ghost use Rattle.message_book.specs.Book.{Book as Messages};
-ghost use Rattle.tenant_ledger.specs.Ledger.{IsBook, HasRoom, HaveTheSame, task_in, tenant_of, Decides, LeavesState, task_with, count_with, task_with_some, count_with_some, Notes, IsReady, Drafts, Prepares};
+ghost use Rattle.tenant_ledger.specs.Ledger.{IsKept, HasRoom, history_in, task_in, tenant_of, Decides, refusals_of_task, refusals_of_named, refusals_of_room, refusals_of_report, MayNote, joined_by, IsReport, IsWritten, Reports, row_of_report, id_for, ids_made, made_ids, acting_after, named_after, event_of, task_with, count_with, task_with_some, count_with_some, Notes, IsReady, Prepares};
 
 use crate::share::{Keep, MeantId, Share};
 use event_tree::EvTree;
@@ -21,14 +22,17 @@ use indexmap::IndexMap;
 use message_book::{Entry, MessageBook};
 use stamp_codec::write_parts;
 use std::alloc::Global;
+use std::marker::Model;
 use trace_query::Meant;
 use trace_types::{Code, Kind, Limits, Memory, Name, Preds, Request, Row, TaskState, Text};
 
 /// The rows, and what is kept beside them.
+///
+/// Contracts see the trees and the ids as what they mean.
 #[derive(Drop)]
 pub(crate) struct Book<S: Keep> {
-    pub(crate) limits: Limits,
-    pub(crate) rows: Vec<Row>,
+    limits: Limits,
+    rows: Vec<Row>,
     alloc: Global,
     /// What each event knows, in the order of the events.
     trees: Vec<S::Kept>,
@@ -40,6 +44,37 @@ pub(crate) struct Book<S: Keep> {
     messages: MessageBook,
 }
 
+impl<S: Keep> Model for Book<S> {
+    ghost use Rattle.std.specs.Prelude.{◌-◌, length, map, vec_len, vec_capacity};
+    ghost use Rattle.std.specs.Coded.{codes};
+    ghost use Rattle.indexmap.specs.IndexMap.{spare};
+    ghost use Rattle.event_tree.specs.EventTreeCode.{event_tree_code};
+    ghost use Rattle.id_tree.specs.IdCode.{id_code};
+    ghost use Rattle.tenant_ledger.specs.Ledger.{Contents, with_seed};
+
+    ghost Value = { Contents };
+
+    ghost coded = { Prim.hlevel (codes, event_tree_code, id_code) };
+
+    ghost view = { λ b. record {
+        limits = b.limits;
+        rows = b.rows.items;
+        trees = map S.Kept.tree b.trees.items;
+        places = b.places.items;
+        ids = with_seed (map S.Id.id b.ids.items);
+        kept_ids = length b.ids.items;
+        tasks = b.tasks.entries;
+        messages = b.messages;
+        room = record {
+            rows = vec_capacity b.rows - vec_len b.rows;
+            trees = vec_capacity b.trees - vec_len b.trees;
+            places = vec_capacity b.places - vec_len b.places;
+            ids = vec_capacity b.ids - vec_len b.ids;
+            tasks = spare b.tasks;
+        };
+    } };
+}
+
 /// A task that was started.
 #[derive(Clone, Copy)]
 pub(crate) struct Task {
@@ -47,12 +82,89 @@ pub(crate) struct Task {
     /// Its last event, else the event that started it, else 0.
     pub(crate) last: u64,
     /// The place of its id; of a joined task it is not asked.
-    id: usize,
+    pub(crate) id: usize,
 }
 
-/// A report that is not refused, and what is to be kept with its row.
+/// A report that is not refused, and what the book has of those that it speaks of.
+#[derive(Clone, Copy)]
+struct Report {
+    task: Name,
+    kind: Kind,
+    name: Option<Name>,
+    acting: Task,
+    /// The event beside the acting task's last one that it follows, or 0.
+    second: u64,
+    /// The task that it takes in.
+    joined: Option<Task>,
+}
+
+impl Report {
+    /// What is to be kept of the acting task, as this event, with the first of the ids that are made at this place.
+    fn acting_after(&self, event: u64, place: usize) -> Task
+        ensures { result ≡ acting_after self.now.kind event place self.now.acting }
+    {
+        let task = Task {
+            last: event,
+            ..self.acting
+        };
+        match self.kind {
+            Kind::Local | Kind::Send | Kind::Recv => task,
+            Kind::End => Task {
+                state: TaskState::Ended,
+                ..task
+            },
+            Kind::Spawn | Kind::Join => Task { id: place, ..task },
+        }
+    }
+
+    /// What is to be kept of the task that it starts or takes in.
+    fn named_after(&self, event: u64, place: usize) -> Option<Task>
+        requires { place < 18446744073709551615 }
+        ensures { result ≡ named_after self.now.kind event place self.now.joined }
+    {
+        match self.kind {
+            Kind::Local | Kind::Send | Kind::Recv | Kind::End => None,
+            Kind::Spawn => Some(Task {
+                state: TaskState::Live,
+                last: event,
+                id: place + 1,
+            }),
+            Kind::Join => match self.joined {
+                Some(task) => Some(Task {
+                    state: TaskState::Joined,
+                    ..task
+                }),
+                None => None,
+            },
+        }
+    }
+}
+
+/// The ids that an event makes.
+#[derive(Drop)]
+enum Ids {
+    Same,
+    /// The part that the task keeps, and the one that it gives the task that it starts.
+    Split(IdTree, IdTree),
+    Sum(IdTree),
+}
+
+impl Ids {
+    /// The id with which the event is made, of a task that has this one.
+    fn acting<'a>(&'a self, own: &'a IdTree) -> &'a IdTree
+        ensures { result.now ≡ id_for self.now own.now }
+    {
+        match self {
+            Ids::Same | Ids::Split(..) => own,
+            Ids::Sum(id) => id,
+        }
+    }
+}
+
+/// What is to be kept of an event.
+#[derive(Drop)]
 pub(crate) struct Draft<S: Keep> {
-    pub(crate) row: Row,
+    row: Row,
     tree: S::Kept,
     /// The ids that it makes, which are to stand after those that the book has.
     first: Option<S::Id>,
@@ -63,35 +175,45 @@ pub(crate) struct Draft<S: Keep> {
     named: Option<Task>,
 }
 
+impl<S: Keep> Model for Draft<S> {
+    ghost use Rattle.std.specs.Prelude.{◌++◌, map, option_to_list};
+    ghost use Rattle.std.specs.Coded.{codes};
+    ghost use Rattle.event_tree.specs.EventTreeCode.{event_tree_code};
+    ghost use Rattle.id_tree.specs.IdCode.{id_code};
+    ghost use Rattle.tenant_ledger.specs.Ledger.{Event};
+
+    ghost Value = { Event };
+
+    ghost coded = { Prim.hlevel (codes, event_tree_code, id_code) };
+
+    ghost view = { λ d. record {
+        row = d.row;
+        tree = S.Kept.tree d.tree;
+        ids = map S.Id.id (option_to_list d.first ++ option_to_list d.second);
+        acting = d.acting;
+        named = d.named;
+    } };
+}
+
 impl<S: Keep> Draft<S> {
-    /// What its event knows, as it is kept.
-    pub(crate) fn tree(&self) -> &S::Kept
-        ensures { result.now ≡ self.now.tree }
+    pub(crate) fn row(&self) -> &Row
+        ensures { result.now ≡ self.now.row }
     {
-        &self.tree
+        &self.row
     }
 
-    /// Drops all but the row.
-    fn into_row(self) -> Row
-        ensures { result ≡ self.row }
+    /// What its event knows, as it is kept.
+    pub(crate) fn tree(&self) -> &S::Kept
+        ensures { S.Kept.tree result.now ≡ self.now.tree }
     {
-        let Draft {
-            row,
-            tree,
-            first,
-            second,
-            acting: _,
-            named: _,
-        } = self;
-        drop((tree, first, second));
-        row
+        &self.tree
     }
 }
 
 impl<S: Keep> Book<S> {
     /// The book of a tenant that has reported nothing: it has the task `root`.
     pub(crate) fn new(alloc: Global, limits: Limits) -> Result<Book<S>, Memory>
-        ensures book { IfOk result (IsBook S.Kept.tree S.Id.id) }
+        ensures book { IfOk result IsKept }
         ensures fresh { IfOk result (λ book. tenant_of book ≡ fresh limits) }
     {
         let mut tasks = IndexMap::new(alloc);
@@ -113,15 +235,34 @@ impl<S: Keep> Book<S> {
         })
     }
 
+    /// The accepted rows, the oldest first.
+    pub(crate) fn rows(&self) -> &[Row]
+        ensures { result.now ≡ self.now.rows }
+    {
+        &self.rows
+    }
+
+    /// The row of the event, where there is one.
+    pub(crate) fn row(&self, event: u64) -> Option<&Row>
+        ensures some { IfSome result (λ row. row_of (history_in self.now) event ≡ Some row.now) }
+        ensures there { is_some result ≡ is_event (history_in self.now) event }
+    {
+        if 0 < event && event <= self.event_count() {
+            Some(&self.rows[event as usize - 1])
+        } else {
+            None
+        }
+    }
+
     pub(crate) fn event_count(&self) -> u64
-        ensures { result ≡ length self.now.rows.items }
+        ensures { result ≡ length self.now.rows }
     {
         self.rows.len() as u64
     }
 
     /// How many tasks there ever were.
     pub(crate) fn task_count(&self) -> u64
-        ensures { result ≡ index_map_len self.now.tasks }
+        ensures { result ≡ length self.now.tasks }
     {
         self.tasks.len() as u64
     }
@@ -133,51 +274,60 @@ impl<S: Keep> Book<S> {
         self.messages.message_count()
     }
 
-    pub(crate) fn is_event(&self, event: u64) -> bool
-        ensures { result ≡ is_event (history_of self.now.rows.items) event }
-    {
-        0 < event && event <= self.event_count()
-    }
-
     /// What each event knows, in the order of the events.
     pub(crate) fn trees(&self) -> &[S::Kept]
-        ensures { result.now ≡ self.now.trees.items }
+        ensures { map S.Kept.tree result.now ≡ self.now.trees }
     {
         &self.trees
     }
 
     /// What the book allocates from.
-    pub(crate) fn alloc(&self) -> Global
-        ensures { result ≡ self.now.alloc }
-    {
+    pub(crate) fn alloc(&self) -> Global {
         self.alloc
     }
 
     /// The tree that is kept of the event.
     fn tree(&self, event: u64) -> &EvTree
-        requires book { IsBook S.Kept.tree S.Id.id self.now }
-        requires event { is_event (history_of self.now.rows.items) event ≡ true }
-        ensures { result.now ≡ tree_of tree_clock (history_of self.now.rows.items) event }
+        requires { (0 < event) × (event ≤ length self.now.trees) }
+        ensures { slice_get self.now.trees (event - 1) ≡ Some result.now }
     {
         S::tree_value(&self.trees[event as usize - 1])
     }
 
+    /// The place of the id of the event's task after it.
+    fn place(&self, event: u64) -> usize
+        requires { (0 < event) × (event ≤ length self.now.places) }
+        ensures { slice_get self.now.places (event - 1) ≡ Some result }
+    {
+        self.places[event as usize - 1]
+    }
+
     /// The id that is kept at the place.
     fn id(&self, place: usize) -> &IdTree
-        requires { place < length self.now.ids.items }
-        ensures { slice_get (map S.Id.id self.now.ids.items) place ≡ Some result.now }
+        requires place { place < length self.now.ids }
+        requires seeded { 0 < self.now.kept_ids }
+        ensures { slice_get self.now.ids place ≡ Some result.now }
     {
         S::id_value(&self.ids[place])
     }
 
+    /// How many ids are kept.
+    fn id_count(&self) -> usize
+        requires { 0 < self.now.kept_ids }
+        ensures count { result ≡ length self.now.ids }
+        ensures small { result < 18446744073709551615 }
+    {
+        self.ids.len()
+    }
+
     /// The text of the event's stamp.
     pub(crate) fn stamp_text(&self, event: u64) -> Result<Text, Memory>
-        requires book { IsBook S.Kept.tree S.Id.id self.now }
-        requires event { is_event (history_of self.now.rows.items) event ≡ true }
-        ensures { IfOk result (λ text. text ≡ stamp_text_of (history_of self.now.rows.items) event) }
+        requires book { IsKept self.now }
+        requires event { is_event (history_in self.now) event ≡ true }
+        ensures { IfOk result (λ text. text ≡ stamp_text_of (history_in self.now) event) }
     {
-        let place = self.places[event as usize - 1];
-        let text = write_parts(self.alloc, self.id(place), self.tree(event))?;
+        let id = self.id(self.place(event));
+        let text = write_parts(self.alloc, id, self.tree(event))?;
         Ok(Text::from(text))
     }
 
@@ -205,10 +355,9 @@ impl<S: Keep> Book<S> {
 
     /// The task, where it may report; else `NoTask` or `TaskEnded`.
     fn live_task(&self, name: &Name) -> Result<Task, Code>
-        requires { IsBook S.Kept.tree S.Id.id self.now }
-        ensures task { IfOk result (λ task. (task_in self.now name.now ≡ Some task) × (task.state ≡ TaskState.Live)) }
-        ensures decides { Decides ((not (is_known (history_of self.now.rows.items) name.now), Code.NoTask)
-            ∷ (is_ended (history_of self.now.rows.items) name.now, Code.TaskEnded) ∷ []) result }
+        requires { IsKept self.now }
+        ensures task { IfOk result (λ task. task_in self.now name.now ≡ Some task) }
+        ensures decides { Decides (refusals_of_task self.now name.now) result }
     {
         let task = self.task(name)?;
         match task.state {
@@ -219,11 +368,9 @@ impl<S: Keep> Book<S> {
 
     /// The task, where it may be joined; else `NoTask`, `NotEnded` or `AlreadyJoined`.
     fn ended_task(&self, name: &Name) -> Result<Task, Code>
-        requires { IsBook S.Kept.tree S.Id.id self.now }
-        ensures task { IfOk result (λ task. (task_in self.now name.now ≡ Some task) × (task.state ≡ TaskState.Ended)) }
-        ensures decides { Decides ((not (is_known (history_of self.now.rows.items) name.now), Code.NoTask)
-            ∷ (not (is_ended (history_of self.now.rows.items) name.now), Code.NotEnded)
-            ∷ (is_joined (history_of self.now.rows.items) name.now, Code.AlreadyJoined) ∷ []) result }
+        requires { IsKept self.now }
+        ensures task { IfOk result (λ task. task_in self.now name.now ≡ Some task) }
+        ensures decides { Decides (refusals_of_named self.now (Some name.now) Kind.Join) result }
     {
         let task = self.task(name)?;
         match task.state {
@@ -235,51 +382,122 @@ impl<S: Keep> Book<S> {
 
     /// Refuses one task more at the limit, and a task that exists.
     fn check_child(&self, name: &Name) -> Result<(), Code>
-        requires { IsBook S.Kept.tree S.Id.id self.now }
-        ensures child { OnOk result (task_in self.now name.now ≡ None) }
-        ensures few { OnOk result (index_map_len self.now.tasks < self.now.limits.tasks) }
-        ensures decides { Decides ((is_known (history_of self.now.rows.items) name.now, Code.TaskExists)
-            ∷ (has_all_tasks self.now.limits (history_of self.now.rows.items), Code.TasksFull) ∷ []) result }
+        requires { IsKept self.now }
+        ensures decides { Decides (refusals_of_named self.now (Some name.now) Kind.Spawn) result }
     {
-        if self.tasks.contains_key(name) {
-            Err(Code::TaskExists)
-        } else if self.task_count() >= self.limits.tasks() {
-            Err(Code::TasksFull)
-        } else {
-            Ok(())
+        match self.task(name) {
+            Ok(_) => Err(Code::TaskExists),
+            Err(_) if self.task_count() >= self.limits.tasks() => Err(Code::TasksFull),
+            Err(_) => Ok(()),
         }
     }
 
     /// Refuses a message that was sent, and one message more at the limit.
     fn check_message(&self, name: &Name) -> Result<(), Code>
-        requires { IsBook S.Kept.tree S.Id.id self.now }
+        requires { IsKept self.now }
         ensures may { OnOk result (refusal_of_send self.now.messages name.now ≡ None) }
-        ensures decides { Decides ((is_sent (history_of self.now.rows.items) name.now, Code.MessageExists)
-            ∷ (has_all_messages self.now.limits (history_of self.now.rows.items), Code.MessagesFull) ∷ []) result }
+        ensures decides { Decides (refusals_of_named self.now (Some name.now) Kind.Send) result }
     {
         self.messages.check_send(name)
     }
 
     /// The event that sent the message, where the message may be received; else `NoMessage` or `AlreadyReceived`.
     fn sent_message(&self, name: &Name) -> Result<u64, Code>
-        requires { IsBook S.Kept.tree S.Id.id self.now }
+        requires { IsKept self.now }
         ensures may { OnOk result (refusal_of_receive self.now.messages name.now ≡ None) }
-        ensures sent { IfOk result (λ event. event ≡ send_event (history_of self.now.rows.items) name.now) }
-        ensures decides { Decides ((not (is_sent (history_of self.now.rows.items) name.now), Code.NoMessage)
-            ∷ (is_received (history_of self.now.rows.items) name.now, Code.AlreadyReceived) ∷ []) result }
+        ensures sent { IfOk result (λ event. event ≡ send_event (history_in self.now) name.now) }
+        ensures decides { Decides (refusals_of_named self.now (Some name.now) Kind.Recv) result }
     {
         self.messages.check_receive(name)
     }
 
     /// Refuses one event more at the limit.
     fn check_room(&self) -> Result<(), Code>
-        ensures room { OnOk result (length self.now.rows.items < self.now.limits.events) }
-        ensures decides { Decides ((has_all_events self.now.limits (history_of self.now.rows.items), Code.EventsFull) ∷ []) result }
+        ensures room { OnOk result (length self.now.rows < 16384) }
+        ensures decides { Decides (refusals_of_room self.now) result }
     {
         if self.event_count() < self.limits.events() {
             Ok(())
         } else {
             Err(Code::EventsFull)
+        }
+    }
+
+    /// What the book has of the task or message that a report of this kind names, where it is not refused for it.
+    fn named(&self, kind: Kind, name: &Option<Name>) -> Result<(u64, Option<Task>), Code>
+        requires { IsKept self.now }
+        ensures found { IfOk result (λ found. found ≡ (second_event (history_in self.now) kind name.now, joined_by (task_in self.now) kind name.now)) }
+        ensures may { OnOk result (MayNote self.now.messages name.now kind) }
+        ensures written { OnOk result (IsWritten name.now) }
+        ensures decides { Decides (refusals_of_named self.now name.now kind) result }
+    {
+        let Some(name) = *name else {
+            return Ok((0, None));
+        };
+        can_be_written(&name);
+        match kind {
+            Kind::Local => Ok((0, None)),
+            Kind::Spawn => {
+                self.check_child(&name)?;
+                Ok((0, None))
+            }
+            Kind::Send => {
+                self.check_message(&name)?;
+                Ok((0, None))
+            }
+            Kind::Recv => Ok((self.sent_message(&name)?, None)),
+            Kind::End => Ok((0, None)),
+            Kind::Join => {
+                let task = self.ended_task(&name)?;
+                Ok((task.last, Some(task)))
+            }
+        }
+    }
+
+    /// The report, where it is not refused.
+    fn check(&self, task: Name, kind: Kind, name: Option<Name>) -> Result<Report, Code>
+        requires book { IsKept self.now }
+        requires request { (request : Request) × Reports self.now request task kind name }
+        ensures report { IfOk result (λ report. IsReport self.now report × (report.task ≡ task) × (report.kind ≡ kind) × (report.name ≡ name)) }
+        ensures refused { result_err result ≡ first_code (refusals_of_report self.now task kind name) }
+    {
+        can_be_written(&task);
+        let acting = self.live_task(&task)?;
+        let (second, joined) = self.named(kind, &name)?;
+        self.check_room()?;
+        Ok(Report {
+            task,
+            kind,
+            name,
+            acting,
+            second,
+            joined,
+        })
+    }
+
+    /// What is reported, where it is not refused.
+    fn report(&self, request: &Request) -> Result<Report, Code>
+        requires book { IsKept self.now }
+        requires report { is_report request.now ≡ true }
+        ensures report { IfOk result (IsReport self.now) }
+        ensures answer { IfOk result (λ report. answer_to (history_in self.now) request.now ≡ accepted (history_in self.now) report.task report.kind report.name) }
+        ensures refused { result_err result ≡ refusal_of self.now.limits (history_in self.now) request.now }
+    {
+        match *request {
+            Request::Local(task) => self.check(task, Kind::Local, None),
+            Request::Spawn(task, child) => self.check(task, Kind::Spawn, Some(child)),
+            Request::Send(task, message) => self.check(task, Kind::Send, Some(message)),
+            Request::Recv(task, message) => self.check(task, Kind::Recv, Some(message)),
+            Request::End(task) => self.check(task, Kind::End, None),
+            Request::Join(task, child) => self.check(task, Kind::Join, Some(child)),
+            Request::Order(..)
+            | Request::Past(_)
+            | Request::Concurrent(_)
+            | Request::Event(_)
+            | Request::Stamp(_)
+            | Request::Task(_)
+            | Request::Message(_)
+            | Request::Count => Err(Code::ViewOnly),
         }
     }
 
@@ -292,339 +510,152 @@ impl<S: Keep> Book<S> {
     ) -> Result<Draft<S>, Code>
     where
         S: Share<R>,
-        requires book { IsBook S.Kept.tree S.Id.id self.old }
+        requires book { IsKept self.old }
         requires report { is_report request.now ≡ true }
-        ensures { Prepares S.Kept.tree S.Id.id result (tenant_of self.old) request.now self.new }
+        ensures { Prepares result self.old request.now self.new }
     {
-        match *request {
-            Request::Local(task) => self.local(rt, share, task),
-            Request::Spawn(task, child) => self.spawn(rt, share, task, child),
-            Request::Send(task, message) => self.send(rt, share, task, message),
-            Request::Recv(task, message) => self.receive(rt, share, task, message),
-            Request::End(task) => self.end(rt, share, task),
-            Request::Join(task, child) => self.join(rt, share, task, child),
-            Request::Order(..)
-            | Request::Past(_)
-            | Request::Concurrent(_)
-            | Request::Event(_)
-            | Request::Stamp(_)
-            | Request::Task(_)
-            | Request::Message(_)
-            | Request::Count => Err(Code::ViewOnly),
+        let report = self.report(request)?;
+        self.make_room(rt, share)?;
+        let draft = self.draft(rt, share, &report)?;
+        self.note(report.kind, report.name)?;
+        Ok(draft)
+    }
+
+    /// What is to be kept of the report's event.
+    fn draft<R>(&self, rt: &R, share: &S, report: &Report) -> Result<Draft<S>, Memory>
+    where
+        S: Share<R>,
+        requires book { IsKept self.now }
+        requires seeded { 0 < self.now.kept_ids }
+        requires report { IsReport self.now report.now }
+        ensures { IfOk result (λ draft. draft ≡ event_of self.now report.now) }
+    {
+        let ids = self.ids_made(report)?;
+        let id = ids.acting(self.id(report.acting.id));
+        let tree = share.keep_tree(rt, self.tree_after(report, id)?)?;
+        let (first, second) = keep_ids(rt, share, ids)?;
+        let event = self.event_count() + 1;
+        let place = self.id_count();
+        Ok(Draft {
+            row: self.row_after(report),
+            tree,
+            first,
+            second,
+            acting: report.acting_after(event, place),
+            named: report.named_after(event, place),
+        })
+    }
+
+    /// The row of the report, which follows its task's last event and the second one.
+    fn row_after(&self, report: &Report) -> Row
+        requires book { IsKept self.now }
+        requires report { IsReport self.now report.now }
+        ensures { result ≡ row_after (history_in self.now) report.now.task report.now.kind report.now.name }
+    {
+        Row {
+            task: report.task,
+            kind: report.kind,
+            name: report.name,
+            preds: increasing(self.alloc, report.acting.last, report.second),
         }
     }
 
-    /// Prepares the report that the task did something by itself.
-    fn local<R>(&mut self, rt: &R, share: &S, name: Name) -> Result<Draft<S>, Code>
-    where
-        S: Share<R>,
-        requires { IsBook S.Kept.tree S.Id.id self.old }
-        ensures { Prepares S.Kept.tree S.Id.id result (tenant_of self.old) (request.Local name) self.new }
+    /// The ids that the report makes.
+    fn ids_made(&self, report: &Report) -> Result<Ids, Memory>
+        requires book { IsKept self.now }
+        requires seeded { 0 < self.now.kept_ids }
+        requires report { IsReport self.now report.now }
+        ensures { IfOk result (λ ids. ids ≡ ids_made report.now.kind (id_of tree_clock (history_in self.now) report.now.task)
+            (of_named Zero (id_of tree_clock (history_in self.now)) report.now.name)) }
     {
-        let task = self.live_task(&name)?;
-        self.check_room()?;
-        self.make_room(rt, share)?;
-        Ok(self.alone(rt, share, name, Kind::Local, task, TaskState::Live)?)
-    }
-
-    /// Prepares the report that the task sends the message.
-    fn send<R>(&mut self, rt: &R, share: &S, name: Name, message: Name) -> Result<Draft<S>, Code>
-    where
-        S: Share<R>,
-        requires { IsBook S.Kept.tree S.Id.id self.old }
-        ensures { Prepares S.Kept.tree S.Id.id result (tenant_of self.old) (request.Send name message) self.new }
-    {
-        let task = self.live_task(&name)?;
-        self.check_message(&message)?;
-        self.check_room()?;
-        self.make_room(rt, share)?;
-        Ok(self.sent(rt, share, name, message, task)?)
-    }
-
-    /// Prepares the report that the task receives the message.
-    fn receive<R>(&mut self, rt: &R, share: &S, name: Name, message: Name) -> Result<Draft<S>, Code>
-    where
-        S: Share<R>,
-        requires { IsBook S.Kept.tree S.Id.id self.old }
-        ensures { Prepares S.Kept.tree S.Id.id result (tenant_of self.old) (request.Recv name message) self.new }
-    {
-        let task = self.live_task(&name)?;
-        let sent = self.sent_message(&message)?;
-        self.check_room()?;
-        self.make_room(rt, share)?;
-        Ok(self.received(rt, share, name, message, task, sent)?)
-    }
-
-    /// Prepares the report that the task ends: its id stays with it.
-    fn end<R>(&mut self, rt: &R, share: &S, name: Name) -> Result<Draft<S>, Code>
-    where
-        S: Share<R>,
-        requires { IsBook S.Kept.tree S.Id.id self.old }
-        ensures { Prepares S.Kept.tree S.Id.id result (tenant_of self.old) (request.End name) self.new }
-    {
-        let task = self.live_task(&name)?;
-        self.check_room()?;
-        self.make_room(rt, share)?;
-        Ok(self.alone(rt, share, name, Kind::End, task, TaskState::Ended)?)
-    }
-
-    /// Prepares the report that the task starts `child`.
-    fn spawn<R>(&mut self, rt: &R, share: &S, name: Name, child: Name) -> Result<Draft<S>, Code>
-    where
-        S: Share<R>,
-        requires { IsBook S.Kept.tree S.Id.id self.old }
-        ensures { Prepares S.Kept.tree S.Id.id result (tenant_of self.old) (request.Spawn name child) self.new }
-    {
-        let task = self.live_task(&name)?;
-        self.check_child(&child)?;
-        self.check_room()?;
-        self.make_room(rt, share)?;
-        Ok(self.forked(rt, share, name, child, task)?)
-    }
-
-    /// Prepares the report that the task takes in `child`, which has ended.
-    fn join<R>(&mut self, rt: &R, share: &S, name: Name, child: Name) -> Result<Draft<S>, Code>
-    where
-        S: Share<R>,
-        requires { IsBook S.Kept.tree S.Id.id self.old }
-        ensures { Prepares S.Kept.tree S.Id.id result (tenant_of self.old) (request.Join name child) self.new }
-    {
-        let task = self.live_task(&name)?;
-        let joined = self.ended_task(&child)?;
-        self.check_room()?;
-        self.make_room(rt, share)?;
-        Ok(self.summed(rt, share, name, child, task, joined)?)
-    }
-
-    /// The draft of an event of a task that keeps its id, and is left in this state.
-    fn alone<R>(
-        &self,
-        rt: &R,
-        share: &S,
-        name: Name,
-        kind: Kind,
-        task: Task,
-        state: TaskState,
-    ) -> Result<Draft<S>, Memory>
-    where
-        S: Share<R>,
-        requires book { IsBook S.Kept.tree S.Id.id self.now }
-        requires space { HasRoom self.now }
-        requires seeded { 0 < length self.now.ids.items }
-        requires task { task_in self.now name ≡ Some task }
-        requires live { task.state ≡ TaskState.Live }
-        requires kind { LeavesState kind state }
-        requires room { length self.now.rows.items < self.now.limits.events }
-        ensures ready { IfOk result (IsReady S.Kept.tree S.Id.id self.now) }
-        ensures row { IfOk result (λ draft. draft.row ≡ row_after (history_of self.now.rows.items) name kind None) }
-    {
-        self.few_events();
-        can_be_written(&name);
-        let row = self.next_row(name, kind, None, task.last, 0);
-        let start = EvTree::leaf(0);
-        let tree = EvTree::event(self.alloc, self.id(task.id), self.known(task.last, &start))?;
-        let stored = share.keep_tree(rt, tree)?;
-        let last = self.event_count() + 1;
-        let id = task.id;
-        Ok(Draft {
-            row,
-            tree: stored,
-            first: None,
-            second: None,
-            acting: Task { state, last, id },
-            named: None,
-        })
-    }
-
-    /// The draft of the event with which the task sends the message, which the book has then.
-    fn sent<R>(
-        &mut self,
-        rt: &R,
-        share: &S,
-        name: Name,
-        message: Name,
-        task: Task,
-    ) -> Result<Draft<S>, Memory>
-    where
-        S: Share<R>,
-        requires book { IsBook S.Kept.tree S.Id.id self.old }
-        requires space { HasRoom self.old }
-        requires seeded { 0 < length self.old.ids.items }
-        requires task { task_in self.old name ≡ Some task }
-        requires live { task.state ≡ TaskState.Live }
-        requires message { refusal_of_send self.old.messages message ≡ None }
-        requires room { length self.old.rows.items < self.old.limits.events }
-        ensures { Drafts S.Kept.tree S.Id.id result self.old (row_after (history_of self.old.rows.items) name Kind.Send (Some message)) self.new }
-    {
-        self.few_events();
-        can_be_written(&name);
-        can_be_written(&message);
-        let row = self.next_row(name, Kind::Send, Some(message), task.last, 0);
-        let start = EvTree::leaf(0);
-        let tree = EvTree::event(self.alloc, self.id(task.id), self.known(task.last, &start))?;
-        let stored = share.keep_tree(rt, tree)?;
-        let last = self.event_count() + 1;
-        if self.messages.send(message, last).is_err() {
-            return Err(Memory);
+        match report.kind {
+            Kind::Local | Kind::Send | Kind::Recv | Kind::End => Ok(Ids::Same),
+            Kind::Spawn => {
+                let (kept, given) = self.id(report.acting.id).split(self.alloc)?;
+                Ok(Ids::Split(kept, given))
+            }
+            Kind::Join => match report.joined {
+                Some(joined) => {
+                    let own = self.id(report.acting.id);
+                    Ok(Ids::Sum(own.sum(self.alloc, self.id(joined.id))?))
+                }
+                None => Ok(Ids::Same),
+            },
         }
-        Ok(Draft {
-            row,
-            tree: stored,
-            first: None,
-            second: None,
-            acting: Task { last, ..task },
-            named: None,
-        })
     }
 
-    /// The draft of the event with which the task receives the message that the event `sent` sent; the book has the
-    /// receipt then.
-    fn received<R>(
-        &mut self,
-        rt: &R,
-        share: &S,
-        name: Name,
-        message: Name,
-        task: Task,
-        sent: u64,
-    ) -> Result<Draft<S>, Memory>
+    /// What the report's event knows, which is made with this id.
+    fn tree_after(&self, report: &Report, id: &IdTree) -> Result<EvTree, Memory>
+        requires book { IsKept self.now }
+        requires report { IsReport self.now report.now }
+        requires id { id.now ≡ acting_id tree_clock (history_in self.now) (row_of_report self.now report.now) }
+        ensures { IfOk result (λ tree. tree ≡ (event_of self.now report.now).tree) }
+    {
+        let start = EvTree::leaf(0);
+        let own = self.known(report.acting.last, &start);
+        if takes_in(report.kind) {
+            let known = own.join(self.alloc, self.known(report.second, &start))?;
+            Ok(EvTree::event(self.alloc, id, &known)?)
+        } else {
+            Ok(EvTree::event(self.alloc, id, own)?)
+        }
+    }
+
+    /// What the event knows; before any event that is `start`.
+    fn known<'a>(&'a self, event: u64, start: &'a EvTree) -> &'a EvTree
+        requires book { IsKept self.now }
+        requires event { event ≤ length self.now.rows }
+        requires start { start.now ≡ Leaf 0 }
+        ensures { result.now ≡ tree_of tree_clock (history_in self.now) event }
+    {
+        if event == 0 { start } else { self.tree(event) }
+    }
+
+    /// Notes the message that the next event sends or receives.
+    fn note(&mut self, kind: Kind, name: Option<Name>) -> Result<(), Memory>
+        requires { MayNote self.old.messages name kind }
+        ensures noted { OnOk result (Notes name kind (suc (length self.old.rows)) self.old.messages self.new.messages) }
+        ensures unchanged { OnErr result (self.new ≡ self.old) }
+        ensures others { self.new ≡ record self.old { messages = self.new.messages } }
+    {
+        let event = self.event_count() + 1;
+        match (kind, name) {
+            (Kind::Send, Some(message)) => {
+                self.messages.send(message, event).map_err(|_| Memory)
+            }
+            (Kind::Recv, Some(message)) => {
+                self.messages.receive(&message, event).map_err(|_| Memory)
+            }
+            _ => Ok(()),
+        }
+    }
+
+    /// Keeps the id of `root`, unless that was done, and makes room for one event, its ids and its tasks.
+    fn make_room<R>(&mut self, rt: &R, share: &S) -> Result<(), Memory>
     where
         S: Share<R>,
-        requires book { IsBook S.Kept.tree S.Id.id self.old }
-        requires space { HasRoom self.old }
-        requires seeded { 0 < length self.old.ids.items }
-        requires task { task_in self.old name ≡ Some task }
-        requires live { task.state ≡ TaskState.Live }
-        requires message { refusal_of_receive self.old.messages message ≡ None }
-        requires sent { sent ≡ send_event (history_of self.old.rows.items) message }
-        requires room { length self.old.rows.items < self.old.limits.events }
-        ensures { Drafts S.Kept.tree S.Id.id result self.old (row_after (history_of self.old.rows.items) name Kind.Recv (Some message)) self.new }
+        ensures same { self.new ≡ record self.old { kept_ids = self.new.kept_ids; room = self.new.room } }
+        ensures seeded { self.old.kept_ids ≤ self.new.kept_ids }
+        ensures room { OnOk result (HasRoom self.new) }
     {
-        self.few_events();
-        can_be_written(&name);
-        can_be_written(&message);
-        let row = self.next_row(name, Kind::Recv, Some(message), task.last, sent);
-        let start = EvTree::leaf(0);
-        let known = self
-            .known(task.last, &start)
-            .join(self.alloc, self.known(sent, &start))?;
-        let tree = EvTree::event(self.alloc, self.id(task.id), &known)?;
-        let stored = share.keep_tree(rt, tree)?;
-        let last = self.event_count() + 1;
-        self.messages.receive(&message, last).unwrap();
-        Ok(Draft {
-            row,
-            tree: stored,
-            first: None,
-            second: None,
-            acting: Task { last, ..task },
-            named: None,
-        })
+        if self.ids.is_empty() {
+            let id = share.keep_id(rt, IdTree::one())?;
+            self.ids.push(id)?;
+        }
+        self.rows.reserve(1)?;
+        self.trees.reserve(1)?;
+        self.places.reserve(1)?;
+        self.ids.reserve(2)?;
+        self.tasks.reserve(2)?;
+        Ok(())
     }
 
-    /// The draft of the event with which the task starts `child`.
-    fn forked<R>(
-        &self,
-        rt: &R,
-        share: &S,
-        name: Name,
-        child: Name,
-        task: Task,
-    ) -> Result<Draft<S>, Memory>
-    where
-        S: Share<R>,
-        requires book { IsBook S.Kept.tree S.Id.id self.now }
-        requires space { HasRoom self.now }
-        requires seeded { 0 < length self.now.ids.items }
-        requires task { task_in self.now name ≡ Some task }
-        requires live { task.state ≡ TaskState.Live }
-        requires child { task_in self.now child ≡ None }
-        requires few { index_map_len self.now.tasks < self.now.limits.tasks }
-        requires room { length self.now.rows.items < self.now.limits.events }
-        ensures ready { IfOk result (IsReady S.Kept.tree S.Id.id self.now) }
-        ensures row { IfOk result (λ draft. draft.row ≡ row_after (history_of self.now.rows.items) name Kind.Spawn (Some child)) }
-    {
-        self.few_events();
-        can_be_written(&name);
-        can_be_written(&child);
-        let row = self.next_row(name, Kind::Spawn, Some(child), task.last, 0);
-        let start = EvTree::leaf(0);
-        let tree = EvTree::event(self.alloc, self.id(task.id), self.known(task.last, &start))?;
-        let (kept, given) = self.id(task.id).split(self.alloc)?;
-        let stored = share.keep_tree(rt, tree)?;
-        let kept_id = share.keep_id(rt, kept)?;
-        let given_id = share.keep_id(rt, given)?;
-        let last = self.event_count() + 1;
-        let id = self.ids.len();
-        let started = Task {
-            state: TaskState::Live,
-            last,
-            id: id + 1,
-        };
-        Ok(Draft {
-            row,
-            tree: stored,
-            first: Some(kept_id),
-            second: Some(given_id),
-            acting: Task { last, id, ..task },
-            named: Some(started),
-        })
-    }
-
-    /// The draft of the event with which the task takes in `child`.
-    fn summed<R>(
-        &self,
-        rt: &R,
-        share: &S,
-        name: Name,
-        child: Name,
-        task: Task,
-        joined: Task,
-    ) -> Result<Draft<S>, Memory>
-    where
-        S: Share<R>,
-        requires book { IsBook S.Kept.tree S.Id.id self.now }
-        requires space { HasRoom self.now }
-        requires seeded { 0 < length self.now.ids.items }
-        requires task { task_in self.now name ≡ Some task }
-        requires live { task.state ≡ TaskState.Live }
-        requires child { task_in self.now child ≡ Some joined }
-        requires ended { joined.state ≡ TaskState.Ended }
-        requires room { length self.now.rows.items < self.now.limits.events }
-        ensures ready { IfOk result (IsReady S.Kept.tree S.Id.id self.now) }
-        ensures row { IfOk result (λ draft. draft.row ≡ row_after (history_of self.now.rows.items) name Kind.Join (Some child)) }
-    {
-        self.few_events();
-        can_be_written(&name);
-        can_be_written(&child);
-        let row = self.next_row(name, Kind::Join, Some(child), task.last, joined.last);
-        let id = self.id(task.id).sum(self.alloc, self.id(joined.id))?;
-        let start = EvTree::leaf(0);
-        let known = self
-            .known(task.last, &start)
-            .join(self.alloc, self.known(joined.last, &start))?;
-        let tree = EvTree::event(self.alloc, &id, &known)?;
-        let stored = share.keep_tree(rt, tree)?;
-        let sum_id = share.keep_id(rt, id)?;
-        let last = self.event_count() + 1;
-        let id = self.ids.len();
-        let state = TaskState::Joined;
-        Ok(Draft {
-            row,
-            tree: stored,
-            first: Some(sum_id),
-            second: None,
-            acting: Task { last, id, ..task },
-            named: Some(Task { state, ..joined }),
-        })
-    }
-
-    /// Adds the report of the draft, and gives its event. It takes no memory.
+    /// Adds the event of the draft, and gives its number. It takes no memory.
     pub(crate) fn commit(&mut self, draft: Draft<S>) -> u64
-        requires { IsReady S.Kept.tree S.Id.id self.old draft }
-        ensures book { IsBook S.Kept.tree S.Id.id self.new }
+        requires { IsReady self.old draft }
+        ensures book { IsKept self.new }
         ensures tenant { tenant_of self.new ≡ with_row (tenant_of self.old) (Some draft.row) }
-        ensures event { result ≡ length self.old.rows.items + 1 }
+        ensures event { result ≡ suc (length self.old.rows) }
     {
         let Draft {
             row,
@@ -634,158 +665,88 @@ impl<S: Keep> Book<S> {
             acting,
             named,
         } = draft;
-        self.add_id(first);
-        self.add_id(second);
-        self.put_named(row.name, named);
-        self.put(row.task, acting);
-        self.add(row, tree, acting.id)
+        add_some(&mut self.ids, first);
+        add_some(&mut self.ids, second);
+        put_some(&mut self.tasks, row.name, named);
+        put(&mut self.tasks, row.task, acting);
+        self.rows.push_reserved(row);
+        self.trees.push_reserved(tree);
+        self.places.push_reserved(acting.id);
+        self.rows.len() as u64
     }
 
     /// Drops the draft: the book is as before it. It takes no memory.
     pub(crate) fn abandon(&mut self, draft: Draft<S>)
-        requires { IsReady S.Kept.tree S.Id.id self.old draft }
-        ensures book { IsBook S.Kept.tree S.Id.id self.new }
+        requires { IsReady self.old draft }
+        ensures book { IsKept self.new }
         ensures tenant { tenant_of self.new ≡ tenant_of self.old }
     {
-        let row = draft.into_row();
-        take_back(&mut self.messages, row.kind, row.name);
+        take_back(&mut self.messages, draft.row().kind, draft.row().name);
     }
+}
 
-    /// The law that no limit on events is above [`Limits::MOST_EVENTS`]. It does nothing.
-    fn few_events(&self)
-        ensures { self.now.limits.events ≤ 16384 }
-    {
-        self.limits.events();
-    }
+/// Whether a report of this kind takes in what its second event knew.
+fn takes_in(kind: Kind) -> bool
+    ensures { result ≡ takes_in kind }
+{
+    matches!(kind, Kind::Recv | Kind::Join)
+}
 
-    /// The row of the next event, which follows these two events; 0 is none.
-    fn next_row(&self, task: Name, kind: Kind, name: Option<Name>, last: u64, second: u64) -> Row
-        ensures { result ≡ record { task = task; kind = kind; name = name; preds = increasing last second } }
-    {
-        let preds = increasing(self.alloc, last, second);
-        Row {
-            task,
-            kind,
-            name,
-            preds,
+/// Keeps the ids that an event makes.
+fn keep_ids<R, S: Share<R>>(rt: &R, share: &S, ids: Ids) -> Result<(Option<S::Id>, Option<S::Id>), Memory>
+    ensures { IfOk result (λ kept. map S.Id.id (option_to_list kept.0 ++ option_to_list kept.1) ≡ made_ids ids) }
+{
+    match ids {
+        Ids::Same => Ok((None, None)),
+        Ids::Split(kept, given) => {
+            let kept = share.keep_id(rt, kept)?;
+            let given = share.keep_id(rt, given)?;
+            Ok((Some(kept), Some(given)))
         }
+        Ids::Sum(id) => Ok((Some(share.keep_id(rt, id)?), None)),
     }
+}
 
-    /// What the event knows; before any event that is `start`.
-    fn known<'a>(&'a self, event: u64, start: &'a EvTree) -> &'a EvTree
-        requires book { IsBook S.Kept.tree S.Id.id self.now }
-        requires event { event ≤ length self.now.rows.items }
-        requires start { start.now ≡ Leaf 0 }
-        ensures { result.now ≡ tree_of tree_clock (history_of self.now.rows.items) event }
-    {
-        if event == 0 { start } else { self.tree(event) }
+/// Adds an item, for which there is room, where one is given.
+fn add_some<T>(items: &mut Vec<T>, item: Option<T>)
+    requires { vec_len items.old < vec_capacity items.old }
+    ensures items { items.new.items ≡ items.old.items ++ option_to_list item }
+    ensures room { vec_len items.new + vec_capacity items.old ≤ vec_len items.old + 1 + vec_capacity items.new }
+{
+    if let Some(item) = item {
+        items.push_reserved(item);
     }
+}
 
-    /// Keeps the id of `root`, unless that was done. It changes nothing else.
-    fn seed<R>(&mut self, rt: &R, share: &S) -> Result<(), Memory>
-    where
-        S: Share<R>,
-        requires { IsBook S.Kept.tree S.Id.id self.old }
-        ensures book { IsBook S.Kept.tree S.Id.id self.new }
-        ensures seeded { OnOk result (0 < length self.new.ids.items) }
-        ensures others { self.new ≡ record self.old { ids = self.new.ids } }
-    {
-        if self.ids.is_empty() {
-            let id = share.keep_id(rt, IdTree::one())?;
-            self.ids.push(id)?;
-        }
-        Ok(())
+/// Keeps the task that a report names, where it names one, for which there is room.
+fn put_some(tasks: &mut IndexMap<Name, Task>, name: Option<Name>, task: Option<Task>)
+    requires { 0 < spare tasks.old }
+    ensures tasks { (other : Characters) → get is_same tasks.new other ≡ task_with_some task name (get is_same tasks.old) other }
+    ensures count { index_map_len tasks.new ≡ count_with_some task name (get is_same tasks.old) (index_map_len tasks.old) }
+    ensures room { spare tasks.old ≤ spare tasks.new + 1 }
+{
+    if let (Some(task), Some(name)) = (task, name) {
+        put(tasks, name, task);
     }
+}
 
-    /// Keeps the id of `root`, and makes room for one event, its ids and its tasks. It changes nothing else.
-    fn make_room<R>(&mut self, rt: &R, share: &S) -> Result<(), Memory>
-    where
-        S: Share<R>,
-        requires { IsBook S.Kept.tree S.Id.id self.old }
-        ensures book { IsBook S.Kept.tree S.Id.id self.new }
-        ensures same { HaveTheSame self.old self.new }
-        ensures seeded { OnOk result (0 < length self.new.ids.items) }
-        ensures room { OnOk result (HasRoom self.new) }
-    {
-        self.seed(rt, share)?;
-        self.reserve()
-    }
-
-    /// Makes room for one event, its ids and its tasks. It changes nothing else.
-    fn reserve(&mut self) -> Result<(), Memory>
-        ensures same { HaveTheSame self.old self.new }
-        ensures ids { self.new.ids.items ≡ self.old.ids.items }
-        ensures room { OnOk result (HasRoom self.new) }
-    {
-        self.rows.reserve(1)?;
-        self.trees.reserve(1)?;
-        self.places.reserve(1)?;
-        self.ids.reserve(2)?;
-        self.tasks.reserve(2)?;
-        Ok(())
-    }
-
-    /// Adds an id, for which there is room, where one is given.
-    fn add_id(&mut self, id: Option<S::Id>)
-        requires { vec_len self.old.ids < vec_capacity self.old.ids }
-        ensures ids { self.new.ids.items ≡ self.old.ids.items ++ option_to_list id }
-        ensures room { vec_len self.new.ids + vec_capacity self.old.ids ≤ vec_len self.old.ids + 1 + vec_capacity self.new.ids }
-        ensures others { self.new ≡ record self.old { ids = self.new.ids } }
-    {
-        if let Some(id) = id {
-            self.ids.push(id).unwrap();
-        }
-    }
-
-    /// Adds an event, for which there is room, and gives its number.
-    fn add(&mut self, row: Row, tree: S::Kept, place: usize) -> u64
-        requires rows { vec_len self.old.rows < vec_capacity self.old.rows }
-        requires trees { vec_len self.old.trees < vec_capacity self.old.trees }
-        requires places { vec_len self.old.places < vec_capacity self.old.places }
-        ensures event { result ≡ length self.old.rows.items + 1 }
-        ensures rows { self.new.rows.items ≡ self.old.rows.items ++ row ∷ [] }
-        ensures trees { self.new.trees.items ≡ self.old.trees.items ++ tree ∷ [] }
-        ensures places { self.new.places.items ≡ self.old.places.items ++ place ∷ [] }
-        ensures others { self.new ≡ record self.old { rows = self.new.rows; trees = self.new.trees; places = self.new.places } }
-    {
-        self.rows.push(row).unwrap();
-        self.trees.push(tree).unwrap();
-        self.places.push(place).unwrap();
-        self.event_count()
-    }
-
-    /// Keeps the task that a report names, where it names one, for which there is room.
-    fn put_named(&mut self, name: Option<Name>, task: Option<Task>)
-        requires { 0 < spare self.old.tasks }
-        ensures tasks { (other : Characters) → task_in self.new other ≡ task_with_some task name (task_in self.old) other }
-        ensures count { index_map_len self.new.tasks ≡ count_with_some task name (task_in self.old) (index_map_len self.old.tasks) }
-        ensures room { spare self.old.tasks ≤ spare self.new.tasks + 1 }
-        ensures others { self.new ≡ record self.old { tasks = self.new.tasks } }
-    {
-        if let (Some(task), Some(name)) = (task, name) {
-            self.put(name, task);
-        }
-    }
-
-    /// Keeps the task under its name, for which there is room.
-    fn put(&mut self, name: Name, task: Task)
-        requires { 0 < spare self.old.tasks }
-        ensures tasks { (other : Characters) → task_in self.new other ≡ task_with name task (task_in self.old) other }
-        ensures count { index_map_len self.new.tasks ≡ count_with name (task_in self.old) (index_map_len self.old.tasks) }
-        ensures room { spare self.old.tasks ≤ spare self.new.tasks + 1 }
-        ensures others { self.new ≡ record self.old { tasks = self.new.tasks } }
-    {
-        self.tasks.insert(name, task).unwrap();
-    }
+/// Keeps the task under its name, for which there is room.
+fn put(tasks: &mut IndexMap<Name, Task>, name: Name, task: Task)
+    requires { 0 < spare tasks.old }
+    ensures tasks { (other : Characters) → get is_same tasks.new other ≡ task_with name task (get is_same tasks.old) other }
+    ensures count { index_map_len tasks.new ≡ count_with name (get is_same tasks.old) (index_map_len tasks.old) }
+    ensures room { spare tasks.old ≤ spare tasks.new + 1 }
+{
+    tasks.insert(name, task).unwrap();
 }
 
 /// Takes back what a report of this kind made of the messages.
 fn take_back(messages: &mut MessageBook, kind: Kind, name: Option<Name>)
-    requires { (event : ℕ) × (before : Messages) × Notes kind name event before messages.old }
-    ensures { (event : ℕ) (before : Messages) → Notes kind name event before messages.old → messages.new ≡ before }
+    requires { (event : ℕ) × (before : Messages) × Notes name kind event before messages.old }
+    ensures { (event : ℕ) (before : Messages) → Notes name kind event before messages.old → messages.new ≡ before }
 {
     match (kind, name) {
-        (Kind::Send, _) => messages.undo_send(),
+        (Kind::Send, Some(_)) => messages.undo_send(),
         (Kind::Recv, Some(name)) => messages.undo_receive(&name),
         _ => {}
     }

@@ -24,13 +24,13 @@ pub struct Ledger<S: Keep = PlainShare> {
 
 impl<S: Keep> Model for Ledger<S> {
     ghost use Rattle.trace_types.specs.Tenant.{Tenant};
-    ghost use Rattle.tenant_ledger.specs.Ledger.{IsBook, tenant_of};
+    ghost use Rattle.tenant_ledger.specs.Ledger.{IsKept, tenant_of};
 
     ghost Value = { Tenant };
 
     ghost view = { λ l. tenant_of l.book };
 
-    ghost invariant = { λ l. IsBook S.Kept.tree S.Id.id l.book };
+    ghost invariant = { λ l. IsKept l.book };
 }
 
 impl<S: Keep> Ledger<S> {
@@ -48,7 +48,7 @@ impl<S: Keep> Ledger<S> {
         ensures rows { result.now ≡ self.now.rows }
         ensures legal { AreLegal self.now.limits self.now.rows }
     {
-        &self.book.rows
+        self.book.rows()
     }
 
     /// The law by which an order is answered: the trees kept for two events stand to each other as the events do.
@@ -169,17 +169,17 @@ impl<S: Keep> Ledger<S> {
     fn event(&self, event: u64) -> Reply
         ensures { result ≡ reply_to_view self.now (Request.Event event) }
     {
-        if !self.book.is_event(event) {
-            return Reply::Refused(Code::NoEvent);
+        match self.book.row(event) {
+            Some(row) => Reply::Event(row.share()),
+            None => Reply::Refused(Code::NoEvent),
         }
-        Reply::Event(self.book.rows[event as usize - 1].share())
     }
 
     /// The stamp of the event.
     fn stamp(&self, event: u64) -> Reply
         ensures { Answers self.now (Request.Stamp event) result }
     {
-        if !self.book.is_event(event) {
+        if self.book.row(event).is_none() {
             return Reply::Refused(Code::NoEvent);
         }
         match self.book.stamp_text(event) {

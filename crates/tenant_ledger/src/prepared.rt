@@ -29,7 +29,7 @@ impl<S: Keep> Model for Prepared<S> {
 
     ghost view = { λ p. record { tenant = tenant_of p.book; row = p.draft.row } };
 
-    ghost invariant = { λ p. IsReady S.Kept.tree S.Id.id p.book p.draft };
+    ghost invariant = { λ p. IsReady p.book p.draft };
 }
 
 impl<S: Keep> Prepared<S> {
@@ -37,7 +37,7 @@ impl<S: Keep> Prepared<S> {
     pub fn row(&self) -> &Row
         ensures { result.now ≡ self.now.row }
     {
-        &self.draft.row
+        self.draft.row()
     }
 
     /// What its event knows, as it is kept.

@@ -1,26 +1,26 @@
-use Rattle.tenant_ledger.proofs.KeepingBook.{WasAdded, committed, tenant_committed, event_committed}
+use Rattle.std.proofs.Common.{◌≡◌, ◌+◌, ◌<◌, ◌∷◌, [], ◌++◌, cond, length, map, is_some, option_to_list, Some, refl, sym, ap, ◌∙◌, arith}
+use Rattle.std.proofs.Math.Path.{transport}
+use Rattle.std.proofs.lemmas.List.{map-append, append_assoc, length-append}
+use Rattle.trace_types.specs.Name.{is_same}
+use Rattle.tenant_ledger.specs.Ledger.{IsReady, with_seed}
+use Rattle.tenant_ledger.proofs.keeping.Kept.{added_is_kept}
+use Rattle.tenant_ledger.proofs.keeping.Lists.{seeded-append}
 use Rattle.tenant_ledger.proofs.book.Book.commit.Goals as goal
 
-pub returns : goal.returns
-returns g c =
-    let was : WasAdded c.args.self.now c.add_id.new.self c.add_id-2.new.self c.put_named.new.self c.put.new.self c.add.new.self c.args.draft = record {
-      first = c.add_id.ensures.others;
-      first_ids = c.add_id.ensures.ids;
-      second = c.add_id-2.ensures.others;
-      second_ids = c.add_id-2.ensures.ids;
-      named = c.put_named.ensures.others;
-      named_tasks = c.put_named.ensures.tasks;
-      named_count = c.put_named.ensures.count;
-      acting = c.put.ensures.others;
-      acting_tasks = c.put.ensures.tasks;
-      acting_count = c.put.ensures.count;
-      added = c.add.ensures.others;
-      rows = c.add.ensures.rows;
-      trees = c.add.ensures.trees;
-      places = c.add.ensures.places;
-    } in
-    record {
-      book = committed c.requires was;
-      tenant = tenant_committed c.requires was;
-      event = event_committed c.requires was c.add.result c.add.ensures.event;
-    }
+pub returns-clause-book : goal.returns-clause-book
+returns-clause-book g c =
+    let tree = g.S.Kept.Meant.tree in
+    let id = g.S.Id.MeantId.id in
+    let book = c.self.inside in
+    let draft = c.draft.inside in
+    let ready = transport (λ i. IsReady (sym c.self.view_is i) (sym c.draft.view_is i)) c.requires in
+    let made = option_to_list draft.first ++ option_to_list draft.second in
+    let ids : c.add_some-2.new.items.items ≡ book.ids.items ++ made =
+    c.add_some-2.ensures.items ∙ ap (λ ids. ids ++ option_to_list draft.second) c.add_some.ensures.items ∙ append_assoc book.ids.items _ _ in
+    added_is_kept _ _ ready _ refl refl c.push_reserved.ensures.items
+    (ap (map tree) c.push_reserved-2.ensures.items ∙ map-append tree book.trees.items (draft.tree ∷ []))
+    c.push_reserved-3.ensures.items
+    (ap (λ ids. with_seed (map id ids)) ids ∙ seeded-append id book.ids.items made ready.room.seeded)
+    (omega (arith, ready.room.seeded, ap length ids, length-append book.ids.items made))
+    (λ name. c.put.ensures.tasks name ∙ ap (λ had. cond (is_same draft.row.task name) (Some draft.acting) had) (c.put_some.ensures.tasks name))
+    (c.put.ensures.count ∙ (λ i. c.put_some.ensures.count i + cond (is_some (c.put_some.ensures.tasks draft.row.task i)) 0 1))

@@ -1,11 +1,22 @@
-use Rattle.std.proofs.Common.{sym, ap, ◌∙◌}
+use Rattle.std.proofs.Common.{Some, sym, ap, ◌∙◌, arith}
+use Rattle.std.proofs.lemmas.List.{length-reverse}
+use Rattle.std.proofs.lemmas.Option.{same_Some}
+use Rattle.std.specs.Prelude.{length}
 use Rattle.trace_types.specs.Clock.{tree_clock}
-use Rattle.trace_types.specs.Rows.{history_of}
 use Rattle.trace_types.specs.Stamps.{tree_of}
-use Rattle.tenant_ledger.proofs.Events.{tree_of-nothing}
+use Rattle.tenant_ledger.specs.Ledger.{history_in}
+use Rattle.tenant_ledger.proofs.clock.Events.{tree_of-nothing}
+use Rattle.tenant_ledger.proofs.keeping.Kept.{one_tree, tree_at_event}
 use Rattle.tenant_ledger.proofs.book.Book.known.Goals as goal
+
+pub tree-requires : goal.tree-requires
+tree-requires g c = (omega (arith, c.if-event-eq0.false), omega (arith, c.requires.event, one_tree c.args.self.now c.requires.book))
 
 pub returns-then-event-eq0 : goal.returns-then-event-eq0
 returns-then-event-eq0 g c =
-    let history = history_of c.args.self.now.rows.items in
-    c.requires.start ∙ sym (tree_of-nothing tree_clock history) ∙ ap (tree_of tree_clock history) (sym c.if-event-eq0.true)
+    let history = history_in c.args.self.now in
+    c.requires.start ∙ sym (ap (tree_of tree_clock history) c.if-event-eq0.true ∙ tree_of-nothing tree_clock history)
+
+pub returns-else-event-eq0 : goal.returns-else-event-eq0
+returns-else-event-eq0 g c =
+    same_Some _ _ (sym c.tree.ensures ∙ tree_at_event c.args.self.now c.requires.book c.args.event (omega (arith, c.if-event-eq0.false)) c.requires.event)

@@ -1,26 +1,20 @@
-use Rattle.std.proofs.Common.{◌≡◌, true, List, IfOk, IfErr, map, sym, ap, subst}
+use Rattle.std.proofs.Common.{◌≡◌, true, List, IfOk, IfErr, sym, subst}
 use Rattle.trace_query.specs.Queries.{StandInOrder, is_event, past_of, fault_due}
 use Rattle.trace_types.specs.EventTree.{EventTree}
 use Rattle.trace_types.specs.Tenant.{Tenant, Answers}
 use Rattle.trace_types.specs.declared.request.Request.TheVariants as request
-use Rattle.tenant_ledger.specs.Ledger.{trees_in}
-use Rattle.tenant_ledger.proofs.Listing.{stand_in_order, past_answered}
+use Rattle.tenant_ledger.proofs.keeping.Told.{stand_in_order, past_answered}
 use Rattle.tenant_ledger.proofs.ledger.Ledger.past.Goals as goal
 
 pub past_in_order-requires : goal.past_in_order-requires
-past_in_order-requires g c =
-    let book = c.self.inside.book in
-    let same : map g.S.Kept.Meant.tree c.trees.result.now ≡ trees_in g.S.Kept.Meant.tree book = ap (map g.S.Kept.Meant.tree) c.trees.ensures in
-    subst StandInOrder (sym same) (stand_in_order book c.self.invariant)
+past_in_order-requires g c = subst StandInOrder (sym c.trees.ensures) (stand_in_order c.self.inside.book c.self.invariant)
 
 pub returns : goal.returns
 returns g c =
-    let book = c.self.inside.book in
     let event = c.args.event in
     let found = c.past_in_order.result in
-    let same : map g.S.Kept.Meant.tree c.trees.result.now ≡ trees_in g.S.Kept.Meant.tree book = ap (map g.S.Kept.Meant.tree) c.trees.ensures in
-    let known = subst (λ (trees : List EventTree). IfOk found (λ _. is_event trees event ≡ true)) same c.past_in_order.ensures.known in
-    let fault = subst (λ (trees : List EventTree). IfErr found (λ refusal. refusal ≡ fault_due trees event)) same c.past_in_order.ensures.fault in
-    let events = subst (λ (trees : List EventTree). IfOk found (λ listed. listed.items ≡ past_of trees event)) same c.past_in_order.ensures.events in
+    let known = subst (λ (trees : List EventTree). IfOk found (λ _. is_event trees event ≡ true)) c.trees.ensures c.past_in_order.ensures.known in
+    let fault = subst (λ (trees : List EventTree). IfErr found (λ refusal. refusal ≡ fault_due trees event)) c.trees.ensures c.past_in_order.ensures.fault in
+    let events = subst (λ (trees : List EventTree). IfOk found (λ listed. listed.items ≡ past_of trees event)) c.trees.ensures c.past_in_order.ensures.events in
     subst (λ (tenant : Tenant). Answers tenant (request.Past event) c.listed.result) c.self.view_is
-    (past_answered book c.self.invariant (λ v. v.items) event found c.listed.result known fault c.listed.ensures.events c.listed.ensures.fault events)
+    (past_answered c.self.inside.book c.self.invariant (λ v. v.items) event found c.listed.result known fault c.listed.ensures.events c.listed.ensures.fault events)

@@ -1,5 +1,5 @@
 use Rattle.std.proofs.Common.{sym}
-use Rattle.tenant_ledger.proofs.Answering.{query_steps}
+use Rattle.tenant_ledger.proofs.keeping.Refused.{query_steps}
 use Rattle.tenant_ledger.proofs.ledger.Ledger.report.Goals as goal
 
 pub returns-then-not-is_report : goal.returns-then-not-is_report

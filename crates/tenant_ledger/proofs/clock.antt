@@ -1,0 +1,14 @@
+pub mod Consequences
+pub mod Events
+pub mod Gathered
+pub mod Joining
+pub mod KeepingRows
+pub mod Legality
+pub mod NamingRows
+pub mod OneMore
+pub mod Ordering
+pub mod Reaching
+pub mod Spawning
+pub mod Tasks
+pub mod TreeClock
+pub mod Upheld

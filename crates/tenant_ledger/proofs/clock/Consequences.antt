@@ -1,0 +1,62 @@
+-- What the interval tree clock's operations are asked, of the ids and trees of a legal history.
+use Rattle.std.proofs.Common.{◌≢◌, ℕ, ◌≤◌, [], ◌∷◌, length, refl, ap, ◌∙◌, inl, inr, arith}
+use Rattle.std.proofs.lemmas.Bool.{cases_eq, cond_both}
+use Rattle.trace_types.specs.Name.{Text}
+use Rattle.trace_types.specs.Rows.{History}
+use Rattle.trace_types.specs.Id.{Zero, AreDisjoint}
+use Rattle.trace_types.specs.EventTree.{maximum}
+use Rattle.trace_types.specs.Clock.{tree_clock}
+use Rattle.trace_types.specs.Stamps.{id_of, tree_of, acting_id, takes_in}
+use Rattle.trace_types.specs.declared.row.Row.{Row}
+use Rattle.event_tree.proofs.Joined.{maximum-joined-le}
+use Rattle.tenant_ledger.specs.Legal.{IsLive, IsLegal}
+use Rattle.tenant_ledger.proofs.clock.Events.{known_before_new, tree_of-new, tree_of-older}
+use Rattle.tenant_ledger.proofs.clock.Reaching.{new_event, first_of, second_of, followed-le}
+use Rattle.tenant_ledger.proofs.clock.TreeClock.{tree_clock_laws, some_is_not_Zero, raises}
+use Rattle.tenant_ledger.proofs.clock.Upheld.{invariant_upheld, legal_row_in_order}
+
+-- the ids of two tasks are disjoint
+pub ids_are_disjoint : (history : History) → IsLegal history → (task other : Text) → task ≢ other
+    → AreDisjoint (id_of tree_clock history task) (id_of tree_clock history other)
+ids_are_disjoint history legal task other differ point held other_held =
+    differ ((invariant_upheld tree_clock_laws history legal).one_holder task other point held other_held)
+
+-- a live task owns some point
+pub live_id_is_not_Zero : (history : History) → IsLegal history → (task : Text) → IsLive history task → id_of tree_clock history task ≢ Zero
+live_id_is_not_Zero history legal task live =
+    some_is_not_Zero (id_of tree_clock history task) ((invariant_upheld tree_clock_laws history legal).normal.some task live)
+
+-- so does each id with which an event is made
+pub acting_id_is_not_Zero : (row : Row) (earlier : History) → IsLegal (row ∷ earlier) → acting_id tree_clock earlier row ≢ Zero
+acting_id_is_not_Zero row earlier legal =
+    some_is_not_Zero (acting_id tree_clock earlier row) (legal_row_in_order tree_clock_laws row earlier legal).id_some
+
+-- what is known before an event has no value above the number of events, where that holds of each event
+known_before_new-le : (row : Row) (earlier : History) → ((event : ℕ) → maximum (tree_of tree_clock earlier event) ≤ event)
+    → maximum (known_before_new tree_clock row earlier) ≤ length earlier
+known_before_new-le row earlier bounded =
+    let first = first_of row earlier in
+    let second = second_of row earlier in
+    let first_within : maximum (tree_of tree_clock earlier first) ≤ length earlier = omega (arith, bounded first, followed-le row earlier first (inl refl)) in
+    let second_within : maximum (tree_of tree_clock earlier second) ≤ length earlier = omega (arith, bounded second, followed-le row earlier second (inr refl)) in
+    cond_both (takes_in row.kind) _ _ (λ tree. maximum tree ≤ length earlier)
+    (λ _. omega (arith, maximum-joined-le 0 (tree_of tree_clock earlier first) 0 (tree_of tree_clock earlier second), first_within, second_within)) (λ _. first_within)
+
+-- no value that an event knows is above its number
+pub maximum_of-le : (history : History) → IsLegal history → (event : ℕ) → maximum (tree_of tree_clock history event) ≤ event
+maximum_of-le [] legal event = omega arith
+maximum_of-le (row ∷ earlier) legal event =
+    let bounded = maximum_of-le earlier legal.1 in
+    let order = legal_row_in_order tree_clock_laws row earlier legal in
+    elim (cases_eq event (new_event earlier)) [
+      | inl is ↦
+          let base = known_before_new tree_clock row earlier in
+          let higher = (raises (acting_id tree_clock earlier row) base order.id_normal order.id_some order.base.normal).bounded in
+          let same = ap maximum (ap (tree_of tree_clock (row ∷ earlier)) is ∙ tree_of-new tree_clock row earlier) in
+          omega (arith, is, same, higher, known_before_new-le row earlier bounded)
+      | inr older ↦ omega (arith, ap maximum (tree_of-older tree_clock row earlier event older), bounded event)
+    ]
+
+-- so an event may be made of what is known before it, as long as there are few
+pub known_before_maximum-le : (row : Row) (earlier : History) → IsLegal earlier → maximum (known_before_new tree_clock row earlier) ≤ length earlier
+known_before_maximum-le row earlier legal = known_before_new-le row earlier (maximum_of-le earlier legal)

@@ -1,0 +1,47 @@
+-- The numbers of events, and what is known at them after one row more.
+use Rattle.std.proofs.Common.{◌≡◌, ◌≢◌, ℕ, suc, ◌<◌, ◌≤◌, IsTrue, eqb, ltb, [], ◌∷◌, length, refl, ◌∙◌, arith}
+use Rattle.std.proofs.lemmas.Bool.{eq-eqb, ne_eqb, ltb-true, lt-ltb, and_parts, and_from, cond-true, cond-false}
+use Rattle.trace_types.specs.Rows.{History, is_event}
+use Rattle.trace_types.specs.Clock.{Clock}
+use Rattle.trace_types.specs.Stamps.{tree_of, acting_id, known_before}
+use Rattle.trace_types.specs.declared.row.Row.{Row}
+use Rattle.tenant_ledger.proofs.clock.Reaching.{new_event, first_of, second_of}
+
+pub event_bounds : (history : History) (event : ℕ) → IsTrue (is_event history event) → (0 < event) × (event ≤ length history)
+event_bounds history event is =
+    let parts = and_parts (ltb 0 event) (ltb event (suc (length history))) is in
+    let below : event < suc (length history) = ltb-true event (suc (length history)) parts.1 in
+    (ltb-true 0 event parts.0, omega (arith, below))
+
+pub event_from_bounds : (history : History) (event : ℕ) → 0 < event → event ≤ length history → IsTrue (is_event history event)
+event_from_bounds history event positive within =
+    and_from (ltb 0 event) (ltb event (suc (length history))) (lt-ltb 0 event positive) (lt-ltb event (suc (length history)) (omega (arith, within)))
+
+-- an event that is not the newest one was one before
+pub older_event : (row : Row) (earlier : History) (event : ℕ) → event ≢ new_event earlier → IsTrue (is_event (row ∷ earlier) event)
+    → IsTrue (is_event earlier event)
+older_event row earlier event older is =
+    let bounds = event_bounds (row ∷ earlier) event is in
+    event_from_bounds earlier event bounds.0 (omega (arith, bounds.1, older))
+
+-- what is no event knows nothing
+pub tree_of-nothing : {Id Tree : Type 0} (clock : Clock Id Tree) (history : History) → tree_of clock history 0 ≡ clock.start
+tree_of-nothing clock [] = refl
+tree_of-nothing clock (row ∷ earlier) =
+    cond-false (eqb 0 (new_event earlier)) _ _ (ne_eqb 0 (new_event earlier) (λ same. omega (arith, same)))
+    ∙ tree_of-nothing clock earlier
+
+module _ {Id Tree : Type 0} (clock : Clock Id Tree) (row : Row) (earlier : History) where
+  -- what the new event's task knows before it
+  abbrev pub known_before_new : Tree
+  known_before_new = known_before clock row.kind (tree_of clock earlier (first_of row earlier)) (tree_of clock earlier (second_of row earlier))
+
+  -- what the new event knows
+  abbrev pub new_tree : Tree
+  new_tree = clock.event (acting_id clock earlier row) known_before_new
+
+  pub tree_of-new : tree_of clock (row ∷ earlier) (new_event earlier) ≡ new_tree
+  tree_of-new = cond-true (eqb (new_event earlier) (new_event earlier)) _ _ (eq-eqb (new_event earlier) (new_event earlier) refl)
+
+  pub tree_of-older : (event : ℕ) → event ≢ new_event earlier → tree_of clock (row ∷ earlier) event ≡ tree_of clock earlier event
+  tree_of-older event older = cond-false (eqb event (new_event earlier)) _ _ (ne_eqb event (new_event earlier) older)

@@ -1,0 +1,149 @@
+-- A book is kept with the event of a report that is not refused.
+use Rattle.std.proofs.Common.{◌≡◌, ◌≢◌, ℕ, suc, ◌-◌, ◌<◌, ◌≤◌, eqb, List, [], ◌∷◌, ◌++◌, length, map, slice_get, option_map, Some, refl, sym, ap, ◌∙◌, subst, arith}
+use Rattle.std.proofs.lemmas.Bool.{eq-eqb, ne_eqb, cond-true, cond-false}
+use Rattle.std.proofs.lemmas.List.{length-append, length-map, length-reverse, reverse-append, map-append}
+use Rattle.std.proofs.lemmas.Option.{same_Some, slice_get-map}
+use Rattle.std.proofs.Math.Path.{transport}
+use Rattle.trace_types.specs.Name.{Text}
+use Rattle.trace_types.specs.Rows.{History, history_of, task_count}
+use Rattle.trace_types.specs.Clock.{tree_clock}
+use Rattle.trace_types.specs.Stamps.{id_of, tree_of, stamp_of}
+use Rattle.trace_types.specs.Id.{Id}
+use Rattle.trace_types.specs.EventTree.{EventTree}
+use Rattle.trace_types.specs.Tenant.{row_after}
+use Rattle.trace_types.specs.declared.row.Row.{Row}
+use Rattle.message_book.specs.Book as message_book
+use Rattle.tenant_ledger.specs.Legal.{IsLive, Allows, IsLegal}
+use Rattle.tenant_ledger.specs.Ledger.{Contents, Event, IsKept, IsKeptWith, IsTask, IsReport, IsReady, HasRoom, AreMessages, Notes, history_in, task_in, of_each, id_after, event_of, with_event, tasks_with, task_count_with}
+use Rattle.tenant_ledger.specs.declared.book.Report.{Report}
+use Rattle.tenant_ledger.proofs.clock.Events.{tree_of-older}
+use Rattle.tenant_ledger.proofs.clock.Legality.{IsLegal_from_AreLegal}
+use Rattle.tenant_ledger.proofs.clock.Tasks.{live_from_Allows}
+use Rattle.tenant_ledger.proofs.keeping.Known.{legal_history}
+use Rattle.tenant_ledger.proofs.keeping.Lists.{length-of_each, at_event, same_places}
+use Rattle.tenant_ledger.proofs.keeping.Messages.{noted_are_messages}
+use Rattle.tenant_ledger.proofs.keeping.Tasks.{id_is_kept, tasks_are_kept, tasks_are_counted}
+
+-- the rows with one more, the newest first
+pub longer : (rows : List Row) (row : Row) → history_of (rows ++ row ∷ []) ≡ row ∷ history_of rows
+longer rows row = reverse-append rows (row ∷ [])
+
+-- the id of the newest event's task
+id_after-new : (row : Row) (earlier : History) → id_after (row ∷ earlier) (suc (length earlier)) ≡ id_of tree_clock (row ∷ earlier) row.task
+id_after-new row earlier =
+    ap (λ (stamp : Id × EventTree). stamp.0) (cond-true (eqb (suc (length earlier)) (suc (length earlier))) _ _ (eq-eqb (suc (length earlier)) (suc (length earlier)) refl))
+
+id_after-older : (row : Row) (earlier : History) (event : ℕ) → event ≢ suc (length earlier) → id_after (row ∷ earlier) event ≡ id_after earlier event
+id_after-older row earlier event older =
+    ap (λ (stamp : Id × EventTree). stamp.0) (cond-false (eqb event (suc (length earlier))) _ _ (ne_eqb event (suc (length earlier)) older))
+
+module _ (book : Contents) (kept : IsKept book) where
+  within_rows : (event : ℕ) → event ≤ length book.rows → event ≤ length (history_in book)
+  within_rows event within = omega (arith, within, length-reverse book.rows)
+
+  -- what the book has of an event: its tree, and the id of its task after it
+  pub tree_at_event : (event : ℕ) → 0 < event → event ≤ length book.rows → slice_get book.trees (event - 1) ≡ Some (tree_of tree_clock (history_in book) event)
+  tree_at_event event positive within =
+      ap (λ trees. slice_get trees (event - 1)) kept.trees ∙ at_event (tree_of tree_clock) (tree_of-older tree_clock) (history_in book) event positive (within_rows event within)
+
+  -- the book has a tree of each event
+  pub one_tree : length book.trees ≡ length book.rows
+  one_tree = ap length kept.trees ∙ length-of_each (tree_of tree_clock) (history_in book) ∙ length-reverse book.rows
+
+  -- and a place of the id of each event's task after it
+  pub one_place : length book.places ≡ length book.rows
+  one_place =
+      sym (length-map book.places (slice_get book.ids)) ∙ ap length kept.places ∙ length-map (of_each id_after (history_in book)) Some
+      ∙ length-of_each id_after (history_in book) ∙ length-reverse book.rows
+
+  pub id_at_event : (event place : ℕ) → 0 < event → event ≤ length book.rows → slice_get book.places (event - 1) ≡ Some place
+      → slice_get book.ids place ≡ Some (id_after (history_in book) event)
+  id_at_event event place positive within there =
+      let told = at_event id_after id_after-older (history_in book) event positive (within_rows event within) in
+      same_Some (slice_get book.ids place) (Some (id_after (history_in book) event))
+      (sym (slice_get-map (slice_get book.ids) book.places (event - 1) ∙ ap (option_map (slice_get book.ids)) there)
+      ∙ ap (λ ids. slice_get ids (event - 1)) kept.places ∙ slice_get-map Some (of_each id_after (history_in book)) (event - 1) ∙ ap (option_map Some) told)
+
+  -- how many ids are kept, and for how many more there is room, does not matter
+  pub kept_with_room : (new : Contents) → new ≡ record book { kept_ids = new.kept_ids; room = new.room } → book.kept_ids ≤ new.kept_ids → IsKept new
+  kept_with_room new same more = subst IsKept (sym same) (record {
+    legal = kept.legal; small = kept.small; trees = kept.trees; places = kept.places; tasks_are = kept.tasks_are; counted = kept.counted; messages = kept.messages;
+    seeded = λ some. omega (arith, kept.seeded some, more);
+  })
+
+  pub report_with_room : (new : Contents) → new ≡ record book { kept_ids = new.kept_ids; room = new.room } → (report : Report) → IsReport book report → IsReport new report
+  report_with_room new same report is = subst (λ b. IsReport b report) (sym same) (record {
+    legal = is.legal; few = is.few; acting = is.acting; second = is.second; joined = is.joined; may = is.may;
+  })
+
+module _ (book : Contents) (kept : IsKept book) (report : Report) (is : IsReport book report) where
+  abbrev history : History
+  history = history_in book
+
+  abbrev row : Row
+  row = row_after history report.task report.kind report.name
+
+  -- the rows with that of the report are legal
+  pub legal_with_row : IsLegal (row ∷ history)
+  legal_with_row = subst IsLegal (longer book.rows row) (IsLegal_from_AreLegal book.limits (book.rows ++ row ∷ []) is.legal)
+
+  allowed : Allows history report.task report.kind report.name
+  allowed = legal_with_row.0
+
+  pub live : IsLive history report.task
+  live = live_from_Allows history report.task report.kind report.name allowed
+
+  pub keeps_report : (after : message_book.Book) → Notes report.name report.kind (suc (length book.rows)) book.messages after → 0 < book.kept_ids
+      → IsKeptWith (with_event (event_of book report) (record book { messages = after })) (tasks_with (event_of book report) book) (task_count_with (event_of book report) book)
+  keeps_report after notes seeded =
+      let event = event_of book report in
+      let to_longer = sym (longer book.rows row) in
+      let joined = sym is.joined in
+      record {
+        legal = is.legal;
+        small = omega (arith, is.few, length-append book.rows (row ∷ []));
+        trees = ap (λ trees. trees ++ event.tree ∷ []) kept.trees ∙ ap (of_each (tree_of tree_clock)) to_longer;
+        places =
+            let place = id_is_kept book kept report.task report.acting is.acting live report.kind report.name in
+            map-append (slice_get (book.ids ++ event.ids)) book.places (event.acting.id ∷ [])
+            ∙ (λ i. same_places book.ids event.ids book.places (of_each id_after history) kept.places i
+                ++ (place ∙ ap Some (sym (id_after-new row history))) i ∷ [])
+            ∙ sym (map-append Some (of_each id_after history) (id_after (row ∷ history) (suc (length history)) ∷ []))
+            ∙ ap (λ h. map Some (of_each id_after h)) to_longer;
+        tasks_are = λ name. subst (λ h. IsTask (book.ids ++ event.ids) h name (tasks_with event book name)) to_longer
+            (subst (λ had. IsTask (book.ids ++ event.ids) (row ∷ history) name (tasks_with (event_of book (record report { joined = had })) book name)) joined
+            (tasks_are_kept book kept report.task report.acting is.acting live report.kind report.name allowed name));
+        counted = ap (λ had. task_count_with (event_of book (record report { joined = had })) book) is.joined
+            ∙ tasks_are_counted book kept report.task report.acting is.acting live report.kind report.name allowed ∙ ap task_count to_longer;
+        messages = subst (λ h. AreMessages book.limits h after) to_longer
+            (noted_are_messages book.limits history report.task report.kind report.name row.preds book.messages after (legal_history book kept) allowed kept.messages
+            (subst (λ n. Notes report.name report.kind (suc n) book.messages after) (sym (length-reverse book.rows)) notes));
+        seeded = λ _. seeded;
+      }
+
+  -- so it is ready to be added
+  pub report_is_ready : (after : message_book.Book) → Notes report.name report.kind (suc (length book.rows)) book.messages after → HasRoom book
+      → IsReady (record book { messages = after }) (event_of book report)
+  report_is_ready after notes room = record {
+    before = book.messages;
+    was = kept;
+    notes = notes;
+    next = keeps_report after notes room.seeded;
+    room = record { rows = room.rows; trees = room.trees; places = room.places; ids = room.ids; tasks = room.tasks; seeded = room.seeded };
+  }
+
+-- A book to which a ready event was added is kept.
+pub added_is_kept : (book : Contents) (event : Event) → IsReady book event → (new : Contents) → new.limits ≡ book.limits → new.messages ≡ book.messages
+    → new.rows ≡ book.rows ++ event.row ∷ [] → new.trees ≡ book.trees ++ event.tree ∷ [] → new.places ≡ book.places ++ event.acting.id ∷ []
+    → new.ids ≡ book.ids ++ event.ids → 0 < new.kept_ids → ((name : Text) → task_in new name ≡ tasks_with event book name) → length new.tasks ≡ task_count_with event book
+    → IsKept new
+added_is_kept book event ready new limits messages rows trees places ids some tasks count =
+    let next : IsKeptWith (record (with_event event book) { limits = new.limits; messages = new.messages; rows = new.rows; trees = new.trees; places = new.places; ids = new.ids }) (tasks_with event book) (task_count_with event book) =
+    transport (λ i. IsKeptWith (record (with_event event book) { limits = sym limits i; messages = sym messages i; rows = sym rows i; trees = sym trees i; places = sym places i; ids = sym ids i })
+    (tasks_with event book) (task_count_with event book)) ready.next in
+    record {
+      legal = next.legal; small = next.small; trees = next.trees; places = next.places; messages = next.messages;
+      tasks_are = λ name. subst (IsTask new.ids (history_in new) name) (sym (tasks name)) (next.tasks_are name);
+      counted = count ∙ next.counted;
+      seeded = λ _. some;
+    }

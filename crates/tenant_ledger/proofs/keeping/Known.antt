@@ -1,0 +1,90 @@
+-- What is known of a task that the book has, or has not.
+use Rattle.std.proofs.Common.{◌≡◌, true, false, List, ℕ, [], ◌∷◌, Option, Some, None, refl, sym, ◌∙◌, subst, inl, inr}
+use Rattle.std.specs.List.{list_any}
+use Rattle.std.specs.Prelude.{is_some}
+use Rattle.std.proofs.Math.Bool.{or-true}
+use Rattle.std.proofs.lemmas.Bool.{false≢true, or_cases, cond_both, and_right, false_from_ne_true}
+use Rattle.trace_types.specs.Name.{Text, is_same}
+use Rattle.trace_types.specs.Rows.{History, joins, ends, ends_task, is_known, is_ended, is_joined, state_of}
+use Rattle.trace_types.specs.declared.row.Kind.{Kind}
+use Rattle.trace_types.specs.declared.row.Kind.TheVariants.{Local, Spawn, Send, Recv, End, Join}
+use Rattle.trace_types.specs.declared.task_state.TaskState.{TaskState}
+use Rattle.trace_types.specs.declared.task_state.TaskState.TheVariants as state
+use Rattle.trace_types.proofs.Names.{is_same_iff}
+use Rattle.tenant_ledger.specs.declared.book.Task.{Task}
+use Rattle.tenant_ledger.specs.Legal.{IsLive, Allows, IsLegal}
+use Rattle.tenant_ledger.specs.Ledger.{Contents, IsKept, IsTask, history_in, task_in}
+use Rattle.tenant_ledger.proofs.clock.Legality.{IsLegal_from_AreLegal}
+use Rattle.tenant_ledger.proofs.clock.Tasks.{live_from_Allows, live_is_not_unknown, unwas_known}
+
+-- the order in which names are compared does not matter
+pub differ_back : (one other : Text) → is_same one other ≡ false → is_same other one ≡ false
+differ_back one other differ = false_from_ne_true (is_same other one) λ same.
+    false≢true (sym differ ∙ (is_same_iff one other).1 (sym ((is_same_iff other one).0 same)))
+
+-- a task that a row may take in has ended, and is known
+joined_was : (earlier : History) (acting : Text) (kind : Kind) (name : Option Text) (preds : List ℕ) (task : Text) → Allows earlier acting kind name
+    → joins task (record { task = acting; kind = kind; name = name; preds = preds }) ≡ true → (is_known earlier task ≡ true) × (is_ended earlier task ≡ true)
+joined_was earlier acting Local name preds task allowed joins_it = absurd (false≢true joins_it)
+joined_was earlier acting Spawn name preds task allowed joins_it = absurd (false≢true joins_it)
+joined_was earlier acting Send name preds task allowed joins_it = absurd (false≢true joins_it)
+joined_was earlier acting Recv name preds task allowed joins_it = absurd (false≢true joins_it)
+joined_was earlier acting End name preds task allowed joins_it = absurd (false≢true joins_it)
+joined_was earlier acting Join None preds task allowed joins_it = absurd allowed
+joined_was earlier acting Join (Some child) preds task allowed joins_it =
+    subst (λ name. (is_known earlier name ≡ true) × (is_ended earlier name ≡ true)) ((is_same_iff child task).0 joins_it) (allowed.1, allowed.2)
+
+-- so each task that was joined has ended
+pub joined_has_ended : (history : History) (task : Text) → IsLegal history → is_joined history task ≡ true → is_ended history task ≡ true
+joined_has_ended [] task legal joined = absurd (false≢true joined)
+joined_has_ended (row ∷ earlier) task legal joined =
+    let ended : is_ended earlier task ≡ true = elim (or_cases (joins task row) (list_any (joins task) earlier) joined) [
+      | inl now ↦ (joined_was earlier row.task row.kind row.name row.preds task legal.0 now).1
+      | inr before ↦ joined_has_ended earlier task legal.1 before
+    ] in
+    rw ended (or-true (ends task row))
+
+-- and a task that is not known has not ended
+pub unknown_has_not_ended : (history : History) (task : Text) → IsLegal history → is_known history task ≡ false → is_ended history task ≡ false
+unknown_has_not_ended [] task legal unknown = refl
+unknown_has_not_ended (row ∷ earlier) task legal unknown =
+    let not_before : is_known earlier task ≡ false = unwas_known row earlier task unknown in
+    let live : IsLive earlier row.task = live_from_Allows earlier row.task row.kind row.name legal.0 in
+    let not_by_row : ends task row ≡ false = and_right (ends_task row.kind) (is_same row.task task) (live_is_not_unknown earlier row.task task live not_before) in
+    rw not_by_row (unknown_has_not_ended earlier task legal.1 not_before)
+
+-- so neither was joined
+pub unended_is_not_joined : (history : History) (task : Text) → IsLegal history → is_ended history task ≡ false → is_joined history task ≡ false
+unended_is_not_joined history task legal unended =
+    false_from_ne_true (is_joined history task) (λ joined. false≢true (sym unended ∙ joined_has_ended history task legal joined))
+
+-- what the rows are for a task in this state
+abbrev pub IsAt : History → Text → TaskState → Type 0
+IsAt history task state.Live = (is_ended history task ≡ false) × (is_joined history task ≡ false)
+IsAt history task state.Ended = (is_ended history task ≡ true) × (is_joined history task ≡ false)
+IsAt history task state.Joined = (is_ended history task ≡ true) × (is_joined history task ≡ true)
+
+pub state_is_at : (history : History) (task : Text) → IsLegal history → IsAt history task (state_of history task)
+state_is_at history task legal =
+    cond_both (is_joined history task) _ _ (IsAt history task) (λ joined. (joined_has_ended history task legal joined, joined))
+    λ not_joined. cond_both (is_ended history task) _ _ (IsAt history task) (λ ended. (ended, not_joined)) (λ not_ended. (not_ended, not_joined))
+
+module _ (book : Contents) (kept : IsKept book) where
+  pub legal_history : IsLegal (history_in book)
+  legal_history = IsLegal_from_AreLegal book.limits book.rows kept.legal
+
+  -- what is kept of a task that the book has
+  pub task_kept : (name : Text) (task : Task) → task_in book name ≡ Some task → IsTask book.ids (history_in book) name (Some task)
+  task_kept name task found = subst (IsTask book.ids (history_in book) name) found (kept.tasks_are name)
+
+  -- it is as far as the book says
+  pub is_at : (name : Text) (task : Task) → task_in book name ≡ Some task → IsAt (history_in book) name task.state
+  is_at name task found = subst (IsAt (history_in book) name) (sym (task_kept name task found).1) (state_is_at (history_in book) name legal_history)
+
+  -- the book has the tasks that are known
+  pub has_known : (name : Text) → is_some (task_in book name) ≡ is_known (history_in book) name
+  has_known name = by (task_in book name) (kept.tasks_are name)
+    where
+      by : (found : Option Task) → IsTask book.ids (history_in book) name found → is_some found ≡ is_known (history_in book) name
+      by None unknown = sym unknown
+      by (Some task) right = sym right.0

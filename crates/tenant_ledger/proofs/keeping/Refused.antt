@@ -1,0 +1,95 @@
+-- Which refusal is due, and what a request that is not refused steps to.
+use Rattle.std.proofs.Common.{◌≡◌, suc, Bool, true, false, cond, List, [], ◌∷◌, ◌++◌, length, Option, Some, None, Result, Ok, Err, IfErr, IsTrue, refl, sym, ap, ◌∙◌, inl, inr}
+use Rattle.std.specs.Result.{result_err, IsErrAnd}
+use Rattle.std.proofs.lemmas.Bool.{false≢true, cond-false}
+use Rattle.std.proofs.lemmas.List.{length-reverse}
+use Rattle.trace_types.specs.Rows.{history_of}
+use Rattle.trace_types.specs.Refusal.{first_code, refusal_of}
+use Rattle.trace_types.specs.Tenant.{Steps, step_unless, answer_to, accepted, row_after, with_row, may_lack_memory, Tenant, Answers, is_report, step}
+use Rattle.trace_types.specs.Name.{Text}
+use Rattle.trace_types.specs.declared.code.Code.{Code}
+use Rattle.trace_types.specs.declared.code.Code.TheVariants.{NoMemory}
+use Rattle.trace_types.specs.declared.reply.Reply.{Reply}
+use Rattle.trace_types.specs.declared.reply.Reply.TheVariants as reply
+use Rattle.trace_types.specs.declared.request.Request.{Request}
+use Rattle.trace_types.specs.declared.request.Request.TheVariants as request
+use Rattle.trace_types.specs.declared.row.Row.{Row}
+use Rattle.trace_types.specs.declared.row.Kind.{Kind}
+use Rattle.tenant_ledger.specs.Ledger.{Contents, Event, IsKept, Decides, Prepares, history_in, tenant_of}
+
+-- the first code that applies decides, whatever else may apply
+pub decides_by_first : {A : Type 0} (refusals : List (Bool × Code)) (outcome : Result A Code) → result_err outcome ≡ first_code refusals → Decides refusals outcome
+decides_by_first [] (Ok value) is = λ others. refl
+decides_by_first [] (Err code) is = λ others. cc
+decides_by_first {A = A} (refusal ∷ rest) (Ok value) is = λ others. by others refusal.0 is (λ found. decides_by_first {A = A} rest (Ok value) found others)
+  where
+    by : (others : List (Bool × Code)) (holds : Bool) → None ≡ cond holds (Some refusal.1) (first_code rest) → (None ≡ first_code rest → first_code (rest ++ others) ≡ first_code others)
+        → cond holds (Some refusal.1) (first_code (rest ++ others)) ≡ first_code others
+    by others true found later = cc
+    by others false found later = later found
+decides_by_first {A = A} (refusal ∷ rest) (Err code) is = λ others. by others refusal.0 is (λ found. decides_by_first {A = A} rest (Err code) found others)
+  where
+    by : (others : List (Bool × Code)) (holds : Bool) → Some code ≡ cond holds (Some refusal.1) (first_code rest) → (Some code ≡ first_code rest → first_code (rest ++ others) ≡ Some code)
+        → cond holds (Some refusal.1) (first_code (rest ++ others)) ≡ Some code
+    by others true found later = sym found
+    by others false found later = later found
+
+-- a report may lack memory
+report_may_lack : (request : Request) → is_report request ≡ true → IsTrue (may_lack_memory request)
+report_may_lack (request.Local task) report = refl
+report_may_lack (request.Spawn task child) report = refl
+report_may_lack (request.Send task message) report = refl
+report_may_lack (request.Recv task message) report = refl
+report_may_lack (request.End task) report = refl
+report_may_lack (request.Join task child) report = refl
+report_may_lack (request.Order a b) report = absurd (false≢true report)
+report_may_lack (request.Past event) report = refl
+report_may_lack (request.Concurrent event) report = refl
+report_may_lack (request.Event event) report = absurd (false≢true report)
+report_may_lack (request.Stamp event) report = refl
+report_may_lack (request.Task task) report = absurd (false≢true report)
+report_may_lack (request.Message message) report = absurd (false≢true report)
+report_may_lack request.Count report = absurd (false≢true report)
+
+-- one that is not may find no memory
+pub lacked : (old new : Contents) (request : Request) (outcome : Result Event Code) → is_report request ≡ true → IsErrAnd outcome (λ given. given ≡ NoMemory)
+    → None ≡ refusal_of old.limits (history_in old) request → IsKept new → tenant_of new ≡ tenant_of old → Prepares outcome old request new
+lacked old new request (Ok event) report given none kept tenant = absurd given
+lacked old new request (Err code) report given none kept tenant = (kept, tenant, inr ((report_may_lack request report, sym none), ap reply.Refused given, refl))
+
+-- else its row is added
+pub steps_to_row : (book : Contents) (request : Request) (task : Text) (kind : Kind) (name : Option Text)
+    → refusal_of book.limits (history_in book) request ≡ None → answer_to (history_in book) request ≡ accepted (history_in book) task kind name
+    → step (tenant_of book) request ≡ (reply.Accepted (suc (length book.rows)), with_row (tenant_of book) (Some (row_after (history_in book) task kind name)))
+steps_to_row book request task kind name none answer =
+    ap (λ refusal. step_unless refusal (tenant_of book) request) none
+    ∙ ap (λ (given : Reply × Option Row). (given.0, with_row (tenant_of book) given.1)) answer
+    ∙ ap (λ n. (reply.Accepted (suc n), with_row (tenant_of book) (Some (row_after (history_in book) task kind name)))) (length-reverse book.rows)
+
+-- a request that reports nothing leaves the tenant as it was
+query_leaves : (tenant : Tenant) (request : Request) → is_report request ≡ false → (answer_to (history_of tenant.rows) request).1 ≡ None
+query_leaves tenant (request.Local task) query = absurd (false≢true (sym query))
+query_leaves tenant (request.Spawn task child) query = absurd (false≢true (sym query))
+query_leaves tenant (request.Send task message) query = absurd (false≢true (sym query))
+query_leaves tenant (request.Recv task message) query = absurd (false≢true (sym query))
+query_leaves tenant (request.End task) query = absurd (false≢true (sym query))
+query_leaves tenant (request.Join task child) query = absurd (false≢true (sym query))
+query_leaves tenant (request.Order a b) query = refl
+query_leaves tenant (request.Past event) query = refl
+query_leaves tenant (request.Concurrent event) query = refl
+query_leaves tenant (request.Event event) query = refl
+query_leaves tenant (request.Stamp event) query = refl
+query_leaves tenant (request.Task task) query = refl
+query_leaves tenant (request.Message message) query = refl
+query_leaves tenant request.Count query = refl
+
+-- so it steps as it is answered
+pub query_steps : (tenant : Tenant) (request : Request) (answer : Reply) → is_report request ≡ false → Answers tenant request answer → Steps tenant request answer tenant
+query_steps tenant request answer query (inr lacked) = inr (lacked.1, lacked.2, refl)
+query_steps tenant request answer query (inl answered) =
+    let stays : (step tenant request).1 ≡ tenant = by (refusal_of tenant.limits (history_of tenant.rows) request) in
+    inl (λ i. ((sym (answered ∙ cond-false (is_report request) _ _ query)) i, stays i))
+  where
+    by : (refusal : Option Code) → (step_unless refusal tenant request).1 ≡ tenant
+    by None = ap (with_row tenant) (query_leaves tenant request query)
+    by (Some code) = refl

@@ -1,0 +1,128 @@
+-- What a report that is not refused says of the ids and of the trees that its event is made of.
+use Rattle.std.proofs.Common.{◌≡◌, ◌≢◌, ℕ, suc, ◌+◌, ◌<◌, ◌≤◌, true, false, ◌∷◌, length, slice_get, Option, Some, None, is_some, refl, sym, ap, ◌∙◌, subst, inl, inr, arith}
+use Rattle.std.proofs.lemmas.Bool.{false≢true, cond-true, cond-false}
+use Rattle.std.proofs.lemmas.List.{length-reverse}
+use Rattle.std.proofs.lemmas.Option.{same_Some, slice_get_within}
+use Rattle.trace_types.specs.Name.{Text}
+use Rattle.trace_types.specs.Reachability.{second_event}
+use Rattle.trace_types.specs.Rows.{History, last_event, is_ended, is_joined}
+use Rattle.trace_types.specs.Clock.{tree_clock}
+use Rattle.trace_types.specs.Stamps.{id_of, tree_of, acting_id, id_at, of_named, takes_in}
+use Rattle.trace_types.specs.Id.{Id, Zero, AreDisjoint, owns}
+use Rattle.trace_types.specs.EventTree.{EventTree, maximum}
+use Rattle.trace_types.specs.declared.row.Row.{Row}
+use Rattle.trace_types.specs.declared.row.Kind.{Kind}
+use Rattle.trace_types.specs.declared.row.Kind.TheVariants.{Local, Spawn, Send, Recv, End, Join}
+use Rattle.trace_types.specs.declared.task_state.TaskState.TheVariants as state
+use Rattle.trace_types.proofs.Names.{differ_by_test}
+use Rattle.tenant_ledger.specs.Legal.{Allows}
+use Rattle.tenant_ledger.specs.Ledger.{Contents, IsKept, IsReport, history_in, task_in, row_of_report, ids_made, id_for, joined_by}
+use Rattle.tenant_ledger.specs.declared.book.Report.{Report}
+use Rattle.tenant_ledger.specs.declared.book.Task.{Task}
+use Rattle.tenant_ledger.proofs.clock.Consequences.{ids_are_disjoint, acting_id_is_not_Zero, known_before_maximum-le}
+use Rattle.tenant_ledger.proofs.clock.Events.{known_before_new, tree_of-new}
+use Rattle.tenant_ledger.proofs.clock.Reaching.{followed-le}
+use Rattle.tenant_ledger.proofs.clock.Tasks.{live_is_not_ended}
+use Rattle.tenant_ledger.proofs.keeping.Kept.{legal_with_row, live}
+use Rattle.tenant_ledger.proofs.keeping.Known.{legal_history, task_kept, IsAt, is_at, has_known}
+use Rattle.tenant_ledger.proofs.keeping.Tasks.{own_id}
+
+-- the id with which an event is made
+pub acting_of_made : (kind : Kind) (own named : Id) → id_for (ids_made kind own named) own ≡ id_at tree_clock kind own named
+acting_of_made Local own named = refl
+acting_of_made Spawn own named = refl
+acting_of_made Send own named = refl
+acting_of_made Recv own named = refl
+acting_of_made End own named = refl
+acting_of_made Join own named = refl
+
+-- a task that is joined is named, and has ended
+abbrev IsJoined : Contents → Text → Option Text → Option Task → Type 0
+IsJoined book task name joined = (child : Text) × (had : Task) × (name ≡ Some child) × (joined ≡ Some had) × (task_in book child ≡ Some had)
+    × (is_ended (history_in book) child ≡ true) × (is_joined (history_in book) child ≡ false)
+
+pub joined_is_there : (book : Contents) (kept : IsKept book) (task : Text) (name : Option Text) (joined : Option Task)
+    → Allows (history_in book) task Join name → joined ≡ joined_by (task_in book) Join name → IsJoined book task name joined
+joined_is_there book kept task None joined allowed is = absurd allowed
+joined_is_there book kept task (Some child) joined allowed is = by (task_in book child) refl
+  where
+    by : (had : Option Task) → task_in book child ≡ had → IsJoined book task (Some child) joined
+    by None none = absurd (false≢true (ap is_some (sym none) ∙ has_known book kept child ∙ allowed.1))
+    by (Some had) found = (child, had, refl, is ∙ found, found, allowed.2, allowed.3)
+
+module _ (book : Contents) (kept : IsKept book) (report : Report) (is : IsReport book report) where
+  abbrev history : History
+  history = history_in book
+
+  abbrev row : Row
+  row = row_of_report book report
+
+  own_id_kept : slice_get book.ids report.acting.id ≡ Some (id_of tree_clock history report.task)
+  own_id_kept = own_id book kept report.task report.acting is.acting (live book kept report is)
+
+  pub own_place : report.acting.id < length book.ids
+  own_place = slice_get_within book.ids report.acting.id _ own_id_kept
+
+  pub own_is : (id : Id) → slice_get book.ids report.acting.id ≡ Some id → id ≡ id_of tree_clock history report.task
+  own_is id there = same_Some id _ (sym there ∙ own_id_kept)
+
+  -- the events that it follows
+  pub acting_last : report.acting.last ≡ last_event history report.task
+  acting_last = (task_kept book kept report.task report.acting is.acting).2
+
+  pub last-le : report.acting.last ≤ length book.rows
+  last-le = omega (arith, acting_last, followed-le row history (last_event history report.task) (inl refl), length-reverse book.rows)
+
+  pub second-le : report.second ≤ length book.rows
+  second-le = omega (arith, is.second, followed-le row history (second_event history report.kind report.name) (inr refl), length-reverse book.rows)
+
+  -- an event may be made of what is known before it
+  pub id_some : (id : Id) → id ≡ acting_id tree_clock history row → id ≢ Zero
+  id_some id id_is zero = acting_id_is_not_Zero row history (legal_with_row book kept report is) (sym id_is ∙ zero)
+
+  pub fits : (known : EventTree) → known ≡ known_before_new tree_clock row history → maximum known + 1 < 18446744073709551616
+  fits known known_is =
+      let bounded : maximum known ≤ length history = omega (arith, ap maximum known_is, known_before_maximum-le row history (legal_history book kept)) in
+      omega (arith, bounded, length-reverse book.rows, kept.small)
+
+  -- that is what its task knew, joined with what the second event knew where it takes that in
+  pub knows_both : takes_in report.kind ≡ true → (own second : EventTree) → own ≡ tree_of tree_clock history report.acting.last
+      → second ≡ tree_of tree_clock history report.second → tree_clock.join own second ≡ known_before_new tree_clock row history
+  knows_both takes own second own_is second_is =
+      (λ i. tree_clock.join ((own_is ∙ ap (tree_of tree_clock history) acting_last) i) ((second_is ∙ ap (tree_of tree_clock history) is.second) i))
+      ∙ sym (cond-true (takes_in report.kind) _ _ takes)
+
+  pub knows_own : takes_in report.kind ≡ false → (own : EventTree) → own ≡ tree_of tree_clock history report.acting.last → own ≡ known_before_new tree_clock row history
+  knows_own takes own own_is = own_is ∙ ap (tree_of tree_clock history) acting_last ∙ sym (cond-false (takes_in report.kind) _ _ takes)
+
+  -- and the event is made so
+  pub made_of : (id : Id) (known tree : EventTree) → id ≡ acting_id tree_clock history row → known ≡ known_before_new tree_clock row history → tree ≡ tree_clock.event id known
+      → tree ≡ tree_of tree_clock (row ∷ history) (suc (length history))
+  made_of id known tree id_is known_is tree_is = tree_is ∙ (λ i. tree_clock.event (id_is i) (known_is i)) ∙ sym (tree_of-new tree_clock row history)
+
+  module _ (kind_is : report.kind ≡ Join) where
+    pub joins : IsJoined book report.task report.name report.joined
+    joins = joined_is_there book kept report.task report.name report.joined
+        (subst (λ kind. Allows history report.task kind report.name) kind_is (legal_with_row book kept report is).0)
+        (subst (λ kind. report.joined ≡ joined_by (task_in book) kind report.name) kind_is is.joined)
+
+    module _ (had : Task) (had_is : report.joined ≡ Some had) where
+      joined_id_kept : slice_get book.ids had.id ≡ Some (id_of tree_clock history joins.0)
+      joined_id_kept =
+          let same : joins.1 ≡ had = same_Some joins.1 had (sym joins.3 ∙ had_is) in
+          let right = task_kept book kept joins.0 joins.1 joins.4 in
+          ap (λ (t : Task). slice_get book.ids t.id) (sym same) ∙ right.3 λ joined.
+          false≢true (sym joins.6 ∙ (subst (IsAt history joins.0) joined (is_at book kept joins.0 joins.1 joins.4)).1)
+
+      pub joined_place : had.id < length book.ids
+      joined_place = slice_get_within book.ids had.id _ joined_id_kept
+
+      pub joined_is : (id : Id) → slice_get book.ids had.id ≡ Some id → id ≡ of_named Zero (id_of tree_clock history) report.name
+      joined_is id there = same_Some id _ (sym there ∙ joined_id_kept) ∙ ap (of_named Zero (id_of tree_clock history)) (sym joins.2)
+
+      pub disjoint : (own other : Id) → own ≡ id_of tree_clock history report.task → other ≡ of_named Zero (id_of tree_clock history) report.name → AreDisjoint own other
+      disjoint own other acts is_named point held other_held =
+          let differ = live_is_not_ended history report.task joins.0 (live book kept report is) joins.5 in
+          ids_are_disjoint history (legal_history book kept) report.task joins.0 (differ_by_test report.task joins.0 differ) point
+          (ap (λ id. owns id point) (sym acts) ∙ held)
+          (ap (λ id. owns id point) (sym (is_named ∙ ap (of_named Zero (id_of tree_clock history)) joins.2)) ∙ other_held)

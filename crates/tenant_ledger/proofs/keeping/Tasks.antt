@@ -1,0 +1,225 @@
+-- What is to be kept of each task after a report is right.
+use Rattle.std.proofs.Common.{◌≡◌, ℕ, suc, ◌+◌, true, false, cond, List, [], ◌∷◌, ◌++◌, length, slice_get, Option, Some, None, is_some, refl, sym, ap, ◌∙◌, subst, inl, inr, arith}
+use Rattle.std.specs.List.{list_any}
+use Rattle.std.proofs.lemmas.Bool.{false≢true, cases_Bool, cond-true, cond-false, cond_both, or_cases, or_left, or_right, and_left, and_right}
+use Rattle.std.proofs.lemmas.List.Sums.{sum_by-append}
+use Rattle.trace_types.specs.Name.{Text, is_same, root}
+use Rattle.trace_types.specs.Rows.{History, starts, starts_task, ends, ends_task, joins, joins_task, names, is_known, is_ended, is_joined, state_of, task_count}
+use Rattle.trace_types.specs.Clock.{tree_clock}
+use Rattle.trace_types.specs.Stamps.{id_of, id_kept, id_given, of_named}
+use Rattle.trace_types.specs.Tenant.{row_after}
+use Rattle.trace_types.specs.Id.{Id, Zero}
+use Rattle.trace_types.specs.declared.row.Row.{Row}
+use Rattle.trace_types.specs.declared.row.Kind.{Kind}
+use Rattle.trace_types.specs.declared.row.Kind.TheVariants.{Local, Spawn, Send, Recv, End, Join}
+use Rattle.trace_types.specs.declared.task_state.TaskState.TheVariants.{Live, Ended, Joined}
+use Rattle.trace_types.proofs.Names.{is_same-itself, is_same_iff}
+use Rattle.tenant_ledger.specs.Legal.{IsLive, Allows, IsLegal}
+use Rattle.tenant_ledger.specs.Ledger.{Contents, IsKept, IsTask, history_in, task_in, ids_made, made_ids, acting_after, named_after, joined_by, task_with, count_with, task_with_some, count_with_some}
+use Rattle.tenant_ledger.specs.declared.book.Task.{Task}
+use Rattle.tenant_ledger.proofs.clock.Tasks.{live_from_Allows, last_event-acting, last_event-bystander, last_event-started, live_is_not_unknown, live_is_not_ended, unknown_has_no_event}
+use Rattle.tenant_ledger.proofs.keeping.Known.{differ_back, legal_history, task_kept, has_known, unknown_has_not_ended, unended_is_not_joined}
+use Rattle.tenant_ledger.proofs.keeping.Lists.{slice_get-longer, slice_get-seam, slice_get-behind}
+
+module _ (row : Row) (earlier : History) where
+  -- a known task stays known
+  known_stays : (task : Text) → is_known earlier task ≡ true → is_known (row ∷ earlier) task ≡ true
+  known_stays task known = elim (or_cases (is_same task root) (list_any (starts task) earlier) known) [
+    | inl is_root ↦ or_left (is_same task root) _ is_root
+    | inr started ↦ or_right (is_same task root) _ (or_right (starts task row) _ started)
+  ]
+
+  -- one task more, if the row starts one
+  task_count-more : task_count (row ∷ earlier) ≡ task_count earlier + cond (starts_task row.kind) 1 0
+  task_count-more = let sums = sum_by-append (λ (r : Row). cond (starts_task r.kind) 1 0) (row ∷ []) earlier in omega (arith, sums)
+
+  -- A row that is not of the task, and neither starts it nor takes it in nor changes its id, leaves what is kept of it right.
+  stands_by : (ids more : List Id) (task : Text) → is_same row.task task ≡ false → starts task row ≡ false → joins task row ≡ false
+      → id_of tree_clock (row ∷ earlier) task ≡ id_of tree_clock earlier task
+      → (found : Option Task) → IsTask ids earlier task found → IsTask (ids ++ more) (row ∷ earlier) task found
+  stands_by ids more task differ not_started not_joined same_id None unknown = rw not_started unknown
+  stands_by ids more task differ not_started not_joined same_id (Some found) right =
+      let not_ended : ends task row ≡ false = and_right (ends_task row.kind) (is_same row.task task) differ in (
+        known_stays task right.0,
+        rw (not_joined, not_ended) right.1,
+        right.2 ∙ sym (last_event-bystander row earlier task differ not_started),
+        λ unjoined. slice_get-longer ids more found.id _ (right.3 unjoined) ∙ ap Some (sym same_id),
+      )
+
+module _ (book : Contents) (kept : IsKept book) (task : Text) (acting : Task) (found : task_in book task ≡ Some acting) where
+  abbrev history : History
+  history = history_in book
+
+  abbrev event : ℕ
+  event = suc (length history)
+
+  abbrev place : ℕ
+  place = length book.ids
+
+  -- the ids that the book has after the report
+  abbrev ids_after : Kind → Option Text → List Id
+  ids_after kind name = book.ids ++ made_ids (ids_made kind (id_of tree_clock history task) (of_named Zero (id_of tree_clock history) name))
+
+  abbrev row : Kind → Option Text → Row
+  row kind name = row_after history task kind name
+
+  module _ (live : IsLive history task) where
+    was_kept : IsTask book.ids history task (Some acting)
+    was_kept = task_kept book kept task acting found
+
+    unjoined : is_joined history task ≡ false
+    unjoined = unended_is_not_joined history task (legal_history book kept) live.1
+
+    was_live : acting.state ≡ Live
+    was_live = was_kept.1 ∙ cond-false (is_joined history task) _ _ unjoined ∙ cond-false (is_ended history task) _ _ live.1
+
+    pub own_id : slice_get book.ids acting.id ≡ Some (id_of tree_clock history task)
+    own_id = was_kept.3 λ joined. let clash : Live ≡ Joined = sym was_live ∙ joined in cc
+
+    -- the acting task is left in this state
+    state_after : (kind : Kind) (name : Option Text) → Allows history task kind name → (acting_after kind event place acting).state ≡ state_of (row kind name ∷ history) task
+    state_after Local name allowed = was_kept.1
+    state_after Spawn name allowed = was_kept.1
+    state_after Send name allowed = was_kept.1
+    state_after Recv name allowed = was_kept.1
+    state_after End name allowed =
+        sym (cond-false (is_joined history task) _ _ unjoined ∙ cond-true (is_ended (row End name ∷ history) task) _ _ (or_left (is_same task task) _ (is_same-itself task)))
+    state_after Join None allowed = absurd allowed
+    state_after Join (Some child) allowed = rw (differ_back task child (live_is_not_ended history task child live allowed.2)) was_kept.1
+
+    -- with this id
+    id_after : (kind : Kind) (name : Option Text)
+        → slice_get (ids_after kind name) (acting_after kind event place acting).id ≡ Some (id_kept tree_clock kind (id_of tree_clock history task) (of_named Zero (id_of tree_clock history) name))
+    id_after Local name = slice_get-longer book.ids [] acting.id _ own_id
+    id_after Spawn name = slice_get-seam book.ids _ _
+    id_after Send name = slice_get-longer book.ids [] acting.id _ own_id
+    id_after Recv name = slice_get-longer book.ids [] acting.id _ own_id
+    id_after End name = slice_get-longer book.ids [] acting.id _ own_id
+    id_after Join name = slice_get-seam book.ids _ _
+
+    last_after : (kind : Kind) → (acting_after kind event place acting).last ≡ event
+    last_after Local = refl
+    last_after Spawn = refl
+    last_after Send = refl
+    last_after Recv = refl
+    last_after End = refl
+    last_after Join = refl
+
+    pub id_is_kept : (kind : Kind) (name : Option Text)
+        → slice_get (ids_after kind name) (acting_after kind event place acting).id ≡ Some (id_of tree_clock (row kind name ∷ history) task)
+    id_is_kept kind name = id_after kind name ∙ ap Some (sym (cond-true (is_same task task) _ _ (is_same-itself task)))
+
+    -- so what is to be kept of it is right
+    acting_is_task : (kind : Kind) (name : Option Text) → Allows history task kind name
+        → IsTask (ids_after kind name) (row kind name ∷ history) task (Some (acting_after kind event place acting))
+    acting_is_task kind name allowed = (
+      known_stays (row kind name) history task live.0,
+      state_after kind name allowed,
+      last_after kind ∙ sym (last_event-acting (row kind name) history task (is_same-itself task)),
+      λ _. id_is_kept kind name,
+    )
+
+    -- of a task that is not of the row and is not named by it
+    unnamed : (kind : Kind) (name : Option Text) (other : Text) → is_same task other ≡ false → names (row kind name) other ≡ false
+        → IsTask (ids_after kind name) (row kind name ∷ history) other (task_in book other)
+    unnamed kind name other differ not_named =
+        stands_by (row kind name) history book.ids _ other differ (and_right (starts_task kind) _ not_named) (and_right (joins_task kind) _ not_named)
+        (cond-false (is_same task other) _ _ differ ∙ cond-false (names (row kind name) other) _ _ not_named) (task_in book other) (kept.tasks_are other)
+
+    -- and of one that is named by a report that neither starts nor takes in a task
+    untouched : (kind : Kind) (name : Option Text) (other : Text) → is_same task other ≡ false → starts_task kind ≡ false → joins_task kind ≡ false
+        → ((own named : Id) → id_given tree_clock kind own named ≡ named) → IsTask (ids_after kind name) (row kind name ∷ history) other (task_in book other)
+    untouched kind name other differ starts_none joins_none gives_none =
+        stands_by (row kind name) history book.ids _ other differ (and_left (starts_task kind) _ starts_none) (and_left (joins_task kind) _ joins_none)
+        (cond-false (is_same task other) _ _ differ
+        ∙ cond_both (names (row kind name) other) _ _ (λ id. id ≡ id_of tree_clock history other) (λ _. gives_none _ _) (λ _. refl))
+        (task_in book other) (kept.tasks_are other)
+
+    -- of a task that the report starts
+    started_is_task : (child : Text) → is_known history child ≡ false
+        → IsTask (ids_after Spawn (Some child)) (row Spawn (Some child) ∷ history) child (Some (record { state = Live; last = event; id = suc place }))
+    started_is_task child new =
+        let legal = legal_history book kept in
+        let differ = live_is_not_unknown history task child live new in
+        let unended = unknown_has_not_ended history child legal new in (
+          or_right (is_same child root) _ (or_left (is_same child child) _ (is_same-itself child)),
+          sym (cond-false (is_joined history child) _ _ (unended_is_not_joined history child legal unended) ∙ cond-false (is_ended history child) _ _ unended),
+          sym (last_event-started (row Spawn (Some child)) history child differ (unknown_has_no_event history child legal new) (is_same-itself child)),
+          λ _. slice_get-behind book.ids _ _ _ ∙ ap Some (sym (cond-false (is_same task child) _ _ differ ∙ cond-true (is_same child child) _ _ (is_same-itself child))),
+        )
+
+    -- of a task that it takes in
+    joined_is_task : (child : Text) (joined : Task) → task_in book child ≡ Some joined → is_ended history child ≡ true
+        → IsTask (ids_after Join (Some child)) (row Join (Some child) ∷ history) child (Some (record joined { state = Joined }))
+    joined_is_task child joined child_found ended =
+        let right = task_kept book kept child joined child_found in
+        let differ = live_is_not_ended history task child live ended in (
+          known_stays (row Join (Some child)) history child right.0,
+          sym (cond-true (is_joined (row Join (Some child) ∷ history) child) _ _ (or_left (is_same child child) _ (is_same-itself child))),
+          right.2 ∙ sym (last_event-bystander (row Join (Some child)) history child differ refl),
+          λ unjoined. absurd (unjoined refl),
+        )
+
+    -- the task that is named, once it is kept, and every other one
+    named_or_not : (kind : Kind) (child : Text) (kept_of : Task) → IsTask (ids_after kind (Some child)) (row kind (Some child) ∷ history) child (Some kept_of)
+        → (other : Text) → is_same task other ≡ false → IsTask (ids_after kind (Some child)) (row kind (Some child) ∷ history) other (task_with child kept_of (task_in book) other)
+    named_or_not kind child kept_of right other differ =
+        cond_both (is_same child other) _ _ (IsTask (ids_after kind (Some child)) (row kind (Some child) ∷ history) other)
+        (λ same. subst (λ name. IsTask (ids_after kind (Some child)) (row kind (Some child) ∷ history) name (Some kept_of)) ((is_same_iff child other).0 same) right)
+        (λ not_named. unnamed kind (Some child) other differ not_named)
+
+    others_are_tasks : (kind : Kind) (name : Option Text) → Allows history task kind name → (other : Text) → is_same task other ≡ false
+        → IsTask (ids_after kind name) (row kind name ∷ history) other (task_with_some (named_after kind event place (joined_by (task_in book) kind name)) name (task_in book) other)
+    others_are_tasks Local name allowed other differ = untouched Local name other differ refl refl (λ own named. refl)
+    others_are_tasks Spawn None allowed other differ = absurd allowed
+    others_are_tasks Spawn (Some child) allowed other differ = named_or_not Spawn child _ (started_is_task child allowed.1) other differ
+    others_are_tasks Send name allowed other differ = untouched Send name other differ refl refl (λ own named. refl)
+    others_are_tasks Recv name allowed other differ = untouched Recv name other differ refl refl (λ own named. refl)
+    others_are_tasks End name allowed other differ = untouched End name other differ refl refl (λ own named. refl)
+    others_are_tasks Join None allowed other differ = absurd allowed
+    others_are_tasks Join (Some child) allowed other differ = by (task_in book child) refl
+      where
+        by : (had : Option Task) → task_in book child ≡ had
+            → IsTask (ids_after Join (Some child)) (row Join (Some child) ∷ history) other (task_with_some (named_after Join event place had) (Some child) (task_in book) other)
+        by None none = absurd (false≢true (ap is_some (sym none) ∙ has_known book kept child ∙ allowed.1))
+        by (Some joined) had = named_or_not Join child _ (joined_is_task child joined had allowed.2) other differ
+
+    abbrev tasks_after : Kind → Option Text → Text → Option Task
+    tasks_after kind name = task_with_some (named_after kind event place (joined_by (task_in book) kind name)) name (task_in book)
+
+    -- so it is of each task
+    pub tasks_are_kept : (kind : Kind) (name : Option Text) → Allows history task kind name → (other : Text)
+        → IsTask (ids_after kind name) (row kind name ∷ history) other (task_with task (acting_after kind event place acting) (tasks_after kind name) other)
+    tasks_are_kept kind name allowed other =
+        cond_both (is_same task other) _ _ (IsTask (ids_after kind name) (row kind name ∷ history) other)
+        (λ same. subst (λ t. IsTask (ids_after kind name) (row kind name ∷ history) t (Some (acting_after kind event place acting))) ((is_same_iff task other).0 same) (acting_is_task kind name allowed))
+        (others_are_tasks kind name allowed other)
+
+    -- the acting task is among those that the book has, whatever is kept of the one that is named
+    acting_is_there : (name : Option Text) (put : Option Task) → is_some (task_with_some put name (task_in book) task) ≡ true
+    acting_is_there name None = ap is_some found
+    acting_is_there None (Some put) = ap is_some found
+    acting_is_there (Some child) (Some put) = cond_both (is_same child task) _ _ (λ had. is_some had ≡ true) (λ _. refl) (λ _. ap is_some found)
+
+    -- and the tasks are counted
+    pub tasks_are_counted : (kind : Kind) (name : Option Text) → Allows history task kind name
+        → count_with task (tasks_after kind name) (count_with_some (named_after kind event place (joined_by (task_in book) kind name)) name (task_in book) (length book.tasks))
+        ≡ task_count (row kind name ∷ history)
+    tasks_are_counted kind name allowed =
+        let there = acting_is_there name (named_after kind event place (joined_by (task_in book) kind name)) in
+        rw there (omega (arith, by kind name allowed, task_count-more (row kind name) history))
+      where
+        by : (kind : Kind) (name : Option Text) → Allows history task kind name
+            → count_with_some (named_after kind event place (joined_by (task_in book) kind name)) name (task_in book) (length book.tasks) ≡ task_count history + cond (starts_task kind) 1 0
+        by Local name allowed = kept.counted ∙ omega arith
+        by Spawn None allowed = absurd allowed
+        by Spawn (Some child) allowed = rw (has_known book kept child ∙ allowed.1) (omega (arith, kept.counted))
+        by Send name allowed = kept.counted ∙ omega arith
+        by Recv name allowed = kept.counted ∙ omega arith
+        by End name allowed = kept.counted ∙ omega arith
+        by Join None allowed = absurd allowed
+        by Join (Some child) allowed = of_child (task_in book child) (has_known book kept child ∙ allowed.1)
+          where
+            of_child : (had : Option Task) → is_some had ≡ true → count_with_some (named_after Join event place had) (Some child) (task_in book) (length book.tasks) ≡ task_count history + 0
+            of_child None none = absurd (false≢true none)
+            of_child (Some joined) had = rw (has_known book kept child ∙ allowed.1) (omega (arith, kept.counted))

@@ -1,0 +1,255 @@
+-- The lists that are told by comparing the kept trees are those of the graph, and so is the row of an event.
+use Rattle.std.proofs.Common.{◌≡◌, ℕ, suc, ◌-◌, ◌<◌, ◌≤◌, true, false, not, ◌&&◌, IsTrue, eqb, ltb, List, [], ◌∷◌, ◌++◌, length, get_or, slice_get, reverse, Some, Result, Ok, Err, IfOk, IfErr, refl, sym, ap, ◌∙◌, subst, inl, inr, arith}
+use Rattle.std.specs.List.{filter, range_with_len}
+use Rattle.std.proofs.lemmas.Bool.{cases_Bool, cond_both, and_parts, cases_eq, eq-eqb, ne_eqb, eqb-true, or_left, cond-true, cond-false}
+use Rattle.std.proofs.lemmas.List.{length-reverse, reverse-append, reverse-reverse}
+use Rattle.std.proofs.lemmas.Option.{get_or_from_slice_get, slice_get-get_or, slice_get_read}
+use Rattle.trace_query.specs.Compared.{is_order}
+use Rattle.trace_query.specs.Queries.{tree_at, StandInOrder, order_between, others_standing, fault_due}
+use Rattle.trace_query.specs.Queries as query
+use Rattle.trace_query.specs.Laws.{Tells}
+use Rattle.trace_query.proofs.ComparedTrees.{tree_order_stands}
+use Rattle.trace_query.proofs.Told.{told_by_orders}
+use Rattle.trace_types.specs.Rows.{History, history_of, is_event, row_of, events}
+use Rattle.trace_types.specs.Reachability.{reaches, order_of, past_of, concurrent_with}
+use Rattle.trace_types.specs.Id.{Id}
+use Rattle.trace_types.specs.EventTree.{EventTree, Leaf}
+use Rattle.trace_types.specs.Clock.{tree_clock}
+use Rattle.trace_types.specs.Stamps.{tree_of, stamp_of}
+use Rattle.trace_types.specs.declared.order.Order.{Order}
+use Rattle.trace_types.specs.declared.order.Order.TheVariants.{Same, Before, Concurrent}
+use Rattle.trace_types.specs.declared.row.Row.{Row}
+use Rattle.trace_types.proofs.Reachability.{reaches_newest, reaches_earlier}
+use Rattle.trace_types.specs.Tenant.{is_report, MayLackMemory, Answers, reply_to_view}
+use Rattle.trace_types.specs.declared.code.Code.TheVariants.{NoEvent}
+use Rattle.trace_types.specs.declared.reply.Reply.{Reply}
+use Rattle.trace_types.specs.declared.reply.Reply.TheVariants as reply
+use Rattle.trace_types.specs.declared.request.Request.{Request}
+use Rattle.trace_types.specs.declared.request.Request.TheVariants as request
+use Rattle.trace_query.specs.declared.query_fault.QueryFault.{QueryFault}
+use Rattle.trace_query.specs.declared.query_fault.QueryFault.TheVariants.{Unknown}
+use Rattle.event_tree.specs.Comparison.{IsBelow, StandsAs}
+use Rattle.event_tree.proofs.Standing.{stand_one_way}
+use Rattle.tenant_ledger.specs.Ledger.{Contents, IsKept, tenant_of, history_in, code_of}
+use Rattle.tenant_ledger.proofs.keeping.Kept.{one_tree, tree_at_event}
+use Rattle.tenant_ledger.proofs.clock.Events.{event_bounds}
+use Rattle.tenant_ledger.proofs.keeping.Lists.{slice_get-longer, slice_get-seam}
+use Rattle.tenant_ledger.proofs.clock.Legality.{IsLegal_from_AreLegal}
+use Rattle.tenant_ledger.proofs.clock.Ordering.{below_iff_reaches, stands_as_ordered}
+use Rattle.tenant_ledger.proofs.clock.Reaching.{reaches_forward}
+use Rattle.tenant_ledger.proofs.clock.TreeClock.{tree_clock_laws}
+use Rattle.tenant_ledger.proofs.clock.Upheld.{invariant_upheld}
+
+-- each event reaches itself
+reaches_itself : (history : History) (event : ℕ) → reaches history event event ≡ true
+reaches_itself [] event = eq-eqb event event refl
+reaches_itself (row ∷ earlier) event = elim (cases_eq event (suc (length earlier))) [
+  | inl last ↦ reaches_newest row earlier event event last ∙ or_left (eqb event event) _ (eq-eqb event event refl)
+  | inr older ↦ reaches_earlier row earlier event event older ∙ reaches_itself earlier event
+]
+
+-- an event is in the past of another one where it is another one and reaches it
+in_past : (history : History) (event other : ℕ) → is_order Before (order_of history other event) ≡ (not (eqb other event) && reaches history other event)
+in_past history event other = elim (cases_Bool (eqb other event)) [
+  | inl same ↦ rw same refl
+  | inr differ ↦ elim (cases_Bool (reaches history other event)) [
+    | inl forth ↦ rw (differ, forth) refl
+    | inr not_forth ↦ elim (cases_Bool (reaches history event other)) [
+      | inl back ↦ rw (differ, not_forth, back) refl
+      | inr not_back ↦ rw (differ, not_forth, not_back) refl
+    ]
+  ]
+]
+
+-- and concurrent with it where neither reaches the other
+is_concurrent : (history : History) (event other : ℕ)
+    → is_order Concurrent (order_of history other event) ≡ (not (reaches history other event) && not (reaches history event other))
+is_concurrent history event other = elim (cases_Bool (eqb other event)) [
+  | inl same ↦
+      let itself : reaches history other event ≡ true = ap (λ e. reaches history e event) (eqb-true other event same) ∙ reaches_itself history event in
+      rw (same, itself) refl
+  | inr differ ↦ elim (cases_Bool (reaches history other event)) [
+    | inl forth ↦ rw (differ, forth) refl
+    | inr not_forth ↦ elim (cases_Bool (reaches history event other)) [
+      | inl back ↦ rw (differ, not_forth, back) refl
+      | inr not_back ↦ rw (differ, not_forth, not_back) refl
+    ]
+  ]
+]
+
+module _ (book : Contents) (is : IsKept book) where
+  abbrev pub history : History
+  history = history_in book
+
+  abbrev pub trees : List EventTree
+  trees = book.trees
+
+  as_many : length trees ≡ length history
+  as_many = one_tree book is ∙ sym (length-reverse book.rows)
+
+  -- an event by the trees is one by the rows
+  pub same_events : (event : ℕ) → query.is_event trees event ≡ is_event history event
+  same_events event = ap (λ n. ltb 0 event && ltb event (suc n)) as_many
+
+  -- the tree that is kept of an event is what it knows
+  pub tree_is_kept : (event : ℕ) → IsTrue (is_event history event) → tree_at trees event ≡ tree_of tree_clock history event
+  tree_is_kept event event_is =
+      let bounds = event_bounds history event event_is in
+      let within : event ≤ length book.rows = omega (arith, bounds.1, length-reverse book.rows) in
+      get_or_from_slice_get trees (event - 1) (tree_of tree_clock history event) (Leaf 0) (tree_at_event book is event bounds.0 within)
+
+  -- the trees tell the order of the events
+  pub trees_tell : Tells trees (order_of history)
+  trees_tell first second first_is second_is =
+      let one_is : IsTrue (is_event history first) = sym (same_events first) ∙ first_is in
+      let other_is : IsTrue (is_event history second) = sym (same_events second) ∙ second_is in
+      rw (tree_is_kept first one_is, tree_is_kept second other_is)
+      (stands_as_ordered history (IsLegal_from_AreLegal book.limits book.rows is.legal) first second one_is other_is)
+
+  -- what an event knows is not below what an earlier one does: to be below it is to reach it
+  pub stand_in_order : StandInOrder trees
+  stand_in_order earlier later earlier_is later_is before below =
+      let one_is : IsTrue (is_event history earlier) = sym (same_events earlier) ∙ earlier_is in
+      let other_is : IsTrue (is_event history later) = sym (same_events later) ∙ later_is in
+      let holds = invariant_upheld tree_clock_laws history (IsLegal_from_AreLegal book.limits book.rows is.legal) in
+      let kept_below : IsBelow (tree_of tree_clock history later) (tree_of tree_clock history earlier) =
+      subst (IsBelow (tree_of tree_clock history later)) (tree_is_kept earlier one_is)
+      (subst (λ tree. IsBelow tree (tree_at trees earlier)) (tree_is_kept later other_is) below) in
+      let reached : IsTrue (reaches history later earlier) = (below_iff_reaches tree_clock_laws history holds later earlier other_is).0 kept_below in
+      elim (reaches_forward history later earlier reached) [ inl same ↦ omega (arith, same, before) | inr after ↦ omega (arith, after.0, before) ]
+
+  told : (wanted : Order) → is_order wanted Same ≡ false → (event : ℕ) → IsTrue (query.is_event trees event)
+      → others_standing wanted trees event ≡ filter (λ other. is_order wanted (order_of history other event)) (events history)
+  told wanted differs event event_is =
+      told_by_orders wanted differs trees (order_of history) trees_tell event event_is
+      ∙ ap (λ n. filter (λ other. is_order wanted (order_of history other event)) (range_with_len 1 n)) as_many
+
+  -- so the lists are those of the graph
+  pub past_told : (event : ℕ) → IsTrue (query.is_event trees event) → query.past_of trees event ≡ past_of history event
+  past_told event event_is = told Before refl event event_is ∙ (λ i. filter (λ other. in_past history event other i) (events history))
+
+  pub concurrent_told : (event : ℕ) → IsTrue (query.is_event trees event) → query.concurrent_of trees event ≡ concurrent_with history event
+  concurrent_told event event_is = told Concurrent refl event event_is ∙ (λ i. filter (λ other. is_concurrent history event other i) (events history))
+
+module _ (book : Contents) (is : IsKept book) {V : Type 0} (items : V → List ℕ) (event : ℕ) (found : Result V QueryFault) (answer : Reply)
+    (known : IfOk found (λ _. query.is_event book.trees event ≡ true))
+    (fault : IfErr found (λ refusal. refusal ≡ fault_due book.trees event))
+    (listed : IfOk found (λ value. answer ≡ reply.List (items value))) (refused : IfErr found (λ refusal. answer ≡ reply.Refused (code_of refusal))) where
+  -- a list of events that is told by the trees is answered as it is due
+  list_answered : (asked : Request) (graph list : List ℕ) → (IsTrue (query.is_event book.trees event) → list ≡ graph)
+      → (is_event (history_in book) event ≡ true → (reply.List graph ≡ reply_to_view (tenant_of book) asked) × IsTrue (not (is_report asked)) × MayLackMemory (tenant_of book) asked)
+      → (is_event (history_in book) event ≡ false → reply.Refused NoEvent ≡ reply_to_view (tenant_of book) asked)
+      → IfOk found (λ value. items value ≡ list) → Answers (tenant_of book) asked answer
+  list_answered asked graph list told due none events = by found known fault listed refused events
+    where
+      by : (outcome : Result V QueryFault) → IfOk outcome (λ _. query.is_event book.trees event ≡ true)
+          → IfErr outcome (λ refusal. refusal ≡ fault_due book.trees event) → IfOk outcome (λ value. answer ≡ reply.List (items value))
+          → IfErr outcome (λ refusal. answer ≡ reply.Refused (code_of refusal)) → IfOk outcome (λ value. items value ≡ list) → Answers (tenant_of book) asked answer
+      by (Ok value) known fault listed refused events =
+          inl (listed ∙ ap reply.List (events ∙ told known) ∙ (due (sym (same_events book is event) ∙ known)).0)
+      by (Err refusal) known fault listed refused events = elim (cases_Bool (query.is_event book.trees event)) [
+        | inl there ↦
+            let given = due (sym (same_events book is event) ∙ there) in
+            inr (given.1, given.2, refused ∙ ap (λ f. reply.Refused (code_of f)) (fault ∙ cond-true (query.is_event book.trees event) _ _ there))
+        | inr nowhere ↦
+            inl (refused ∙ ap (λ f. reply.Refused (code_of f)) (fault ∙ cond-false (query.is_event book.trees event) _ _ nowhere)
+            ∙ none (sym (same_events book is event) ∙ nowhere))
+      ]
+
+  pub past_answered : IfOk found (λ value. items value ≡ query.past_of book.trees event) → Answers (tenant_of book) (request.Past event) answer
+  past_answered =
+      list_answered (request.Past event) (past_of (history_in book) event) (query.past_of book.trees event) (past_told book is event)
+      (λ there. (rw there refl, refl, (refl, rw there refl))) (λ nowhere. rw nowhere refl)
+
+  pub concurrent_answered : IfOk found (λ value. items value ≡ query.concurrent_of book.trees event) → Answers (tenant_of book) (request.Concurrent event) answer
+  concurrent_answered =
+      list_answered (request.Concurrent event) (concurrent_with (history_in book) event) (query.concurrent_of book.trees event) (concurrent_told book is event)
+      (λ there. (rw there refl, refl, (refl, rw there refl))) (λ nowhere. rw nowhere refl)
+
+-- the order in which two events' trees stand is the order to be answered
+pub ordered : (book : Contents) (first second : ℕ) (order : Order) → IsKept book → is_event (history_in book) first ≡ true
+    → is_event (history_in book) second ≡ true
+    → StandsAs order (tree_of tree_clock (history_in book) first) (tree_of tree_clock (history_in book) second)
+    → reply.Ordering order ≡ reply_to_view (tenant_of book) (request.Order first second)
+ordered book first second order is first_is second_is stands =
+    let history = history_in book in
+    let by_graph = stands_as_ordered history (IsLegal_from_AreLegal book.limits book.rows is.legal) first second first_is second_is in
+    rw (first_is, second_is) (ap reply.Ordering (stand_one_way _ _ order (order_of history first second) stands by_graph))
+
+-- the order that was found
+abbrev order_found : Result Order QueryFault → Order
+order_found (Ok order) = order
+order_found (Err fault) = Same
+
+-- an order that is told by the trees is answered as it is due
+pub order_answered : (book : Contents) → IsKept book → (first second : ℕ) (order : Order) → Ok order ≡ query.order_due book.trees first second
+    → reply.Ordering order ≡ reply_to_view (tenant_of book) (request.Order first second)
+order_answered book is first second order told =
+    let trees = book.trees in
+    elim (cases_Bool (query.is_event trees first && query.is_event trees second)) [
+      | inl there ↦
+          let parts = and_parts (query.is_event trees first) (query.is_event trees second) there in
+          let first_is : is_event (history book is) first ≡ true = sym (same_events book is first) ∙ parts.0 in
+          let second_is : is_event (history book is) second ≡ true = sym (same_events book is second) ∙ parts.1 in
+          let compared : Ok order ≡ Ok (order_between trees first second) = told ∙ cond-true (query.is_event trees first && query.is_event trees second) _ _ there in
+          let is_compared : order ≡ order_between trees first second = ap order_found compared in
+          let stands : StandsAs (order_between trees first second) (tree_at trees first) (tree_at trees second) = tree_order_stands (tree_at trees first) (tree_at trees second) in
+          ordered book first second order is first_is second_is
+          (subst (λ o. StandsAs o (tree_of tree_clock (history book is) first) (tree_of tree_clock (history book is) second)) (sym is_compared)
+          (subst (λ tree. StandsAs (order_between trees first second) tree (tree_of tree_clock (history book is) second)) (tree_is_kept book is first first_is)
+          (subst (StandsAs (order_between trees first second) (tree_at trees first)) (tree_is_kept book is second second_is) stands)))
+      | inr nowhere ↦
+          let clash : Ok order ≡ Err Unknown = told ∙ cond-false (query.is_event trees first && query.is_event trees second) _ _ nowhere in cc
+    ]
+
+-- and one that is not is refused as it is due
+pub order_refused : (book : Contents) → IsKept book → (first second : ℕ) (fault : QueryFault) → Err fault ≡ query.order_due book.trees first second
+    → reply.Refused (code_of fault) ≡ reply_to_view (tenant_of book) (request.Order first second)
+order_refused book is first second fault told =
+    let both = query.is_event book.trees first && query.is_event book.trees second in
+    let unknown : both ≡ false → fault ≡ Unknown = λ nowhere. (let refused : Err fault ≡ Err Unknown = told ∙ cond-false both _ _ nowhere in cc) in
+    elim (cases_Bool (query.is_event book.trees first)) [
+      | inl one ↦ elim (cases_Bool (query.is_event book.trees second)) [
+        | inl other ↦ let clash : Err fault ≡ Ok (order_between book.trees first second) = told ∙ cond-true both _ _ (rw (one, other) refl) in cc
+        | inr other ↦ rw (sym (same_events book is first) ∙ one, sym (same_events book is second) ∙ other) (ap (λ f. reply.Refused (code_of f)) (unknown (rw (one, other) refl)))
+      ]
+      | inr none ↦ rw (sym (same_events book is first) ∙ none) (ap (λ f. reply.Refused (code_of f)) (unknown (rw none refl)))
+    ]
+
+-- the row of an event stands in the list of rows
+row_of_place : (history : History) (event : ℕ) → 0 < event → event ≤ length history → row_of history event ≡ slice_get (reverse history) (event - 1)
+row_of_place [] event positive within = absurd (omega (arith, positive, within))
+row_of_place (row ∷ earlier) event positive within =
+    let turned : reverse (row ∷ earlier) ≡ reverse earlier ++ row ∷ [] = reverse-append (row ∷ []) earlier in
+    let is_newest = eqb event (suc (length earlier)) in
+    elim (cases_eq event (suc (length earlier))) [
+      | inl last ↦
+          let place : length (reverse earlier) ≡ event - 1 = omega (arith, last, length-reverse earlier) in
+          cond-true is_newest _ _ (eq-eqb event (suc (length earlier)) last)
+          ∙ sym (ap (λ rows. slice_get rows (event - 1)) turned ∙ ap (slice_get (reverse earlier ++ row ∷ [])) (sym place) ∙ slice_get-seam (reverse earlier) row [])
+      | inr older ↦
+          let before : event ≤ length earlier = omega (arith, within, older) in
+          let inside : event - 1 < length (reverse earlier) = omega (arith, positive, before, length-reverse earlier) in
+          let there = slice_get-get_or (reverse earlier) (event - 1) row inside in
+          cond-false is_newest _ _ (ne_eqb event (suc (length earlier)) older)
+          ∙ row_of_place earlier event positive before ∙ there
+          ∙ sym (ap (λ rows. slice_get rows (event - 1)) turned ∙ slice_get-longer (reverse earlier) (row ∷ []) (event - 1) _ there)
+    ]
+
+-- so the row that stands there is that of the event
+pub row_is_kept : (rows : List Row) (event : ℕ) (row : Row) → is_event (history_of rows) event ≡ true → row ≡ get_or rows (event - 1) row
+    → row_of (history_of rows) event ≡ Some row
+row_is_kept rows event row event_is row_is =
+    let bounds = event_bounds (history_of rows) event event_is in
+    let inside : event - 1 < length rows = omega (arith, bounds.0, bounds.1, length-reverse rows) in
+    row_of_place (history_of rows) event bounds.0 bounds.1
+    ∙ ap (λ found. slice_get found (event - 1)) (reverse-reverse rows)
+    ∙ slice_get_read rows (length rows) (event - 1) row refl inside row_is
+
+-- the stamp of an event is its task's id and what it knows
+pub stamp_knows : (history : History) (event : ℕ) → (stamp_of tree_clock history event).1 ≡ tree_of tree_clock history event
+stamp_knows [] event = refl
+stamp_knows (row ∷ earlier) event =
+    let is_new = eqb event (suc (length earlier)) in
+    cond_both is_new _ _ (λ (stamp : Id × EventTree). stamp.1 ≡ tree_of tree_clock (row ∷ earlier) event) (λ _. refl)
+    (λ older. stamp_knows earlier event ∙ sym (cond-false is_new _ _ older))
