@@ -10,7 +10,7 @@ use std::alloc::Global;
 use std::cell::Cell;
 use std::process::Abort;
 use std::test::Fail;
-use tenant_ledger::{Ledger, PlainShare, Share};
+use tenant_ledger::{Keep, Ledger, PlainShare, Share};
 use trace_query::Compare;
 use trace_types::{Code, Limits, Memory, Order, Reply, Request};
 
@@ -216,16 +216,8 @@ impl Compare for Counting {
     }
 }
 
-impl Share for Counting {
+impl Keep for Counting {
     type Id = IdTree;
-
-    fn keep_id<T>(&self, _rt: &T, id: IdTree) -> Result<IdTree, Memory> {
-        Ok(id)
-    }
-
-    fn keep_tree<T>(&self, _rt: &T, tree: EvTree) -> Result<EvTree, Memory> {
-        Ok(tree)
-    }
 
     fn id_value(kept: &IdTree) -> &IdTree {
         kept
@@ -234,12 +226,22 @@ impl Share for Counting {
     fn tree_value(kept: &EvTree) -> &EvTree {
         kept
     }
+}
 
-    fn order_kept<T>(&self, _rt: &T, first: &EvTree, second: &EvTree) -> Order {
+impl<R> Share<R> for Counting {
+    fn keep_id(&self, _rt: &R, id: IdTree) -> Result<IdTree, Memory> {
+        Ok(id)
+    }
+
+    fn keep_tree(&self, _rt: &R, tree: EvTree) -> Result<EvTree, Memory> {
+        Ok(tree)
+    }
+
+    fn order_kept(&self, _rt: &R, first: &EvTree, second: &EvTree) -> Order {
         self.order(first, second)
     }
 
-    fn below_kept<T>(&self, _rt: &T, first: &EvTree, second: &EvTree) -> bool {
+    fn below_kept(&self, _rt: &R, first: &EvTree, second: &EvTree) -> bool {
         self.is_below(first, second)
     }
 }
