@@ -1,6 +1,6 @@
 //! One tenant's ledger, by its calls: reports in two steps, views, and how often it compares.
 ghost use Rattle.std.specs.Prelude.{◌≡◌};
-ghost use Rattle.trace_types.specs.Tenant.{is_report};
+ghost use Rattle.trace_types.specs.tenant.Tenant.{is_report};
 
 use crate::runs::{Amounts, DEFAULTS, FAMILY, OF_EVERY_SORT, RUNS, TALK};
 use event_tree::EvTree;

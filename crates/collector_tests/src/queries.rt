@@ -1,7 +1,7 @@
 //! Queries about the order of events, by trees that are made by hand.
 ghost use Rattle.std.specs.Prelude.{◌≡◌, ◌+◌, ◌^◌, ◌<◌, max, map, IfOk};
-ghost use Rattle.trace_types.specs.EventTree.{Leaf};
-ghost use Rattle.trace_types.specs.Norm.{norm};
+ghost use Rattle.trace_types.specs.clock.EventTree.{Leaf};
+ghost use Rattle.trace_types.specs.clock.Norm.{norm};
 ghost use Rattle.trace_query.specs.Queries.{StandInOrder};
 
 use event_tree::EvTree;

@@ -1,8 +1,8 @@
 -- The least and the greatest value of a tree bound its values, and each stands at some point.
 use Rattle.std.proofs.Common.{◌≡◌, ℕ, ◌+◌, ◌≤◌, inl, inr, min, max, [], ◌∷◌, refl, ap, ◌∙◌, arith}
 use Rattle.std.proofs.lemmas.Bool.{cases_lt}
-use Rattle.trace_types.specs.Points.{Half, Left, Right, Point, half_of, within_half, at_half}
-use Rattle.trace_types.specs.EventTree.{EventTree, Leaf, Node, value, minimum, maximum}
+use Rattle.trace_types.specs.clock.Points.{Half, Left, Right, Point, half_of, within_half, at_half}
+use Rattle.trace_types.specs.clock.EventTree.{EventTree, Leaf, Node, value, minimum, maximum}
 
 -- what holds on both sides holds on the side of a half
 pub on_either_side : (P : ℕ → Type 0) (half : Half) (left right : ℕ) → P left → P right → P (at_half half left right)

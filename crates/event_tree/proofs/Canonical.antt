@@ -1,7 +1,7 @@
 -- Normal trees with the same values are the same tree.
 use Rattle.std.proofs.Common.{◌≡◌, ℕ, ◌-◌, ◌≤◌, [], ◌∷◌, refl, ap, sym, subst, arith}
-use Rattle.trace_types.specs.Points.{Left, Right}
-use Rattle.trace_types.specs.EventTree.{EventTree, Leaf, Node, minimum, AreUnequal, IsNormal}
+use Rattle.trace_types.specs.clock.Points.{Left, Right}
+use Rattle.trace_types.specs.clock.EventTree.{EventTree, Leaf, Node, minimum, AreUnequal, IsNormal}
 use Rattle.event_tree.specs.Laws.{HaveSameValues}
 use Rattle.event_tree.proofs.Bounds.{minimum-le-value, reaches_minimum}
 

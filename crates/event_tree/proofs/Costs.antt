@@ -1,8 +1,8 @@
 -- Which side of a node is grown, from the sides' costs and a price.
 use Rattle.std.proofs.Common.{◌≡◌, ℕ, ◌+◌, ◌⊎◌, true, false, is_some, Option, Some, None, inl, inr, refl, ap, arith}
 use Rattle.std.proofs.lemmas.Bool.{cases_Bool}
-use Rattle.trace_types.specs.Grow.{Cost}
-use Rattle.trace_types.specs.Grow.{is_less, is_cheaper, cheaper, dearer}
+use Rattle.trace_types.specs.clock.Grow.{Cost}
+use Rattle.trace_types.specs.clock.Grow.{is_less, is_cheaper, cheaper, dearer}
 use Rattle.event_tree.specs.GrownFor.{costs}
 
 -- where a lesser cost is not below a price, a greater is not

@@ -1,8 +1,8 @@
 -- Of two trees, one is below the other, or above it at some point.
 use Rattle.std.proofs.Common.{ℕ, ◌+◌, ◌<◌, ◌⊎◌, inl, inr, ◌∷◌, arith}
 use Rattle.std.proofs.lemmas.Bool.{cases_lt}
-use Rattle.trace_types.specs.Points.{Left, Right, Point}
-use Rattle.trace_types.specs.EventTree.{EventTree, Leaf, Node, value, minimum, maximum}
+use Rattle.trace_types.specs.clock.Points.{Left, Right, Point}
+use Rattle.trace_types.specs.clock.EventTree.{EventTree, Leaf, Node, value, minimum, maximum}
 use Rattle.event_tree.specs.Comparison.{IsBelow}
 use Rattle.event_tree.specs.Lifted.{IsLiftedBelow}
 use Rattle.event_tree.specs.Raised.{RisesSomewhere}

@@ -1,12 +1,12 @@
 -- The event raises some point of the id, no other, and its greatest value by at most one.
 use Rattle.std.proofs.Common.{◌≡◌, ◌≢◌, ◌+◌, ◌≤◌, true, ◌==◌, inl, inr, refl, ap, arith}
 use Rattle.std.proofs.lemmas.Bool.{cases_Bool, eqb-true, and_parts, eq-eqb}
-use Rattle.trace_types.specs.Id.{Id, Zero}
-use Rattle.trace_types.specs.Id as ids
-use Rattle.trace_types.specs.EventTree.{EventTree, Leaf, Node, value, maximum, IsNormal}
-use Rattle.trace_types.specs.Fill.{fill}
-use Rattle.trace_types.specs.Grow.{grown}
-use Rattle.trace_types.specs.Event.{is_same, normalised, event}
+use Rattle.trace_types.specs.clock.Id.{Id, Zero}
+use Rattle.trace_types.specs.clock.Id as ids
+use Rattle.trace_types.specs.clock.EventTree.{EventTree, Leaf, Node, value, maximum, IsNormal}
+use Rattle.trace_types.specs.clock.Fill.{fill}
+use Rattle.trace_types.specs.clock.Grow.{grown}
+use Rattle.trace_types.specs.clock.Event.{is_same, normalised, event}
 use Rattle.event_tree.specs.Raised.{RisesSomewhere}
 use Rattle.event_tree.specs.Tables.{FollowsEventTable}
 use Rattle.event_tree.proofs.Raising.{IsRaised}

@@ -1,9 +1,9 @@
 -- Filling raises only points of the id, keeps trees normal and their greatest value, and rises somewhere or changes nothing.
 use Rattle.std.proofs.Common.{◌≡◌, ◌≢◌, ℕ, ◌+◌, ◌≤◌, ◌⊎◌, false, ◌&&◌, is_none, Option, Some, None, max, inl, inr, refl, arith}
-use Rattle.trace_types.specs.Id.{Id, Zero, One, Pair}
-use Rattle.trace_types.specs.EventTree.{EventTree, Leaf, Node, minimum, maximum, IsNormal}
-use Rattle.trace_types.specs.Norm.{norm}
-use Rattle.trace_types.specs.Fill.{node_filled, fill}
+use Rattle.trace_types.specs.clock.Id.{Id, Zero, One, Pair}
+use Rattle.trace_types.specs.clock.EventTree.{EventTree, Leaf, Node, minimum, maximum, IsNormal}
+use Rattle.trace_types.specs.clock.Norm.{norm}
+use Rattle.trace_types.specs.clock.Fill.{node_filled, fill}
 use Rattle.event_tree.specs.Filled.{filled_over, Rises, GivesFilled}
 use Rattle.event_tree.specs.Raised.{RisesSomewhere}
 use Rattle.event_tree.proofs.Bounds.{minimum-le-maximum}

@@ -1,13 +1,13 @@
 -- Growing raises only points of the id, by at most one above the greatest value, and some where the id owns any.
 use Rattle.std.proofs.Common.{◌≡◌, ◌≢◌, ℕ, ◌+◌, ◌≤◌, true, false, is_some, [], inl, inr, refl, arith}
 use Rattle.std.proofs.lemmas.Bool.{cases_Bool}
-use Rattle.trace_types.specs.Points.{Point, half_of, within_half}
-use Rattle.trace_types.specs.Id.{Id, Zero, One, Pair, AreApart}
-use Rattle.trace_types.specs.Id as ids
-use Rattle.trace_types.specs.EventTree.{EventTree, Leaf, Node, value, maximum, IsNormal}
+use Rattle.trace_types.specs.clock.Points.{Point, half_of, within_half}
+use Rattle.trace_types.specs.clock.Id.{Id, Zero, One, Pair, AreApart}
+use Rattle.trace_types.specs.clock.Id as ids
+use Rattle.trace_types.specs.clock.EventTree.{EventTree, Leaf, Node, value, maximum, IsNormal}
 use Rattle.event_tree.specs.Comparison.{IsBelow}
-use Rattle.trace_types.specs.Grow.{root, left_of, right_of, expansion, is_cheaper, cheaper, dearer, cost, grown}
-use Rattle.trace_types.specs.Event.{normalised}
+use Rattle.trace_types.specs.clock.Grow.{root, left_of, right_of, expansion, is_cheaper, cheaper, dearer, cost, grown}
+use Rattle.trace_types.specs.clock.Event.{normalised}
 use Rattle.event_tree.specs.Raised.{RisesSomewhere}
 use Rattle.event_tree.specs.Tables.{FollowsGrowTable}
 use Rattle.event_tree.proofs.Bounds.{value-le-maximum, on_either_side}

@@ -1,9 +1,9 @@
 -- The join has the greater value at each point and is normal, and it is the one of the table.
 use Rattle.std.proofs.Common.{◌≡◌, ℕ, ◌+◌, ◌-◌, ◌≤◌, min, max, arith}
-use Rattle.trace_types.specs.Points.{Half, Left, Right, Point, half_of, within_half, at_half}
-use Rattle.trace_types.specs.EventTree.{EventTree, Leaf, Node, value, minimum, maximum, IsNormal}
-use Rattle.trace_types.specs.Norm.{norm}
-use Rattle.trace_types.specs.Join.{lifted, joined_number, joined, join}
+use Rattle.trace_types.specs.clock.Points.{Half, Left, Right, Point, half_of, within_half, at_half}
+use Rattle.trace_types.specs.clock.EventTree.{EventTree, Leaf, Node, value, minimum, maximum, IsNormal}
+use Rattle.trace_types.specs.clock.Norm.{norm}
+use Rattle.trace_types.specs.clock.Join.{lifted, joined_number, joined, join}
 use Rattle.event_tree.specs.Lifted.{IsLiftedBelow}
 use Rattle.event_tree.specs.Tables.{FollowsJoinTable}
 use Rattle.event_tree.proofs.Bounds.{minimum-le-value, value-le-maximum, reaches_maximum}

@@ -1,7 +1,7 @@
 -- Lifting a node is lifting its number.
 use Rattle.std.proofs.Common.{◌≡◌, ℕ, ◌+◌, [], ◌∷◌, Result, Ok, Err, IfOk, arith}
-use Rattle.trace_types.specs.Points.{Left, Right}
-use Rattle.trace_types.specs.EventTree.{EventTree, Node}
+use Rattle.trace_types.specs.clock.Points.{Left, Right}
+use Rattle.trace_types.specs.clock.EventTree.{EventTree, Node}
 use Rattle.trace_types.specs.declared.memory.Memory.{Memory}
 use Rattle.event_tree.specs.Lifted.{IsLiftedBelow}
 use Rattle.event_tree.specs.Joins.{IsSome, IsJoin}

@@ -1,9 +1,9 @@
 -- The normal form of a node has the node's values and is normal.
 use Rattle.std.proofs.Common.{◌≡◌, ◌≢◌, ℕ, ◌+◌, ◌≤◌, inl, inr, min, refl, ap, arith}
 use Rattle.std.proofs.lemmas.Bool.{cases_eq, eq-eqb, ne_eqb}
-use Rattle.trace_types.specs.Points.{Half, Left, Right, Point, half_of, within_half, at_half}
-use Rattle.trace_types.specs.EventTree.{EventTree, Leaf, Node, value, minimum, maximum, IsNormal}
-use Rattle.trace_types.specs.Norm.{lowered, sunk, norm}
+use Rattle.trace_types.specs.clock.Points.{Half, Left, Right, Point, half_of, within_half, at_half}
+use Rattle.trace_types.specs.clock.EventTree.{EventTree, Leaf, Node, value, minimum, maximum, IsNormal}
+use Rattle.trace_types.specs.clock.Norm.{lowered, sunk, norm}
 use Rattle.event_tree.proofs.Bounds.{on_either_side}
 
 -- the least value of a normal node is its number

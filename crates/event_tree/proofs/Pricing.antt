@@ -1,11 +1,11 @@
 -- The tree that is grown at a price: on the right if it is to be had there, else on the left.
 use Rattle.std.proofs.Common.{◌≡◌, ◌+◌, ◌≤◌, Bool, true, false, Some, None, if◌then◌else◌, refl, sym, ◌∙◌, arith}
-use Rattle.trace_types.specs.Id.{Id, Pair}
-use Rattle.trace_types.specs.Grow.{Cost}
-use Rattle.trace_types.specs.EventTree.{EventTree, maximum, IsNormal}
-use Rattle.trace_types.specs.Norm.{norm}
-use Rattle.trace_types.specs.Grow.{root, left_of, right_of, expansion, is_cheaper, cheaper, cost, grown}
-use Rattle.trace_types.specs.Event.{normalised}
+use Rattle.trace_types.specs.clock.Id.{Id, Pair}
+use Rattle.trace_types.specs.clock.Grow.{Cost}
+use Rattle.trace_types.specs.clock.EventTree.{EventTree, maximum, IsNormal}
+use Rattle.trace_types.specs.clock.Norm.{norm}
+use Rattle.trace_types.specs.clock.Grow.{root, left_of, right_of, expansion, is_cheaper, cheaper, cost, grown}
+use Rattle.trace_types.specs.clock.Event.{normalised}
 use Rattle.event_tree.specs.GrownFor.{costs, grown_for}
 use Rattle.event_tree.proofs.Costs.{is_cheaper-further, costs-further, first_not_cheaper, second_not_cheaper, costs-itself, second_taken, first_taken, neither_taken}
 use Rattle.event_tree.proofs.Grown.{maximum-grown-le, maximum-normalised-le, normalised-normal}

@@ -1,11 +1,11 @@
 -- Raising the children of a node at points of the halves of an id raises the node at points of the id.
 use Rattle.std.proofs.Common.{ℕ, ◌+◌, ◌≤◌, ◌<◌, [], ◌∷◌, inl, inr, refl, arith}
 use Rattle.std.proofs.lemmas.Bool.{cases_lt}
-use Rattle.trace_types.specs.Points.{Left, Right, half_of, within_half}
-use Rattle.trace_types.specs.Id.{Id, One, Pair}
-use Rattle.trace_types.specs.EventTree.{EventTree, Leaf, Node, minimum, maximum, IsNormal}
+use Rattle.trace_types.specs.clock.Points.{Left, Right, half_of, within_half}
+use Rattle.trace_types.specs.clock.Id.{Id, One, Pair}
+use Rattle.trace_types.specs.clock.EventTree.{EventTree, Leaf, Node, minimum, maximum, IsNormal}
 use Rattle.event_tree.specs.Comparison.{IsBelow}
-use Rattle.trace_types.specs.Norm.{norm}
+use Rattle.trace_types.specs.clock.Norm.{norm}
 use Rattle.event_tree.specs.Raised.{StaysOutside, RisesSomewhere}
 use Rattle.event_tree.proofs.Bounds.{minimum-le-value, value-le-maximum, reaches_minimum}
 use Rattle.event_tree.proofs.Canonical.{leaf_from_constant}

@@ -2,7 +2,7 @@
 use Rattle.std.proofs.Common.{◌≡◌, ℕ, ◌≤◌, ◌<◌, ◌↔◌, inl, inr, refl, subst, [], arith}
 use Rattle.trace_types.specs.declared.order.Order.{Order}
 use Rattle.trace_types.specs.declared.order.Order.TheVariants.{Same, Before, After, Concurrent}
-use Rattle.trace_types.specs.EventTree.{EventTree, Leaf, IsNormal}
+use Rattle.trace_types.specs.clock.EventTree.{EventTree, Leaf, IsNormal}
 use Rattle.event_tree.specs.Comparison.{IsBelow, StandsAs}
 use Rattle.event_tree.proofs.Canonical.{same_from_values}
 use Rattle.event_tree.proofs.Decided.{Told, below_told}

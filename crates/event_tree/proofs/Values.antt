@@ -1,9 +1,9 @@
 -- What trees' values say of their greatest values, and what holds on both halves.
 use Rattle.std.proofs.Common.{◌≡◌, ℕ, ◌+◌, ◌≤◌, max, arith}
-use Rattle.trace_types.specs.Points.{Half, Left, Right, at_half}
-use Rattle.trace_types.specs.EventTree.{EventTree, Node, maximum, IsNormal}
+use Rattle.trace_types.specs.clock.Points.{Half, Left, Right, at_half}
+use Rattle.trace_types.specs.clock.EventTree.{EventTree, Node, maximum, IsNormal}
 use Rattle.event_tree.specs.Comparison.{IsBelow}
-use Rattle.trace_types.specs.Norm.{norm}
+use Rattle.trace_types.specs.clock.Norm.{norm}
 use Rattle.event_tree.proofs.Bounds.{value-le-maximum, reaches_maximum}
 use Rattle.event_tree.proofs.Canonical.{same_from_values}
 use Rattle.event_tree.proofs.NormLemmas.{value-norm, normal_norm}

@@ -1,13 +1,13 @@
 -- Published rows, as the definitions compute them.
 use Rattle.std.proofs.Common.{◌≡◌, [], ◌∷◌, refl, arith}
 use Rattle.trace_types.specs.declared.order.Order.TheVariants.{Before, Concurrent}
-use Rattle.trace_types.specs.Points.{Left, Right}
-use Rattle.trace_types.specs.EventTree.{Leaf, Node}
+use Rattle.trace_types.specs.clock.Points.{Left, Right}
+use Rattle.trace_types.specs.clock.EventTree.{Leaf, Node}
 use Rattle.event_tree.specs.Comparison.{StandsAs}
-use Rattle.trace_types.specs.Norm.{norm}
-use Rattle.trace_types.specs.Join.{join}
-use Rattle.trace_types.specs.Event.{event}
-use Rattle.trace_types.specs.Id.{Id, Zero, One, Pair}
+use Rattle.trace_types.specs.clock.Norm.{norm}
+use Rattle.trace_types.specs.clock.Join.{join}
+use Rattle.trace_types.specs.clock.Event.{event}
+use Rattle.trace_types.specs.clock.Id.{Id, Zero, One, Pair}
 use Rattle.event_tree.proofs.Bounds.{value-le-maximum}
 
 pub norm-2-1-2 : norm 2 (Leaf 1) (Leaf 2) ≡ Node 3 (Leaf 0) (Leaf 1)

@@ -1,8 +1,8 @@
 -- What a step of the comparison walk decides, in each direction.
 use Rattle.std.proofs.Common.{◌≡◌, ℕ, ◌+◌, ◌≤◌, ◌↔◌, ◌⊎◌, inl, inr, Bool, true, false, IsTrue, [], ◌∷◌, sym, ap, ◌∙◌, arith}
 use Rattle.std.proofs.lemmas.Bool.{false≢true}
-use Rattle.trace_types.specs.Points.{Half, Left, Right, at_half}
-use Rattle.trace_types.specs.EventTree.{EventTree, Node, minimum, maximum}
+use Rattle.trace_types.specs.clock.Points.{Half, Left, Right, at_half}
+use Rattle.trace_types.specs.clock.EventTree.{EventTree, Node, minimum, maximum}
 use Rattle.event_tree.specs.Lifted.{IsLiftedBelow}
 use Rattle.event_tree.specs.Ranges.{range_of, IsRangeBelow, CanBeBelow}
 use Rattle.event_tree.specs.declared.ev_tree.comparison.Range.{Range}

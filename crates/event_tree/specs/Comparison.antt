@@ -1,9 +1,9 @@
 -- How two event trees stand to each other, by their values at every point.
 use Rattle.std.specs.Prelude.{◌≤◌}
-use Rattle.trace_types.specs.Points.{Point}
+use Rattle.trace_types.specs.clock.Points.{Point}
 use Rattle.trace_types.specs.declared.order.Order.{Order}
 use Rattle.trace_types.specs.declared.order.Order.TheVariants.{Same, Before, After, Concurrent}
-use Rattle.trace_types.specs.EventTree.{EventTree, value}
+use Rattle.trace_types.specs.clock.EventTree.{EventTree, value}
 
 -- the value at every point is no greater
 abbrev pub IsBelow : EventTree → EventTree → Type 0

@@ -1,6 +1,6 @@
 -- What filling gives: the filled tree where it is another, else nothing.
 use Rattle.std.specs.Prelude.{◌≡◌, Option, Some, None}
-use Rattle.trace_types.specs.EventTree.{EventTree}
+use Rattle.trace_types.specs.clock.EventTree.{EventTree}
 use Rattle.event_tree.specs.Raised.{RisesSomewhere}
 
 -- the tree that is there after what was given

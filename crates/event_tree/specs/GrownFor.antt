@@ -1,10 +1,10 @@
 -- The grown tree at a price.
 use Rattle.std.specs.Prelude.{Bool, false, ◌==◌, ◌&&◌, if◌then◌else◌, Option, Some, None}
-use Rattle.trace_types.specs.Id.{Id}
-use Rattle.trace_types.specs.Grow.{Cost}
-use Rattle.trace_types.specs.EventTree.{EventTree}
-use Rattle.trace_types.specs.Grow.{cost, grown}
-use Rattle.trace_types.specs.Event.{normalised}
+use Rattle.trace_types.specs.clock.Id.{Id}
+use Rattle.trace_types.specs.clock.Grow.{Cost}
+use Rattle.trace_types.specs.clock.EventTree.{EventTree}
+use Rattle.trace_types.specs.clock.Grow.{cost, grown}
+use Rattle.trace_types.specs.clock.Event.{normalised}
 
 -- it costs exactly the price
 abbrev pub costs : Cost → Option Cost → Bool

@@ -1,7 +1,7 @@
 -- What the join of two lifted trees is found to be.
 use Rattle.std.specs.Prelude.{◌≡◌, ℕ, Bool, false, ◌&&◌, ◌||◌, IsTrue}
-use Rattle.trace_types.specs.EventTree.{EventTree}
-use Rattle.trace_types.specs.Join.{joined}
+use Rattle.trace_types.specs.clock.EventTree.{EventTree}
+use Rattle.trace_types.specs.clock.Join.{joined}
 use Rattle.event_tree.specs.Lifted.{IsLiftedBelow}
 use Rattle.event_tree.specs.declared.ev_tree.comparison.Directions.{Directions}
 use Rattle.event_tree.specs.declared.ev_tree.joining.Join.{Join}

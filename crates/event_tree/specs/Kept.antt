@@ -1,7 +1,7 @@
 -- What a node of the kept tree is seen as, and what holds of it.
 use Rattle.std.specs.Prelude.{◌≡◌, ◌^◌, ◌<◌, max}
-use Rattle.trace_types.specs.EventTree.{EventTree, Node, maximum, IsNormal}
-use Rattle.trace_types.specs.EventTree as plain
+use Rattle.trace_types.specs.clock.EventTree.{EventTree, Node, maximum, IsNormal}
+use Rattle.trace_types.specs.clock.EventTree as plain
 use Rattle.event_tree.specs.declared.ev_tree.Node as kept
 use Rattle.event_tree.specs.declared.ev_tree.Node.TheVariants.{Leaf, Fork}
 

@@ -1,16 +1,16 @@
 -- The laws of event trees.
 use Rattle.std.specs.Prelude.{◌≡◌, ◌≢◌, ℕ, ◌+◌, ◌≤◌, ◌↔◌, max}
-use Rattle.trace_types.specs.Id.{Id, Zero}
-use Rattle.trace_types.specs.Id as ids
-use Rattle.trace_types.specs.Points.{Point}
+use Rattle.trace_types.specs.clock.Id.{Id, Zero}
+use Rattle.trace_types.specs.clock.Id as ids
+use Rattle.trace_types.specs.clock.Points.{Point}
 use Rattle.trace_types.specs.declared.order.Order.{Order}
 use Rattle.trace_types.specs.declared.order.Order.TheVariants.{Same}
-use Rattle.trace_types.specs.EventTree.{EventTree, Node, value, minimum, maximum, IsNormal}
+use Rattle.trace_types.specs.clock.EventTree.{EventTree, Node, value, minimum, maximum, IsNormal}
 use Rattle.event_tree.specs.Comparison.{IsBelow, StandsAs}
-use Rattle.trace_types.specs.Norm.{norm}
-use Rattle.trace_types.specs.Join.{join}
-use Rattle.trace_types.specs.Fill.{fill}
-use Rattle.trace_types.specs.Event.{event}
+use Rattle.trace_types.specs.clock.Norm.{norm}
+use Rattle.trace_types.specs.clock.Join.{join}
+use Rattle.trace_types.specs.clock.Fill.{fill}
+use Rattle.trace_types.specs.clock.Event.{event}
 use Rattle.event_tree.specs.Raised.{StaysOutside, RisesSomewhere}
 
 -- the two trees have one value at every point

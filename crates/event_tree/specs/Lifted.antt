@@ -1,7 +1,7 @@
 -- How two lifted event trees stand to each other.
 use Rattle.std.specs.Prelude.{ℕ, ◌+◌, ◌≤◌}
-use Rattle.trace_types.specs.Points.{Point}
-use Rattle.trace_types.specs.EventTree.{EventTree, value}
+use Rattle.trace_types.specs.clock.Points.{Point}
+use Rattle.trace_types.specs.clock.EventTree.{EventTree, value}
 
 -- the value at every point, lifted by the number beside its tree, is no greater
 abbrev pub IsLiftedBelow : ℕ → EventTree → ℕ → EventTree → Type 0

@@ -1,6 +1,6 @@
 -- What is shown by the parts of a tree that are lent.
-use Rattle.trace_types.specs.EventTree.{EventTree}
-use Rattle.trace_types.specs.EventTree as plain
+use Rattle.trace_types.specs.clock.EventTree.{EventTree}
+use Rattle.trace_types.specs.clock.EventTree as plain
 use Rattle.event_tree.specs.declared.ev_tree.Parts.{Parts}
 use Rattle.event_tree.specs.declared.ev_tree.Parts.TheVariants.{Leaf, Node}
 

@@ -1,8 +1,8 @@
 -- What an operation on a tree may do at the points of an id.
 use Rattle.std.specs.Prelude.{◌≡◌, false, ◌<◌}
-use Rattle.trace_types.specs.Points.{Point}
-use Rattle.trace_types.specs.Id.{Id, owns}
-use Rattle.trace_types.specs.EventTree.{EventTree, value}
+use Rattle.trace_types.specs.clock.Points.{Point}
+use Rattle.trace_types.specs.clock.Id.{Id, owns}
+use Rattle.trace_types.specs.clock.EventTree.{EventTree, value}
 
 -- at points that the id does not own the value stays
 abbrev pub StaysOutside : Id → EventTree → EventTree → Type 0

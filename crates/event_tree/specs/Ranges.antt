@@ -1,6 +1,6 @@
 -- The range of a lifted tree, and what two ranges say of their trees.
 use Rattle.std.specs.Prelude.{ℕ, ◌+◌, ◌≤◌}
-use Rattle.trace_types.specs.EventTree.{EventTree, minimum, maximum}
+use Rattle.trace_types.specs.clock.EventTree.{EventTree, minimum, maximum}
 use Rattle.event_tree.specs.declared.ev_tree.comparison.Range.{Range}
 
 -- from the least value of the lifted tree to the greatest

@@ -1,13 +1,13 @@
 -- The rows of the published tables of join, grow and event.
 use Rattle.std.specs.Prelude.{◌≡◌, ◌≢◌, ℕ, ◌+◌, ◌-◌, ◌≤◌, max, true, false, Some}
-use Rattle.trace_types.specs.Id.{Id, Zero, One, Pair}
-use Rattle.trace_types.specs.Id as ids
-use Rattle.trace_types.specs.EventTree.{EventTree, Leaf, Node}
-use Rattle.trace_types.specs.Norm.{norm}
-use Rattle.trace_types.specs.Join.{lifted, join}
-use Rattle.trace_types.specs.Fill.{fill}
-use Rattle.trace_types.specs.Grow.{is_cheaper, dearer, cost, grown}
-use Rattle.trace_types.specs.Event.{normalised, event}
+use Rattle.trace_types.specs.clock.Id.{Id, Zero, One, Pair}
+use Rattle.trace_types.specs.clock.Id as ids
+use Rattle.trace_types.specs.clock.EventTree.{EventTree, Leaf, Node}
+use Rattle.trace_types.specs.clock.Norm.{norm}
+use Rattle.trace_types.specs.clock.Join.{lifted, join}
+use Rattle.trace_types.specs.clock.Fill.{fill}
+use Rattle.trace_types.specs.clock.Grow.{is_cheaper, dearer, cost, grown}
+use Rattle.trace_types.specs.clock.Event.{normalised, event}
 
 -- join: numbers, a number beside a node, two nodes, and else the two swapped
 pub record FollowsJoinTable : Type 0 where

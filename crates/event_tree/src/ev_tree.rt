@@ -1,11 +1,11 @@
 //! The event tree, kept normal.
 ghost use Rattle.std.specs.Prelude.{◌≡◌, ◌≢◌, ◌+◌, ◌^◌, ◌<◌, ◌≤◌, ◌↔◌, max, IfOk, IsTrue};
-ghost use Rattle.trace_types.specs.Id.{Zero};
-ghost use Rattle.trace_types.specs.EventTree.{Leaf, IsNormal, minimum, maximum};
+ghost use Rattle.trace_types.specs.clock.Id.{Zero};
+ghost use Rattle.trace_types.specs.clock.EventTree.{Leaf, IsNormal, minimum, maximum};
 ghost use Rattle.event_tree.specs.Comparison.{IsBelow, StandsAs};
-ghost use Rattle.trace_types.specs.Norm.{norm, lowered};
-ghost use Rattle.trace_types.specs.Join.{lifted, join};
-ghost use Rattle.trace_types.specs.Event.{event};
+ghost use Rattle.trace_types.specs.clock.Norm.{norm, lowered};
+ghost use Rattle.trace_types.specs.clock.Join.{lifted, join};
+ghost use Rattle.trace_types.specs.clock.Event.{event};
 ghost use Rattle.event_tree.specs.Parts.{tree_of_parts};
 
 use comparison::{compare, is_below};
@@ -61,7 +61,7 @@ pub enum Parts<'a> {
 }
 
 impl Model for EvTree {
-    ghost use Rattle.trace_types.specs.EventTree.{EventTree};
+    ghost use Rattle.trace_types.specs.clock.EventTree.{EventTree};
     ghost use Rattle.event_tree.specs.EventTreeCode.{event_tree_code};
 
     ghost Value = { EventTree };

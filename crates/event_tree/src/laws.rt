@@ -1,5 +1,5 @@
 //! The laws of event trees, each the contract of a function that does nothing.
-ghost use Rattle.trace_types.specs.EventTree.{EventTree};
+ghost use Rattle.trace_types.specs.clock.EventTree.{EventTree};
 ghost use Rattle.event_tree.specs.Laws.{NormalIsCanonical, NormKeepsValues, NormIsNormal, HasExtremes, StandSomehow, StandOneWay, SameIsEqual};
 ghost use Rattle.event_tree.specs.Laws.{JoinHasTheGreater, JoinIsNormal};
 ghost use Rattle.event_tree.specs.Laws.{FillLowersNone, FillStaysOutside, FillIsNormal};

@@ -1,8 +1,8 @@
 -- Which ids stay disjoint when ids are split and summed, and that a sum undoes a split.
 use Rattle.std.proofs.Common.{◌≡◌, ◌||◌, ◌&&◌, ◌⊎◌, Bool, true, false, refl, sym, ◌∙◌, inl, inr}
-use Rattle.trace_types.specs.Points.{Point}
-use Rattle.trace_types.specs.Id.{Id, owns, IsNormal, AreDisjoint}
-use Rattle.trace_types.specs.IdOperations.{split, sum}
+use Rattle.trace_types.specs.clock.Points.{Point}
+use Rattle.trace_types.specs.clock.Id.{Id, owns, IsNormal, AreDisjoint}
+use Rattle.trace_types.specs.clock.IdOperations.{split, sum}
 use Rattle.id_tree.proofs.Ids.{same_points}
 use Rattle.id_tree.proofs.Split.{SharesOut-split, IsNormal-split}
 use Rattle.id_tree.proofs.Sum.{owns-sum, IsNormal-sum}

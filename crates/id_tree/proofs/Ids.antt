@@ -1,8 +1,8 @@
 -- What the halves of an id own, and what that says of the whole.
 use Rattle.std.proofs.Common.{◌≡◌, ◌≢◌, ◌⊎◌, Bool, true, false, not, [], ◌∷◌, refl, sym, ◌∙◌, inl, inr}
-use Rattle.trace_types.specs.Points.{Half, Left, Right, Point, at_half, half_of}
-use Rattle.trace_types.specs.Id.{Id, Zero, One, Pair, owns, AreApart, IsNormal}
-use Rattle.trace_types.specs.IdOperations.{norm}
+use Rattle.trace_types.specs.clock.Points.{Half, Left, Right, Point, at_half, half_of}
+use Rattle.trace_types.specs.clock.Id.{Id, Zero, One, Pair, owns, AreApart, IsNormal}
+use Rattle.trace_types.specs.clock.IdOperations.{norm}
 use Rattle.id_tree.specs.Laws.{OwnTheSame}
 
 -- the same on both sides is the same at each half

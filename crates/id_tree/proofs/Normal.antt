@@ -1,7 +1,7 @@
 -- What is normal, and which halves are apart.
 use Rattle.std.proofs.Common.{◌≢◌, refl}
-use Rattle.trace_types.specs.Id.{Id, Zero, One, Pair, AreApart, IsNormal}
-use Rattle.trace_types.specs.IdOperations.{norm}
+use Rattle.trace_types.specs.clock.Id.{Id, Zero, One, Pair, AreApart, IsNormal}
+use Rattle.trace_types.specs.clock.IdOperations.{norm}
 
 -- halves are apart whichever is named first
 pub AreApart-sym : (a b : Id) → AreApart a b → AreApart b a

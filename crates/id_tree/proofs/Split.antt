@@ -1,8 +1,8 @@
 -- What the parts of a split own, and why they are normal.
 use Rattle.std.proofs.Common.{◌≡◌, ◌≢◌, ◌||◌, ◌&&◌, Bool, true, false, [], ◌∷◌, refl}
-use Rattle.trace_types.specs.Points.{Left, Right}
-use Rattle.trace_types.specs.Id.{Id, Zero, One, Pair, owns, AreApart, IsNormal}
-use Rattle.trace_types.specs.IdOperations.{split}
+use Rattle.trace_types.specs.clock.Points.{Left, Right}
+use Rattle.trace_types.specs.clock.Id.{Id, Zero, One, Pair, owns, AreApart, IsNormal}
+use Rattle.trace_types.specs.clock.IdOperations.{split}
 use Rattle.id_tree.specs.Laws.{SharesOut}
 use Rattle.id_tree.proofs.Normal.{AreApart-sym, AreApart-Zero}
 

@@ -1,8 +1,8 @@
 -- What the sum of two ids owns, and when two ids are disjoint.
 use Rattle.std.proofs.Common.{◌≡◌, ◌≢◌, ◌↔◌, IsTrue, ◌||◌, Bool, true, false, [], ◌∷◌, refl, ◌∙◌}
-use Rattle.trace_types.specs.Points.{Half, Left, Right, Point, at_half}
-use Rattle.trace_types.specs.Id.{Id, Zero, One, Pair, owns, IsNormal, AreDisjoint}
-use Rattle.trace_types.specs.IdOperations.{sum}
+use Rattle.trace_types.specs.clock.Points.{Half, Left, Right, Point, at_half}
+use Rattle.trace_types.specs.clock.Id.{Id, Zero, One, Pair, owns, IsNormal, AreDisjoint}
+use Rattle.trace_types.specs.clock.IdOperations.{sum}
 use Rattle.id_tree.proofs.Ids.{owns-norm, owns-Pair, some_point}
 use Rattle.id_tree.proofs.Normal.{IsNormal-norm}
 

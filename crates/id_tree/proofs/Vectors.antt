@@ -1,7 +1,7 @@
 -- The published vectors, computed by the definitions.
 use Rattle.std.proofs.Common.{◌≡◌, refl}
-use Rattle.trace_types.specs.Id.{Zero, One, Pair}
-use Rattle.trace_types.specs.IdOperations.{split, sum}
+use Rattle.trace_types.specs.clock.Id.{Zero, One, Pair}
+use Rattle.trace_types.specs.clock.IdOperations.{split, sum}
 
 -- the left half, into its quarters
 split-left_half : split (Pair One Zero) ≡ (Pair (Pair One Zero) Zero, Pair (Pair Zero One) Zero)

@@ -1,7 +1,7 @@
 -- What the operations mean, point by point.
 use Rattle.std.specs.Prelude.{◌≡◌, false, ◌||◌, ◌&&◌}
-use Rattle.trace_types.specs.Points.{Point}
-use Rattle.trace_types.specs.Id.{Id, owns}
+use Rattle.trace_types.specs.clock.Points.{Point}
+use Rattle.trace_types.specs.clock.Id.{Id, owns}
 
 -- exactly one of the two owns each point of the whole, and neither owns any other
 abbrev pub SharesOut : Id → Id → Id → Type 0

@@ -1,5 +1,5 @@
 -- What a node of the tree is seen as.
-use Rattle.trace_types.specs.Id as plain
+use Rattle.trace_types.specs.clock.Id as plain
 use Rattle.id_tree.specs.declared.tree.Node.{Node}
 use Rattle.id_tree.specs.declared.tree.Node.TheVariants.{Zero, One, Pair}
 

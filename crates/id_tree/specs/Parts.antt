@@ -1,5 +1,5 @@
 -- What is shown by the parts of an id that are lent.
-use Rattle.trace_types.specs.Id as plain
+use Rattle.trace_types.specs.clock.Id as plain
 use Rattle.id_tree.specs.declared.tree.Parts.{Parts}
 use Rattle.id_tree.specs.declared.tree.Parts.TheVariants.{Zero, One, Pair}
 

@@ -1,9 +1,9 @@
 //! What ids mean, point by point: each law is the contract of a function with an empty body.
 ghost use Rattle.std.specs.Prelude.{◌≡◌, ◌≢◌, ◌||◌};
-ghost use Rattle.trace_types.specs.Points.{Point};
-ghost use Rattle.trace_types.specs.Id.{Id, Zero, Pair, owns, AreDisjoint, IsNormal};
+ghost use Rattle.trace_types.specs.clock.Points.{Point};
+ghost use Rattle.trace_types.specs.clock.Id.{Id, Zero, Pair, owns, AreDisjoint, IsNormal};
 ghost use Rattle.id_tree.specs.Laws.{SharesOut, OwnTheSame};
-ghost use Rattle.trace_types.specs.IdOperations.{norm, split, sum};
+ghost use Rattle.trace_types.specs.clock.IdOperations.{norm, split, sum};
 
 use crate::IdTree;
 

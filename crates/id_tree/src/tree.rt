@@ -1,7 +1,7 @@
 //! The tree of an id.
 ghost use Rattle.std.specs.Prelude.{◌≡◌, ◌≢◌, ◌↔◌, IfOk, IsTrue};
-ghost use Rattle.trace_types.specs.Id.{Zero, One, Pair, AreApart, AreDisjoint, IsNormal};
-ghost use Rattle.trace_types.specs.IdOperations.{norm, split, sum};
+ghost use Rattle.trace_types.specs.clock.Id.{Zero, One, Pair, AreApart, AreDisjoint, IsNormal};
+ghost use Rattle.trace_types.specs.clock.IdOperations.{norm, split, sum};
 ghost use Rattle.id_tree.specs.Parts.{id_of_parts};
 
 use std::alloc::Global;
@@ -48,7 +48,7 @@ pub enum Parts<'a> {
 }
 
 impl Model for IdTree {
-    ghost use Rattle.trace_types.specs.Id.{Id, IsNormal};
+    ghost use Rattle.trace_types.specs.clock.Id.{Id, IsNormal};
     ghost use Rattle.id_tree.specs.IdCode.{id_code, pair_count};
 
     ghost Value = { Id };

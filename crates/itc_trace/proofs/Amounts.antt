@@ -8,8 +8,8 @@ use Rattle.std.proofs.lemmas.Bool.{and_parts, and_from, leb-true, le-leb, lt-ltb
 use Rattle.std.proofs.lemmas.Str.Parse.{IsDigitsTest, FoldsDigits, IsNumeralModel, numerals_by_fold, digits_value_short, without_leading_plus_none}
 use Rattle.clap.specs.Words.{ReadsOne}
 use Rattle.clap.specs.ValueTests.{is_unsigned_in}
-use Rattle.trace_types.specs.Name.{Text, is_between}
-use Rattle.trace_types.specs.Reading.{is_digit, number_onto, is_number, number_of}
+use Rattle.trace_types.specs.text.Name.{Text, is_between}
+use Rattle.trace_types.specs.text.Reading.{is_digit, number_onto, is_number, number_of}
 use Rattle.itc_trace.specs.CommandLine.{is_plain}
 
 between : (low high n : ℕ) → is_between low high n ≡ true → (low ≤ n) × (n ≤ high)

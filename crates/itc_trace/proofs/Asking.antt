@@ -8,9 +8,9 @@ use Rattle.clap.specs.Words.{App, HasMatchesOf, Row, is_simple, subcommand_of, s
 use Rattle.clap.specs.Lexer.{usize_max}
 use Rattle.clap.specs.Walk.{row_text}
 use Rattle.clap.specs.declared.parser.ArgMatches.{ArgMatches}
-use Rattle.trace_types.specs.Limits.{Limits, are_limits}
-use Rattle.trace_types.specs.Name.{Text, is_between, is_same}
-use Rattle.trace_types.specs.Reading.{number_of}
+use Rattle.trace_types.specs.tenant.Limits.{Limits, are_limits}
+use Rattle.trace_types.specs.text.Name.{Text, is_between, is_same}
+use Rattle.trace_types.specs.text.Reading.{number_of}
 use Rattle.itc_trace.specs.CommandLine.{Asked, Role, Tenant, Events, Tasks, Messages, Part, asked_by, asked_in, asked_with, is_plain, is_role, limit_by, limits_by, limits_of, number_up_to, option_named, parts_after, words_for}
 use Rattle.itc_trace.specs.Reading.{Has, amount_in, limits_found, limits_in, program_app, tenants_found}
 use Rattle.itc_trace.proofs.CommandLine.{Fits, FitsOnce, finds, id_of, row_of, simple, spelled, spelled_with, takes_parts}

@@ -8,8 +8,8 @@ use Rattle.std.specs.Str.{bytes_eq}
 use Rattle.clap.specs.Words.{Row, Rule, Text, is_simple, subcommand_of, takes}
 use Rattle.clap.specs.declared.builder.value_parser.Reading.TheVariants.{AsWritten}
 use Rattle.clap.specs.declared.parser.matches.ValueSource.TheVariants.{CommandLine}
-use Rattle.trace_types.specs.Name.{is_between}
-use Rattle.trace_types.specs.Reading.{number_of}
+use Rattle.trace_types.specs.text.Name.{is_between}
+use Rattle.trace_types.specs.text.Reading.{number_of}
 use Rattle.clap.specs.Lexer.{long_of, short_of, usize_max}
 use Rattle.clap.specs.ValueTests.{is_unsigned_in}
 use Rattle.clap.specs.Simple.{Shape, built, built_leaf, inherited, marked_built, with_leaf_noted, names_of, entered, with_index, filled}

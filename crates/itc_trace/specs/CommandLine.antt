@@ -1,9 +1,9 @@
 -- What the words of the command line ask for.
 use Rattle.std.specs.Prelude.{ℕ, Bool, true, false, not, ◌==◌, List, [], ◌∷◌, map, Option, Some, None, option_map, option_and_then, ◌&&◌, if◌then◌else◌, codes}
 use Rattle.std.specs.List.{filter, list_all}
-use Rattle.trace_types.specs.Limits.{Limits, default_limits}
-use Rattle.trace_types.specs.Name.{Text, is_same, is_between, is_name}
-use Rattle.trace_types.specs.Reading.{number_of}
+use Rattle.trace_types.specs.tenant.Limits.{Limits, default_limits}
+use Rattle.trace_types.specs.text.Name.{Text, is_same, is_between, is_name}
+use Rattle.trace_types.specs.text.Reading.{number_of}
 use Rattle.trace_world.specs.Tenants.{can_be_tenants}
 
 -- what a replay is asked for: the limits that each tenant has, and the tenants

@@ -1,9 +1,9 @@
 -- What the program did.
 use Rattle.std.specs.Prelude.{◌≡◌, ◌≢◌, ℕ, ◌+◌, ◌<◌, ◌^◌, Bool, true, false, IsTrue, List, ◌++◌, ◌⊎◌, length, map, Option, IfSome}
-use Rattle.trace_types.specs.Name.{Text}
-use Rattle.trace_types.specs.Limits.{Limits, are_limits}
-use Rattle.trace_types.specs.Tenant.{fresh}
-use Rattle.trace_types.specs.World.{World}
+use Rattle.trace_types.specs.text.Name.{Text}
+use Rattle.trace_types.specs.tenant.Limits.{Limits, are_limits}
+use Rattle.trace_types.specs.tenant.Tenant.{fresh}
+use Rattle.trace_types.specs.world.World.{World}
 use Rattle.line_protocol.specs.Source.{Given}
 use Rattle.line_protocol.specs.Sink.{Taken}
 use Rattle.line_protocol.specs.Writing.{WritesFront, EndsInFault}

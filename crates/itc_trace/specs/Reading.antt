@@ -8,8 +8,8 @@ use Rattle.clap.specs.declared.error.kind.ErrorKind.{ErrorKind}
 use Rattle.clap.specs.declared.error.kind.ErrorKind.TheVariants.{DisplayHelp, DisplayVersion}
 use Rattle.clap.specs.declared.builder.ArgAction.TheVariants.{Append, Set}
 use Rattle.clap.specs.declared.builder.value_parser.ValueParser.TheVariants as parser
-use Rattle.trace_types.specs.Limits.{Limits, are_limits, default_limits}
-use Rattle.trace_types.specs.Reading.{number_of}
+use Rattle.trace_types.specs.tenant.Limits.{Limits, are_limits, default_limits}
+use Rattle.trace_types.specs.text.Reading.{number_of}
 use Rattle.itc_trace.specs.CommandLine.{Asked as Wanted, limits_of}
 use Rattle.itc_trace.specs.declared.words.Asked.{Asked}
 use Rattle.itc_trace.specs.declared.words.Asked.TheVariants.{Replay, Show}

@@ -1,6 +1,6 @@
 -- What a run of the program does.
 use Rattle.std.specs.Prelude.{◌≡◌, ◌≢◌, ℕ, List, [], ◌⊎◌, IfSome}
-use Rattle.trace_types.specs.Name.{Text}
+use Rattle.trace_types.specs.text.Name.{Text}
 use Rattle.line_protocol.specs.Source.{Given}
 use Rattle.line_protocol.specs.Sink.{Taken}
 use Rattle.itc_trace.specs.CommandLine.{asked_in, are_taken}

@@ -2,8 +2,8 @@
 ghost use Rattle.std.specs.Prelude.{◌≡◌, ◌≢◌, ◌<◌, ◌≤◌, ◌++◌, ◌⊎◌, List, [], length, map, true, false, IsTrue, OnOk, IfOk, IfErr, IfSome, IsErr, IsErrAnd, string_bytes};
 ghost use Rattle.line_protocol.specs.Writing.{EndsInFault};
 ghost use Rattle.std.specs.List.{list_all};
-ghost use Rattle.trace_types.specs.Name.{Text, is_name};
-ghost use Rattle.trace_types.specs.Limits.{Limits as Bounds, are_limits};
+ghost use Rattle.trace_types.specs.text.Name.{Text, is_name};
+ghost use Rattle.trace_types.specs.tenant.Limits.{Limits as Bounds, are_limits};
 ghost use Rattle.itc_trace.specs.CommandLine.{are_taken};
 ghost use Rattle.itc_trace.specs.Fault.{status_of};
 ghost use Rattle.itc_trace.specs.Program.{IsFailure, ReplaysFresh, ReplaysFreshInPart, Shows, ShowsAll, ShowsSome, ShowsSomeAll};

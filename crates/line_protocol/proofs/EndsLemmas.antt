@@ -7,7 +7,7 @@ use Rattle.std.specs.Prelude.{if◌then◌else◌, not, is_some, IsTrue}
 use Rattle.std.proofs.Common.{inl, inr}
 use Rattle.std.proofs.lemmas.Iterator.Adapters.{position_from-zero}
 use Rattle.std.specs.List.{position, position_from}
-use Rattle.trace_types.specs.Lines.{Piece, pieces, onto_piece, line_of, lines, without_return}
+use Rattle.trace_types.specs.text.Lines.{Piece, pieces, onto_piece, line_of, lines, without_return}
 use Rattle.line_protocol.specs.Ends.{HasNoEnd, end_count, EndsAt, IsEnd}
 
 -- the piece up to an end of line

@@ -2,8 +2,8 @@
 use Rattle.std.proofs.Common.{◌≡◌, ◌≤◌, ◌+◌, ℕ, Bool, IsTrue, true, false, cond, List, [], ◌∷◌, ◌++◌, ◌⊎◌, inl, inr, length, take, drop, refl, sym, ap, ◌∙◌, append_assoc, arith, length-append, subst, ◌==◌, lt-ltb}
 use Rattle.std.proofs.lemmas.List.{append-nil, append_cancel_left}
 use Rattle.std.proofs.Math.Seq.{take-append_seam}
-use Rattle.trace_types.specs.Name.{Text}
-use Rattle.trace_types.specs.Lines.{lines, without_return, is_too_long}
+use Rattle.trace_types.specs.text.Name.{Text}
+use Rattle.trace_types.specs.text.Lines.{lines, without_return, is_too_long}
 use Rattle.line_protocol.specs.Held.{Held}
 use Rattle.line_protocol.specs.declared.line.Line.TheVariants.{Whole, TooLong}
 use Rattle.line_protocol.specs.LineReading.{GivesLine, Finds, FindsNone, HasRead}

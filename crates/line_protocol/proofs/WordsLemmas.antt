@@ -8,8 +8,8 @@ use Rattle.std.proofs.lemmas.Iterator.Adapters.{position_from-zero}
 use Rattle.std.proofs.lemmas.Grind.{pow_more}
 use Rattle.std.proofs.Math.Nat.{pow-le-pow_right}
 use Rattle.std.proofs.Math.Seq.{take-suc}
-use Rattle.trace_types.specs.Name.{Text}
-use Rattle.trace_types.specs.Reading.{words, onto, is_digit, number_onto, only, only_two, with_nothing}
+use Rattle.trace_types.specs.text.Name.{Text}
+use Rattle.trace_types.specs.text.Reading.{words, onto, is_digit, number_onto, only, only_two, with_nothing}
 use Rattle.trace_types.specs.declared.request.Request.{Request}
 
 -- what a cut at the blank that a search from place i on finds leaves of the words

@@ -2,7 +2,7 @@
 use Rattle.std.proofs.Common.{◌≡◌, ℕ, suc, ◌+◌, ◌<◌, List, [], ◌∷◌, ◌++◌, length, take, drop, get_or, refl, sym, ap, ◌∙◌, append_assoc, add-one, drop-cons, decimal, codes}
 use Rattle.std.proofs.lemmas.List.{append-nil, take-append-drop}
 use Rattle.std.proofs.Math.Seq.{take-suc}
-use Rattle.trace_types.specs.Text.{numbers_text}
+use Rattle.trace_types.specs.text.Text.{numbers_text}
 use Rattle.line_protocol.specs.Writing.{WritesFront}
 
 -- Of the text all but the rest was written.

@@ -1,7 +1,7 @@
 -- How the answer to a line is written.
 use Rattle.std.specs.Prelude.{[], ◌∷◌, ◌++◌, Option, Some, None, codes, decimal, length}
-use Rattle.trace_types.specs.Name.{Text}
-use Rattle.trace_types.specs.Text.{reply_text, kind_text, name_text, numbers_text}
+use Rattle.trace_types.specs.text.Name.{Text}
+use Rattle.trace_types.specs.text.Text.{reply_text, kind_text, name_text, numbers_text}
 use Rattle.trace_types.specs.declared.reply.Reply.{Reply}
 use Rattle.trace_types.specs.declared.reply.Reply.TheVariants as reply
 

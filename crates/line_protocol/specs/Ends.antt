@@ -1,6 +1,6 @@
 -- Where the first line of some bytes ends.
 use Rattle.std.specs.Prelude.{◌≡◌, ℕ, nat_lt, if◌then◌else◌, Bool, false, IsTrue, List, [], ◌∷◌, ◌++◌, ◌⊎◌, length, count_by, Option, None, Some, ◌==◌}
-use Rattle.trace_types.specs.Name.{Text}
+use Rattle.trace_types.specs.text.Name.{Text}
 use Rattle.line_protocol.specs.declared.line.Line.{Line}
 use Rattle.line_protocol.specs.declared.line.Line.TheVariants.{Whole, TooLong, End}
 

@@ -1,6 +1,6 @@
 -- What a line reader holds.
 use Rattle.std.specs.Prelude.{ℕ, Bool, List}
-use Rattle.trace_types.specs.Name.{Text}
+use Rattle.trace_types.specs.text.Name.{Text}
 
 pub record Held : Type 0 where
   -- the line that was found last

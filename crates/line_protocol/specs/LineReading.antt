@@ -1,7 +1,7 @@
 -- What a line reader finds, between what it held and what its source had given before and after.
 use Rattle.std.specs.Prelude.{◌≡◌, ℕ, ◌+◌, ◌-◌, ◌*◌, ◌≤◌, ◌<◌, ◌^◌, Result, Bool, true, false, IsTrue, List, [], ◌∷◌, ◌++◌, length, Ok, Err}
-use Rattle.trace_types.specs.Name.{Text}
-use Rattle.trace_types.specs.Lines.{lines, is_too_long}
+use Rattle.trace_types.specs.text.Name.{Text}
+use Rattle.trace_types.specs.text.Lines.{lines, is_too_long}
 use Rattle.line_protocol.specs.Held.{Held}
 use Rattle.line_protocol.specs.Source.{Given, one_if}
 use Rattle.line_protocol.specs.Ends.{HasNoEnd}

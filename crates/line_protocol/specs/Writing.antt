@@ -1,6 +1,6 @@
 -- What calls that write leave, at a fault too.
 use Rattle.std.specs.Prelude.{◌≡◌, ℕ, ◌+◌, ◌≤◌, ◌<◌, Result, Ok, Err, IsTrue, List, ◌++◌, ◌⊎◌}
-use Rattle.trace_types.specs.Name.{Text}
+use Rattle.trace_types.specs.text.Name.{Text}
 use Rattle.line_protocol.specs.Sink.{Taken}
 
 -- Of the text a front was written, perhaps all of it.

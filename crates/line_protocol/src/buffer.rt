@@ -1,6 +1,6 @@
 //! The bytes that a line reader has read.
 ghost use Rattle.std.specs.Prelude.{◌≡◌, ◌↔◌, ◌+◌, ◌-◌, ◌≤◌, ◌<◌, ◌^◌, IsTrue, [], ◌⊎◌, false, IfOk, OnOk, OnErr, IfNone, length, take, drop, slice_range, position, ◌==◌};
-ghost use Rattle.trace_types.specs.Lines.{without_return};
+ghost use Rattle.trace_types.specs.text.Lines.{without_return};
 ghost use Rattle.line_protocol.specs.LineReading.{Extends, Finds, FindsNone, LeavesLess, NeedsRead, Reads, work_left, failed_reads, IfTooLong};
 ghost use Rattle.line_protocol.specs.Ends.{IsEnd, HasNoEnd, Comes, Skipped, Skips, kind_of, kind_of_length, last_line};
 ghost use Rattle.line_protocol.specs.Source.{failure_count, bytes_read, gives_none, one_if};

@@ -1,6 +1,6 @@
 //! Numbers and texts, gathered on the stack and written in chunks.
 ghost use Rattle.std.specs.Prelude.{◌≡◌, ◌<◌, ◌≤◌, [], ◌++◌, OnOk, decimal, codes, length};
-ghost use Rattle.trace_types.specs.Text.{numbers_text};
+ghost use Rattle.trace_types.specs.text.Text.{numbers_text};
 ghost use Rattle.line_protocol.specs.Writing.{GathersText, Spends};
 
 use crate::pieces::write_piece;

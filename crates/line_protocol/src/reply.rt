@@ -1,7 +1,7 @@
 //! Replies, written without memory.
 ghost use Rattle.std.specs.Prelude.{◌≡◌, ◌+◌, ◌<◌, ◌≤◌, [], ◌++◌, OnOk, decimal, codes, length};
-ghost use Rattle.trace_types.specs.Text.{reply_text, order_text, state_text, kind_text, name_text};
-ghost use Rattle.trace_types.specs.Code.{code_text};
+ghost use Rattle.trace_types.specs.text.Text.{reply_text, order_text, state_text, kind_text, name_text};
+ghost use Rattle.trace_types.specs.tenant.Code.{code_text};
 ghost use Rattle.line_protocol.specs.Answer.{addressee_text, answer_text, reply_head, reply_tail};
 ghost use Rattle.line_protocol.specs.Writing.{Writes, Flushes, WritesText, GathersText, Spends};
 

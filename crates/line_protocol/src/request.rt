@@ -2,8 +2,8 @@
 ghost use Rattle.std.specs.Prelude.{◌≡◌, ◌≤◌, ◌∷◌, true, length, position, ◌==◌};
 ghost use Rattle.std.specs.Option.{option_copied};
 ghost use Rattle.std.specs.List.{list_all};
-ghost use Rattle.trace_types.specs.Name.{is_same};
-ghost use Rattle.trace_types.specs.Reading.{request_of, addressed_by, words, number_of, is_digit, is_number, number_onto, name_of, only, only_two, request_of_words};
+ghost use Rattle.trace_types.specs.text.Name.{is_same};
+ghost use Rattle.trace_types.specs.text.Reading.{request_of, addressed_by, words, number_of, is_digit, is_number, number_onto, name_of, only, only_two, request_of_words};
 ghost use Rattle.line_protocol.specs.Words.{words_after};
 
 use trace_types::{Name, Request};

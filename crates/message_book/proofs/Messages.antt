@@ -5,7 +5,7 @@ use Rattle.std.proofs.Math.Seq.{take-append_seam}
 use Rattle.std.proofs.lemmas.Bool.{false≢true, cases_Bool}
 use Rattle.std.proofs.lemmas.List.{length-append}
 use Rattle.std.specs.Map.{lookup, set_value}
-use Rattle.trace_types.specs.Name.{Text, is_same}
+use Rattle.trace_types.specs.text.Name.{Text, is_same}
 use Rattle.trace_types.specs.declared.code.Code.{Code}
 use Rattle.message_book.specs.Book.{Book, Messages, entry_of, has_receipt, entry_with_receipt, with_changed, with_message, with_receipt, without_last, without_receipts, LastIsUnreceived, refusal_of_send, refusal_of_receive}
 use Rattle.message_book.specs.declared.entry.Entry.{Entry}

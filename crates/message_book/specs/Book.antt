@@ -1,8 +1,8 @@
 -- The book of one tenant's messages: what it has, what a send and a receipt do to it, and when they are refused.
 use Rattle.std.specs.Prelude.{◌≡◌, ℕ, ◌-◌, Bool, false, not, List, [], ◌∷◌, ◌++◌, length, take, map, Option, Some, None, is_some, if◌then◌else◌, nat_le, nat_lt}
 use Rattle.std.specs.List.{IsDistinct}
-use Rattle.trace_types.specs.Name.{Text, is_same}
-use Rattle.trace_types.specs.Refusal.{first_code}
+use Rattle.trace_types.specs.text.Name.{Text, is_same}
+use Rattle.trace_types.specs.tenant.Refusal.{first_code}
 use Rattle.trace_types.specs.declared.code.Code.{Code}
 use Rattle.trace_types.specs.declared.code.Code.TheVariants.{NoMessage, MessageExists, AlreadyReceived, MessagesFull}
 use Rattle.message_book.specs.declared.entry.Entry.{Entry}

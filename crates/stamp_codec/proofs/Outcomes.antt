@@ -1,8 +1,8 @@
 -- What the walk over a whole text says of it.
 use Rattle.std.proofs.Common.{◌≡◌, inl, inr, ℕ, ◌+◌, ◌^◌, ◌<◌, Option, None, Result, Ok, Err, List, [], ◌∷◌, ◌++◌, length, drop, ap, ◌∙◌, arith, length-append}
 use Rattle.std.specs.Prelude.{IfOk}
-use Rattle.trace_types.specs.Id.{Id}
-use Rattle.trace_types.specs.EventTree.{EventTree, maximum}
+use Rattle.trace_types.specs.clock.Id.{Id}
+use Rattle.trace_types.specs.clock.EventTree.{EventTree, maximum}
 use Rattle.stamp_codec.specs.StampText.{Written, Spells, IsShaped, id_text, written_text, tree_of, stamp_text}
 use Rattle.stamp_codec.specs.Faults.{tree_start, IsTooLargeAt, IsNotNormalAt, IsIdTooDeepAt, IsIdNotNormalAt, IsTreeTooLargeAt, IsTreeNotNormalAt}
 use Rattle.stamp_codec.specs.Walks.{BeginsTree, IsFirst, IsFirstWith, IsSizeFault, WalksStamp}

@@ -1,7 +1,7 @@
 -- What stands at the front of a text, and where its parts stand.
 use Rattle.std.proofs.Common.{◌≡◌, ◌≢◌, ◌⊎◌, ℕ, ◌+◌, ◌-◌, ◌*◌, ◌<◌, ◌≤◌, inl, inr, min, true, false, List, [], ◌∷◌, ◌++◌, length, drop, get_or, refl, sym, ap, ◌∙◌, append_assoc, arith, length-append}
 use Rattle.std.proofs.lemmas.Bool.{le-leb, lt-leb, cases_lt}
-use Rattle.trace_types.specs.Id.{Id, Zero, One, Pair}
+use Rattle.trace_types.specs.clock.Id.{Id, Zero, One, Pair}
 use Rattle.stamp_codec.specs.StampText.{Written, Number, Fork, HasNumbers, IsNumber, AreDigits, id_text, written_text, read_on, number_of}
 use Rattle.stamp_codec.specs.Scan.{is_digit}
 use Rattle.stamp_codec.specs.Walks.{greatest_number, leading, EndsDigits, BeginsTree}

@@ -2,8 +2,8 @@
 use Rattle.std.proofs.Common.{◌≡◌, ◌≢◌, ◌↔◌, ℕ, zero, suc, ◌+◌, ◌<◌, ◌≤◌, List, [], ◌∷◌, ◌++◌, Option, Some, None, length, take, get_or, refl, sym, ap, ◌∙◌, append_assoc, arith, inl, subst}
 use Rattle.std.proofs.lemmas.List.{take_more, take_all, append-nil}
 use Rattle.std.proofs.Math.Seq.{take-length}
-use Rattle.trace_types.specs.Id as ids
-use Rattle.trace_types.specs.Id.{Zero, One, Pair}
+use Rattle.trace_types.specs.clock.Id as ids
+use Rattle.trace_types.specs.clock.Id.{Zero, One, Pair}
 use Rattle.stamp_codec.specs.StampText.{Written, Number, Fork, HasNumbers, id_text, written_text, IsShaped}
 use Rattle.stamp_codec.specs.Faults.{Begins, IsShapeFault}
 use Rattle.stamp_codec.specs.Scan.{stepped}

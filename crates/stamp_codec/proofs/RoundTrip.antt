@@ -4,9 +4,9 @@ use Rattle.std.specs.Fmt.{decimal}
 use Rattle.std.proofs.lemmas.Str.Parse.{IsNumeralModel, numerals_by_fold}
 use Rattle.std.proofs.lemmas.Fmt.{decimal-digits_value, digits_decimal, digits_value-decimal, first_decimal, decimal_digit}
 use Rattle.std.proofs.lemmas.Bool.{cases_eq}
-use Rattle.trace_types.specs.Id.{Id, Zero, One, Pair}
-use Rattle.trace_types.specs.Id as ids
-use Rattle.trace_types.specs.EventTree.{EventTree, Leaf, Node, maximum, IsNormal}
+use Rattle.trace_types.specs.clock.Id.{Id, Zero, One, Pair}
+use Rattle.trace_types.specs.clock.Id as ids
+use Rattle.trace_types.specs.clock.EventTree.{EventTree, Leaf, Node, maximum, IsNormal}
 use Rattle.event_tree.specs.Height.{height}
 use Rattle.stamp_codec.specs.StampText.{Written, Number, Fork, HasNumbers, IsNumber, AreDigits, id_text, tree_text, stamp_text, written_text, read_on, number_of, tree_of}
 use Rattle.stamp_codec.specs.Faults.{most_nested, greatest_sum, tree_start, IsIdTooDeepAt, IsTreeTooLargeAt, IsTooLargeAt, IsIdNotNormalAt, IsTreeNotNormalAt, IsNotNormalAt}

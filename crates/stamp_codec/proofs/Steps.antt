@@ -1,8 +1,8 @@
 -- What makes a stamp after a byte is what makes it from the next state on.
 use Rattle.std.proofs.Common.{◌≡◌, ◌↔◌, ◌⊎◌, inl, inr, ℕ, ◌≤◌, Bool, true, false, cond, eqb, List, [], ◌∷◌, ◌++◌, Option, Some, None, refl, sym, ap, ◌∙◌, arith}
 use Rattle.std.proofs.lemmas.Bool.{eqb-true, eq-eqb}
-use Rattle.trace_types.specs.Id as ids
-use Rattle.trace_types.specs.Id.{Zero, One, Pair}
+use Rattle.trace_types.specs.clock.Id as ids
+use Rattle.trace_types.specs.clock.Id.{Zero, One, Pair}
 use Rattle.stamp_codec.specs.StampText.{Written, Number, Fork, HasNumbers, AreDigits, IsNumber, id_text, written_text}
 use Rattle.stamp_codec.specs.Scan.{awaiting, closed, number_begun, is_digit, stepped}
 use Rattle.stamp_codec.specs.declared.shape.Part.{Part}

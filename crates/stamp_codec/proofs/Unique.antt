@@ -1,6 +1,6 @@
 -- A text spells one id and one tree.
 use Rattle.std.proofs.Common.{◌≡◌, ℕ, ◌≤◌, List, [], ◌∷◌, ◌++◌, refl, sym, ap, ◌∙◌, arith}
-use Rattle.trace_types.specs.Id.{Id, Zero, One, Pair}
+use Rattle.trace_types.specs.clock.Id.{Id, Zero, One, Pair}
 use Rattle.stamp_codec.specs.StampText.{Written, Number, Fork, HasNumbers, IsNumber, Spells, id_text, written_text}
 use Rattle.std.proofs.lemmas.List.{append_cancel_right}
 use Rattle.stamp_codec.specs.Walks.{leading, EndsDigits}

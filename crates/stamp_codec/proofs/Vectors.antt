@@ -2,8 +2,8 @@
 use Rattle.std.proofs.Common.{◌≡◌, refl}
 use Rattle.std.specs.Prelude.{codes}
 use Rattle.std.specs.Fmt.{digits}
-use Rattle.trace_types.specs.Id as ids
-use Rattle.trace_types.specs.EventTree.{Leaf, Node}
+use Rattle.trace_types.specs.clock.Id as ids
+use Rattle.trace_types.specs.clock.EventTree.{Leaf, Node}
 use Rattle.stamp_codec.specs.Stamp.{seed, fork, event, join, peek}
 use Rattle.stamp_codec.specs.StampText.{Number, Fork, stamp_text, whole_text, tree_of}
 

@@ -1,8 +1,8 @@
 -- A walk over an id.
 use Rattle.std.proofs.Common.{◌≡◌, ◌≢◌, ◌↔◌, inl, inr, ℕ, ◌+◌, ◌≤◌, Bool, Option, None, Ok, List, [], ◌∷◌, ◌++◌, length, drop, get_or, refl, ap, ◌∙◌, arith, length-append}
 use Rattle.std.specs.Prelude.{IsTrue}
-use Rattle.trace_types.specs.Id.{Id, Zero, One, Pair, AreApart}
-use Rattle.trace_types.specs.IdOperations.{norm}
+use Rattle.trace_types.specs.clock.Id.{Id, Zero, One, Pair, AreApart}
+use Rattle.trace_types.specs.clock.IdOperations.{norm}
 use Rattle.stamp_codec.specs.StampText.{id_text}
 use Rattle.stamp_codec.specs.Faults.{most_nested, IsIdTooDeepAt, IsIdNotNormalAt}
 use Rattle.stamp_codec.specs.Walks.{IsFirstWith, IsSizeFault, Walks, IsIdBuilt}

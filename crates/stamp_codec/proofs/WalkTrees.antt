@@ -2,8 +2,8 @@
 use Rattle.std.proofs.Common.{◌≡◌, ◌≢◌, ◌↔◌, ◌⊎◌, inl, inr, ℕ, ◌+◌, ◌-◌, ◌<◌, ◌≤◌, min, Bool, Option, None, Ok, List, [], ◌∷◌, ◌++◌, length, drop, get_or, refl, ap, ◌∙◌, arith, length-append}
 use Rattle.std.specs.Prelude.{IsTrue}
 use Rattle.std.proofs.lemmas.Bool.{cases_eq}
-use Rattle.trace_types.specs.EventTree.{EventTree, Leaf, Node, minimum, AreUnequal, IsNormal}
-use Rattle.trace_types.specs.Norm.{norm}
+use Rattle.trace_types.specs.clock.EventTree.{EventTree, Leaf, Node, minimum, AreUnequal, IsNormal}
+use Rattle.trace_types.specs.clock.Norm.{norm}
 use Rattle.event_tree.proofs.Values.{norm-normal}
 use Rattle.stamp_codec.specs.StampText.{Written, Number, Fork, HasNumbers, IsNumber, written_text, number_of, tree_of}
 use Rattle.stamp_codec.specs.Faults.{most_nested, greatest_sum, IsTreeTooLargeAt, IsTreeNotNormalAt}

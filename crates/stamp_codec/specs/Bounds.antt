@@ -1,9 +1,9 @@
 -- The bounds within which a stamp has a text.
 use Rattle.std.specs.Prelude.{ℕ, ◌+◌, ◌≤◌, max}
 use Rattle.std.specs.Fmt.{decimal}
-use Rattle.trace_types.specs.Id.{Id, Zero, One, Pair}
-use Rattle.trace_types.specs.Id as ids
-use Rattle.trace_types.specs.EventTree.{EventTree, Leaf, Node, maximum, IsNormal}
+use Rattle.trace_types.specs.clock.Id.{Id, Zero, One, Pair}
+use Rattle.trace_types.specs.clock.Id as ids
+use Rattle.trace_types.specs.clock.EventTree.{EventTree, Leaf, Node, maximum, IsNormal}
 use Rattle.event_tree.specs.Height.{height}
 use Rattle.stamp_codec.specs.StampText.{Written, Number, Fork}
 use Rattle.stamp_codec.specs.Faults.{most_nested, greatest_sum}

@@ -1,7 +1,7 @@
 -- Why a text is refused, and at which place: a count of bytes from its start.
 use Rattle.std.specs.Prelude.{◌≡◌, ◌≢◌, ℕ, ◌+◌, ◌<◌, ◌≤◌, ◌⊎◌, min, List, ◌++◌, length, take}
-use Rattle.trace_types.specs.Id.{Id, Zero, One, Pair, AreApart}
-use Rattle.trace_types.specs.EventTree.{minimum, AreUnequal}
+use Rattle.trace_types.specs.clock.Id.{Id, Zero, One, Pair, AreApart}
+use Rattle.trace_types.specs.clock.EventTree.{minimum, AreUnequal}
 use Rattle.stamp_codec.specs.StampText.{Written, Number, Fork, id_text, written_text, number_of, tree_of, IsShaped}
 
 -- some text with the shape of a stamp begins with the first so many bytes

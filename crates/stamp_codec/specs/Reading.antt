@@ -1,7 +1,7 @@
 -- What reading a text as a stamp gives.
 use Rattle.std.specs.Prelude.{◌≡◌, ℕ, List, Result, Ok, Err}
-use Rattle.trace_types.specs.Id.{Id}
-use Rattle.trace_types.specs.EventTree.{EventTree}
+use Rattle.trace_types.specs.clock.Id.{Id}
+use Rattle.trace_types.specs.clock.EventTree.{EventTree}
 use Rattle.stamp_codec.specs.StampText.{Written, Spells, tree_of}
 use Rattle.stamp_codec.specs.Faults.{IsShapeFault, IsLeast, IsTooLargeAt, IsNotNormalAt}
 use Rattle.stamp_codec.specs.declared.stamp.Stamp.{Stamp}

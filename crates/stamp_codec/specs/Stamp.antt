@@ -1,9 +1,9 @@
 -- Stamps of the interval tree clock (Almeida, Baquero and Fonte 2008).
-use Rattle.trace_types.specs.Id.{Zero, One}
-use Rattle.trace_types.specs.IdOperations as ids
-use Rattle.trace_types.specs.EventTree.{Leaf}
-use Rattle.trace_types.specs.Event as trees
-use Rattle.trace_types.specs.Join as joins
+use Rattle.trace_types.specs.clock.Id.{Zero, One}
+use Rattle.trace_types.specs.clock.IdOperations as ids
+use Rattle.trace_types.specs.clock.EventTree.{Leaf}
+use Rattle.trace_types.specs.clock.Event as trees
+use Rattle.trace_types.specs.clock.Join as joins
 use Rattle.stamp_codec.specs.declared.stamp.Stamp.{Stamp}
 
 -- the first stamp: every point, and nothing has happened

@@ -5,10 +5,10 @@
 --   tree   = number | "(" number "," tree "," tree ")"
 --   number = "0" | nonzero digit, then any digits
 use Rattle.std.specs.Prelude.{◌≡◌, ℕ, ◌+◌, ◌-◌, ◌*◌, ◌≤◌, ◌⊎◌, List, [], ◌∷◌, ◌++◌, codes}
-use Rattle.trace_types.specs.Id.{Id}
-use Rattle.trace_types.specs.EventTree.{EventTree, Leaf, Node}
-pub use Rattle.trace_types.specs.StampText.{id_text, tree_text}
-use Rattle.trace_types.specs.StampText.{stamp_text as text_of_stamp}
+use Rattle.trace_types.specs.clock.Id.{Id}
+use Rattle.trace_types.specs.clock.EventTree.{EventTree, Leaf, Node}
+pub use Rattle.trace_types.specs.text.StampText.{id_text, tree_text}
+use Rattle.trace_types.specs.text.StampText.{stamp_text as text_of_stamp}
 use Rattle.stamp_codec.specs.declared.stamp.Stamp.{Stamp}
 
 -- the text of a stamp

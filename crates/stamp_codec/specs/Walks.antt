@@ -1,7 +1,7 @@
 -- What a walk over a part of a text gives.
 use Rattle.std.specs.Prelude.{◌≡◌, ℕ, ◌+◌, ◌-◌, ◌*◌, ◌≤◌, ◌⊎◌, min, if◌then◌else◌, List, [], ◌∷◌, ◌++◌, Option, Some, None, Result, Ok, Err}
-use Rattle.trace_types.specs.Id.{Id}
-use Rattle.trace_types.specs.EventTree.{EventTree, minimum, maximum, IsNormal}
+use Rattle.trace_types.specs.clock.Id.{Id}
+use Rattle.trace_types.specs.clock.EventTree.{EventTree, minimum, maximum, IsNormal}
 use Rattle.stamp_codec.specs.StampText.{Written, HasNumbers, written_text, tree_of}
 use Rattle.stamp_codec.specs.Faults.{IsLeast, greatest_sum, IsTooLargeAt, IsNotNormalAt}
 use Rattle.stamp_codec.specs.Scan.{is_digit}

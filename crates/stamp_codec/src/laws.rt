@@ -1,6 +1,6 @@
 //! The laws of the text, each the contract of a function that does nothing.
 ghost use Rattle.std.specs.Prelude.{◌≡◌, List, ℕ};
-ghost use Rattle.trace_types.specs.Id.{Id};
+ghost use Rattle.trace_types.specs.clock.Id.{Id};
 ghost use Rattle.stamp_codec.specs.StampText.{Written, Spells, stamp_text, tree_of};
 ghost use Rattle.stamp_codec.specs.Bounds.{IsBounded, as_written};
 ghost use Rattle.stamp_codec.specs.Reading.{SpellsNormal};

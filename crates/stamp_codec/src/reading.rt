@@ -1,7 +1,7 @@
 //! The stamp that a text spells.
 ghost use Rattle.std.specs.Prelude.{◌≡◌, ◌+◌, ◌^◌, ◌<◌, IfOk};
-ghost use Rattle.trace_types.specs.Id.{Id};
-ghost use Rattle.trace_types.specs.EventTree.{maximum};
+ghost use Rattle.trace_types.specs.clock.Id.{Id};
+ghost use Rattle.trace_types.specs.clock.EventTree.{maximum};
 ghost use Rattle.stamp_codec.specs.StampText.{Written, Spells, tree_of, stamp_text};
 ghost use Rattle.stamp_codec.specs.Walks.{WalksStamp};
 ghost use Rattle.stamp_codec.specs.Bounds.{IsBounded};

@@ -1,7 +1,7 @@
 //! The stamp.
 ghost use Rattle.std.specs.Prelude.{◌≡◌, ◌≢◌, ◌+◌, ◌^◌, ◌<◌, IfOk};
-ghost use Rattle.trace_types.specs.Id.{Zero, AreDisjoint};
-ghost use Rattle.trace_types.specs.EventTree.{maximum};
+ghost use Rattle.trace_types.specs.clock.Id.{Zero, AreDisjoint};
+ghost use Rattle.trace_types.specs.clock.EventTree.{maximum};
 
 use event_tree::EvTree;
 use id_tree::IdTree;

@@ -1,8 +1,8 @@
 //! The walk over a text with the shape of a stamp. It looks at the size of the text, builds what the text says, and
 //! finds the first node that is not normal.
 ghost use Rattle.std.specs.Prelude.{◌≡◌, ◌≢◌, ℕ, ◌+◌, ◌^◌, ◌<◌, ◌≤◌, ◌⊎◌, min, List, ◌++◌, length, IfOk, IsTrue, ◌↔◌};
-ghost use Rattle.trace_types.specs.Id.{Id};
-ghost use Rattle.trace_types.specs.EventTree.{minimum};
+ghost use Rattle.trace_types.specs.clock.Id.{Id};
+ghost use Rattle.trace_types.specs.clock.EventTree.{minimum};
 ghost use Rattle.stamp_codec.specs.StampText.{Written, id_text};
 ghost use Rattle.stamp_codec.specs.Faults.{most_nested, greatest_sum, IsIdTooDeepAt, IsIdNotNormalAt, IsTreeTooLargeAt, IsTreeNotNormalAt};
 ghost use Rattle.stamp_codec.specs.Walks.{BeginsTree, Walks, IsIdBuilt, IsTreeBuilt, IsWithin};

@@ -1,6 +1,6 @@
 //! The text of a stamp.
 ghost use Rattle.std.specs.Prelude.{◌≡◌, ◌++◌, decimal, IfOk};
-ghost use Rattle.trace_types.specs.StampText.{stamp_text as text_of_parts};
+ghost use Rattle.trace_types.specs.text.StampText.{stamp_text as text_of_parts};
 ghost use Rattle.stamp_codec.specs.StampText.{id_text, tree_text, stamp_text};
 
 use crate::Stamp;

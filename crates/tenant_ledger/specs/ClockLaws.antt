@@ -1,6 +1,6 @@
 -- What is asked of a clock so that what its events know tells their order.
 use Rattle.std.specs.Prelude.{◌≡◌, ℕ, Bool, true, false, ◌||◌, ◌&&◌, ◌≤◌, ◌<◌, max}
-use Rattle.trace_types.specs.Clock.{Clock}
+use Rattle.trace_types.specs.clock.Clock.{Clock}
 
 -- some point is owned
 abbrev pub OwnsSome : {Id Point : Type 0} → (Id → Point → Bool) → Id → Type 0

@@ -1,10 +1,10 @@
 -- What holds of the ids and trees of a legal history, by any clock with the laws.
 use Rattle.std.specs.Prelude.{◌≡◌, ℕ, Bool, true, IsTrue, ◌≤◌}
-use Rattle.trace_types.specs.Name.{Text}
-use Rattle.trace_types.specs.Rows.{History, last_event, is_event}
-use Rattle.trace_types.specs.Reachability.{reaches}
-use Rattle.trace_types.specs.Clock.{Clock}
-use Rattle.trace_types.specs.Stamps.{id_of, tree_of}
+use Rattle.trace_types.specs.text.Name.{Text}
+use Rattle.trace_types.specs.tenant.Rows.{History, last_event, is_event}
+use Rattle.trace_types.specs.tenant.Reachability.{reaches}
+use Rattle.trace_types.specs.clock.Clock.{Clock}
+use Rattle.trace_types.specs.clock.Stamps.{id_of, tree_of}
 use Rattle.tenant_ledger.specs.ClockLaws.{ClockLaws, OwnsSome}
 use Rattle.tenant_ledger.specs.Legal.{IsLive}
 

@@ -1,7 +1,7 @@
 -- What each accepted row says of the rows before it: what its report was not refused for.
 use Rattle.std.specs.Prelude.{◌≡◌, false, IsTrue, [], ◌∷◌, Option, Some, None}
-use Rattle.trace_types.specs.Name.{Text}
-use Rattle.trace_types.specs.Rows.{History, is_known, is_ended, is_joined, is_sent, is_received}
+use Rattle.trace_types.specs.text.Name.{Text}
+use Rattle.trace_types.specs.tenant.Rows.{History, is_known, is_ended, is_joined, is_sent, is_received}
 use Rattle.trace_types.specs.declared.row.Kind.{Kind}
 use Rattle.trace_types.specs.declared.row.Kind.TheVariants.{Local, Spawn, Send, Recv, End, Join}
 

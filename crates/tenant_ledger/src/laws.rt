@@ -1,11 +1,11 @@
 //! What the stamps of a tenant's events mean.
 ghost use Rattle.std.specs.Prelude.{ℕ, IsTrue, List};
-ghost use Rattle.trace_types.specs.Clock.{tree_clock};
-ghost use Rattle.trace_types.specs.Limits.{Limits};
-ghost use Rattle.trace_types.specs.Reachability.{order_of};
-ghost use Rattle.trace_types.specs.Rows.{history_of, is_event};
-ghost use Rattle.trace_types.specs.Stamps.{tree_of};
-ghost use Rattle.trace_types.specs.Tenant.{AreLegal};
+ghost use Rattle.trace_types.specs.clock.Clock.{tree_clock};
+ghost use Rattle.trace_types.specs.tenant.Limits.{Limits};
+ghost use Rattle.trace_types.specs.tenant.Reachability.{order_of};
+ghost use Rattle.trace_types.specs.tenant.Rows.{history_of, is_event};
+ghost use Rattle.trace_types.specs.clock.Stamps.{tree_of};
+ghost use Rattle.trace_types.specs.tenant.Tenant.{AreLegal};
 ghost use Rattle.trace_types.specs.declared.row.Row.{Row};
 ghost use Rattle.event_tree.specs.Comparison.{StandsAs};
 ghost use Rattle.tenant_ledger.specs.Laws.{IsAtMostItsNumber};

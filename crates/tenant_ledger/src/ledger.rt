@@ -1,10 +1,10 @@
 //! The ledger of one tenant.
 ghost use Rattle.std.specs.Prelude.{◌≡◌, suc, true, Some, IfOk, IfErr, length};
-ghost use Rattle.trace_types.specs.Rows.{history_of, is_event};
-ghost use Rattle.trace_types.specs.Reachability.{order_of};
-ghost use Rattle.trace_types.specs.Clock.{tree_clock};
-ghost use Rattle.trace_types.specs.Stamps.{tree_of};
-ghost use Rattle.trace_types.specs.Tenant.{fresh, step, Steps, Answers, AreLegal, is_report, reply_to_view, with_row};
+ghost use Rattle.trace_types.specs.tenant.Rows.{history_of, is_event};
+ghost use Rattle.trace_types.specs.tenant.Reachability.{order_of};
+ghost use Rattle.trace_types.specs.clock.Clock.{tree_clock};
+ghost use Rattle.trace_types.specs.clock.Stamps.{tree_of};
+ghost use Rattle.trace_types.specs.tenant.Tenant.{fresh, step, Steps, Answers, AreLegal, is_report, reply_to_view, with_row};
 ghost use Rattle.event_tree.specs.Comparison.{StandsAs};
 ghost use Rattle.tenant_ledger.specs.Ledger.{code_of};
 
@@ -23,7 +23,7 @@ pub struct Ledger<S: Keep = PlainShare> {
 }
 
 impl<S: Keep> Model for Ledger<S> {
-    ghost use Rattle.trace_types.specs.Tenant.{Tenant};
+    ghost use Rattle.trace_types.specs.tenant.Tenant.{Tenant};
     ghost use Rattle.tenant_ledger.specs.Ledger.{IsKept, tenant_of};
 
     ghost Value = { Tenant };

@@ -1,9 +1,9 @@
 //! A report that will be accepted.
 ghost use Rattle.std.specs.Prelude.{◌≡◌, suc, ◌∷◌, Some, length};
-ghost use Rattle.trace_types.specs.Clock.{tree_clock};
-ghost use Rattle.trace_types.specs.Rows.{history_of};
-ghost use Rattle.trace_types.specs.Stamps.{tree_of};
-ghost use Rattle.trace_types.specs.Tenant.{with_row};
+ghost use Rattle.trace_types.specs.clock.Clock.{tree_clock};
+ghost use Rattle.trace_types.specs.tenant.Rows.{history_of};
+ghost use Rattle.trace_types.specs.clock.Stamps.{tree_of};
+ghost use Rattle.trace_types.specs.tenant.Tenant.{with_row};
 ghost use Rattle.trace_types.specs.declared.reply.Reply.TheVariants as reply;
 
 use crate::book::{Book, Draft};

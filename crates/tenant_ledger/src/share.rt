@@ -1,7 +1,7 @@
 //! What the tenants' ledgers share.
 ghost use Rattle.std.specs.Prelude.{◌≡◌, ◌↔◌, IfOk, IsTrue};
 ghost use Rattle.event_tree.specs.Comparison.{IsBelow, StandsAs};
-ghost use Rattle.trace_types.specs.Id.{Id};
+ghost use Rattle.trace_types.specs.clock.Id.{Id};
 
 use event_tree::EvTree;
 use id_tree::IdTree;

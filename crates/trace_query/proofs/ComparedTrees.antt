@@ -3,12 +3,12 @@ use Rattle.std.proofs.Common.{◌≡◌, ℕ, ◌+◌, ◌↔◌, Bool, true, fa
 use Rattle.std.proofs.lemmas.Bool.{false≢true, leb-true, le-leb, and_parts, and_from}
 use Rattle.trace_types.specs.declared.order.Order.{Order}
 use Rattle.trace_types.specs.declared.order.Order.TheVariants.{Same, Before, After, Concurrent}
-use Rattle.trace_types.specs.EventTree.{EventTree, Leaf, Node, minimum, maximum}
+use Rattle.trace_types.specs.clock.EventTree.{EventTree, Leaf, Node, minimum, maximum}
 use Rattle.event_tree.specs.Comparison.{IsBelow, StandsAs}
 use Rattle.event_tree.specs.Lifted.{IsLiftedBelow}
 use Rattle.event_tree.proofs.Walk.{ranges_from_below, below_from_ranges, below_on, below_from_sides}
 use Rattle.event_tree.proofs.Standing.{stand_one_way, stands_same}
-use Rattle.trace_types.specs.Points.{Left, Right}
+use Rattle.trace_types.specs.clock.Points.{Left, Right}
 use Rattle.trace_query.specs.Compared.{is_lifted_below, is_below, order_from, tree_order, is_order}
 
 is_lifted_below_iff : (m n : ℕ) (e f : EventTree) → IsTrue (is_lifted_below m e n f) ↔ IsLiftedBelow m e n f

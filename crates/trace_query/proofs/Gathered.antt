@@ -9,7 +9,7 @@ use denote.Enum.Bare.{sameb}
 use Rattle.trace_types.specs.contracts.order.Order.{the_type}
 use Rattle.trace_types.specs.declared.order.Order.{Order}
 use Rattle.trace_types.specs.declared.order.Order.TheVariants.{Same, Before, After, Concurrent}
-use Rattle.trace_types.specs.EventTree.{EventTree, Leaf}
+use Rattle.trace_types.specs.clock.EventTree.{EventTree, Leaf}
 use Rattle.event_tree.specs.Comparison.{StandsAs}
 use Rattle.event_tree.proofs.Standing.{stand_one_way}
 use Rattle.trace_query.specs.Compared.{tree_order, is_order}

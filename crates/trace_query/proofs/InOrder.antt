@@ -3,7 +3,7 @@ use Rattle.std.proofs.Common.{◌≡◌, ◌≢◌, ◌↔◌, ℕ, zero, suc, �
 use Rattle.std.proofs.lemmas.Bool.{false≢true, and_parts, and_from, ltb-true, lt-ltb, not-true, not_from_false}
 use Rattle.std.proofs.lemmas.List.{length-map}
 use Rattle.trace_types.specs.declared.order.Order.TheVariants.{Before, Concurrent}
-use Rattle.trace_types.specs.EventTree.{EventTree, Leaf}
+use Rattle.trace_types.specs.clock.EventTree.{EventTree, Leaf}
 use Rattle.event_tree.specs.Comparison.{IsBelow, StandsAs}
 use Rattle.trace_query.specs.Compared.{is_below}
 use Rattle.trace_query.specs.Queries.{is_event, tree_at, StandInOrder, past_of}

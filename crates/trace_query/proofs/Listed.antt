@@ -7,7 +7,7 @@ use Rattle.std.proofs.lemmas.List.Elements.{All-contains, All-filter, All-contai
 use Rattle.std.proofs.lemmas.List.FromFn.{length-range_with_len, get_or-range_with_len}
 use Rattle.std.proofs.lemmas.List.Kept.{IsStrictlyIncreasing-filter}
 use Rattle.trace_types.specs.declared.order.Order.{Order}
-use Rattle.trace_types.specs.EventTree.{EventTree}
+use Rattle.trace_types.specs.clock.EventTree.{EventTree}
 use Rattle.event_tree.specs.Comparison.{StandsAs}
 use Rattle.trace_query.specs.Compared.{is_order}
 use Rattle.trace_query.specs.Queries.{is_event, events_of, tree_at, order_between, is_other_standing, others_standing}

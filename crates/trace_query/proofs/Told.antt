@@ -4,7 +4,7 @@ use Rattle.std.specs.List.{filter}
 use Rattle.std.proofs.lemmas.Bool.{and_left, cases_Bool, eqb-true, not_from_true, not_from_false}
 use Rattle.trace_types.specs.declared.order.Order.{Order}
 use Rattle.trace_types.specs.declared.order.Order.TheVariants.{Same}
-use Rattle.trace_types.specs.EventTree.{EventTree}
+use Rattle.trace_types.specs.clock.EventTree.{EventTree}
 use Rattle.trace_query.specs.Compared.{is_order}
 use Rattle.trace_query.specs.Queries.{is_event, events_of, tree_at, order_between, is_other_standing, others_standing}
 use Rattle.trace_query.specs.Laws.{Tells}

@@ -1,7 +1,7 @@
 -- Comparisons and lists, as the definitions compute them.
 use Rattle.std.proofs.Common.{◌≡◌, List, [], ◌∷◌, Ok, Err, refl}
 use Rattle.trace_types.specs.declared.order.Order.TheVariants.{Before, Concurrent}
-use Rattle.trace_types.specs.EventTree.{EventTree, Leaf, Node}
+use Rattle.trace_types.specs.clock.EventTree.{EventTree, Leaf, Node}
 use Rattle.trace_query.specs.Compared.{tree_order}
 use Rattle.trace_query.specs.Queries.{StandInOrder, past_of, concurrent_of, order_due, fault_due}
 use Rattle.trace_query.specs.declared.query_fault.QueryFault.TheVariants.{Unknown, Memory}

@@ -2,7 +2,7 @@
 use Rattle.std.specs.Prelude.{ℕ, ◌+◌, Bool, true, false, ◌&&◌, nat_le}
 use Rattle.trace_types.specs.declared.order.Order.{Order}
 use Rattle.trace_types.specs.declared.order.Order.TheVariants.{Same, Before, After, Concurrent}
-use Rattle.trace_types.specs.EventTree.{EventTree, Leaf, Node, minimum, maximum}
+use Rattle.trace_types.specs.clock.EventTree.{EventTree, Leaf, Node, minimum, maximum}
 
 -- whether no value of the first tree is above that of the second at the same point, each lifted by the number beside it
 abbrev pub is_lifted_below : ℕ → EventTree → ℕ → EventTree → Bool

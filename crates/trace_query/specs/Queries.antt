@@ -1,7 +1,7 @@
 -- What queries about the order of events are due, from the list of the events' trees: event k has the k-th, from 1.
 use Rattle.std.specs.Prelude.{ℕ, suc, ◌-◌, ◌<◌, Bool, not, ◌&&◌, IsTrue, List, length, ◌==◌, nat_lt, if◌then◌else◌, Result, Ok, Err}
 use Rattle.std.specs.List.{slice_index_or, filter, range_with_len}
-use Rattle.trace_types.specs.EventTree.{EventTree, Leaf}
+use Rattle.trace_types.specs.clock.EventTree.{EventTree, Leaf}
 use Rattle.trace_types.specs.declared.order.Order.{Order}
 use Rattle.trace_types.specs.declared.order.Order.TheVariants.{Before, Concurrent}
 use Rattle.event_tree.specs.Comparison.{IsBelow}

@@ -1,5 +1,5 @@
 //! Values that stand for event trees.
-ghost use Rattle.trace_types.specs.EventTree.{EventTree};
+ghost use Rattle.trace_types.specs.clock.EventTree.{EventTree};
 
 use event_tree::EvTree;
 

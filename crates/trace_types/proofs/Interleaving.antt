@@ -6,12 +6,12 @@ use Rattle.std.specs.List.{list_all}
 use Rattle.std.proofs.lemmas.List.{map-append, get_or-set_same, get_or-set_other}
 use Rattle.std.proofs.lemmas.List.Elements.{filter-append}
 use Rattle.std.proofs.lemmas.Option.{same_Some, slice_get-get_or}
-use Rattle.trace_types.specs.Limits.{Limits}
-use Rattle.trace_types.specs.Tenant.{Tenant, Steps, step, step_unless, after, replies, fresh, MayLackMemory, with_row, row_reply, answer_to}
-use Rattle.trace_types.specs.Rows.{History, history_of, row_of}
-use Rattle.trace_types.specs.Refusal.{refusals, first_code, refusal_of}
-use Rattle.trace_types.specs.Interleaving.{Call, calls_of, kept, tenant_after, last, due_reply, MayBeMarked}
-use Rattle.trace_types.specs.World.{World, StepsOne, IsAfter, IsDue, tells_want, call_with}
+use Rattle.trace_types.specs.tenant.Limits.{Limits}
+use Rattle.trace_types.specs.tenant.Tenant.{Tenant, Steps, step, step_unless, after, replies, fresh, MayLackMemory, with_row, row_reply, answer_to}
+use Rattle.trace_types.specs.tenant.Rows.{History, history_of, row_of}
+use Rattle.trace_types.specs.tenant.Refusal.{refusals, first_code, refusal_of}
+use Rattle.trace_types.specs.world.Interleaving.{Call, calls_of, kept, tenant_after, last, due_reply, MayBeMarked}
+use Rattle.trace_types.specs.world.World.{World, StepsOne, IsAfter, IsDue, tells_want, call_with}
 use Rattle.trace_types.specs.declared.code.Code.{Code}
 use Rattle.trace_types.specs.declared.code.Code.TheVariants.{NoMemory}
 use Rattle.trace_types.specs.declared.row.Row.{Row}

@@ -2,7 +2,7 @@
 use Rattle.std.proofs.Common.{◌≡◌, ◌≢◌, ℕ, true, false, eqb, List, [], ◌∷◌, ◌++◌, All, map, refl, ap, ◌∙◌}
 use Rattle.std.proofs.lemmas.Bool.{ne_eqb, cond-false}
 use Rattle.std.proofs.lemmas.List.Elements.{All-head, All-tail}
-use Rattle.trace_types.specs.Lines.{onto_piece, pieces, without_return, line_of, lines}
+use Rattle.trace_types.specs.text.Lines.{onto_piece, pieces, without_return, line_of, lines}
 
 -- a byte that is no end of line stands at the front of the first piece
 pieces-cons : (byte : ℕ) (bytes : List ℕ) → byte ≢ 10 → pieces (byte ∷ bytes) ≡ onto_piece byte (pieces bytes)

@@ -2,7 +2,7 @@
 use Rattle.std.proofs.Common.{◌≡◌, ◌≢◌, ◌↔◌, ℕ, List, IsTrue, true, false, refl, sym, ◌∙◌}
 use Rattle.std.proofs.lemmas.Bool.{false≢true}
 use Rattle.std.proofs.lemmas.Slice.Eq.{bytes_eq-Decides}
-use Rattle.trace_types.specs.Name.{is_same}
+use Rattle.trace_types.specs.text.Name.{is_same}
 
 pub is_same_iff : (a b : List ℕ) → IsTrue (is_same a b) ↔ (a ≡ b)
 is_same_iff a b = bytes_eq-Decides a b

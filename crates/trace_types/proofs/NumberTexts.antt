@@ -5,8 +5,8 @@ use Rattle.std.proofs.lemmas.Bool.{and_parts, and_from, or_cases, or_left, or_ri
 use Rattle.std.proofs.lemmas.Option.{cond_some}
 use Rattle.std.proofs.lemmas.Str.Parse.{IsDigitsTest, FoldsDigits, IsNumeralModel, numerals_by_fold, digits_value_short}
 use Rattle.std.proofs.lemmas.Fmt.{digits_decimal, digits_value-decimal, decimal-digits_value, length-decimal-le, decimal_nonempty, first_decimal, decimal_digit}
-use Rattle.trace_types.specs.Name.{Text, is_between}
-use Rattle.trace_types.specs.Reading.{is_digit, number_onto, is_number, number_of}
+use Rattle.trace_types.specs.text.Name.{Text, is_between}
+use Rattle.trace_types.specs.text.Reading.{is_digit, number_onto, is_number, number_of}
 
 pub is_between_iff : (low high byte : ℕ) → (is_between low high byte ≡ true) ↔ ((low ≤ byte) × (byte ≤ high))
 is_between_iff low high byte = (

@@ -4,9 +4,9 @@ use Rattle.std.specs.List.{list_any, AllByRecursion}
 use Rattle.std.proofs.lemmas.Bool.{false≢true, eq-eqb, ne_eqb, eqb-true, eqb-false, cases_eq, cond-true, cond-false, cond_both, or_cases, or_left, or_right}
 use Rattle.std.proofs.lemmas.List.Elements.{All-from_recursion, All-contains}
 use Rattle.std.proofs.lemmas.List.Folds.{list_any_at}
-use Rattle.trace_types.specs.Name.{Text}
-use Rattle.trace_types.specs.Rows.{History, newest, is_of, starts, sends, last_event}
-use Rattle.trace_types.specs.Reachability.{event_or_none, increasing, second_event, predecessors, predecessors_of, LeadsBack, Reaches, reaches}
+use Rattle.trace_types.specs.text.Name.{Text}
+use Rattle.trace_types.specs.tenant.Rows.{History, newest, is_of, starts, sends, last_event}
+use Rattle.trace_types.specs.tenant.Reachability.{event_or_none, increasing, second_event, predecessors, predecessors_of, LeadsBack, Reaches, reaches}
 use Rattle.trace_types.specs.declared.row.Row.{Row}
 use Rattle.trace_types.specs.declared.row.Kind.{Kind}
 use Rattle.trace_types.specs.declared.row.Kind.TheVariants.{Local, Spawn, Send, Recv, End, Join}

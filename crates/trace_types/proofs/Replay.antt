@@ -1,9 +1,9 @@
 -- What one more line does to the entries, the calls, the replies and what is written.
 use Rattle.std.proofs.Common.{◌≡◌, Bool, List, [], ◌∷◌, ◌++◌, length, refl, sym, ap, subst, ◌∙◌, arith, append_assoc, append-nil}
-use Rattle.trace_types.specs.Name.{Text}
-use Rattle.trace_types.specs.Limits.{Limits}
-use Rattle.trace_types.specs.Interleaving.{Call}
-use Rattle.trace_types.specs.Replay.{Entry, asked, call_of, reply_to, written, entries, calls_by, replies_to, output, MarkMayStand, MarksMayStand}
+use Rattle.trace_types.specs.text.Name.{Text}
+use Rattle.trace_types.specs.tenant.Limits.{Limits}
+use Rattle.trace_types.specs.world.Interleaving.{Call}
+use Rattle.trace_types.specs.world.Replay.{Entry, asked, call_of, reply_to, written, entries, calls_by, replies_to, output, MarkMayStand, MarksMayStand}
 
 pub entries-push : (names lines : List Text) (marks : List Bool) (line : Text) (mark : Bool) → length marks ≡ length lines → entries names (lines ++ line ∷ []) (marks ++ mark ∷ []) ≡ entries names lines marks ++ (asked names line, mark) ∷ []
 entries-push names [] [] line mark same = refl

@@ -3,9 +3,9 @@ use Rattle.std.proofs.Common.{◌≡◌, ◌↔◌, ◌⊎◌, ℕ, true, false,
 use Rattle.std.specs.List.{list_all}
 use Rattle.std.proofs.lemmas.Bool.{cases_Bool, and_parts, cond-true, cond-false}
 use Rattle.std.proofs.lemmas.Option.{none-some, same_Some, cond_some}
-use Rattle.trace_types.specs.Name.{Text, is_same, is_name, is_name_byte, is_between}
-use Rattle.trace_types.specs.Text.{request_text, IsNumber, CanBeWritten, Spells}
-use Rattle.trace_types.specs.Reading.{is_digit, words, number_of, name_of, both, with_name, with_names, with_number, with_numbers, with_nothing, request_of_words, request_of, addressed_by_words, addressed_by}
+use Rattle.trace_types.specs.text.Name.{Text, is_same, is_name, is_name_byte, is_between}
+use Rattle.trace_types.specs.text.Text.{request_text, IsNumber, CanBeWritten, Spells}
+use Rattle.trace_types.specs.text.Reading.{is_digit, words, number_of, name_of, both, with_name, with_names, with_number, with_numbers, with_nothing, request_of_words, request_of, addressed_by_words, addressed_by}
 use Rattle.trace_types.proofs.Names.{is_same_iff}
 use Rattle.trace_types.proofs.NumberTexts.{number_of_iff, list_all-decimal}
 use Rattle.trace_types.proofs.Words.{IsOneWord, IsOneWord-from_test, words-append, words_one, joined, joined-words}

@@ -1,11 +1,11 @@
 -- What the definitions give at inputs that are written out.
 use Rattle.std.proofs.Common.{◌≡◌, ℕ, List, [], ◌∷◌, ◌++◌, replicate, refl, codes}
 use Rattle.std.specs.Fmt.{digits}
-use Rattle.trace_types.specs.Name.{Text}
-use Rattle.trace_types.specs.Limits.{Limits, default_limits}
-use Rattle.trace_types.specs.Tenant.{fresh, replies}
-use Rattle.trace_types.specs.Lines.{lines}
-use Rattle.trace_types.specs.Replay.{NoRequest, asked, entries, output}
+use Rattle.trace_types.specs.text.Name.{Text}
+use Rattle.trace_types.specs.tenant.Limits.{Limits, default_limits}
+use Rattle.trace_types.specs.tenant.Tenant.{fresh, replies}
+use Rattle.trace_types.specs.text.Lines.{lines}
+use Rattle.trace_types.specs.world.Replay.{NoRequest, asked, entries, output}
 use Rattle.trace_types.specs.declared.order.Order.TheVariants as order
 use Rattle.trace_types.specs.declared.request.Request.TheVariants as request
 use Rattle.trace_types.specs.declared.reply.Reply.TheVariants.{Accepted, Ordering, Count}

@@ -2,8 +2,8 @@
 use Rattle.std.proofs.Common.{◌≡◌, ◌≢◌, ◌⊎◌, ℕ, ◌<◌, Bool, true, false, eqb, List, [], ◌∷◌, ◌++◌, length, refl, sym, ap, ◌∙◌, inl, inr, arith}
 use Rattle.std.specs.List.{list_all, AllByRecursion}
 use Rattle.std.proofs.lemmas.Bool.{false≢true, and_parts, cases_eq, eq-eqb, ne_eqb, cond-true, cond-false, cond_both}
-use Rattle.trace_types.specs.Name.{Text}
-use Rattle.trace_types.specs.Reading.{onto, words}
+use Rattle.trace_types.specs.text.Name.{Text}
+use Rattle.trace_types.specs.text.Reading.{onto, words}
 
 -- the text has no blank
 abbrev pub IsOneWord : Text → Type 0

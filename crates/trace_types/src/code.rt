@@ -1,6 +1,6 @@
 //! Why a request is refused.
 ghost use Rattle.std.specs.Prelude.{◌≡◌};
-ghost use Rattle.trace_types.specs.Code.{code_number, code_text};
+ghost use Rattle.trace_types.specs.tenant.Code.{code_number, code_text};
 
 use crate::Memory;
 

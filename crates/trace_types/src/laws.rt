@@ -1,10 +1,10 @@
 //! Laws of the definitions that the contracts cite. Each is the contract of a function that does nothing.
 ghost use Rattle.std.specs.Prelude.{◌≡◌, ◌≢◌, ◌↔◌, ℕ, IsTrue, List, [], ◌∷◌, ◌++◌, Option, Some, All};
-ghost use Rattle.trace_types.specs.Lines.{lines, without_return};
-ghost use Rattle.trace_types.specs.Name.{is_name, is_same};
-ghost use Rattle.trace_types.specs.Reachability.{Reaches, reaches};
-ghost use Rattle.trace_types.specs.Reading.{request_of, addressed_by};
-ghost use Rattle.trace_types.specs.Text.{Spells, CanBeWritten, request_text};
+ghost use Rattle.trace_types.specs.text.Lines.{lines, without_return};
+ghost use Rattle.trace_types.specs.text.Name.{is_name, is_same};
+ghost use Rattle.trace_types.specs.tenant.Reachability.{Reaches, reaches};
+ghost use Rattle.trace_types.specs.text.Reading.{request_of, addressed_by};
+ghost use Rattle.trace_types.specs.text.Text.{Spells, CanBeWritten, request_text};
 ghost use Rattle.trace_types.specs.declared.request.Request.{Request};
 ghost use Rattle.trace_types.specs.declared.row.Row.{Row};
 

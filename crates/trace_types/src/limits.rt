@@ -1,7 +1,7 @@
 //! What a tenant may use.
 ghost use Rattle.std.specs.Prelude.{◌≡◌, ◌↔◌, IsTrue, IsSome, IfSome};
-ghost use Rattle.trace_types.specs.Limits.{are_limits};
-ghost use Rattle.trace_types.specs.Name.{is_between};
+ghost use Rattle.trace_types.specs.tenant.Limits.{are_limits};
+ghost use Rattle.trace_types.specs.text.Name.{is_between};
 
 use std::marker::Model;
 
@@ -15,7 +15,7 @@ pub struct Limits {
 
 impl Model for Limits {
     ghost use Rattle.std.specs.Prelude.{IsTrue};
-    ghost use Rattle.trace_types.specs.Limits.{Limits as Bounds, are_limits};
+    ghost use Rattle.trace_types.specs.tenant.Limits.{Limits as Bounds, are_limits};
 
     ghost Value = { Bounds };
 

@@ -6,8 +6,8 @@ ghost use Rattle.std.specs.Cmp.Rules.{hashing};
 ghost use Rattle.std.specs.Hash as fed;
 ghost use Rattle.std.proofs.Common.{rules};
 ghost use Rattle.std.specs.List.{list_all};
-ghost use Rattle.trace_types.specs.Name.{is_name, is_name_byte, root};
-ghost use Rattle.trace_types.specs.NamePadding.{padded};
+ghost use Rattle.trace_types.specs.text.Name.{is_name, is_name_byte, root};
+ghost use Rattle.trace_types.specs.text.NamePadding.{padded};
 
 use std::hash::{Hash, Hasher};
 use std::marker::Model;
@@ -25,8 +25,8 @@ pub struct Name {
 impl Model for Name {
     ghost use Rattle.std.specs.Prelude.{◌≡◌, ℕ, List, length, take, IsTrue};
     ghost use Rattle.std.specs.List.{list_all};
-    ghost use Rattle.trace_types.specs.Name.{Text, is_name};
-    ghost use Rattle.trace_types.specs.NamePadding.{padded};
+    ghost use Rattle.trace_types.specs.text.Name.{Text, is_name};
+    ghost use Rattle.trace_types.specs.text.NamePadding.{padded};
 
     ghost Value = { Text };
 

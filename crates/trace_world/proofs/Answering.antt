@@ -2,11 +2,11 @@
 use Rattle.std.proofs.Common.{◌≡◌, ℕ, false, List, [], length, get_or, Option, Some, None, refl, sym, ap, ◌∙◌, subst, codes}
 use Rattle.std.proofs.lemmas.List.{append-nil, length-set}
 use Rattle.std.specs.Prelude.{IfSome}
-use Rattle.trace_types.specs.Name.{Text}
-use Rattle.trace_types.specs.Lines.{is_too_long}
-use Rattle.trace_types.specs.Reading.{addressed_by}
-use Rattle.trace_types.specs.Replay.{NoTenants, NoRequest, Asks, asked, place_of}
-use Rattle.trace_types.specs.World.{World, StepsOne, IsDue, tells_want}
+use Rattle.trace_types.specs.text.Name.{Text}
+use Rattle.trace_types.specs.text.Lines.{is_too_long}
+use Rattle.trace_types.specs.text.Reading.{addressed_by}
+use Rattle.trace_types.specs.world.Replay.{NoTenants, NoRequest, Asks, asked, place_of}
+use Rattle.trace_types.specs.world.World.{World, StepsOne, IsDue, tells_want}
 use Rattle.trace_types.specs.declared.code.Code.{Code}
 use Rattle.trace_types.specs.declared.code.Code.TheVariants as code
 use Rattle.trace_types.specs.declared.request.Request.{Request}

@@ -5,8 +5,8 @@ use Rattle.std.specs.List.{list_any}
 use Rattle.std.proofs.lemmas.Bool.{and_parts, not-true, false≢true, false_from_ne_true}
 use Rattle.std.proofs.lemmas.List.Folds.{list_any_at}
 use Rattle.std.proofs.lemmas.Option.{same_Some, slice_get-get_or, slice_get_within, get_or_from_slice_get}
-use Rattle.trace_types.specs.Name.{Text, is_same}
-use Rattle.trace_types.specs.Replay.{place_of}
+use Rattle.trace_types.specs.text.Name.{Text, is_same}
+use Rattle.trace_types.specs.world.Replay.{place_of}
 use Rattle.trace_types.proofs.Names.{is_same_iff}
 use Rattle.trace_world.specs.Tenants.{are_distinct}
 use Rattle.trace_world.proofs.Places.{IsPlace, IsPlace-place_of}

@@ -4,11 +4,11 @@ use Rattle.std.proofs.lemmas.List.{append-nil, length-append}
 use Rattle.std.specs.Prelude.{count_by}
 use Rattle.std.proofs.lemmas.List.Sums.{sum_by-append}
 use Rattle.line_protocol.proofs.LineReadingLemmas.{HasRead-line}
-use Rattle.trace_types.specs.Name.{Text}
-use Rattle.trace_types.specs.Text.{reply_text}
-use Rattle.trace_types.specs.Interleaving.{Call}
-use Rattle.trace_types.specs.Replay.{asked, call_of, reply_to, addressee, written, Entry, entries, calls_by, replies_to, output, is_accepted, is_answered, is_refused}
-use Rattle.trace_types.specs.World.{World, IsAfter}
+use Rattle.trace_types.specs.text.Name.{Text}
+use Rattle.trace_types.specs.text.Text.{reply_text}
+use Rattle.trace_types.specs.world.Interleaving.{Call}
+use Rattle.trace_types.specs.world.Replay.{asked, call_of, reply_to, addressee, written, Entry, entries, calls_by, replies_to, output, is_accepted, is_answered, is_refused}
+use Rattle.trace_types.specs.world.World.{World, IsAfter}
 use Rattle.trace_types.specs.declared.reply.Reply.{Reply}
 use Rattle.trace_types.proofs.Replay.{entries-push, calls_by-push, replies_to-push, output-push, MarksMayStand-push}
 use Rattle.line_protocol.specs.Held.{Held}

@@ -1,9 +1,9 @@
 -- Tenants that have reported nothing.
 use Rattle.std.proofs.Common.{◌≡◌, ℕ, zero, suc, ◌<◌, List, [], ◌∷◌, length, map, slice_get, Some, refl, sym, subst, arith}
-use Rattle.trace_types.specs.Name.{Text}
-use Rattle.trace_types.specs.Limits.{Limits}
-use Rattle.trace_types.specs.Tenant.{fresh}
-use Rattle.trace_types.specs.World.{World, IsAfter}
+use Rattle.trace_types.specs.text.Name.{Text}
+use Rattle.trace_types.specs.tenant.Limits.{Limits}
+use Rattle.trace_types.specs.tenant.Tenant.{fresh}
+use Rattle.trace_types.specs.world.World.{World, IsAfter}
 
 -- each of them
 fresh_at : (limits : Limits) (names : List Text) (tenant : ℕ) → tenant < length (map (λ name. fresh limits) names)

@@ -2,11 +2,11 @@
 use Rattle.std.proofs.Common.{◌≡◌, ℕ, Bool, true, false, not, cond, eqb, List, [], ◌∷◌, ◌++◌, map, filter, refl, sym, ap, subst, ◌∙◌, append-nil}
 use Rattle.std.specs.Prelude.{◌&&◌, ◌||◌, if◌then◌else◌}
 use Rattle.std.proofs.lemmas.Bool.{and_parts, not-true, cond-false, eqb-true, eq-eqb, false≢true}
-use Rattle.trace_types.specs.Name.{Text}
-use Rattle.trace_types.specs.Limits.{Limits}
-use Rattle.trace_types.specs.Tenant.{step, replies}
-use Rattle.trace_types.specs.Interleaving.{Call, calls_of, kept, alone, tenant_after, last, due_reply}
-use Rattle.trace_types.specs.Replay.{Asked, NoTenants, NoRequest, Asks, Entry, call_of, calls_by, reply_to, written, output}
+use Rattle.trace_types.specs.text.Name.{Text}
+use Rattle.trace_types.specs.tenant.Limits.{Limits}
+use Rattle.trace_types.specs.tenant.Tenant.{step, replies}
+use Rattle.trace_types.specs.world.Interleaving.{Call, calls_of, kept, alone, tenant_after, last, due_reply}
+use Rattle.trace_types.specs.world.Replay.{Asked, NoTenants, NoRequest, Asks, Entry, call_of, calls_by, reply_to, written, output}
 use Rattle.trace_types.specs.declared.code.Code.TheVariants.{NoMemory}
 use Rattle.trace_types.specs.declared.reply.Reply.{Reply}
 use Rattle.trace_types.specs.declared.reply.Reply.TheVariants.{Refused}

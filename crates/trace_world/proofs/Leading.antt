@@ -2,11 +2,11 @@
 use Rattle.std.proofs.Common.{◌≡◌, ◌≢◌, ℕ, zero, suc, ◌+◌, ◌<◌, eqb, false, List, [], ◌∷◌, ◌++◌, length, map, slice_get, Some, refl, sym, ap, ◌∙◌, arith, append-nil}
 use Rattle.std.specs.List.{All, AllByRecursion}
 use Rattle.std.proofs.lemmas.Bool.{cond-true, cond-false, eq-eqb, ne_eqb}
-use Rattle.trace_types.specs.Limits.{Limits}
-use Rattle.trace_types.specs.Text.{CanBeWritten}
-use Rattle.trace_types.specs.Tenant.{Tenant, after, fresh}
-use Rattle.trace_types.specs.Interleaving.{Call, calls_of, kept, tenant_after}
-use Rattle.trace_types.specs.World.{World}
+use Rattle.trace_types.specs.tenant.Limits.{Limits}
+use Rattle.trace_types.specs.text.Text.{CanBeWritten}
+use Rattle.trace_types.specs.tenant.Tenant.{Tenant, after, fresh}
+use Rattle.trace_types.specs.world.Interleaving.{Call, calls_of, kept, tenant_after}
+use Rattle.trace_types.specs.world.World.{World}
 use Rattle.trace_types.specs.declared.request.Request.{Request}
 use Rattle.trace_types.proofs.Interleaving.{calls_of-append, kept-append, limits-after}
 use Rattle.trace_world.specs.Tenants.{IsTenantWith, IsWorld, IsLedTo}

@@ -2,13 +2,13 @@
 use Rattle.std.proofs.Common.{◌≡◌, ◌≢◌, ℕ, zero, suc, ◌-◌, ◌≤◌, Bool, true, false, IsTrue, List, [], ◌∷◌, ◌++◌, length, take, refl, sym, ap, ◌∙◌, subst, append_assoc, arith, codes, None, ◌+◌, Result, Ok, Err, IsErrAnd, inl, inr}
 use Rattle.std.proofs.lemmas.List.{append-nil, length-append}
 use Rattle.std.proofs.Math.Seq.{take-append_seam}
-use Rattle.trace_types.specs.Name.{Text}
-use Rattle.trace_types.specs.Limits.{Limits}
-use Rattle.trace_types.specs.Lines.{lines}
-use Rattle.trace_types.specs.Text.{reply_text}
-use Rattle.trace_types.specs.Interleaving.{Call}
-use Rattle.trace_types.specs.Replay.{asked, call_of, entries, output}
-use Rattle.trace_types.specs.World.{World}
+use Rattle.trace_types.specs.text.Name.{Text}
+use Rattle.trace_types.specs.tenant.Limits.{Limits}
+use Rattle.trace_types.specs.text.Lines.{lines}
+use Rattle.trace_types.specs.text.Text.{reply_text}
+use Rattle.trace_types.specs.world.Interleaving.{Call}
+use Rattle.trace_types.specs.world.Replay.{asked, call_of, entries, output}
+use Rattle.trace_types.specs.world.World.{World}
 use Rattle.trace_types.specs.declared.code.Code.TheVariants as code
 use Rattle.trace_types.specs.declared.reply.Reply.{Reply}
 use Rattle.trace_types.specs.declared.reply.Reply.TheVariants.{Refused}

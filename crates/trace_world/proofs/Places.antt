@@ -1,8 +1,8 @@
 -- The places of names.
 use Rattle.std.proofs.Common.{◌≡◌, ℕ, suc, ◌+◌, ◌<◌, true, false, List, [], ◌∷◌, length, get_or, Option, Some, None, refl, ap, arith}
 use Rattle.std.specs.Prelude.{option_map, IfSome, if◌then◌else◌}
-use Rattle.trace_types.specs.Name.{Text, is_same}
-use Rattle.trace_types.specs.Replay.{place_of}
+use Rattle.trace_types.specs.text.Name.{Text, is_same}
+use Rattle.trace_types.specs.world.Replay.{place_of}
 use Rattle.trace_types.proofs.Names.{is_same_iff}
 
 -- a place where the name is

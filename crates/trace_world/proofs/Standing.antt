@@ -7,11 +7,11 @@ use Rattle.std.proofs.lemmas.Bool.{and_parts}
 use Rattle.std.proofs.lemmas.List.{length-map}
 use Rattle.std.proofs.lemmas.List.Elements.{All-set}
 use Rattle.std.proofs.lemmas.Option.{slice_get_within, get_or_from_slice_get}
-use Rattle.trace_types.specs.Name.{Text, is_between}
-use Rattle.trace_types.specs.Limits.{Limits}
-use Rattle.trace_types.specs.Replay.{place_of}
-use Rattle.trace_types.specs.Tenant.{Tenant, Steps, AreLegal, fresh}
-use Rattle.trace_types.specs.World.{World, StepsOne}
+use Rattle.trace_types.specs.text.Name.{Text, is_between}
+use Rattle.trace_types.specs.tenant.Limits.{Limits}
+use Rattle.trace_types.specs.world.Replay.{place_of}
+use Rattle.trace_types.specs.tenant.Tenant.{Tenant, Steps, AreLegal, fresh}
+use Rattle.trace_types.specs.world.World.{World, StepsOne}
 use Rattle.trace_types.specs.declared.request.Request.{Request}
 use Rattle.trace_types.specs.declared.reply.Reply.{Reply}
 use Rattle.trace_types.proofs.Interleaving.{limits-step}

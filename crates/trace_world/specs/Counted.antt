@@ -1,7 +1,7 @@
 -- How replies are counted.
 use Rattle.std.specs.Prelude.{◌+◌}
 use Rattle.line_protocol.specs.Source.{one_if}
-use Rattle.trace_types.specs.Replay.{is_accepted, is_answered, is_refused}
+use Rattle.trace_types.specs.world.Replay.{is_accepted, is_answered, is_refused}
 use Rattle.trace_types.specs.declared.reply.Reply.{Reply}
 use Rattle.trace_world.specs.declared.counts.Counts.{Counts}
 

@@ -1,10 +1,10 @@
 -- What one tenant is answered among many.
 use Rattle.std.specs.Prelude.{ℕ, Bool, false, not, ◌&&◌, ◌==◌, List, [], ◌∷◌, ◌++◌, filter, if◌then◌else◌}
 use Rattle.std.specs.List.{list_any}
-use Rattle.trace_types.specs.Name.{Text}
-use Rattle.trace_types.specs.Limits.{Limits}
-use Rattle.trace_types.specs.Interleaving.{Call, due_reply}
-use Rattle.trace_types.specs.Replay.{Asked, NoTenants, NoRequest, Asks, Entry, call_of, reply_to, written}
+use Rattle.trace_types.specs.text.Name.{Text}
+use Rattle.trace_types.specs.tenant.Limits.{Limits}
+use Rattle.trace_types.specs.world.Interleaving.{Call, due_reply}
+use Rattle.trace_types.specs.world.Replay.{Asked, NoTenants, NoRequest, Asks, Entry, call_of, reply_to, written}
 use Rattle.trace_types.specs.declared.reply.Reply.{Reply}
 
 -- whether the call is the tenant's, and not marked

@@ -1,10 +1,10 @@
 -- What a replay did.
 use Rattle.std.specs.Prelude.{◌≡◌, ◌≢◌, ℕ, ◌-◌, ◌≤◌, Bool, IsTrue, Result, Ok, Err, List, [], ◌++◌, length, take, count_by}
-use Rattle.trace_types.specs.Name.{Text}
-use Rattle.trace_types.specs.Lines.{lines}
-use Rattle.trace_types.specs.Interleaving.{Call}
-use Rattle.trace_types.specs.World.{World, IsAfter}
-use Rattle.trace_types.specs.Replay.{asked, call_of, reply_to, addressee, entries, calls_by, replies_to, output, MarkMayStand, MarksMayStand, is_accepted, is_answered, is_refused}
+use Rattle.trace_types.specs.text.Name.{Text}
+use Rattle.trace_types.specs.text.Lines.{lines}
+use Rattle.trace_types.specs.world.Interleaving.{Call}
+use Rattle.trace_types.specs.world.World.{World, IsAfter}
+use Rattle.trace_types.specs.world.Replay.{asked, call_of, reply_to, addressee, entries, calls_by, replies_to, output, MarkMayStand, MarksMayStand, is_accepted, is_answered, is_refused}
 use Rattle.trace_types.specs.declared.reply.Reply.{Reply}
 use Rattle.line_protocol.specs.Ends.{end_count}
 use Rattle.line_protocol.specs.Source.{Given}

@@ -1,12 +1,12 @@
 -- The tenants of a world.
 use Rattle.std.specs.Prelude.{◌≡◌, ℕ, Bool, true, not, IsTrue, ◌&&◌, List, [], ◌∷◌, length, Some, slice_get, slice_set}
 use Rattle.std.specs.List.{All, AllByRecursion, list_any}
-use Rattle.trace_types.specs.Name.{Text, is_same, is_between}
-use Rattle.trace_types.specs.Limits.{Limits}
-use Rattle.trace_types.specs.Text.{CanBeWritten}
-use Rattle.trace_types.specs.Tenant.{Tenant, AreLegal, Steps}
-use Rattle.trace_types.specs.Interleaving.{Call}
-use Rattle.trace_types.specs.World.{World, IsAfter}
+use Rattle.trace_types.specs.text.Name.{Text, is_same, is_between}
+use Rattle.trace_types.specs.tenant.Limits.{Limits}
+use Rattle.trace_types.specs.text.Text.{CanBeWritten}
+use Rattle.trace_types.specs.tenant.Tenant.{Tenant, AreLegal, Steps}
+use Rattle.trace_types.specs.world.Interleaving.{Call}
+use Rattle.trace_types.specs.world.World.{World, IsAfter}
 use Rattle.trace_types.specs.declared.request.Request.{Request}
 use Rattle.trace_types.specs.declared.reply.Reply.{Reply}
 

@@ -1,6 +1,6 @@
 //! The answer to one line.
 ghost use Rattle.std.specs.Prelude.{◌≡◌, ◌≤◌, false, None, OnOk, OnErr};
-ghost use Rattle.trace_types.specs.Lines.{is_too_long};
+ghost use Rattle.trace_types.specs.text.Lines.{is_too_long};
 ghost use Rattle.line_protocol.specs.Writing.{WritesText, EndsInFault};
 ghost use Rattle.trace_world.specs.Replayed.{Answers};
 ghost use Rattle.line_protocol.specs.Answer.{addressee_text, answer_text};

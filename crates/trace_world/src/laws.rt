@@ -1,9 +1,9 @@
 //! What tenant isolation means, and the places of names. Each law is the contract of a function that does nothing.
 ghost use Rattle.std.specs.Prelude.{◌≡◌, ◌↔◌, ℕ, List, [], Some, slice_get};
-ghost use Rattle.trace_types.specs.Name.{Text};
-ghost use Rattle.trace_types.specs.Limits.{Limits};
-ghost use Rattle.trace_types.specs.Interleaving.{Call, calls_of, kept, alone};
-ghost use Rattle.trace_types.specs.Replay.{Entry, calls_by, output, place_of};
+ghost use Rattle.trace_types.specs.text.Name.{Text};
+ghost use Rattle.trace_types.specs.tenant.Limits.{Limits};
+ghost use Rattle.trace_types.specs.world.Interleaving.{Call, calls_of, kept, alone};
+ghost use Rattle.trace_types.specs.world.Replay.{Entry, calls_by, output, place_of};
 ghost use Rattle.trace_world.specs.Isolation.{due_replies, replies_to_tenant, lines_of, output_to};
 
 use crate::World;

@@ -1,8 +1,8 @@
 //! The tenants.
 ghost use Rattle.std.specs.Prelude.{◌≡◌, ◌↔◌, ◌<◌, ℕ, false, [], length, map, Some, slice_get, IfOk, IfSome, IsErrOf};
-ghost use Rattle.trace_types.specs.Tenant.{fresh};
-ghost use Rattle.trace_types.specs.Replay.{place_of};
-ghost use Rattle.trace_types.specs.World.{StepsOne, IsAfter, IsDue};
+ghost use Rattle.trace_types.specs.tenant.Tenant.{fresh};
+ghost use Rattle.trace_types.specs.world.Replay.{place_of};
+ghost use Rattle.trace_types.specs.world.World.{StepsOne, IsAfter, IsDue};
 ghost use Rattle.trace_world.specs.Tenants.{IsLedTo, IsWorld, StepsAt, are_distinct, can_be_tenants};
 
 use std::alloc::Global;
@@ -20,7 +20,7 @@ pub struct World {
 }
 
 impl Model for World {
-    ghost use Rattle.trace_types.specs.World.{World as Tenants};
+    ghost use Rattle.trace_types.specs.world.World.{World as Tenants};
     ghost use Rattle.trace_world.specs.Tenants.{IsWorld};
 
     ghost Value = { Tenants };

@@ -1,6 +1,6 @@
 //! Comparing two lifted trees.
 ghost use Rattle.std.specs.Prelude.{◌≡◌, ◌+◌, ◌^◌, ◌<◌, ◌↔◌, ◌||◌, IsTrue};
-ghost use Rattle.trace_types.specs.EventTree.{maximum};
+ghost use Rattle.trace_types.specs.clock.EventTree.{maximum};
 ghost use Rattle.event_tree.specs.Lifted.{IsLiftedBelow};
 ghost use Rattle.event_tree.specs.Ranges.{range_of, IsRangeBelow, CanBeBelow};
 

@@ -1,9 +1,9 @@
 //! Filling a tree below an id.
 ghost use Rattle.std.specs.Prelude.{◌≡◌, ◌+◌, ◌^◌, ◌<◌, max, IfOk};
-ghost use Rattle.trace_types.specs.Id.{Pair};
-ghost use Rattle.trace_types.specs.EventTree.{Leaf, Node as plain_Node, minimum, maximum, IsNormal};
-ghost use Rattle.trace_types.specs.Norm.{norm};
-ghost use Rattle.trace_types.specs.Fill.{fill};
+ghost use Rattle.trace_types.specs.clock.Id.{Pair};
+ghost use Rattle.trace_types.specs.clock.EventTree.{Leaf, Node as plain_Node, minimum, maximum, IsNormal};
+ghost use Rattle.trace_types.specs.clock.Norm.{norm};
+ghost use Rattle.trace_types.specs.clock.Fill.{fill};
 ghost use Rattle.event_tree.specs.Filled.{filled_over, Rises, GivesFilled};
 
 use super::{Children, EvTree, Node};

@@ -1,8 +1,8 @@
 //! Growing a tree below an id at the least cost.
 ghost use Rattle.std.specs.Prelude.{◌≡◌, ◌+◌, ◌^◌, ◌<◌, ◌⊎◌, false, Some, IfOk, IfSome, IfNone};
-ghost use Rattle.trace_types.specs.Id.{Pair};
-ghost use Rattle.trace_types.specs.EventTree.{Leaf, maximum, IsNormal};
-ghost use Rattle.trace_types.specs.Grow.{root, left_of, right_of, expansion, is_less, is_cheaper, cheaper, dearer, cost};
+ghost use Rattle.trace_types.specs.clock.Id.{Pair};
+ghost use Rattle.trace_types.specs.clock.EventTree.{Leaf, maximum, IsNormal};
+ghost use Rattle.trace_types.specs.clock.Grow.{root, left_of, right_of, expansion, is_less, is_cheaper, cheaper, dearer, cost};
 ghost use Rattle.event_tree.specs.GrownFor.{grown_for};
 
 use super::{EvTree, Node};
@@ -19,7 +19,7 @@ pub(super) struct Cost {
 }
 
 impl Model for Cost {
-    ghost use Rattle.trace_types.specs.Grow.{Cost as Price};
+    ghost use Rattle.trace_types.specs.clock.Grow.{Cost as Price};
 
     ghost Value = { Price };
 

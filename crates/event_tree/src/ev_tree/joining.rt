@@ -1,8 +1,8 @@
 //! Joining two lifted trees.
 ghost use Rattle.std.specs.Prelude.{◌≡◌, ◌+◌, ◌^◌, ◌<◌, max, IfOk, IfSome};
-ghost use Rattle.trace_types.specs.EventTree.{maximum, Node as plain_Node};
-ghost use Rattle.trace_types.specs.Norm.{norm};
-ghost use Rattle.trace_types.specs.Join.{joined_number, joined};
+ghost use Rattle.trace_types.specs.clock.EventTree.{maximum, Node as plain_Node};
+ghost use Rattle.trace_types.specs.clock.Norm.{norm};
+ghost use Rattle.trace_types.specs.clock.Join.{joined_number, joined};
 ghost use Rattle.event_tree.specs.Joins.{IsJoin, HoldsBeside};
 
 use super::comparison::Directions;

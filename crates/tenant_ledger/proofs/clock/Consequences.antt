@@ -1,12 +1,12 @@
 -- What the interval tree clock's operations are asked, of the ids and trees of a legal history.
 use Rattle.std.proofs.Common.{◌≢◌, ℕ, ◌≤◌, [], ◌∷◌, length, refl, ap, ◌∙◌, inl, inr, arith}
 use Rattle.std.proofs.lemmas.Bool.{cases_eq, cond_both}
-use Rattle.trace_types.specs.Name.{Text}
-use Rattle.trace_types.specs.Rows.{History}
-use Rattle.trace_types.specs.Id.{Zero, AreDisjoint}
-use Rattle.trace_types.specs.EventTree.{maximum}
-use Rattle.trace_types.specs.Clock.{tree_clock}
-use Rattle.trace_types.specs.Stamps.{id_of, tree_of, acting_id, takes_in}
+use Rattle.trace_types.specs.text.Name.{Text}
+use Rattle.trace_types.specs.tenant.Rows.{History}
+use Rattle.trace_types.specs.clock.Id.{Zero, AreDisjoint}
+use Rattle.trace_types.specs.clock.EventTree.{maximum}
+use Rattle.trace_types.specs.clock.Clock.{tree_clock}
+use Rattle.trace_types.specs.clock.Stamps.{id_of, tree_of, acting_id, takes_in}
 use Rattle.trace_types.specs.declared.row.Row.{Row}
 use Rattle.event_tree.proofs.Joined.{maximum-joined-le}
 use Rattle.tenant_ledger.specs.Legal.{IsLive, IsLegal}

@@ -1,9 +1,9 @@
 -- What is known before the new event: what its task knew, or the join of that with what its second event knew.
 use Rattle.std.proofs.Common.{◌≡◌, ℕ, ◌≤◌, true, false, refl, sym, ap, ◌∙◌, subst, inl, inr, arith}
 use Rattle.std.proofs.lemmas.Bool.{cond-true, cond-false, cases_lt}
-use Rattle.trace_types.specs.Rows.{History}
-use Rattle.trace_types.specs.Clock.{Clock}
-use Rattle.trace_types.specs.Stamps.{tree_of, takes_in}
+use Rattle.trace_types.specs.tenant.Rows.{History}
+use Rattle.trace_types.specs.clock.Clock.{Clock}
+use Rattle.trace_types.specs.clock.Stamps.{tree_of, takes_in}
 use Rattle.trace_types.specs.declared.row.Row.{Row}
 use Rattle.tenant_ledger.specs.ClockLaws.{ClockLaws}
 use Rattle.tenant_ledger.specs.Invariant.{value_of, Invariant}

@@ -1,10 +1,10 @@
 -- A report that takes in an ended task keeps the invariant: the task has the sum of both ids, and the other nothing.
 use Rattle.std.proofs.Common.{◌≡◌, ◌⊎◌, ℕ, true, IsTrue, List, ◌∷◌, refl, sym, ◌∙◌, inl, inr}
 use Rattle.std.proofs.lemmas.Bool.{false≢true, or_cases, or_left}
-use Rattle.trace_types.specs.Name.{Text}
-use Rattle.trace_types.specs.Rows.{History, last_event, is_ended}
-use Rattle.trace_types.specs.Clock.{Clock}
-use Rattle.trace_types.specs.Stamps.{id_of}
+use Rattle.trace_types.specs.text.Name.{Text}
+use Rattle.trace_types.specs.tenant.Rows.{History, last_event, is_ended}
+use Rattle.trace_types.specs.clock.Clock.{Clock}
+use Rattle.trace_types.specs.clock.Stamps.{id_of}
 use Rattle.trace_types.specs.declared.row.Kind.TheVariants.{Join}
 use Rattle.tenant_ledger.specs.ClockLaws.{ClockLaws, OwnsSome}
 use Rattle.tenant_ledger.specs.Legal.{IsLive}

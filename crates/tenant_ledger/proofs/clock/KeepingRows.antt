@@ -1,10 +1,10 @@
 -- A report that leaves all ids as they are keeps the invariant.
 use Rattle.std.proofs.Common.{◌≡◌, true, false, ◌∷◌, refl, sym, ap, ◌∙◌, subst, inl, inr}
 use Rattle.std.proofs.lemmas.Bool.{cases_Bool, cond_both, and_left, false_from_ne_true}
-use Rattle.trace_types.specs.Name.{Text, is_same}
-use Rattle.trace_types.specs.Rows.{History, names, starts, starts_task}
-use Rattle.trace_types.specs.Clock.{Clock}
-use Rattle.trace_types.specs.Stamps.{id_of, id_at, id_kept, id_given, of_named}
+use Rattle.trace_types.specs.text.Name.{Text, is_same}
+use Rattle.trace_types.specs.tenant.Rows.{History, names, starts, starts_task}
+use Rattle.trace_types.specs.clock.Clock.{Clock}
+use Rattle.trace_types.specs.clock.Stamps.{id_of, id_at, id_kept, id_given, of_named}
 use Rattle.trace_types.specs.declared.row.Row.{Row}
 use Rattle.trace_types.specs.declared.row.Kind.{Kind}
 use Rattle.trace_types.specs.declared.row.Kind.TheVariants.{Local, Send, Recv, End}

@@ -2,10 +2,10 @@
 use Rattle.std.proofs.Common.{◌≡◌, Bool, false, List, [], ◌∷◌, ◌++◌, Option, Some, None, refl, sym, ◌∙◌, subst, inl, inr}
 use Rattle.std.proofs.lemmas.Bool.{cases_Bool, not-false, cond-true, cond-false}
 use Rattle.std.proofs.lemmas.List.{reverse-append}
-use Rattle.trace_types.specs.Limits.{Limits}
-use Rattle.trace_types.specs.Rows.{history_of, is_known, is_ended, is_sent}
-use Rattle.trace_types.specs.Refusal.{first_code, refusals, refusal_of}
-use Rattle.trace_types.specs.Tenant.{Tenant, fresh, row_after, step_unless, step, after, AreLegal}
+use Rattle.trace_types.specs.tenant.Limits.{Limits}
+use Rattle.trace_types.specs.tenant.Rows.{history_of, is_known, is_ended, is_sent}
+use Rattle.trace_types.specs.tenant.Refusal.{first_code, refusals, refusal_of}
+use Rattle.trace_types.specs.tenant.Tenant.{Tenant, fresh, row_after, step_unless, step, after, AreLegal}
 use Rattle.trace_types.specs.declared.code.Code.{Code}
 use Rattle.trace_types.specs.declared.row.Row.{Row}
 use Rattle.trace_types.specs.declared.row.Kind.TheVariants as kind

@@ -1,10 +1,10 @@
 -- A report that names another task and changes the ids of both keeps the invariant, where the two ids stay apart.
 use Rattle.std.proofs.Common.{◌≡◌, ◌⊎◌, ℕ, true, false, List, ◌∷◌, Some, refl, sym, ap, ◌∙◌, subst, inl, inr}
 use Rattle.std.proofs.lemmas.Bool.{false≢true, cond-true, cond-false, and_right, false_from_ne_true}
-use Rattle.trace_types.specs.Name.{Text, is_same}
-use Rattle.trace_types.specs.Rows.{History, last_event, starts, starts_task}
-use Rattle.trace_types.specs.Clock.{Clock}
-use Rattle.trace_types.specs.Stamps.{id_of, id_kept, id_given, acting_id}
+use Rattle.trace_types.specs.text.Name.{Text, is_same}
+use Rattle.trace_types.specs.tenant.Rows.{History, last_event, starts, starts_task}
+use Rattle.trace_types.specs.clock.Clock.{Clock}
+use Rattle.trace_types.specs.clock.Stamps.{id_of, id_kept, id_given, acting_id}
 use Rattle.trace_types.specs.declared.row.Row.{Row}
 use Rattle.trace_types.specs.declared.row.Kind.{Kind}
 use Rattle.trace_types.proofs.Names.{is_same-itself, differ_by_test}

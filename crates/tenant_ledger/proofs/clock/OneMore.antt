@@ -1,11 +1,11 @@
 -- One more row of any kind keeps the invariant, where its ids and its tree are in order.
 use Rattle.std.proofs.Common.{◌≡◌, ◌≢◌, ◌⊎◌, ℕ, ◌<◌, ◌≤◌, true, false, Bool, IsTrue, ◌∷◌, length, sym, ap, ◌∙◌, subst, inl, inr, arith}
 use Rattle.std.proofs.lemmas.Bool.{false≢true, cases_Bool, cases_eq}
-use Rattle.trace_types.specs.Name.{Text}
-use Rattle.trace_types.specs.Rows.{History, last_event, is_event}
-use Rattle.trace_types.specs.Reachability.{reaches}
-use Rattle.trace_types.specs.Clock.{Clock}
-use Rattle.trace_types.specs.Stamps.{id_of, tree_of, acting_id}
+use Rattle.trace_types.specs.text.Name.{Text}
+use Rattle.trace_types.specs.tenant.Rows.{History, last_event, is_event}
+use Rattle.trace_types.specs.tenant.Reachability.{reaches}
+use Rattle.trace_types.specs.clock.Clock.{Clock}
+use Rattle.trace_types.specs.clock.Stamps.{id_of, tree_of, acting_id}
 use Rattle.trace_types.specs.declared.row.Row.{Row}
 use Rattle.trace_types.proofs.Reachability.{last_event-le}
 use Rattle.tenant_ledger.specs.ClockLaws.{OwnsSome, Raises, ClockLaws}

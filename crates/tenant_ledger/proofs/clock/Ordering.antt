@@ -1,11 +1,11 @@
 -- What events know tells how they stand in the graph.
 use Rattle.std.proofs.Common.{◌≡◌, ◌↔◌, ℕ, ◌≤◌, IsTrue, eqb, sym, ap, ◌∙◌, inl, inr, arith}
 use Rattle.std.proofs.lemmas.Bool.{false≢true, eqb-true, eqb-false, cond_both}
-use Rattle.trace_types.specs.Rows.{History, is_event}
-use Rattle.trace_types.specs.Reachability.{reaches, order_of}
-use Rattle.trace_types.specs.EventTree.{EventTree, value}
-use Rattle.trace_types.specs.Clock.{Clock, tree_clock}
-use Rattle.trace_types.specs.Stamps.{tree_of}
+use Rattle.trace_types.specs.tenant.Rows.{History, is_event}
+use Rattle.trace_types.specs.tenant.Reachability.{reaches, order_of}
+use Rattle.trace_types.specs.clock.EventTree.{EventTree, value}
+use Rattle.trace_types.specs.clock.Clock.{Clock, tree_clock}
+use Rattle.trace_types.specs.clock.Stamps.{tree_of}
 use Rattle.trace_types.specs.declared.order.Order.{Order}
 use Rattle.trace_types.specs.declared.order.Order.TheVariants.{Same}
 use Rattle.event_tree.specs.Comparison.{StandsAs}

@@ -1,10 +1,10 @@
 -- A report that starts a task keeps the invariant: the task and the new one have a part of its id each.
 use Rattle.std.proofs.Common.{◌≡◌, ℕ, true, false, List, refl, sym, ◌∙◌, inl}
 use Rattle.std.proofs.lemmas.Bool.{false≢true, or_left, or_right, and_from}
-use Rattle.trace_types.specs.Name.{Text, is_same}
-use Rattle.trace_types.specs.Rows.{History, is_known}
-use Rattle.trace_types.specs.Clock.{Clock}
-use Rattle.trace_types.specs.Stamps.{id_of}
+use Rattle.trace_types.specs.text.Name.{Text, is_same}
+use Rattle.trace_types.specs.tenant.Rows.{History, is_known}
+use Rattle.trace_types.specs.clock.Clock.{Clock}
+use Rattle.trace_types.specs.clock.Stamps.{id_of}
 use Rattle.trace_types.specs.declared.row.Kind.TheVariants.{Spawn}
 use Rattle.trace_types.proofs.Names.{is_same-itself}
 use Rattle.tenant_ledger.specs.ClockLaws.{ClockLaws}

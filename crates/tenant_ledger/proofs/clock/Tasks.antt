@@ -2,8 +2,8 @@
 use Rattle.std.proofs.Common.{◌≡◌, ◌≢◌, suc, true, false, [], ◌∷◌, length, Option, Some, None, refl, sym, ◌∙◌, subst, inl, inr, arith}
 use Rattle.std.specs.List.{list_any}
 use Rattle.std.proofs.lemmas.Bool.{false≢true, cases_Bool, ne_eqb, or_parts, false_from_ne_true}
-use Rattle.trace_types.specs.Name.{Text, is_same, root}
-use Rattle.trace_types.specs.Rows.{History, newest, is_of, starts, ends, last_event, is_known, is_ended}
+use Rattle.trace_types.specs.text.Name.{Text, is_same, root}
+use Rattle.trace_types.specs.tenant.Rows.{History, newest, is_of, starts, ends, last_event, is_known, is_ended}
 use Rattle.trace_types.specs.declared.row.Row.{Row}
 use Rattle.trace_types.specs.declared.row.Kind.{Kind}
 use Rattle.trace_types.specs.declared.row.Kind.TheVariants.{Local, Spawn, Send, Recv, End, Join}

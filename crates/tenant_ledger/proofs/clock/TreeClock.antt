@@ -1,13 +1,13 @@
 -- The interval tree clock has the laws of a clock.
 use Rattle.std.proofs.Common.{◌≢◌, true, [], refl, sym, ap, ◌∙◌}
 use Rattle.std.proofs.lemmas.Bool.{false≢true}
-use Rattle.trace_types.specs.Points.{Point}
-use Rattle.trace_types.specs.Id as ids
-use Rattle.trace_types.specs.Id.{Id, Zero, owns}
-use Rattle.trace_types.specs.IdOperations.{split}
-use Rattle.trace_types.specs.EventTree.{EventTree, value}
-use Rattle.trace_types.specs.EventTree as trees
-use Rattle.trace_types.specs.Clock.{tree_clock}
+use Rattle.trace_types.specs.clock.Points.{Point}
+use Rattle.trace_types.specs.clock.Id as ids
+use Rattle.trace_types.specs.clock.Id.{Id, Zero, owns}
+use Rattle.trace_types.specs.clock.IdOperations.{split}
+use Rattle.trace_types.specs.clock.EventTree.{EventTree, value}
+use Rattle.trace_types.specs.clock.EventTree as trees
+use Rattle.trace_types.specs.clock.Clock.{tree_clock}
 use Rattle.id_tree.proofs.Ids.{some_point}
 use Rattle.id_tree.proofs.Split.{SharesOut-split, split-some, IsNormal-split}
 use Rattle.id_tree.proofs.Sum.{owns-sum, IsNormal-sum}

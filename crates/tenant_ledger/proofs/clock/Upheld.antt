@@ -1,10 +1,10 @@
 -- Each legal history keeps the invariant.
 use Rattle.std.proofs.Common.{◌≡◌, ℕ, true, false, List, [], ◌∷◌, Option, Some, None, refl, sym, ap, ◌∙◌, subst, inl, inr, arith}
 use Rattle.std.proofs.lemmas.Bool.{false≢true, cases_Bool, cond-true, cond-false, cond_both, or_cases}
-use Rattle.trace_types.specs.Name.{Text, is_same, root}
-use Rattle.trace_types.specs.Rows.{History}
-use Rattle.trace_types.specs.Clock.{Clock}
-use Rattle.trace_types.specs.Stamps.{id_of}
+use Rattle.trace_types.specs.text.Name.{Text, is_same, root}
+use Rattle.trace_types.specs.tenant.Rows.{History}
+use Rattle.trace_types.specs.clock.Clock.{Clock}
+use Rattle.trace_types.specs.clock.Stamps.{id_of}
 use Rattle.trace_types.specs.declared.row.Row.{Row}
 use Rattle.trace_types.specs.declared.row.Kind.{Kind}
 use Rattle.trace_types.specs.declared.row.Kind.TheVariants.{Local, Spawn, Send, Recv, End, Join}

@@ -4,13 +4,13 @@ use Rattle.std.proofs.lemmas.Bool.{eq-eqb, ne_eqb, cond-true, cond-false}
 use Rattle.std.proofs.lemmas.List.{length-append, length-map, length-reverse, reverse-append, map-append}
 use Rattle.std.proofs.lemmas.Option.{same_Some, slice_get-map}
 use Rattle.std.proofs.Math.Path.{transport}
-use Rattle.trace_types.specs.Name.{Text}
-use Rattle.trace_types.specs.Rows.{History, history_of, task_count}
-use Rattle.trace_types.specs.Clock.{tree_clock}
-use Rattle.trace_types.specs.Stamps.{id_of, tree_of, stamp_of}
-use Rattle.trace_types.specs.Id.{Id}
-use Rattle.trace_types.specs.EventTree.{EventTree}
-use Rattle.trace_types.specs.Tenant.{row_after}
+use Rattle.trace_types.specs.text.Name.{Text}
+use Rattle.trace_types.specs.tenant.Rows.{History, history_of, task_count}
+use Rattle.trace_types.specs.clock.Clock.{tree_clock}
+use Rattle.trace_types.specs.clock.Stamps.{id_of, tree_of, stamp_of}
+use Rattle.trace_types.specs.clock.Id.{Id}
+use Rattle.trace_types.specs.clock.EventTree.{EventTree}
+use Rattle.trace_types.specs.tenant.Tenant.{row_after}
 use Rattle.trace_types.specs.declared.row.Row.{Row}
 use Rattle.message_book.specs.Book as message_book
 use Rattle.tenant_ledger.specs.Legal.{IsLive, Allows, IsLegal}

@@ -4,8 +4,8 @@ use Rattle.std.specs.List.{list_any}
 use Rattle.std.specs.Prelude.{is_some}
 use Rattle.std.proofs.Math.Bool.{or-true}
 use Rattle.std.proofs.lemmas.Bool.{false≢true, or_cases, cond_both, and_right, false_from_ne_true}
-use Rattle.trace_types.specs.Name.{Text, is_same}
-use Rattle.trace_types.specs.Rows.{History, joins, ends, ends_task, is_known, is_ended, is_joined, state_of}
+use Rattle.trace_types.specs.text.Name.{Text, is_same}
+use Rattle.trace_types.specs.tenant.Rows.{History, joins, ends, ends_task, is_known, is_ended, is_joined, state_of}
 use Rattle.trace_types.specs.declared.row.Kind.{Kind}
 use Rattle.trace_types.specs.declared.row.Kind.TheVariants.{Local, Spawn, Send, Recv, End, Join}
 use Rattle.trace_types.specs.declared.task_state.TaskState.{TaskState}

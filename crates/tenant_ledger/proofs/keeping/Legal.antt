@@ -3,11 +3,11 @@ use Rattle.std.proofs.Common.{◌≡◌, ◌<◌, false, List, [], ◌∷◌, �
 use Rattle.std.specs.List.{AllByRecursion}
 use Rattle.std.proofs.lemmas.Bool.Decides.{nat_tests}
 use Rattle.std.proofs.lemmas.List.{length-reverse}
-use Rattle.trace_types.specs.Limits.{Limits}
-use Rattle.trace_types.specs.Rows.{history_of}
-use Rattle.trace_types.specs.Refusal.{has_all_events, refusal_of}
-use Rattle.trace_types.specs.Tenant.{Tenant, fresh, after, step, step_unless, answer_to, with_row, AreLegal}
-use Rattle.trace_types.specs.Text.{CanBeWritten}
+use Rattle.trace_types.specs.tenant.Limits.{Limits}
+use Rattle.trace_types.specs.tenant.Rows.{history_of}
+use Rattle.trace_types.specs.tenant.Refusal.{has_all_events, refusal_of}
+use Rattle.trace_types.specs.tenant.Tenant.{Tenant, fresh, after, step, step_unless, answer_to, with_row, AreLegal}
+use Rattle.trace_types.specs.text.Text.{CanBeWritten}
 use Rattle.trace_types.specs.declared.row.Row.{Row}
 use Rattle.trace_types.specs.declared.request.Request.{Request}
 use Rattle.trace_types.proofs.Interleaving.{after-push, limits-after}

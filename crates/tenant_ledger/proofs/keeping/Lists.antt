@@ -4,8 +4,8 @@ use Rattle.std.proofs.Math.ListN.{get_or-append}
 use Rattle.std.proofs.lemmas.Bool.{cases_eq}
 use Rattle.std.proofs.lemmas.List.{length-append, length-map, map-append}
 use Rattle.std.proofs.lemmas.Option.{slice_get_within, slice_get-get_or, get_or_from_slice_get}
-use Rattle.trace_types.specs.Id.{Id}
-use Rattle.trace_types.specs.Rows.{History}
+use Rattle.trace_types.specs.clock.Id.{Id}
+use Rattle.trace_types.specs.tenant.Rows.{History}
 use Rattle.trace_types.specs.declared.row.Row.{Row}
 use Rattle.tenant_ledger.specs.Ledger.{of_each, with_seed}
 

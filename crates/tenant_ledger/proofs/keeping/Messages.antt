@@ -10,10 +10,10 @@ use Rattle.message_book.specs.Book.{Messages, entry_of, has_receipt, with_messag
 use Rattle.message_book.specs.Book as message_book
 use Rattle.message_book.specs.declared.entry.Entry.{Entry}
 use Rattle.message_book.proofs.Messages.{no_first_code, received_has_receipt, without_receipts-received}
-use Rattle.trace_types.specs.Limits.{Limits}
-use Rattle.trace_types.specs.Name.{Text, is_same}
-use Rattle.trace_types.specs.Rows.{History, history_of, names, sends, sends_message, receives, receives_message, is_sent, is_received, send_event, receipts, message_count}
-use Rattle.trace_types.specs.Refusal.{has_all_messages}
+use Rattle.trace_types.specs.tenant.Limits.{Limits}
+use Rattle.trace_types.specs.text.Name.{Text, is_same}
+use Rattle.trace_types.specs.tenant.Rows.{History, history_of, names, sends, sends_message, receives, receives_message, is_sent, is_received, send_event, receipts, message_count}
+use Rattle.trace_types.specs.tenant.Refusal.{has_all_messages}
 use Rattle.trace_types.specs.declared.code.Code.TheVariants.{NoMessage, MessageExists, AlreadyReceived, MessagesFull}
 use Rattle.trace_types.specs.declared.row.Row.{Row}
 use Rattle.trace_types.specs.declared.row.Kind.{Kind}

@@ -3,10 +3,10 @@ use Rattle.std.proofs.Common.{◌≡◌, suc, Bool, true, false, cond, List, [],
 use Rattle.std.specs.Result.{result_err, IsErrAnd}
 use Rattle.std.proofs.lemmas.Bool.{false≢true, cond-false}
 use Rattle.std.proofs.lemmas.List.{length-reverse}
-use Rattle.trace_types.specs.Rows.{history_of}
-use Rattle.trace_types.specs.Refusal.{first_code, refusal_of}
-use Rattle.trace_types.specs.Tenant.{Steps, step_unless, answer_to, accepted, row_after, with_row, may_lack_memory, Tenant, Answers, is_report, step}
-use Rattle.trace_types.specs.Name.{Text}
+use Rattle.trace_types.specs.tenant.Rows.{history_of}
+use Rattle.trace_types.specs.tenant.Refusal.{first_code, refusal_of}
+use Rattle.trace_types.specs.tenant.Tenant.{Steps, step_unless, answer_to, accepted, row_after, with_row, may_lack_memory, Tenant, Answers, is_report, step}
+use Rattle.trace_types.specs.text.Name.{Text}
 use Rattle.trace_types.specs.declared.code.Code.{Code}
 use Rattle.trace_types.specs.declared.code.Code.TheVariants.{NoMemory}
 use Rattle.trace_types.specs.declared.reply.Reply.{Reply}

@@ -3,13 +3,13 @@ use Rattle.std.proofs.Common.{◌≡◌, ◌≢◌, ℕ, suc, ◌+◌, ◌<◌, 
 use Rattle.std.proofs.lemmas.Bool.{false≢true, cond-true, cond-false}
 use Rattle.std.proofs.lemmas.List.{length-reverse}
 use Rattle.std.proofs.lemmas.Option.{same_Some, slice_get_within}
-use Rattle.trace_types.specs.Name.{Text}
-use Rattle.trace_types.specs.Reachability.{second_event}
-use Rattle.trace_types.specs.Rows.{History, last_event, is_ended, is_joined}
-use Rattle.trace_types.specs.Clock.{tree_clock}
-use Rattle.trace_types.specs.Stamps.{id_of, tree_of, acting_id, id_at, of_named, takes_in}
-use Rattle.trace_types.specs.Id.{Id, Zero, AreDisjoint, owns}
-use Rattle.trace_types.specs.EventTree.{EventTree, maximum}
+use Rattle.trace_types.specs.text.Name.{Text}
+use Rattle.trace_types.specs.tenant.Reachability.{second_event}
+use Rattle.trace_types.specs.tenant.Rows.{History, last_event, is_ended, is_joined}
+use Rattle.trace_types.specs.clock.Clock.{tree_clock}
+use Rattle.trace_types.specs.clock.Stamps.{id_of, tree_of, acting_id, id_at, of_named, takes_in}
+use Rattle.trace_types.specs.clock.Id.{Id, Zero, AreDisjoint, owns}
+use Rattle.trace_types.specs.clock.EventTree.{EventTree, maximum}
 use Rattle.trace_types.specs.declared.row.Row.{Row}
 use Rattle.trace_types.specs.declared.row.Kind.{Kind}
 use Rattle.trace_types.specs.declared.row.Kind.TheVariants.{Local, Spawn, Send, Recv, End, Join}

@@ -3,12 +3,12 @@ use Rattle.std.proofs.Common.{◌≡◌, ℕ, suc, ◌+◌, true, false, cond, L
 use Rattle.std.specs.List.{list_any}
 use Rattle.std.proofs.lemmas.Bool.{false≢true, cases_Bool, cond-true, cond-false, cond_both, or_cases, or_left, or_right, and_left, and_right}
 use Rattle.std.proofs.lemmas.List.Sums.{sum_by-append}
-use Rattle.trace_types.specs.Name.{Text, is_same, root}
-use Rattle.trace_types.specs.Rows.{History, starts, starts_task, ends, ends_task, joins, joins_task, names, is_known, is_ended, is_joined, state_of, task_count}
-use Rattle.trace_types.specs.Clock.{tree_clock}
-use Rattle.trace_types.specs.Stamps.{id_of, id_kept, id_given, of_named}
-use Rattle.trace_types.specs.Tenant.{row_after}
-use Rattle.trace_types.specs.Id.{Id, Zero}
+use Rattle.trace_types.specs.text.Name.{Text, is_same, root}
+use Rattle.trace_types.specs.tenant.Rows.{History, starts, starts_task, ends, ends_task, joins, joins_task, names, is_known, is_ended, is_joined, state_of, task_count}
+use Rattle.trace_types.specs.clock.Clock.{tree_clock}
+use Rattle.trace_types.specs.clock.Stamps.{id_of, id_kept, id_given, of_named}
+use Rattle.trace_types.specs.tenant.Tenant.{row_after}
+use Rattle.trace_types.specs.clock.Id.{Id, Zero}
 use Rattle.trace_types.specs.declared.row.Row.{Row}
 use Rattle.trace_types.specs.declared.row.Kind.{Kind}
 use Rattle.trace_types.specs.declared.row.Kind.TheVariants.{Local, Spawn, Send, Recv, End, Join}

@@ -10,17 +10,17 @@ use Rattle.trace_query.specs.Queries as query
 use Rattle.trace_query.specs.Laws.{Tells}
 use Rattle.trace_query.proofs.ComparedTrees.{tree_order_stands}
 use Rattle.trace_query.proofs.Told.{told_by_orders}
-use Rattle.trace_types.specs.Rows.{History, history_of, is_event, row_of, events}
-use Rattle.trace_types.specs.Reachability.{reaches, order_of, past_of, concurrent_with}
-use Rattle.trace_types.specs.Id.{Id}
-use Rattle.trace_types.specs.EventTree.{EventTree, Leaf}
-use Rattle.trace_types.specs.Clock.{tree_clock}
-use Rattle.trace_types.specs.Stamps.{tree_of, stamp_of}
+use Rattle.trace_types.specs.tenant.Rows.{History, history_of, is_event, row_of, events}
+use Rattle.trace_types.specs.tenant.Reachability.{reaches, order_of, past_of, concurrent_with}
+use Rattle.trace_types.specs.clock.Id.{Id}
+use Rattle.trace_types.specs.clock.EventTree.{EventTree, Leaf}
+use Rattle.trace_types.specs.clock.Clock.{tree_clock}
+use Rattle.trace_types.specs.clock.Stamps.{tree_of, stamp_of}
 use Rattle.trace_types.specs.declared.order.Order.{Order}
 use Rattle.trace_types.specs.declared.order.Order.TheVariants.{Same, Before, Concurrent}
 use Rattle.trace_types.specs.declared.row.Row.{Row}
 use Rattle.trace_types.proofs.Reachability.{reaches_newest, reaches_earlier}
-use Rattle.trace_types.specs.Tenant.{is_report, MayLackMemory, Answers, reply_to_view}
+use Rattle.trace_types.specs.tenant.Tenant.{is_report, MayLackMemory, Answers, reply_to_view}
 use Rattle.trace_types.specs.declared.code.Code.TheVariants.{NoEvent}
 use Rattle.trace_types.specs.declared.reply.Reply.{Reply}
 use Rattle.trace_types.specs.declared.reply.Reply.TheVariants as reply

@@ -1,5 +1,5 @@
 use Rattle.std.proofs.Common.{◌≡◌, List, [], ◌∷◌, sym, subst}
-use Rattle.trace_types.specs.EventTree.{EventTree}
+use Rattle.trace_types.specs.clock.EventTree.{EventTree}
 use Rattle.trace_query.specs.Queries.{StandInOrder}
 use Rattle.trace_query.proofs.Vectors.{run, run-in_order}
 use Rattle.collector_tests.proofs.queries.run.Goals as goal

@@ -1,5 +1,5 @@
 use Rattle.std.proofs.Common.{ap, arith}
-use Rattle.trace_types.specs.EventTree.{maximum}
+use Rattle.trace_types.specs.clock.EventTree.{maximum}
 use Rattle.event_tree.specs.Filled.{filled_over}
 use Rattle.event_tree.proofs.Bounds.{minimum-le-maximum}
 use Rattle.event_tree.proofs.Filled.{maximum-fill-le, gives_number}

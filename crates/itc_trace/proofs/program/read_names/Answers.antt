@@ -1,7 +1,7 @@
 use Rattle.std.proofs.Common.{rules, ◌≡◌, ◌<◌, ℕ, zero, suc, arith, inr, refl, ap, List, [], ◌∷◌, length, map, false, true, Bool, ◌&&◌, slice_index_or, string_bytes}
 use Rattle.std.specs.List.{list_all}
 use Rattle.std.proofs.lemmas.Bool.{and_right}
-use Rattle.trace_types.specs.Name.{is_name}
+use Rattle.trace_types.specs.text.Name.{is_name}
 use Rattle.itc_trace.proofs.program.read_names.Goals as goal
 
 -- one that does not pass

@@ -1,6 +1,6 @@
 use Rattle.std.proofs.Common.{◌≡◌, true, map, string_bytes, take}
 use Rattle.std.specs.List.{list_all}
-use Rattle.trace_types.specs.Name.{is_name}
+use Rattle.trace_types.specs.text.Name.{is_name}
 use Rattle.itc_trace.proofs.program.read_names.Given as goal
 
 abbrev pub invariant-loop-tenant : goal.invariant-loop-tenant

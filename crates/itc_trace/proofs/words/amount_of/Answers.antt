@@ -3,7 +3,7 @@ use Rattle.std.specs.Option.{option_map_or}
 use Rattle.std.specs.Str.Parse.{ParsesUnsigned, ExplainsUnsignedError, HasUnsignedDigitsIfOk}
 use Rattle.clap.specs.Words.{found_of, one_text}
 use Rattle.clap.proofs.WalkLemmas.{one_text-rows}
-use Rattle.trace_types.specs.Reading.{number_of}
+use Rattle.trace_types.specs.text.Reading.{number_of}
 use Rattle.itc_trace.proofs.Amounts.{reads, spells}
 use Rattle.itc_trace.proofs.words.amount_of.Goals as goal
 

@@ -1,6 +1,6 @@
 use Rattle.std.proofs.Common.{rules, ◌≡◌, ◌↔◌, ℕ, true, false, IsTrue, ◌∙◌, ap, List, Option, Some, None, option_map, option_and_then, IfSome, IsSome, refl}
 use Rattle.clap.specs.Words.{Row, Text, subcommand_rows_of, found_of, rows_of}
-use Rattle.trace_types.specs.Limits.{Limits, are_limits}
+use Rattle.trace_types.specs.tenant.Limits.{Limits, are_limits}
 use Rattle.itc_trace.specs.Reading.{limits_in}
 use Rattle.itc_trace.proofs.Asking.{amounts}
 use Rattle.itc_trace.proofs.words.limits_of.Goals as goal

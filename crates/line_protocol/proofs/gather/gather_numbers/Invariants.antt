@@ -1,5 +1,5 @@
 use Rattle.std.proofs.Common.{◌≡◌, ◌+◌, ◌<◌, ◌≤◌, length, take}
-use Rattle.trace_types.specs.Text.{numbers_text}
+use Rattle.trace_types.specs.text.Text.{numbers_text}
 use Rattle.line_protocol.specs.Writing.{Gathers}
 use Rattle.line_protocol.proofs.gather.gather_numbers.Given as goal
 

@@ -1,5 +1,5 @@
 use Rattle.std.proofs.Common.{◌≡◌, ◌^◌, ◌<◌, take}
-use Rattle.trace_types.specs.Reading.{number_onto}
+use Rattle.trace_types.specs.text.Reading.{number_onto}
 use Rattle.line_protocol.proofs.request.value_of.Given as goal
 
 abbrev pub invariant-loop-byte : goal.invariant-loop-byte

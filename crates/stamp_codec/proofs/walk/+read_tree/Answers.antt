@@ -1,6 +1,6 @@
 use Rattle.std.proofs.Common.{inl, inr, arith, sym, ap, ◌∙◌}
 use Rattle.std.proofs.lemmas.Result.{err_from_is_err_and}
-use Rattle.trace_types.specs.EventTree.{minimum}
+use Rattle.trace_types.specs.clock.EventTree.{minimum}
 use Rattle.stamp_codec.proofs.Firsts.{some_known, none_known}
 use Rattle.stamp_codec.proofs.WalkTrees.{InFork, large_number, walks_number, large_here, large_head, ends_left, ends_right, walks_fork}
 use Rattle.stamp_codec.proofs.walk.+read_tree.Goals as goal

@@ -1,5 +1,5 @@
 use Rattle.std.proofs.Common.{sym, ap, ◌∙◌}
-use Rattle.trace_types.specs.Interleaving.{alone}
+use Rattle.trace_types.specs.world.Interleaving.{alone}
 use Rattle.trace_world.proofs.Isolation.{due_replies-alone}
 use Rattle.trace_world.proofs.laws.isolation.Goals as goal
 

@@ -1,6 +1,6 @@
 use Rattle.std.proofs.Common.{[], sym, ap, ◌∙◌}
-use Rattle.trace_types.specs.Interleaving.{alone}
-use Rattle.trace_types.specs.Replay.{output}
+use Rattle.trace_types.specs.world.Interleaving.{alone}
+use Rattle.trace_types.specs.world.Replay.{output}
 use Rattle.trace_world.proofs.Isolation.{replies_to_tenant-alone, output_to-alone}
 use Rattle.trace_world.proofs.laws.isolation_in_bytes.Goals as goal
 

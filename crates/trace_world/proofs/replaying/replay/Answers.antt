@@ -6,7 +6,7 @@ use Rattle.line_protocol.specs.Held.{Held}
 use Rattle.line_protocol.specs.LineReading.{Finds, FindsNone, LeavesLess, NeedsRead, Reads, work_left}
 use Rattle.line_protocol.specs.Source.{StopsAtEnd}
 use Rattle.line_protocol.specs.declared.line.Line.TheVariants.{End}
-use Rattle.trace_types.specs.Replay.{is_accepted, is_answered, is_refused}
+use Rattle.trace_types.specs.world.Replay.{is_accepted, is_answered, is_refused}
 use Rattle.line_protocol.specs.Answer.{addressee_text}
 use Rattle.trace_world.proofs.Fronts.{IfErr-always, IfErr-equal}
 use Rattle.trace_world.proofs.Following.{Follows, LeadsTo-none, Follows-line}

@@ -1,5 +1,5 @@
 use Rattle.std.proofs.Common.{◌≡◌, map, take}
-use Rattle.trace_types.specs.Tenant.{fresh}
+use Rattle.trace_types.specs.tenant.Tenant.{fresh}
 use Rattle.trace_world.proofs.world.fresh_ledgers.Given as goal
 
 -- the tenants of the names so far

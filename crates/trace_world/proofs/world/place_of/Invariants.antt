@@ -1,6 +1,6 @@
 use Rattle.std.proofs.Common.{◌≡◌, ◌+◌, drop}
 use Rattle.std.specs.Prelude.{option_map}
-use Rattle.trace_types.specs.Replay.{place_of}
+use Rattle.trace_types.specs.world.Replay.{place_of}
 use Rattle.trace_world.proofs.world.place_of.Given as goal
 
 -- what was looked at is not the name

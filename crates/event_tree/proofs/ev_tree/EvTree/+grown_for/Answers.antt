@@ -1,6 +1,6 @@
 use Rattle.std.proofs.Common.{ap, sym, ◌∙◌, arith}
 use Rattle.id_tree.specs.IdCode.{pair_count}
-use Rattle.trace_types.specs.EventTree.{maximum}
+use Rattle.trace_types.specs.clock.EventTree.{maximum}
 use Rattle.event_tree.proofs.Grown.{maximum-opened, normal_left_of, normal_right_of}
 use Rattle.event_tree.proofs.Pricing.{maximum-grown_for, least_left, least_right, found_right, found_left, found_none}
 use Rattle.event_tree.proofs.ev_tree.EvTree.+grown_for.Goals as goal

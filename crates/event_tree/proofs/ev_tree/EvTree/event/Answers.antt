@@ -1,5 +1,5 @@
 use Rattle.std.proofs.Common.{sym, ◌∙◌, subst}
-use Rattle.trace_types.specs.EventTree.{EventTree}
+use Rattle.trace_types.specs.clock.EventTree.{EventTree}
 use Rattle.event_tree.specs.Raised.{RisesSomewhere}
 use Rattle.event_tree.proofs.Grown.{cost-some}
 use Rattle.event_tree.proofs.Events.{event_by_fill, event_by_growth}

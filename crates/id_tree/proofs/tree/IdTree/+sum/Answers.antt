@@ -1,5 +1,5 @@
 use Rattle.std.proofs.Common.{rules}
-use Rattle.trace_types.specs.Points.{Left, Right}
+use Rattle.trace_types.specs.clock.Points.{Left, Right}
 use Rattle.id_tree.proofs.Sum.{AreDisjoint-half}
 use Rattle.id_tree.proofs.tree.IdTree.+sum.Goals as goal
 

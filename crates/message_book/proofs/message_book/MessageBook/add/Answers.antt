@@ -1,6 +1,6 @@
 use Rattle.std.proofs.Common.{◌≡◌, [], ◌∷◌, ◌++◌, ◌∙◌}
 use Rattle.indexmap.proofs.CallerLemmas.{insert_entry-new}
-use Rattle.trace_types.specs.Name.{is_same}
+use Rattle.trace_types.specs.text.Name.{is_same}
 use Rattle.message_book.specs.Book.{with_message}
 use Rattle.message_book.specs.declared.entry.Entry.{Entry}
 use Rattle.message_book.proofs.Messages.{found_in, not_there_yet}

@@ -1,6 +1,6 @@
 use Rattle.std.proofs.Common.{◌≡◌, None, Some, sym, ◌∙◌}
 use Rattle.std.specs.Map.{set_value}
-use Rattle.trace_types.specs.Name.{is_same}
+use Rattle.trace_types.specs.text.Name.{is_same}
 use Rattle.message_book.specs.Book.{entry_of, entry_with_receipt, with_receipt}
 use Rattle.message_book.specs.declared.entry.Entry.{Entry}
 use Rattle.message_book.proofs.Messages.{found_in, set_value_is_with_changed, is_not_absent, no_receipt_yet}

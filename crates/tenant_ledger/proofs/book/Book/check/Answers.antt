@@ -1,5 +1,5 @@
 use Rattle.std.proofs.Common.{◌≡◌, [], ◌++◌, None, refl, sym, ap, ◌∙◌}
-use Rattle.trace_types.specs.Refusal.{first_code}
+use Rattle.trace_types.specs.tenant.Refusal.{first_code}
 use Rattle.tenant_ledger.specs.Ledger.{Reports, refusals_of_named, refusals_of_room, refusals_of_report}
 use Rattle.tenant_ledger.proofs.keeping.Legal.{AreLegal-push}
 use Rattle.tenant_ledger.proofs.book.Book.check.Goals.{In_ok-check_room}

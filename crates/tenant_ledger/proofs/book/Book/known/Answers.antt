@@ -2,8 +2,8 @@ use Rattle.std.proofs.Common.{Some, sym, ap, ◌∙◌, arith}
 use Rattle.std.proofs.lemmas.List.{length-reverse}
 use Rattle.std.proofs.lemmas.Option.{same_Some}
 use Rattle.std.specs.Prelude.{length}
-use Rattle.trace_types.specs.Clock.{tree_clock}
-use Rattle.trace_types.specs.Stamps.{tree_of}
+use Rattle.trace_types.specs.clock.Clock.{tree_clock}
+use Rattle.trace_types.specs.clock.Stamps.{tree_of}
 use Rattle.tenant_ledger.specs.Ledger.{history_in}
 use Rattle.tenant_ledger.proofs.clock.Events.{tree_of-nothing}
 use Rattle.tenant_ledger.proofs.keeping.Kept.{one_tree, tree_at_event}

@@ -1,6 +1,6 @@
 use Rattle.std.proofs.Common.{◌≡◌, suc, length, None, Some, sym, ap, refl, ◌∙◌, subst}
 use Rattle.std.proofs.Math.Path.{transport}
-use Rattle.trace_types.specs.Tenant.{with_row}
+use Rattle.trace_types.specs.tenant.Tenant.{with_row}
 use Rattle.trace_types.specs.declared.reply.Reply.TheVariants as reply
 use Rattle.trace_types.specs.declared.row.Row.{Row}
 use Rattle.tenant_ledger.specs.Ledger.{Contents, Event, IsKept, IsReady, Prepares, event_of, row_of_report, tenant_of}

@@ -1,6 +1,6 @@
 use Rattle.std.proofs.Common.{◌≡◌, ◌<◌, ◌≤◌, true, length, Some, sym, ap, ◌∙◌, subst, arith}
 use Rattle.std.proofs.lemmas.List.{length-reverse}
-use Rattle.trace_types.specs.Rows.{is_event, row_of, history_of}
+use Rattle.trace_types.specs.tenant.Rows.{is_event, row_of, history_of}
 use Rattle.tenant_ledger.specs.Ledger.{Contents, history_in}
 use Rattle.tenant_ledger.proofs.clock.Events.{event_from_bounds}
 use Rattle.tenant_ledger.proofs.keeping.Told.{row_is_kept}

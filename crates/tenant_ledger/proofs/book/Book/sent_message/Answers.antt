@@ -1,6 +1,6 @@
 use Rattle.std.proofs.Common.{◌≡◌, Some, ◌∷◌, [], not, ap, ◌∙◌}
 use Rattle.message_book.specs.Book.{refusal_of_receive}
-use Rattle.trace_types.specs.Refusal.{first_code}
+use Rattle.trace_types.specs.tenant.Refusal.{first_code}
 use Rattle.trace_types.specs.declared.code.Code.TheVariants.{NoMessage, AlreadyReceived}
 use Rattle.trace_types.specs.declared.row.Kind.TheVariants.{Recv}
 use Rattle.tenant_ledger.specs.Ledger.{Contents, history_in, refusals_of_named}

@@ -1,7 +1,7 @@
 use Rattle.std.proofs.Common.{◌≡◌, ◌≤◌, ◌<◌, length, slice_get, Some, sym, ap, ◌∙◌, arith}
 use Rattle.std.proofs.lemmas.List.{length-reverse}
 use Rattle.std.proofs.lemmas.Option.{same_Some, slice_get_within}
-use Rattle.trace_types.specs.StampText.{stamp_text}
+use Rattle.trace_types.specs.text.StampText.{stamp_text}
 use Rattle.tenant_ledger.specs.Ledger.{history_in, id_after}
 use Rattle.tenant_ledger.proofs.clock.Events.{event_bounds}
 use Rattle.tenant_ledger.proofs.keeping.Kept.{one_tree, one_place, tree_at_event, id_at_event}

@@ -1,5 +1,5 @@
 use Rattle.std.proofs.Common.{◌≡◌, sym, ◌∙◌}
-use Rattle.trace_types.specs.Clock.{tree_clock}
+use Rattle.trace_types.specs.clock.Clock.{tree_clock}
 use Rattle.tenant_ledger.specs.Ledger.{history_in, row_of_report}
 use Rattle.tenant_ledger.proofs.clock.Events.{known_before_new}
 use Rattle.tenant_ledger.proofs.keeping.Report.{last-le, second-le, id_some, fits, knows_both, knows_own, made_of}

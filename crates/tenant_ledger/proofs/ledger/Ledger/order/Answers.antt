@@ -1,7 +1,7 @@
 use Rattle.std.proofs.Common.{◌≡◌, List, Ok, sym, ap, ◌∙◌, subst}
 use Rattle.trace_query.specs.Queries.{order_due}
-use Rattle.trace_types.specs.EventTree.{EventTree}
-use Rattle.trace_types.specs.Tenant.{Tenant, reply_to_view}
+use Rattle.trace_types.specs.clock.EventTree.{EventTree}
+use Rattle.trace_types.specs.tenant.Tenant.{Tenant, reply_to_view}
 use Rattle.trace_types.specs.declared.reply.Reply.TheVariants as reply
 use Rattle.trace_types.specs.declared.request.Request.TheVariants as request
 use Rattle.tenant_ledger.proofs.keeping.Told.{order_answered, order_refused}

@@ -1,6 +1,6 @@
 use Rattle.std.proofs.Common.{◌≡◌, length, subst, sym, ap, ◌∙◌}
-use Rattle.trace_types.specs.Replay.{place_of}
-use Rattle.trace_types.specs.World.{World}
+use Rattle.trace_types.specs.world.Replay.{place_of}
+use Rattle.trace_types.specs.world.World.{World}
 use Rattle.trace_world.specs.Tenants.{IsWorld}
 use Rattle.trace_world.proofs.Places.{within_places}
 use Rattle.trace_world.proofs.Standing.{stands_where_found}

@@ -1,5 +1,5 @@
 use Rattle.std.proofs.Common.{◌<◌, length, sym, subst}
-use Rattle.trace_types.specs.World.{World, IsDue}
+use Rattle.trace_types.specs.world.World.{World, IsDue}
 use Rattle.trace_types.proofs.Interleaving.{IsDue-from_step}
 use Rattle.trace_world.specs.Tenants.{IsLedTo, StepsAt}
 use Rattle.trace_world.proofs.Leading.{IsLedTo-world}

@@ -1,6 +1,6 @@
 -- What a tenant may use.
 use Rattle.std.specs.Prelude.{ℕ, Bool, ◌&&◌}
-use Rattle.trace_types.specs.Name.{is_between}
+use Rattle.trace_types.specs.text.Name.{is_between}
 
 -- how many events, tasks (root included) and messages a tenant may have
 pub record Limits : Type 0 where

@@ -5,9 +5,9 @@
 --   tree   = number | "(" number "," tree "," tree ")"
 use Rattle.std.specs.Prelude.{◌++◌, codes}
 use Rattle.std.specs.Fmt.{decimal}
-use Rattle.trace_types.specs.Name.{Text}
-use Rattle.trace_types.specs.Id.{Id, Zero, One, Pair}
-use Rattle.trace_types.specs.EventTree.{EventTree, Leaf, Node}
+use Rattle.trace_types.specs.text.Name.{Text}
+use Rattle.trace_types.specs.clock.Id.{Id, Zero, One, Pair}
+use Rattle.trace_types.specs.clock.EventTree.{EventTree, Leaf, Node}
 
 -- the text of an id
 abbrev pub id_text : Id → Text

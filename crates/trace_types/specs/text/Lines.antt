@@ -1,6 +1,6 @@
 -- The lines of bytes.
 use Rattle.std.specs.Prelude.{ℕ, Bool, true, false, List, [], ◌∷◌, length, map, if◌then◌else◌, ◌==◌, nat_lt}
-use Rattle.trace_types.specs.Name.{Text}
+use Rattle.trace_types.specs.text.Name.{Text}
 
 -- what lies between two ends of line, and whether an end of line (byte 10) follows it
 pub record Piece : Type 0 where

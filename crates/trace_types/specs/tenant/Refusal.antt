@@ -1,7 +1,7 @@
 -- When a request is refused, and with which code.
 use Rattle.std.specs.Prelude.{Bool, not, List, [], ◌∷◌, length, Option, Some, None, if◌then◌else◌, nat_le}
-use Rattle.trace_types.specs.Limits.{Limits}
-use Rattle.trace_types.specs.Rows.{History, is_known, is_ended, is_joined, is_sent, is_received, is_event, task_count, message_count}
+use Rattle.trace_types.specs.tenant.Limits.{Limits}
+use Rattle.trace_types.specs.tenant.Rows.{History, is_known, is_ended, is_joined, is_sent, is_received, is_event, task_count, message_count}
 use Rattle.trace_types.specs.declared.code.Code.{Code}
 use Rattle.trace_types.specs.declared.code.Code.TheVariants.{NoTask, TaskExists, TaskEnded, NoEvent, NoMessage, MessageExists, AlreadyReceived, NotEnded, AlreadyJoined, EventsFull, TasksFull, MessagesFull}
 use Rattle.trace_types.specs.declared.request.Request.{Request}

@@ -1,10 +1,10 @@
 -- The stamps of tasks and events: what each report does to the id of its task and to what the task knows.
 use Rattle.std.specs.Prelude.{ℕ, suc, ◌==◌, Bool, true, false, [], ◌∷◌, length, Option, Some, None, if◌then◌else◌}
-use Rattle.trace_types.specs.Name.{Text, is_same, root}
-use Rattle.trace_types.specs.Rows.{History, last_event, names}
-use Rattle.trace_types.specs.Reachability.{second_event}
-use Rattle.trace_types.specs.Clock.{Clock, tree_clock}
-use Rattle.trace_types.specs.StampText.{stamp_text}
+use Rattle.trace_types.specs.text.Name.{Text, is_same, root}
+use Rattle.trace_types.specs.tenant.Rows.{History, last_event, names}
+use Rattle.trace_types.specs.tenant.Reachability.{second_event}
+use Rattle.trace_types.specs.clock.Clock.{Clock, tree_clock}
+use Rattle.trace_types.specs.text.StampText.{stamp_text}
 use Rattle.trace_types.specs.declared.row.Row.{Row}
 use Rattle.trace_types.specs.declared.row.Kind.{Kind}
 use Rattle.trace_types.specs.declared.row.Kind.TheVariants.{Local, Spawn, Send, Recv, End, Join}

@@ -1,7 +1,7 @@
 -- Growing a tree below an id, by the table of the interval tree clock: the tree and its cost.
 use Rattle.std.specs.Prelude.{ℕ, ◌+◌, Bool, true, false, nat_lt, ◌==◌, ◌&&◌, ◌||◌, if◌then◌else◌, Option, Some, None}
-use Rattle.trace_types.specs.Id.{Id, Zero, One, Pair}
-use Rattle.trace_types.specs.EventTree.{EventTree, Leaf, Node, maximum}
+use Rattle.trace_types.specs.clock.Id.{Id, Zero, One, Pair}
+use Rattle.trace_types.specs.clock.EventTree.{EventTree, Leaf, Node, maximum}
 
 -- what growing costs: numbers made nodes, and steps down
 pub record Cost : Type 0 where

@@ -1,7 +1,7 @@
 -- Calls of many tenants, and what each is due: what the tenant's own requests alone give.
 use Rattle.std.specs.Prelude.{ℕ, Bool, not, IsTrue, List, [], ◌∷◌, ◌++◌, map, filter, if◌then◌else◌, ◌==◌}
-use Rattle.trace_types.specs.Limits.{Limits}
-use Rattle.trace_types.specs.Tenant.{Tenant, fresh, replies, after, MayLackMemory}
+use Rattle.trace_types.specs.tenant.Limits.{Limits}
+use Rattle.trace_types.specs.tenant.Tenant.{Tenant, fresh, replies, after, MayLackMemory}
 use Rattle.trace_types.specs.declared.code.Code.TheVariants.{NoMemory}
 use Rattle.trace_types.specs.declared.request.Request.{Request}
 use Rattle.trace_types.specs.declared.reply.Reply.{Reply}

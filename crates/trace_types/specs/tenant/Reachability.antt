@@ -1,8 +1,8 @@
 -- Happened-before (Lamport 1978) in the graph of one tenant's events: reachability along predecessors.
 use Rattle.std.specs.Prelude.{◌≡◌, ℕ, suc, Bool, ◌||◌, List, [], ◌∷◌, length, if◌then◌else◌, ◌==◌, nat_lt, not, ◌&&◌, filter, Option, Some, None, Contains}
 use Rattle.std.specs.List.{list_any}
-use Rattle.trace_types.specs.Name.{Text}
-use Rattle.trace_types.specs.Rows.{History, last_event, send_event, events}
+use Rattle.trace_types.specs.text.Name.{Text}
+use Rattle.trace_types.specs.tenant.Rows.{History, last_event, send_event, events}
 use Rattle.trace_types.specs.declared.row.Kind.{Kind}
 use Rattle.trace_types.specs.declared.row.Kind.TheVariants.{Local, Spawn, Send, Recv, End, Join}
 use Rattle.trace_types.specs.declared.order.Order.{Order}

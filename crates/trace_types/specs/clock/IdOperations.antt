@@ -1,5 +1,5 @@
 -- Splitting and summing ids, by the tables of the interval tree clock.
-use Rattle.trace_types.specs.Id.{Id, Zero, One, Pair}
+use Rattle.trace_types.specs.clock.Id.{Id, Zero, One, Pair}
 
 -- the normal form of a pair of normal ids
 abbrev pub norm : Id → Id → Id

@@ -1,8 +1,8 @@
 -- Filling a tree below an id, by the table of the interval tree clock.
 use Rattle.std.specs.Prelude.{ℕ, max}
-use Rattle.trace_types.specs.Id.{Id, Zero, One, Pair}
-use Rattle.trace_types.specs.EventTree.{EventTree, Leaf, Node, minimum, maximum}
-use Rattle.trace_types.specs.Norm.{norm}
+use Rattle.trace_types.specs.clock.Id.{Id, Zero, One, Pair}
+use Rattle.trace_types.specs.clock.EventTree.{EventTree, Leaf, Node, minimum, maximum}
+use Rattle.trace_types.specs.clock.Norm.{norm}
 
 -- the node with these filled children; a child that the id owns whole, over l or r, is raised to the other's least value
 abbrev pub node_filled : ℕ → Id → Id → EventTree → EventTree → EventTree → EventTree → EventTree

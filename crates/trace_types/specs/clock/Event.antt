@@ -1,10 +1,10 @@
 -- The event of the interval tree clock: a tree raised at points of an id.
 use Rattle.std.specs.Prelude.{Bool, false, ◌==◌, ◌&&◌, if◌then◌else◌}
-use Rattle.trace_types.specs.Id.{Id}
-use Rattle.trace_types.specs.EventTree.{EventTree, Leaf, Node}
-use Rattle.trace_types.specs.Fill.{fill}
-use Rattle.trace_types.specs.Grow.{grown}
-use Rattle.trace_types.specs.Norm.{norm}
+use Rattle.trace_types.specs.clock.Id.{Id}
+use Rattle.trace_types.specs.clock.EventTree.{EventTree, Leaf, Node}
+use Rattle.trace_types.specs.clock.Fill.{fill}
+use Rattle.trace_types.specs.clock.Grow.{grown}
+use Rattle.trace_types.specs.clock.Norm.{norm}
 
 -- whether the two are the same tree
 abbrev pub is_same : EventTree → EventTree → Bool

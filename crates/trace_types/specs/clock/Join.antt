@@ -1,7 +1,7 @@
 -- The join of two event trees, by the table of the interval tree clock.
 use Rattle.std.specs.Prelude.{ℕ, ◌+◌, ◌-◌, min, max}
-use Rattle.trace_types.specs.EventTree.{EventTree, Leaf, Node}
-use Rattle.trace_types.specs.Norm.{norm}
+use Rattle.trace_types.specs.clock.EventTree.{EventTree, Leaf, Node}
+use Rattle.trace_types.specs.clock.Norm.{norm}
 
 -- the tree with its root number raised
 abbrev pub lifted : ℕ → EventTree → EventTree

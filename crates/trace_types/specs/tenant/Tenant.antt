@@ -1,13 +1,13 @@
 -- One tenant by itself: what it is, and what a request does.
 use Rattle.std.specs.Prelude.{◌≡◌, suc, Bool, true, false, not, IsTrue, List, [], ◌∷◌, ◌++◌, length, Option, Some, None, ◌⊎◌, if◌then◌else◌}
 use Rattle.std.specs.List.{AllByRecursion}
-use Rattle.trace_types.specs.Name.{Text}
-use Rattle.trace_types.specs.Limits.{Limits}
-use Rattle.trace_types.specs.Rows.{History, history_of, state_of, last_event, send_event, receipts, row_of, task_count, message_count}
-use Rattle.trace_types.specs.Stamps.{stamp_text_of}
-use Rattle.trace_types.specs.Reachability.{predecessors, order_of, past_of, concurrent_with}
-use Rattle.trace_types.specs.Refusal.{refusal_of}
-use Rattle.trace_types.specs.Text.{CanBeWritten}
+use Rattle.trace_types.specs.text.Name.{Text}
+use Rattle.trace_types.specs.tenant.Limits.{Limits}
+use Rattle.trace_types.specs.tenant.Rows.{History, history_of, state_of, last_event, send_event, receipts, row_of, task_count, message_count}
+use Rattle.trace_types.specs.clock.Stamps.{stamp_text_of}
+use Rattle.trace_types.specs.tenant.Reachability.{predecessors, order_of, past_of, concurrent_with}
+use Rattle.trace_types.specs.tenant.Refusal.{refusal_of}
+use Rattle.trace_types.specs.text.Text.{CanBeWritten}
 use Rattle.trace_types.specs.declared.code.Code.{Code}
 use Rattle.trace_types.specs.declared.code.Code.TheVariants.{NoEvent, NoMemory, ViewOnly}
 use Rattle.trace_types.specs.declared.row.Row.{Row}

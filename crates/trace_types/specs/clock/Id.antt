@@ -1,6 +1,6 @@
 -- Ids of the interval tree clock (Almeida, Baquero and Fonte 2008), as plain trees.
 use Rattle.std.specs.Prelude.{◌≡◌, Bool, true, false}
-use Rattle.trace_types.specs.Points.{Point, half_of, within_half, at_half}
+use Rattle.trace_types.specs.clock.Points.{Point, half_of, within_half, at_half}
 
 -- No point, all points, or what the two halves own.
 pub data Id : Type 0 where

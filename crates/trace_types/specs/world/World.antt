@@ -1,9 +1,9 @@
 -- All tenants together.
 use Rattle.std.specs.Prelude.{◌≡◌, ℕ, ◌<◌, Bool, true, false, List, ◌∷◌, [], ◌++◌, length, Some, slice_get, slice_set}
-use Rattle.trace_types.specs.Name.{Text}
-use Rattle.trace_types.specs.Limits.{Limits}
-use Rattle.trace_types.specs.Tenant.{Tenant, Steps}
-use Rattle.trace_types.specs.Interleaving.{Call, tenant_after, due_reply, MayBeMarked}
+use Rattle.trace_types.specs.text.Name.{Text}
+use Rattle.trace_types.specs.tenant.Limits.{Limits}
+use Rattle.trace_types.specs.tenant.Tenant.{Tenant, Steps}
+use Rattle.trace_types.specs.world.Interleaving.{Call, tenant_after, due_reply, MayBeMarked}
 use Rattle.trace_types.specs.declared.code.Code.TheVariants.{NoMemory}
 use Rattle.trace_types.specs.declared.request.Request.{Request}
 use Rattle.trace_types.specs.declared.reply.Reply.{Reply}

@@ -1,11 +1,11 @@
 -- What replaying lines of many tenants writes.
 use Rattle.std.specs.Prelude.{ℕ, suc, Bool, true, false, not, ◌&&◌, List, [], ◌∷◌, ◌++◌, drop, Option, Some, None, if◌then◌else◌, slice_index_or, option_map, codes}
-use Rattle.trace_types.specs.Name.{Text, is_same}
-use Rattle.trace_types.specs.Limits.{Limits}
-use Rattle.trace_types.specs.Text.{reply_text}
-use Rattle.trace_types.specs.Reading.{addressed_by}
-use Rattle.trace_types.specs.Lines.{is_too_long}
-use Rattle.trace_types.specs.Interleaving.{Call, due_reply, MayBeMarked}
+use Rattle.trace_types.specs.text.Name.{Text, is_same}
+use Rattle.trace_types.specs.tenant.Limits.{Limits}
+use Rattle.trace_types.specs.text.Text.{reply_text}
+use Rattle.trace_types.specs.text.Reading.{addressed_by}
+use Rattle.trace_types.specs.text.Lines.{is_too_long}
+use Rattle.trace_types.specs.world.Interleaving.{Call, due_reply, MayBeMarked}
 use Rattle.trace_types.specs.declared.code.Code.{Code}
 use Rattle.trace_types.specs.declared.code.Code.TheVariants as code
 use Rattle.trace_types.specs.declared.request.Request.{Request}

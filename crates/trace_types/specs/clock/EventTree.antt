@@ -1,6 +1,6 @@
 -- Event trees of the interval tree clock (Almeida, Baquero and Fonte 2008), as plain values.
 use Rattle.std.specs.Prelude.{◌≡◌, ℕ, ◌+◌, min, max}
-use Rattle.trace_types.specs.Points.{Point, half_of, within_half, at_half}
+use Rattle.trace_types.specs.clock.Points.{Point, half_of, within_half, at_half}
 
 -- One number everywhere, or a number to be added to what the two halves say.
 pub data EventTree : Type 0 where

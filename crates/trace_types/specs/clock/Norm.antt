@@ -1,6 +1,6 @@
 -- The normal form of a node, by the table of the interval tree clock.
 use Rattle.std.specs.Prelude.{ℕ, ◌+◌, ◌-◌, min, ◌==◌, if◌then◌else◌}
-use Rattle.trace_types.specs.EventTree.{EventTree, Leaf, Node, minimum}
+use Rattle.trace_types.specs.clock.EventTree.{EventTree, Leaf, Node, minimum}
 
 -- the tree with its root number lowered
 abbrev pub lowered : ℕ → EventTree → EventTree

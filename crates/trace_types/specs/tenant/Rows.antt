@@ -2,7 +2,7 @@
 -- so the event number of its first row is the length of the history.
 use Rattle.std.specs.Prelude.{ℕ, suc, ◌+◌, Bool, true, false, ◌||◌, ◌&&◌, List, [], ◌∷◌, ◌++◌, length, reverse, Option, Some, None, if◌then◌else◌, ◌==◌, nat_lt, count_by}
 use Rattle.std.specs.List.{list_any, range_with_len}
-use Rattle.trace_types.specs.Name.{Text, is_same, root}
+use Rattle.trace_types.specs.text.Name.{Text, is_same, root}
 use Rattle.trace_types.specs.declared.row.Row.{Row}
 use Rattle.trace_types.specs.declared.row.Kind.{Kind}
 use Rattle.trace_types.specs.declared.row.Kind.TheVariants.{Local, Spawn, Send, Recv, End, Join}

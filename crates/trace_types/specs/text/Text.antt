@@ -1,8 +1,8 @@
 -- How requests and replies are written.
 use Rattle.std.specs.Prelude.{◌≡◌, ℕ, ◌^◌, ◌<◌, IsTrue, List, [], ◌∷◌, ◌++◌, length, Option, Some, None, codes}
 use Rattle.std.specs.Fmt.{decimal}
-use Rattle.trace_types.specs.Name.{Text, is_name}
-use Rattle.trace_types.specs.Code.{code_number, code_text}
+use Rattle.trace_types.specs.text.Name.{Text, is_name}
+use Rattle.trace_types.specs.tenant.Code.{code_number, code_text}
 use Rattle.trace_types.specs.declared.order.Order.{Order}
 use Rattle.trace_types.specs.declared.order.Order.TheVariants.{Same, Before, After, Concurrent}
 use Rattle.trace_types.specs.declared.task_state.TaskState.{TaskState}

@@ -1,9 +1,9 @@
 -- A clock whose ids split and are summed, and the interval tree clock (Almeida, Baquero and Fonte 2008) as one.
-use Rattle.trace_types.specs.Id.{Id, Zero, One}
-use Rattle.trace_types.specs.IdOperations.{split, sum}
-use Rattle.trace_types.specs.EventTree.{EventTree, Leaf}
-use Rattle.trace_types.specs.Join.{join}
-use Rattle.trace_types.specs.Event.{event}
+use Rattle.trace_types.specs.clock.Id.{Id, Zero, One}
+use Rattle.trace_types.specs.clock.IdOperations.{split, sum}
+use Rattle.trace_types.specs.clock.EventTree.{EventTree, Leaf}
+use Rattle.trace_types.specs.clock.Join.{join}
+use Rattle.trace_types.specs.clock.Event.{event}
 
 -- what a clock does with its ids and with what its events know
 pub record Clock (Id Tree : Type 0) : Type 0 where

@@ -1,7 +1,7 @@
 -- Which request a line spells, found from the line.
 use Rattle.std.specs.Prelude.{ℕ, ◌+◌, ◌-◌, ◌*◌, Bool, ◌&&◌, ◌||◌, not, List, [], ◌∷◌, length, Option, Some, None, if◌then◌else◌, ◌==◌, codes, option_map, slice_index}
 use Rattle.std.specs.List.{list_all}
-use Rattle.trace_types.specs.Name.{Text, is_same, is_name, is_between}
+use Rattle.trace_types.specs.text.Name.{Text, is_same, is_name, is_between}
 use Rattle.trace_types.specs.declared.request.Request.{Request}
 use Rattle.trace_types.specs.declared.request.Request.TheVariants.{Local, Spawn, Send, Recv, End, Join, Order, Past, Concurrent, Event, Stamp, Task, Message, Count}
 

@@ -1,6 +1,6 @@
 -- The refusals, as they are written.
 use Rattle.std.specs.Prelude.{ℕ, codes}
-use Rattle.trace_types.specs.Name.{Text}
+use Rattle.trace_types.specs.text.Name.{Text}
 use Rattle.trace_types.specs.declared.code.Code.{Code}
 use Rattle.trace_types.specs.declared.code.Code.TheVariants.{Line, NoTask, TaskExists, TaskEnded, NoEvent, NoMessage, MessageExists, AlreadyReceived, NotEnded, AlreadyJoined, ViewOnly, EventsFull, TasksFull, MessagesFull, NoTenant, DeskTaken, NoPlace, SessionOver, NoMemory}
 

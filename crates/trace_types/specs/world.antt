@@ -1,0 +1,4 @@
+-- All tenants, and what a replay of their lines writes.
+pub mod Interleaving
+pub mod Replay
+pub mod World
