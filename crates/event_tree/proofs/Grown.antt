@@ -6,7 +6,7 @@ use Rattle.trace_types.specs.clock.Id.{Id, Zero, One, Pair, AreApart}
 use Rattle.trace_types.specs.clock.Id as ids
 use Rattle.trace_types.specs.clock.EventTree.{EventTree, Leaf, Node, value, maximum, IsNormal}
 use Rattle.event_tree.specs.Comparison.{IsBelow}
-use Rattle.trace_types.specs.clock.Grow.{root, left_of, right_of, expansion, is_cheaper, cheaper, dearer, cost, grown}
+use Rattle.trace_types.specs.clock.Grow.{root_number, left_of, right_of, expansion, is_cheaper, cheaper, dearer, cost, grown}
 use Rattle.trace_types.specs.clock.Event.{normalised}
 use Rattle.event_tree.specs.Raised.{RisesSomewhere}
 use Rattle.event_tree.specs.Tables.{FollowsGrowTable}
@@ -19,7 +19,7 @@ use Rattle.event_tree.proofs.Costs.{side_had, had_either, cheaper_than_none, dea
 
 -- the tree as a node
 abbrev pub opened : EventTree → EventTree
-opened tree = Node (root tree) (left_of tree) (right_of tree)
+opened tree = Node (root_number tree) (left_of tree) (right_of tree)
 
 pub value-opened : (tree : EventTree) (point : Point) → value (opened tree) point ≡ value tree point
 value-opened (Leaf n) point = omega (arith, on_either_side (λ v. v ≡ 0) (half_of point) 0 0 refl refl)
@@ -52,8 +52,8 @@ raised_grown (Pair il ir) tree =
     let r = right_of tree in
     raised_opened (Pair il ir) tree (grown (Pair il ir) tree)
     (elim (cases_Bool (is_cheaper (cost il l) (cost ir r))) [
-      | inl is_so ↦ rw is_so (raised_node il ir (root tree) l r (grown il l) r (raised_grown il l) (raised_same ir r))
-      | inr is_not ↦ rw is_not (raised_node il ir (root tree) l r l (grown ir r) (raised_same il l) (raised_grown ir r))
+      | inl is_so ↦ rw is_so (raised_node il ir (root_number tree) l r (grown il l) r (raised_grown il l) (raised_same ir r))
+      | inr is_not ↦ rw is_not (raised_node il ir (root_number tree) l r l (grown ir r) (raised_same il l) (raised_grown ir r))
     ])
 
 pub maximum-grown-le : (id : Id) (tree : EventTree) → maximum (grown id tree) ≤ maximum tree + 1
@@ -79,12 +79,12 @@ rises_grown (Pair il ir) tree had =
     let r = right_of tree in
     rises_opened tree (grown (Pair il ir) tree)
     (elim (side_had (expansion tree) (cost il l) (cost ir r) had) [
-      | inl side ↦ rw side.0 (rises_left (root tree) l r (grown il l) r (rises_grown il l side.1))
-      | inr side ↦ rw side.0 (rises_right (root tree) l r l (grown ir r) (rises_grown ir r side.1))
+      | inl side ↦ rw side.0 (rises_left (root_number tree) l r (grown il l) r (rises_grown il l side.1))
+      | inr side ↦ rw side.0 (rises_right (root_number tree) l r l (grown ir r) (rises_grown ir r side.1))
     ])
 
 -- an id that owns something can grow every tree
-pub cost-some : (id : Id) (tree : EventTree) → ids.IsNormal id → id ≢ Zero → is_some (cost id tree) ≡ true
+pub cost-some : (id : Id) (tree : EventTree) → ids.IsNormalId id → id ≢ Zero → is_some (cost id tree) ≡ true
 cost-some Zero tree normal some = absurd (some refl)
 cost-some One tree normal some = refl
 cost-some (Pair Zero Zero) tree normal some = absurd normal.2

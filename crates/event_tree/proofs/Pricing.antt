@@ -4,7 +4,7 @@ use Rattle.trace_types.specs.clock.Id.{Id, Pair}
 use Rattle.trace_types.specs.clock.Grow.{Cost}
 use Rattle.trace_types.specs.clock.EventTree.{EventTree, maximum, IsNormal}
 use Rattle.trace_types.specs.clock.Norm.{norm}
-use Rattle.trace_types.specs.clock.Grow.{root, left_of, right_of, expansion, is_cheaper, cheaper, cost, grown}
+use Rattle.trace_types.specs.clock.Grow.{root_number, left_of, right_of, expansion, is_cheaper, cheaper, cost, grown}
 use Rattle.trace_types.specs.clock.Event.{normalised}
 use Rattle.event_tree.specs.GrownFor.{costs, grown_for}
 use Rattle.event_tree.proofs.Costs.{is_cheaper-further, costs-further, first_not_cheaper, second_not_cheaper, costs-itself, second_taken, first_taken, neither_taken}
@@ -42,13 +42,13 @@ module _ (il ir : Id) (tree : EventTree) (p q : Cost) (expansions : p.expansions
   costs_here : costs p (cost (Pair il ir) tree) ≡ costs q (cheaper (cost il (left_of tree)) (cost ir (right_of tree)))
   costs_here = costs-further (expansion tree) p q expansions steps (cheaper (cost il (left_of tree)) (cost ir (right_of tree)))
 
-  pub found_right : (t : EventTree) → IsNormal (left_of tree) → grown_for q ir (right_of tree) ≡ Some t → Some (norm (root tree) (left_of tree) t) ≡ grown_for p (Pair il ir) tree
+  pub found_right : (t : EventTree) → IsNormal (left_of tree) → grown_for q ir (right_of tree) ≡ Some t → Some (norm (root_number tree) (left_of tree) t) ≡ grown_for p (Pair il ir) tree
   found_right t normal found =
       let is = given_some (costs q (cost ir (right_of tree))) (normalised (grown ir (right_of tree))) t found in
       let taken = second_taken (cost il (left_of tree)) (cost ir (right_of tree)) q least_left is.0 in
       rw (costs_here, taken, is.0, normalised-normal (left_of tree) normal, is.1) refl
 
-  pub found_left : (t : EventTree) → IsNormal (right_of tree) → grown_for q ir (right_of tree) ≡ None → grown_for q il (left_of tree) ≡ Some t → Some (norm (root tree) t (right_of tree)) ≡ grown_for p (Pair il ir) tree
+  pub found_left : (t : EventTree) → IsNormal (right_of tree) → grown_for q ir (right_of tree) ≡ None → grown_for q il (left_of tree) ≡ Some t → Some (norm (root_number tree) t (right_of tree)) ≡ grown_for p (Pair il ir) tree
   found_left t normal not_right found =
       let is = given_some (costs q (cost il (left_of tree))) (normalised (grown il (left_of tree))) t found in
       let dear = given_none (costs q (cost ir (right_of tree))) (normalised (grown ir (right_of tree))) not_right in

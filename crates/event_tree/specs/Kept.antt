@@ -6,16 +6,16 @@ use Rattle.event_tree.specs.declared.ev_tree.Node as kept
 use Rattle.event_tree.specs.declared.ev_tree.Node.TheVariants.{Leaf, Fork}
 
 -- the plain tree
-abbrev pub tree_of : kept.Node → EventTree
-tree_of (Leaf n) = plain.Leaf n
-tree_of (Fork base spread children) = Node base children.value.left children.value.right
+abbrev pub tree_of_node : kept.Node → EventTree
+tree_of_node (Leaf n) = plain.Leaf n
+tree_of_node (Fork base spread children) = Node base children.value.left children.value.right
 
 -- a fork keeps how far the greatest value of its children lies above their least, which is 0
 abbrev pub KeepsSpread : kept.Node → Type 0
 KeepsSpread (Leaf n) = Unit {0}
 KeepsSpread (Fork base spread children) = spread ≡ max (maximum children.value.left) (maximum children.value.right)
 
-pub record IsKept (node : kept.Node) : Type 0 where
-  pub normal : IsNormal (tree_of node)
+pub record IsKeptNode (node : kept.Node) : Type 0 where
+  pub normal : IsNormal (tree_of_node node)
   pub spread : KeepsSpread node
-  pub fits : maximum (tree_of node) < 2 ^ 64
+  pub fits : maximum (tree_of_node node) < 2 ^ 64

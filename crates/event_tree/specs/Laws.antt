@@ -70,7 +70,7 @@ FillIsNormal = (id : Id) (tree : EventTree) → IsNormal tree → IsNormal (fill
 
 -- what holds of each normal id but 0, and each normal tree
 abbrev pub ForNormal : (Id → EventTree → Type 0) → Type 0
-ForNormal P = (id : Id) (tree : EventTree) → ids.IsNormal id → id ≢ Zero → IsNormal tree → P id tree
+ForNormal P = (id : Id) (tree : EventTree) → ids.IsNormalId id → id ≢ Zero → IsNormal tree → P id tree
 
 -- an event lowers no value
 abbrev pub EventLowersNone : Type 0

@@ -22,7 +22,7 @@ pub record FollowsGrowTable : Type 0 where
   pub number : (n : ℕ) → (grown One (Leaf n) ≡ Leaf (n + 1)) × (cost One (Leaf n) ≡ Some (record { expansions = 0; steps = 0 }))
   pub expanded : (il ir : Id) (n : ℕ) → let over = Node n (Leaf 0) (Leaf 0) in (grown (Pair il ir) (Leaf n) ≡ grown (Pair il ir) over) × (cost (Pair il ir) (Leaf n) ≡ dearer 1 0 (cost (Pair il ir) over))
   pub left_free : (ir : Id) (n : ℕ) (l r : EventTree) → (grown (Pair Zero ir) (Node n l r) ≡ Node n l (grown ir r)) × (cost (Pair Zero ir) (Node n l r) ≡ dearer 0 1 (cost ir r))
-  pub right_free : (il : Id) (n : ℕ) (l r : EventTree) → ids.IsNormal il → il ≢ Zero → (grown (Pair il Zero) (Node n l r) ≡ Node n (grown il l) r) × (cost (Pair il Zero) (Node n l r) ≡ dearer 0 1 (cost il l))
+  pub right_free : (il : Id) (n : ℕ) (l r : EventTree) → ids.IsNormalId il → il ≢ Zero → (grown (Pair il Zero) (Node n l r) ≡ Node n (grown il l) r) × (cost (Pair il Zero) (Node n l r) ≡ dearer 0 1 (cost il l))
   pub left_cheaper : (il ir : Id) (n : ℕ) (l r : EventTree) → is_cheaper (cost il l) (cost ir r) ≡ true → (grown (Pair il ir) (Node n l r) ≡ Node n (grown il l) r) × (cost (Pair il ir) (Node n l r) ≡ dearer 0 1 (cost il l))
   pub else_right : (il ir : Id) (n : ℕ) (l r : EventTree) → is_cheaper (cost il l) (cost ir r) ≡ false → (grown (Pair il ir) (Node n l r) ≡ Node n l (grown ir r)) × (cost (Pair il ir) (Node n l r) ≡ dearer 0 1 (cost ir r))
 

@@ -69,11 +69,11 @@ impl Model for EvTree {
     ghost coded = { event_tree_code };
 
     ghost use Rattle.event_tree.specs.Height.{height};
-    ghost use Rattle.event_tree.specs.Kept.{tree_of, IsKept};
+    ghost use Rattle.event_tree.specs.Kept.{tree_of_node, IsKeptNode};
 
-    ghost view = { λ a. tree_of a.node };
+    ghost view = { λ a. tree_of_node a.node };
 
-    ghost invariant = { λ a. IsKept a.node };
+    ghost invariant = { λ a. IsKeptNode a.node };
 
     ghost size = { height };
 

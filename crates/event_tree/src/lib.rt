@@ -2,9 +2,9 @@
 //!
 //! The one contract: an `EvTree` is always a normal tree, `order` says how two stand to each other
 //! by their values at every point, and `join` and `event` give exactly what the published tables
-//! give. `specs/EventTree.antt` defines the trees and their values, `specs/Norm.antt` the normal form,
-//! `specs/Comparison.antt` the order, `specs/Join.antt`, `Fill.antt`, `Grow.antt` and `Event.antt`
-//! the tables, and `laws` says what they mean point by point.
+//! give. In `trace_types`, `specs/clock/EventTree.antt` defines the trees and their values, `Norm.antt` beside it the
+//! normal form, and `Join.antt`, `Fill.antt`, `Grow.antt` and `Event.antt` the tables; `specs/Comparison.antt` defines
+//! the order, and `laws` says what they mean point by point.
 #![tactic(auto)]
 
 mod ev_tree;

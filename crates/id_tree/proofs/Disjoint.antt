@@ -1,7 +1,7 @@
 -- Which ids stay disjoint when ids are split and summed, and that a sum undoes a split.
 use Rattle.std.proofs.Common.{◌≡◌, ◌||◌, ◌&&◌, ◌⊎◌, Bool, true, false, refl, sym, ◌∙◌, inl, inr}
 use Rattle.trace_types.specs.clock.Points.{Point}
-use Rattle.trace_types.specs.clock.Id.{Id, owns, IsNormal, AreDisjoint}
+use Rattle.trace_types.specs.clock.Id.{Id, owns, IsNormalId, AreDisjoint}
 use Rattle.trace_types.specs.clock.IdOperations.{split, sum}
 use Rattle.id_tree.proofs.Ids.{same_points}
 use Rattle.id_tree.proofs.Split.{SharesOut-split, IsNormal-split}
@@ -43,7 +43,7 @@ AreDisjoint-sum a b other a_disjoint b_disjoint point in_sum in_other =
     ]
 
 -- the sum of the parts of a split is the whole
-pub sum-split : (id : Id) → IsNormal id → sum (split id).0 (split id).1 ≡ id
+pub sum-split : (id : Id) → IsNormalId id → sum (split id).0 (split id).1 ≡ id
 sum-split id normal =
     let parts_normal = IsNormal-split id normal in
     same_points (sum (split id).0 (split id).1) id (IsNormal-sum (split id).0 (split id).1 parts_normal.0 parts_normal.1) normal

@@ -1,8 +1,8 @@
 -- What the halves of an id own, and what that says of the whole.
 use Rattle.std.proofs.Common.{◌≡◌, ◌≢◌, ◌⊎◌, Bool, true, false, not, [], ◌∷◌, refl, sym, ◌∙◌, inl, inr}
 use Rattle.trace_types.specs.clock.Points.{Half, Left, Right, Point, at_half, half_of}
-use Rattle.trace_types.specs.clock.Id.{Id, Zero, One, Pair, owns, AreApart, IsNormal}
-use Rattle.trace_types.specs.clock.IdOperations.{norm}
+use Rattle.trace_types.specs.clock.Id.{Id, Zero, One, Pair, owns, AreApart, IsNormalId}
+use Rattle.trace_types.specs.clock.IdOperations.{norm_id}
 use Rattle.id_tree.specs.Laws.{OwnTheSame}
 
 -- the same on both sides is the same at each half
@@ -16,7 +16,7 @@ owns-Pair left right Left point = refl
 owns-Pair left right Right point = refl
 
 -- the normal form owns what the pair owns
-pub owns-norm : (left right : Id) (point : Point) → owns (norm left right) point ≡ owns (Pair left right) point
+pub owns-norm : (left right : Id) (point : Point) → owns (norm_id left right) point ≡ owns (Pair left right) point
 owns-norm Zero Zero point = sym (at_half-same (half_of point) false)
 owns-norm One One point = sym (at_half-same (half_of point) true)
 owns-norm Zero One point = refl
@@ -52,7 +52,7 @@ other_half all left right apart left_is right_is =
     not_apart all (rw right_is at (rw left_is at apart))
 
 -- a normal id that is not nothing owns some point, and one that is not everything leaves some point
-pub some_point : (owned : Bool) (id : Id) → IsNormal id → id ≢ leaf (not owned) → (point : Point) × (owns id point ≡ owned)
+pub some_point : (owned : Bool) (id : Id) → IsNormalId id → id ≢ leaf (not owned) → (point : Point) × (owns id point ≡ owned)
 some_point true Zero normal differs = absurd (differs refl)
 some_point false Zero normal differs = ([], refl)
 some_point true One normal differs = ([], refl)
@@ -68,7 +68,7 @@ some_point owned (Pair left right) normal differs =
     ]
 
 -- a leaf is no normal pair
-pub pair_differs : (all : Bool) (left right : Id) → IsNormal (Pair left right) → OwnTheSame (leaf all) (Pair left right) → ⊥
+pub pair_differs : (all : Bool) (left right : Id) → IsNormalId (Pair left right) → OwnTheSame (leaf all) (Pair left right) → ⊥
 pair_differs true left right normal same =
     let found = some_point false (Pair left right) normal (λ is. cc) in
     let clash : true ≡ false = same found.0 ∙ found.1 in
@@ -84,7 +84,7 @@ OwnTheSame-half left right left' right' same half point =
     sym (owns-Pair left right half point) ∙ same (half ∷ point) ∙ owns-Pair left' right' half point
 
 -- two normal ids that own the same points are one
-pub same_points : (a b : Id) → IsNormal a → IsNormal b → OwnTheSame a b → a ≡ b
+pub same_points : (a b : Id) → IsNormalId a → IsNormalId b → OwnTheSame a b → a ≡ b
 same_points Zero Zero n m same = refl
 same_points One One n m same = refl
 same_points Zero One n m same = let clash : false ≡ true = same [] in cc

@@ -1,7 +1,7 @@
 -- What is normal, and which halves are apart.
 use Rattle.std.proofs.Common.{◌≢◌, refl}
-use Rattle.trace_types.specs.clock.Id.{Id, Zero, One, Pair, AreApart, IsNormal}
-use Rattle.trace_types.specs.clock.IdOperations.{norm}
+use Rattle.trace_types.specs.clock.Id.{Id, Zero, One, Pair, AreApart, IsNormalId}
+use Rattle.trace_types.specs.clock.IdOperations.{norm_id}
 
 -- halves are apart whichever is named first
 pub AreApart-sym : (a b : Id) → AreApart a b → AreApart b a
@@ -22,7 +22,7 @@ AreApart-Zero One some = tt
 AreApart-Zero (Pair l r) some = tt
 
 -- the normal form of normal halves is normal
-pub IsNormal-norm : (left right : Id) → IsNormal left → IsNormal right → IsNormal (norm left right)
+pub IsNormal-norm : (left right : Id) → IsNormalId left → IsNormalId right → IsNormalId (norm_id left right)
 IsNormal-norm Zero Zero n m = tt
 IsNormal-norm One One n m = tt
 IsNormal-norm Zero One n m = (n, m, tt)

@@ -1,7 +1,7 @@
 -- What the parts of a split own, and why they are normal.
 use Rattle.std.proofs.Common.{◌≡◌, ◌≢◌, ◌||◌, ◌&&◌, Bool, true, false, [], ◌∷◌, refl}
 use Rattle.trace_types.specs.clock.Points.{Left, Right}
-use Rattle.trace_types.specs.clock.Id.{Id, Zero, One, Pair, owns, AreApart, IsNormal}
+use Rattle.trace_types.specs.clock.Id.{Id, Zero, One, Pair, owns, AreApart, IsNormalId}
 use Rattle.trace_types.specs.clock.IdOperations.{split}
 use Rattle.id_tree.specs.Laws.{SharesOut}
 use Rattle.id_tree.proofs.Normal.{AreApart-sym, AreApart-Zero}
@@ -70,11 +70,11 @@ split-some (Pair (Pair l r) One) some = ((λ is. cc), (λ is. cc))
 split-some (Pair (Pair l r) (Pair l' r')) some = ((λ is. cc), (λ is. cc))
 
 -- nothing on the left and a normal id that owns a point on the right are a normal pair
-pub IsNormal-in_right : (id : Id) → IsNormal id → id ≢ Zero → IsNormal (Pair Zero id)
+pub IsNormal-in_right : (id : Id) → IsNormalId id → id ≢ Zero → IsNormalId (Pair Zero id)
 IsNormal-in_right id normal some = (tt, normal, AreApart-Zero id some)
 
 -- and so are they the other way round
-pub IsNormal-in_left : (id : Id) → IsNormal id → id ≢ Zero → IsNormal (Pair id Zero)
+pub IsNormal-in_left : (id : Id) → IsNormalId id → id ≢ Zero → IsNormalId (Pair id Zero)
 IsNormal-in_left id normal some = (normal, tt, AreApart-sym Zero id (AreApart-Zero id some))
 
 -- what is apart from nothing is something
@@ -85,10 +85,10 @@ some_right (Pair l r) apart is = cc
 
 -- two ids that are normal
 abbrev pub AreNormal : Id → Id → Type 0
-AreNormal a b = IsNormal a × IsNormal b
+AreNormal a b = IsNormalId a × IsNormalId b
 
 -- the same at a pair, where it holds of its halves
-IsNormal-split_pair : (left right : Id) → IsNormal (Pair left right) → AreNormal (split left).0 (split left).1 → AreNormal (split right).0 (split right).1 → AreNormal (split (Pair left right)).0 (split (Pair left right)).1
+IsNormal-split_pair : (left right : Id) → IsNormalId (Pair left right) → AreNormal (split left).0 (split left).1 → AreNormal (split right).0 (split right).1 → AreNormal (split (Pair left right)).0 (split (Pair left right)).1
 IsNormal-split_pair Zero right normal in_left in_right =
     let some = split-some right (some_right right normal.2) in
     (IsNormal-in_right (split right).0 in_right.0 some.0, IsNormal-in_right (split right).1 in_right.1 some.1)
@@ -102,7 +102,7 @@ IsNormal-split_pair (Pair l r) One normal in_left in_right = ((normal.0, tt, tt)
 IsNormal-split_pair (Pair l r) (Pair l' r') normal in_left in_right = ((normal.0, tt, tt), (tt, normal.1, tt))
 
 -- both parts of a split are normal
-pub IsNormal-split : (id : Id) → IsNormal id → AreNormal (split id).0 (split id).1
+pub IsNormal-split : (id : Id) → IsNormalId id → AreNormal (split id).0 (split id).1
 IsNormal-split Zero normal = (tt, tt)
 IsNormal-split One normal = ((tt, tt, tt), (tt, tt, tt))
 IsNormal-split (Pair left right) normal =

@@ -1,7 +1,7 @@
 -- What the sum of two ids owns, and when two ids are disjoint.
 use Rattle.std.proofs.Common.{◌≡◌, ◌≢◌, ◌↔◌, IsTrue, ◌||◌, Bool, true, false, [], ◌∷◌, refl, ◌∙◌}
 use Rattle.trace_types.specs.clock.Points.{Half, Left, Right, Point, at_half}
-use Rattle.trace_types.specs.clock.Id.{Id, Zero, One, Pair, owns, IsNormal, AreDisjoint}
+use Rattle.trace_types.specs.clock.Id.{Id, Zero, One, Pair, owns, IsNormalId, AreDisjoint}
 use Rattle.trace_types.specs.clock.IdOperations.{sum}
 use Rattle.id_tree.proofs.Ids.{owns-norm, owns-Pair, some_point}
 use Rattle.id_tree.proofs.Normal.{IsNormal-norm}
@@ -29,7 +29,7 @@ owns-sum (Pair l r) (Pair l' r') (Left ∷ point) = owns-norm (sum l l') (sum r 
 owns-sum (Pair l r) (Pair l' r') (Right ∷ point) = owns-norm (sum l l') (sum r r') (Right ∷ point) ∙ owns-sum r r' point
 
 -- the sum of normal ids is normal
-pub IsNormal-sum : (a b : Id) → IsNormal a → IsNormal b → IsNormal (sum a b)
+pub IsNormal-sum : (a b : Id) → IsNormalId a → IsNormalId b → IsNormalId (sum a b)
 IsNormal-sum Zero b n m = m
 IsNormal-sum One Zero n m = tt
 IsNormal-sum One One n m = tt
@@ -55,7 +55,7 @@ pub AreDisjoint-sym : (a b : Id) → AreDisjoint a b → AreDisjoint b a
 AreDisjoint-sym a b disjoint point in_b in_a = disjoint point in_a in_b
 
 -- everything overlaps each normal id that owns a point
-overlap-One : (id : Id) → IsNormal id → id ≢ Zero → IsTrue false ↔ AreDisjoint One id
+overlap-One : (id : Id) → IsNormalId id → id ≢ Zero → IsTrue false ↔ AreDisjoint One id
 overlap-One id normal some =
     let found = some_point true id normal some in
     ((λ never. cc), (λ disjoint. absurd (disjoint found.0 refl found.1)))
@@ -65,11 +65,11 @@ pub overlap-One-One : IsTrue false ↔ AreDisjoint One One
 overlap-One-One = overlap-One One tt (λ is. cc)
 
 -- everything and a normal pair
-pub overlap-One-Pair : (left right : Id) → IsNormal (Pair left right) → IsTrue false ↔ AreDisjoint One (Pair left right)
+pub overlap-One-Pair : (left right : Id) → IsNormalId (Pair left right) → IsTrue false ↔ AreDisjoint One (Pair left right)
 overlap-One-Pair left right normal = overlap-One (Pair left right) normal (λ is. cc)
 
 -- a normal pair and everything
-pub overlap-Pair-One : (left right : Id) → IsNormal (Pair left right) → IsTrue false ↔ AreDisjoint (Pair left right) One
+pub overlap-Pair-One : (left right : Id) → IsNormalId (Pair left right) → IsTrue false ↔ AreDisjoint (Pair left right) One
 overlap-Pair-One left right normal =
     let overlap = overlap-One-Pair left right normal in
     ((λ never. cc), (λ disjoint. overlap.1 (AreDisjoint-sym (Pair left right) One disjoint)))

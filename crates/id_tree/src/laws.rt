@@ -1,15 +1,15 @@
 //! What ids mean, point by point: each law is the contract of a function with an empty body.
 ghost use Rattle.std.specs.Prelude.{◌≡◌, ◌≢◌, ◌||◌};
 ghost use Rattle.trace_types.specs.clock.Points.{Point};
-ghost use Rattle.trace_types.specs.clock.Id.{Id, Zero, Pair, owns, AreDisjoint, IsNormal};
+ghost use Rattle.trace_types.specs.clock.Id.{Id, Zero, Pair, owns, AreDisjoint, IsNormalId};
 ghost use Rattle.id_tree.specs.Laws.{SharesOut, OwnTheSame};
-ghost use Rattle.trace_types.specs.clock.IdOperations.{norm, split, sum};
+ghost use Rattle.trace_types.specs.clock.IdOperations.{norm_id, split, sum};
 
 use crate::IdTree;
 
 /// Each tree is normal.
 pub fn each_tree_is_normal(id: &IdTree)
-    ensures { IsNormal id.now }
+    ensures { IsNormalId id.now }
 {
     let _parts = id.parts();
 }
@@ -26,7 +26,7 @@ pub fn split_parts_are_disjoint()
 
 /// The sum of the parts of a split is the id that was split.
 pub fn sum_undoes_split()
-    ensures { (id : Id) → IsNormal id → sum (split id).0 (split id).1 ≡ id }
+    ensures { (id : Id) → IsNormalId id → sum (split id).0 (split id).1 ≡ id }
 {}
 
 /// An id that owns a point is split into two that do.
@@ -36,7 +36,7 @@ pub fn split_gives_each_part_some()
 
 /// The parts of a normal id are normal.
 pub fn split_is_normal()
-    ensures { (id : Id) → IsNormal id → IsNormal (split id).0 × IsNormal (split id).1 }
+    ensures { (id : Id) → IsNormalId id → IsNormalId (split id).0 × IsNormalId (split id).1 }
 {}
 
 /// A sum owns what either id owns.
@@ -46,20 +46,20 @@ pub fn sum_owns_what_either_owns()
 
 /// The sum of normal ids is normal.
 pub fn sum_is_normal()
-    ensures { (a b : Id) → IsNormal a → IsNormal b → IsNormal (sum a b) }
+    ensures { (a b : Id) → IsNormalId a → IsNormalId b → IsNormalId (sum a b) }
 {}
 
 /// The normal form of a pair owns what the pair owns.
 pub fn norm_owns_what_the_pair_owns()
-    ensures { (left right : Id) → OwnTheSame (norm left right) (Pair left right) }
+    ensures { (left right : Id) → OwnTheSame (norm_id left right) (Pair left right) }
 {}
 
 /// The normal form of normal halves is normal.
 pub fn norm_is_normal()
-    ensures { (left right : Id) → IsNormal left → IsNormal right → IsNormal (norm left right) }
+    ensures { (left right : Id) → IsNormalId left → IsNormalId right → IsNormalId (norm_id left right) }
 {}
 
 /// Normal ids that own the same points are the same id.
 pub fn normal_ids_are_unique()
-    ensures { (a b : Id) → IsNormal a → IsNormal b → OwnTheSame a b → a ≡ b }
+    ensures { (a b : Id) → IsNormalId a → IsNormalId b → OwnTheSame a b → a ≡ b }
 {}

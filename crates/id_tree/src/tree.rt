@@ -1,7 +1,7 @@
 //! The tree of an id.
 ghost use Rattle.std.specs.Prelude.{◌≡◌, ◌≢◌, ◌↔◌, IfOk, IsTrue};
-ghost use Rattle.trace_types.specs.clock.Id.{Zero, One, Pair, AreApart, AreDisjoint, IsNormal};
-ghost use Rattle.trace_types.specs.clock.IdOperations.{norm, split, sum};
+ghost use Rattle.trace_types.specs.clock.Id.{Zero, One, Pair, AreApart, AreDisjoint, IsNormalId};
+ghost use Rattle.trace_types.specs.clock.IdOperations.{norm_id, split, sum};
 ghost use Rattle.id_tree.specs.Parts.{id_of_parts};
 
 use std::alloc::Global;
@@ -48,7 +48,7 @@ pub enum Parts<'a> {
 }
 
 impl Model for IdTree {
-    ghost use Rattle.trace_types.specs.clock.Id.{Id, IsNormal};
+    ghost use Rattle.trace_types.specs.clock.Id.{Id, IsNormalId};
     ghost use Rattle.id_tree.specs.IdCode.{id_code, pair_count};
 
     ghost Value = { Id };
@@ -59,7 +59,7 @@ impl Model for IdTree {
 
     ghost view = { λ tree. id_of tree.node };
 
-    ghost invariant = { λ tree. IsNormal (id_of tree.node) };
+    ghost invariant = { λ tree. IsNormalId (id_of tree.node) };
 
     ghost size = { pair_count };
 
@@ -100,7 +100,7 @@ impl IdTree {
     /// What the id is made of.
     pub fn parts(&self) -> Parts<'_>
         ensures exact { id_of_parts result ≡ self.now }
-        ensures normal { IsNormal self.now }
+        ensures normal { IsNormalId self.now }
     {
         match &self.node {
             Node::Zero => Parts::Zero,
@@ -113,7 +113,7 @@ impl IdTree {
     ///
     /// Takes one block at most. Where it is refused, both ids are lost.
     pub fn fork(alloc: Global, left: IdTree, right: IdTree) -> Result<IdTree, Memory>
-        ensures { IfOk result (λ id. id ≡ norm left right) }
+        ensures { IfOk result (λ id. id ≡ norm_id left right) }
     {
         if left.is_zero() && right.is_zero() {
             Ok(IdTree::zero())

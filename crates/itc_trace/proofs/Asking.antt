@@ -11,7 +11,7 @@ use Rattle.clap.specs.declared.parser.ArgMatches.{ArgMatches}
 use Rattle.trace_types.specs.tenant.Limits.{Limits, are_limits}
 use Rattle.trace_types.specs.text.Name.{Text, is_between, is_same}
 use Rattle.trace_types.specs.text.Reading.{number_of}
-use Rattle.itc_trace.specs.CommandLine.{Asked, Role, Tenant, Events, Tasks, Messages, Part, asked_by, asked_in, asked_with, is_plain, is_role, limit_by, limits_by, limits_of, number_up_to, option_named, parts_after, words_for}
+use Rattle.itc_trace.specs.CommandLine.{AskedReplay, Role, Tenant, Events, Tasks, Messages, Part, replay_asked_by, asked_in, asked_with, is_plain, is_role, limit_by, limits_by, limits_of, number_up_to, option_named, parts_after, words_for}
 use Rattle.itc_trace.specs.Reading.{Has, amount_in, limits_found, limits_in, program_app, tenants_found}
 use Rattle.itc_trace.proofs.CommandLine.{Fits, FitsOnce, finds, id_of, row_of, simple, spelled, spelled_with, takes_parts}
 use Rattle.itc_trace.proofs.Rows.{row_in}
@@ -164,7 +164,7 @@ amounts rows limits e = go (limits_of (amount_in (codes "events") 4096 rows) (am
 -- ---- what is asked for
 
 -- how words ask for it
-pub record AsksFor (words : List Text) (asked : Asked) : Type 0 where
+pub record AsksFor (words : List Text) (asked : AskedReplay) : Type 0 where
   pub parts : List Part
   pub words_are : words ≡ codes "replay" ∷ spelled parts
   pub tenant : Text
@@ -176,13 +176,13 @@ pub record AsksFor (words : List Text) (asked : Asked) : Type 0 where
   pub tasks : limit_by 512 2048 (words_for Tasks parts) ≡ Some asked.limits.tasks
   pub messages : limit_by 2048 16384 (words_for Messages parts) ≡ Some asked.limits.messages
 
-asks_with : (tenants : List Text) (limits : Limits) (asked : Asked) → asked_with tenants limits ≡ Some asked
+asks_with : (tenants : List Text) (limits : Limits) (asked : AskedReplay) → asked_with tenants limits ≡ Some asked
     → (first : Text) × (others : List Text) × (tenants ≡ first ∷ others) × (asked.tenants ≡ tenants) × (limits ≡ asked.limits)
 asks_with [] limits asked e = cc
 asks_with (first ∷ others) limits asked e =
-    let is = some_same e in (first, others, refl, sym (ap (λ (a : Asked). a.tenants) is), ap (λ (a : Asked). a.limits) is)
+    let is = some_same e in (first, others, refl, sym (ap (λ (a : AskedReplay). a.tenants) is), ap (λ (a : AskedReplay). a.limits) is)
 
-asks_for : (first : Text) (words : List Text) (asked : Asked) → asked_in (first ∷ words) ≡ Some asked → AsksFor (first ∷ words) asked
+asks_for : (first : Text) (words : List Text) (asked : AskedReplay) → asked_in (first ∷ words) ≡ Some asked → AsksFor (first ∷ words) asked
 asks_for first words asked e = go (is_same first (codes "replay")) refl e
   where
     by_limits : (parts : List Part) → first ≡ codes "replay" → Spelled words parts → (limits : Limits) → limits_by parts ≡ Some limits
@@ -209,24 +209,24 @@ asks_for first words asked e = go (is_same first (codes "replay")) refl e
     by_parts parts is_first is None by e = cc
     by_parts parts is_first is (Some limits) by e = by_limits parts is_first is limits by e
 
-    read : (after : Option (List Part)) → parts_after None words ≡ after → first ≡ codes "replay" → option_and_then asked_by after ≡ Some asked → AsksFor (first ∷ words) asked
+    read : (after : Option (List Part)) → parts_after None words ≡ after → first ≡ codes "replay" → option_and_then replay_asked_by after ≡ Some asked → AsksFor (first ∷ words) asked
     read None of is_first e = cc
     read (Some parts) of is_first e = by_parts parts is_first (spelled_by None words parts tt of) (limits_by parts) refl e
 
-    go : (b : Bool) → is_same first (codes "replay") ≡ b → (if b then option_and_then asked_by (parts_after None words) else None) ≡ Some asked → AsksFor (first ∷ words) asked
+    go : (b : Bool) → is_same first (codes "replay") ≡ b → (if b then option_and_then replay_asked_by (parts_after None words) else None) ≡ Some asked → AsksFor (first ∷ words) asked
     go true same e = read (parts_after None words) refl ((bytes_eq-Decides first (codes "replay")).0 same) e
     go false same e = cc
 
 -- words that ask for a replay
-pub asks : (words : List Text) (P : Asked → Type 0) → ((asked : Asked) → AsksFor words asked → P asked) → IfSome (asked_in words) P
+pub asks : (words : List Text) (P : AskedReplay → Type 0) → ((asked : AskedReplay) → AsksFor words asked → P asked) → IfSome (asked_in words) P
 asks [] P holds = tt
 asks (first ∷ words) P holds = go (asked_in (first ∷ words)) refl
   where
-    go : (o : Option Asked) → asked_in (first ∷ words) ≡ o → IfSome o P
+    go : (o : Option AskedReplay) → asked_in (first ∷ words) ≡ o → IfSome o P
     go None is = tt
     go (Some asked) is = holds asked (asks_for first words asked is)
 
-fits_of : (words : List Text) (asked : Asked) (asks : AsksFor words asked) (role : Role) → Fits role (words_for role asks.parts)
+fits_of : (words : List Text) (asked : AskedReplay) (asks : AsksFor words asked) (role : Role) → Fits role (words_for role asks.parts)
 fits_of words asked asks Tenant = asks.plain
 fits_of words asked asks Events = limit_fits 4096 16384 (words_for Events asks.parts) asked.limits.events asks.events
 fits_of words asked asks Tasks = limit_fits 512 2048 (words_for Tasks asks.parts) asked.limits.tasks asks.tasks
@@ -243,14 +243,14 @@ few_parts (part ∷ parts) = go part.role (few_parts parts)
     go Tasks rest = omega arith
     go Messages rest = omega arith
 
-few_of : (words : List Text) (asked : Asked) (asks : AsksFor words asked) → length words ≤ usize_max → length asks.parts ≤ usize_max
+few_of : (words : List Text) (asked : AskedReplay) (asks : AsksFor words asked) → length words ≤ usize_max → length asks.parts ≤ usize_max
 few_of words asked asks bound =
     let longer = few_parts asks.parts in
     let length_is : length words ≡ suc (length (spelled asks.parts)) = ap length asks.words_are in
     omega arith
 
 -- it is found
-found : (words : List Text) (asked : Asked) → AsksFor words asked → length words ≤ usize_max → Has (subcommand_of program_app words) asked
+found : (words : List Text) (asked : AskedReplay) → AsksFor words asked → length words ≤ usize_max → Has (subcommand_of program_app words) asked
 found words asked asks bound =
     let is = finds asks.parts (fits_of words asked asks) (few_of words asked asks bound) in
     let found_is = ap (subcommand_of program_app) asks.words_are ∙ is.1 in (
@@ -274,13 +274,13 @@ found words asked asks bound =
         (limit_within 2048 16384 (words_for Messages asks.parts) asked.limits.messages refl asks.messages)
 
 -- the matches of a parse have what is asked for
-pub has_asked : (app : App) (words : List Text) (matches : ArgMatches) (asked : Asked) → app ≡ program_app → AsksFor words asked → length words ≤ usize_max
+pub has_asked : (app : App) (words : List Text) (matches : ArgMatches) (asked : AskedReplay) → app ≡ program_app → AsksFor words asked → length words ≤ usize_max
     → HasMatchesOf app words matches → Has (subcommand_rows_of matches) asked
 has_asked app words matches asked app_is asks bound has =
     subst (λ rows. Has rows asked) (sym ((has (ap is_simple app_is ∙ simple)).1 ∙ ap (λ a. subcommand_of a words) app_is)) (found words asked asks bound)
 
 -- and the words are taken
-pub takes_asked : (app : App) (words : List Text) (asked : Asked) → app ≡ program_app → AsksFor words asked → length words ≤ usize_max → takes app words ≡ true
+pub takes_asked : (app : App) (words : List Text) (asked : AskedReplay) → app ≡ program_app → AsksFor words asked → length words ≤ usize_max → takes app words ≡ true
 takes_asked app words asked app_is asks bound =
     ap₂ takes app_is asks.words_are
     ∙ takes_parts asks.parts asks.tenant asks.tenants asks.tenants_are (fits_of words asked asks) (few_of words asked asks bound)

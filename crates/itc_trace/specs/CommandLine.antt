@@ -7,7 +7,7 @@ use Rattle.trace_types.specs.text.Reading.{number_of}
 use Rattle.trace_world.specs.Tenants.{can_be_tenants}
 
 -- what a replay is asked for: the limits that each tenant has, and the tenants
-pub record Asked : Type 0 where
+pub record AskedReplay : Type 0 where
   pub limits : Limits
   pub tenants : List Text
 
@@ -84,18 +84,18 @@ limits_by parts = limits_of (limit_by default_limits.events 16384 (words_for Eve
     (limit_by default_limits.tasks 2048 (words_for Tasks parts)) (limit_by default_limits.messages 16384 (words_for Messages parts))
 
 -- what these limits and tenants ask for, where there is a tenant
-abbrev pub asked_with : List Text → Limits → Option Asked
+abbrev pub asked_with : List Text → Limits → Option AskedReplay
 asked_with [] limits = None
 asked_with tenants limits = Some (record { limits = limits; tenants = tenants })
 
 -- what the parts ask for
-abbrev pub asked_by : List Part → Option Asked
-asked_by parts = option_and_then (asked_with (words_for Tenant parts)) (limits_by parts)
+abbrev pub replay_asked_by : List Part → Option AskedReplay
+replay_asked_by parts = option_and_then (asked_with (words_for Tenant parts)) (limits_by parts)
 
 -- what the words ask for, where they are `replay` and then options, each with its number, and tenants
-abbrev pub asked_in : List Text → Option Asked
+abbrev pub asked_in : List Text → Option AskedReplay
 asked_in [] = None
-asked_in (first ∷ words) = if is_same first (codes "replay") then option_and_then asked_by (parts_after None words) else None
+asked_in (first ∷ words) = if is_same first (codes "replay") then option_and_then replay_asked_by (parts_after None words) else None
 
 -- whether these tenants are taken: they can be those of a world, and each is a name
 abbrev pub are_taken : List Text → Bool

@@ -19,13 +19,13 @@ status_of TooLong = 3
 status_of Memory = 4
 
 -- the line on standard error
-abbrev pub line_of : Fault → List ℕ
-line_of Words = codes "itc_trace: words\n"
-line_of Tenants = codes "itc_trace: tenants\n"
-line_of Read = codes "itc_trace: read fault\n"
-line_of Write = codes "itc_trace: write fault\n"
-line_of TooLong = codes "itc_trace: input too long\n"
-line_of Memory = codes "itc_trace: no memory\n"
+abbrev pub line_of_fault : Fault → List ℕ
+line_of_fault Words = codes "itc_trace: words\n"
+line_of_fault Tenants = codes "itc_trace: tenants\n"
+line_of_fault Read = codes "itc_trace: read fault\n"
+line_of_fault Write = codes "itc_trace: write fault\n"
+line_of_fault TooLong = codes "itc_trace: input too long\n"
+line_of_fault Memory = codes "itc_trace: no memory\n"
 
 -- the program's fault where no world is made
 abbrev pub fault_of_world : WorldFault → Fault

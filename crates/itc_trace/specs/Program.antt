@@ -10,8 +10,8 @@ use Rattle.line_protocol.specs.Writing.{WritesFront, EndsInFault}
 use Rattle.trace_world.specs.Replayed.{Replays, ReplaysInPart}
 use Rattle.trace_world.specs.declared.counts.Counts.{Counts}
 use Rattle.trace_world.specs.declared.replay_fault.ReplayFault.{ReplayFault}
-use Rattle.itc_trace.specs.CommandLine.{Asked, are_taken}
-use Rattle.itc_trace.specs.Fault.{line_of, fault_of_replay}
+use Rattle.itc_trace.specs.CommandLine.{AskedReplay, are_taken}
+use Rattle.itc_trace.specs.Fault.{line_of_fault, fault_of_replay}
 use Rattle.itc_trace.specs.declared.fault.Fault.{Fault}
 use Rattle.itc_trace.specs.declared.fault.Fault.TheVariants.{Tenants, Read, Write, TooLong}
 
@@ -71,8 +71,8 @@ Shows before after text =
     ⊎ (WritesFront before.bytes after.bytes text × EndsInFault before after)
 
 -- The line of a fault was shown.
-abbrev pub Tells : Taken → Taken → Fault → Type 0
-Tells before after fault = Shows before after (line_of fault)
+abbrev pub TellsFault : Taken → Taken → Fault → Type 0
+TellsFault before after fault = Shows before after (line_of_fault fault)
 
 -- Some text was shown, the whole of it.
 abbrev pub ShowsSomeAll : Taken → Taken → Type 0
@@ -86,9 +86,9 @@ ShowsSome before after = (text : Text) × (0 < length text) × Shows before afte
 -- before; and then the line says so.
 abbrev pub RefusesTenants : Bool → Taken → Taken → ℕ → Type 0
 RefusesTenants true before after status = status ≢ 2
-RefusesTenants false before after status = ((status ≡ 2) × Tells before after Tenants) ⊎ (status ≡ 4)
+RefusesTenants false before after status = ((status ≡ 2) × TellsFault before after Tenants) ⊎ (status ≡ 4)
 
 -- What a run that fails leaves: the fault's cause, and in part the replay that is asked for.
-abbrev pub BreaksOff : (before after : Given) (taken taken' : Taken) → Option Asked → Fault → Type 0
+abbrev pub BreaksOff : (before after : Given) (taken taken' : Taken) → Option AskedReplay → Fault → Type 0
 BreaksOff before after taken taken' asked fault = IsFailure before after taken taken' fault
     × IfSome asked (λ wanted. ReplaysFreshInPart fault wanted.limits wanted.tenants before after taken taken')

@@ -10,7 +10,7 @@ use Rattle.clap.specs.declared.builder.ArgAction.TheVariants.{Append, Set}
 use Rattle.clap.specs.declared.builder.value_parser.ValueParser.TheVariants as parser
 use Rattle.trace_types.specs.tenant.Limits.{Limits, are_limits, default_limits}
 use Rattle.trace_types.specs.text.Reading.{number_of}
-use Rattle.itc_trace.specs.CommandLine.{Asked as Wanted, limits_of}
+use Rattle.itc_trace.specs.CommandLine.{AskedReplay as Wanted, limits_of}
 use Rattle.itc_trace.specs.declared.words.Asked.{Asked}
 use Rattle.itc_trace.specs.declared.words.Asked.TheVariants.{Replay, Show}
 use Rattle.itc_trace.specs.declared.words.Replay.{Replay as Replays}
@@ -83,8 +83,8 @@ abbrev pub tenants_found : Option (Text × List Row) → Option (List Text)
 tenants_found = option_and_then (λ found. all_of (codes "TENANT") found.1)
 
 -- What was found has these tenants, if it has any.
-abbrev pub Finds : Option (Text × List Row) → List Text → Type 0
-Finds found tenants = (names : List Text) → tenants_found found ≡ Some names → tenants ≡ names
+abbrev pub FindsTenants : Option (Text × List Row) → List Text → Type 0
+FindsTenants found tenants = (names : List Text) → tenants_found found ≡ Some names → tenants ≡ names
 
 -- the number of the option of this name, and this one by default
 abbrev pub amount_in : Text → ℕ → List Row → Option ℕ
@@ -113,8 +113,8 @@ abbrev pub wanted_of : Replays → Wanted
 wanted_of replay = record { limits = replay.limits; tenants = map string_bytes replay.tenants.items }
 
 -- What is asked for was read, if there was memory.
-abbrev pub Reads : Wanted → Result Asked Refusal → Type 0
-Reads asked (Ok (Replay replay)) = wanted_of replay ≡ asked
-Reads asked (Ok (Show text)) = ⊥
-Reads asked (Err (Words text)) = ⊥
-Reads asked (Err Memory) = Unit {0}
+abbrev pub ReadsWords : Wanted → Result Asked Refusal → Type 0
+ReadsWords asked (Ok (Replay replay)) = wanted_of replay ≡ asked
+ReadsWords asked (Ok (Show text)) = ⊥
+ReadsWords asked (Err (Words text)) = ⊥
+ReadsWords asked (Err Memory) = Unit {0}

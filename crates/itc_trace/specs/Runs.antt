@@ -5,7 +5,7 @@ use Rattle.line_protocol.specs.Source.{Given}
 use Rattle.line_protocol.specs.Sink.{Taken}
 use Rattle.itc_trace.specs.CommandLine.{asked_in, are_taken}
 use Rattle.itc_trace.specs.Reading.{AsksForHelp, MayBeRefused, kinds_of}
-use Rattle.itc_trace.specs.Program.{BreaksOff, GoesThrough, IsUntouched, RefusesTenants, ReplaysFresh, ReplaysSome, ReplaysSomeInPart, ShowsSome, ShowsSomeAll, Tells}
+use Rattle.itc_trace.specs.Program.{BreaksOff, GoesThrough, IsUntouched, RefusesTenants, ReplaysFresh, ReplaysSome, ReplaysSomeInPart, ShowsSome, ShowsSomeAll, TellsFault}
 use Rattle.itc_trace.specs.declared.fault.Fault.{Fault}
 use Rattle.itc_trace.specs.declared.fault.Fault.TheVariants.{Memory, Write}
 
@@ -20,7 +20,7 @@ pub record Runs {R W E : Type 0} (given : R → Given) (taken : W → Taken) (to
   -- Where the words ask for a replay, its tenants alone decide whether they are refused, and the line says so.
   pub tenants_refused : IfSome (asked_in words) (λ asked. RefusesTenants (are_taken asked.tenants) (told errors) (told errors') status)
   -- Status 4: nothing was read, and nothing written on the output.
-  pub memory : status ≡ 4 → IsUntouched reader reader' writer writer' × Tells (told errors) (told errors') Memory
+  pub memory : status ≡ 4 → IsUntouched reader reader' writer writer' × TellsFault (told errors) (told errors') Memory
   -- Status 0: no read or write failed, and all that was written was handed on. Help was asked for and the whole of it
   -- shown, and nothing was read; or the words are taken, and all lines of some tenants were replayed.
   pub done : status ≡ 0 → (errors' ≡ errors)
@@ -34,6 +34,6 @@ pub record Runs {R W E : Type 0} (given : R → Given) (taken : W → Taken) (to
   -- write of the help failed; or the words are taken, and the lines of some tenants were replayed in part.
   pub broken_off : (status ≢ 0) × (status ≢ 2) × (status ≢ 4) → (status ≡ 3) × (fault : Fault)
       × BreaksOff (given reader) (given reader') (taken writer) (taken writer') (asked_in words) fault
-      × Tells (told errors) (told errors') fault
+      × TellsFault (told errors) (told errors') fault
       × ((AsksForHelp (kinds_of words) × (reader' ≡ reader) × (fault ≡ Write) × ShowsSome (taken writer) (taken writer'))
       ⊎ ((kinds_of words ≡ []) × ReplaysSomeInPart fault (given reader) (given reader') (taken writer) (taken writer')))

@@ -1,7 +1,7 @@
 //! Why the program does not do what it was asked.
 ghost use Rattle.std.specs.Prelude.{◌≡◌};
-ghost use Rattle.itc_trace.specs.Fault.{status_of, line_of, fault_of_world, fault_of_replay};
-ghost use Rattle.itc_trace.specs.Program.{Tells};
+ghost use Rattle.itc_trace.specs.Fault.{status_of, line_of_fault, fault_of_world, fault_of_replay};
+ghost use Rattle.itc_trace.specs.Program.{TellsFault};
 
 use line_protocol::{Sink, flush, write_bytes};
 use trace_types::WorldFault;
@@ -34,7 +34,7 @@ impl Fault {
 
     /// The line on standard error.
     fn line(self) -> &'static str
-        ensures { result.now ≡ line_of self }
+        ensures { result.now ≡ line_of_fault self }
     {
         match self {
             Fault::Words => "itc_trace: words\n",
@@ -49,7 +49,7 @@ impl Fault {
     /// Writes the fault's line, hands it on, and answers its status. Where that fails the status tells alone.
     pub(crate) fn tell<E: Sink>(self, errors: &mut E) -> u8
         ensures status { result ≡ status_of self }
-        ensures told { Tells (E.seen errors.old) (E.seen errors.new) self }
+        ensures told { TellsFault (E.seen errors.old) (E.seen errors.new) self }
     {
         if write_bytes(errors, self.line().as_bytes()).is_ok() {
             let _ = flush(errors);

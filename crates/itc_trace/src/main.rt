@@ -11,7 +11,7 @@ ghost use Rattle.std.specs.Prelude.{◌≡◌, drop, map, IfOk, IfErr, string_by
 ghost use Rattle.std.specs.IoError.{error_kind};
 ghost use Rattle.std.specs.Process.{exit_status};
 ghost use Rattle.itc_trace.specs.Fault.{fault_of_words, status_of};
-ghost use Rattle.itc_trace.specs.Program.{IsUntouched, Tells};
+ghost use Rattle.itc_trace.specs.Program.{IsUntouched, TellsFault};
 ghost use Rattle.itc_trace.specs.Runs.{Runs};
 
 mod fault;
@@ -56,7 +56,7 @@ fn start<T: AllocGlobal, R: Source, W: Sink, E: Sink>(
     ensures run { IfOk words (λ words. Runs R.seen W.seen E.seen (map string_bytes (drop 1 words.items))
         (exit_status result) reader.old reader.new writer.old writer.new errors.old errors.new) }
     ensures no_words { IfErr words (λ error. (exit_status result ≡ status_of (fault_of_words (error_kind error)))
-        × Tells (E.seen errors.old) (E.seen errors.new) (fault_of_words (error_kind error))
+        × TellsFault (E.seen errors.old) (E.seen errors.new) (fault_of_words (error_kind error))
         × IsUntouched reader.old reader.new writer.old writer.new) }
 {
     let status = match words {

@@ -2,8 +2,8 @@
 ghost use Rattle.std.specs.Prelude.{◌≡◌, ℕ, false, [], Some, Err, map, IfOk, IfErr, IfSome, string_bytes};
 ghost use Rattle.clap.specs.Words.{app_of, found_of, kind_of, rows_of, rule_of, subcommand_rows_of};
 ghost use Rattle.clap.specs.declared.builder.Command.TheViews.{out-Command as fields_of};
-ghost use Rattle.itc_trace.specs.CommandLine.{Asked as Wanted, asked_in};
-ghost use Rattle.itc_trace.specs.Reading.{Finds, FindsLimits, Has, IsAnswer, IsToldOf, Reads, amount_in, kinds_of, limit_rule, program_app, replay_app, tenant_rule};
+ghost use Rattle.itc_trace.specs.CommandLine.{AskedReplay as Wanted, asked_in};
+ghost use Rattle.itc_trace.specs.Reading.{FindsTenants, FindsLimits, Has, IsAnswer, IsToldOf, ReadsWords, amount_in, kinds_of, limit_rule, program_app, replay_app, tenant_rule};
 
 use clap::builder::ValueParser;
 use clap::error::ErrorKind;
@@ -150,7 +150,7 @@ fn limit<'a>(alloc: Global, name: &'a str, help: &'a str, most: u64) -> Arg<'a>
 /// `--messages N` once at most, with a whole number in its range.
 pub(crate) fn read_words<S: AsStr>(alloc: Global, words: &[S]) -> Result<Asked, Refusal>
     // Limits and tenants are read as they stand, and want of memory alone prevents it.
-    ensures asked { IfSome (asked_in (map S.text words.now)) (λ asked. Reads asked result) }
+    ensures asked { IfSome (asked_in (map S.text words.now)) (λ asked. ReadsWords asked result) }
     // Whatever the words are, help is shown only where it is asked for.
     ensures kinds { IsAnswer (kinds_of (map S.text words.now)) result }
 {
@@ -162,7 +162,7 @@ pub(crate) fn read_words<S: AsStr>(alloc: Global, words: &[S]) -> Result<Asked, 
 
 /// What was found.
 fn asked_of(alloc: Global, matches: &ArgMatches) -> Result<Asked, Refusal>
-    ensures asked { (asked : Wanted) → Has (subcommand_rows_of matches.now) asked → Reads asked result }
+    ensures asked { (asked : Wanted) → Has (subcommand_rows_of matches.now) asked → ReadsWords asked result }
     ensures kinds { IsAnswer [] result }
 {
     let tenants = tenants_of(alloc, matches)?;
@@ -174,7 +174,7 @@ fn asked_of(alloc: Global, matches: &ArgMatches) -> Result<Asked, Refusal>
 
 /// The tenants that were found.
 fn tenants_of(alloc: Global, matches: &ArgMatches) -> Result<Vec<String>, Refusal>
-    ensures ok { IfOk result (λ tenants. Finds (subcommand_rows_of matches.now) (map string_bytes tenants.items)) }
+    ensures ok { IfOk result (λ tenants. FindsTenants (subcommand_rows_of matches.now) (map string_bytes tenants.items)) }
     ensures err { IfErr result (λ refusal. refusal ≡ Refusal.Memory) }
 {
     let Some((_, replay)) = matches.subcommand() else {

@@ -4,40 +4,40 @@ use Rattle.line_protocol.specs.Source.{Given}
 use Rattle.line_protocol.specs.Sink.{Taken}
 
 -- how a call ended: 0 it moved bytes, 1 it moved none of some, 2 it failed, 3 it was interrupted, 4 it flushed
-pub record Call : Type 0 where
+pub record EdgeCall : Type 0 where
   pub ending : ℕ
   pub bytes : List ℕ
 
-abbrev pub call_of : List ℕ → List ℕ → Call
-call_of ending bytes = record { ending = slice_index ending 0; bytes = bytes }
+abbrev pub edge_call_of : List ℕ → List ℕ → EdgeCall
+edge_call_of ending bytes = record { ending = slice_index ending 0; bytes = bytes }
 
 -- all bytes that were moved
-abbrev pub bytes_moved : List Call → List ℕ
+abbrev pub bytes_moved : List EdgeCall → List ℕ
 bytes_moved [] = []
 bytes_moved (call ∷ earlier) = bytes_moved earlier ++ call.bytes
 
 -- whether the last call moved none of some bytes
-abbrev pub is_last_empty : List Call → Bool
+abbrev pub is_last_empty : List EdgeCall → Bool
 is_last_empty [] = false
 is_last_empty (call ∷ earlier) = call.ending == 1
 
 -- whether the last call flushed
-abbrev pub is_last_flush : List Call → Bool
+abbrev pub is_last_flush : List EdgeCall → Bool
 is_last_flush [] = false
 is_last_flush (call ∷ earlier) = call.ending == 4
 
 -- how many calls ended so
-abbrev pub endings : ℕ → List Call → ℕ
+abbrev pub endings : ℕ → List EdgeCall → ℕ
 endings ending [] = 0
 endings ending (call ∷ earlier) = endings ending earlier + (if call.ending == ending then 1 else 0)
 
 -- how many calls there were
-abbrev pub call_count : List Call → ℕ
+abbrev pub call_count : List EdgeCall → ℕ
 call_count [] = 0
 call_count (call ∷ earlier) = call_count earlier + 1
 
 -- what was seen of a reader
-abbrev pub given_by : List Call → Given
+abbrev pub given_by : List EdgeCall → Given
 given_by calls = record {
   bytes = bytes_moved calls;
   has_ended = is_last_empty calls;
@@ -48,7 +48,7 @@ given_by calls = record {
 }
 
 -- what was seen of a writer
-abbrev pub taken_by : List Call → Taken
+abbrev pub taken_by : List EdgeCall → Taken
 taken_by calls = record {
   bytes = bytes_moved calls;
   is_flushed = is_last_flush calls;

@@ -1,7 +1,7 @@
 //! The calls that were made, which only clauses read.
 ghost use Rattle.std.specs.Prelude.{◌≡◌, List, [], ◌∷◌};
 ghost use Rattle.std.specs.Borrow.{ftrue};
-ghost use Rattle.line_protocol.specs.Calls.{Call, call_of};
+ghost use Rattle.line_protocol.specs.Calls.{EdgeCall, edge_call_of};
 ghost use Rattle.line_protocol.specs.Endings.{count_ending, flush_ending};
 
 use crate::Stop;
@@ -11,7 +11,7 @@ use std::marker::{Model, PhantomData};
 #[derive(Drop)]
 pub struct Log {
     marker: PhantomData<u8>,
-    pub ghost calls: { List Call },
+    pub ghost calls: { List EdgeCall },
 }
 
 impl Model for Log {
@@ -30,7 +30,7 @@ impl Log {
 
     /// Notes a call: one number that says how it ended, and the bytes that it moved.
     pub(crate) fn note(&mut self, _ending: &[u64], _bytes: &[u8])
-        ensures { self.new.calls ≡ call_of _ending.now _bytes.now ∷ self.old.calls }
+        ensures { self.new.calls ≡ edge_call_of _ending.now _bytes.now ∷ self.old.calls }
     {}
 }
 

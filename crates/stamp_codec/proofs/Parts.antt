@@ -2,8 +2,8 @@
 use Rattle.std.proofs.Common.{◌≡◌, ◌≢◌, ◌⊎◌, ℕ, ◌+◌, ◌-◌, ◌*◌, ◌<◌, ◌≤◌, inl, inr, min, true, false, List, [], ◌∷◌, ◌++◌, length, drop, get_or, refl, sym, ap, ◌∙◌, append_assoc, arith, length-append}
 use Rattle.std.proofs.lemmas.Bool.{le-leb, lt-leb, cases_lt}
 use Rattle.trace_types.specs.clock.Id.{Id, Zero, One, Pair}
-use Rattle.stamp_codec.specs.StampText.{Written, Number, Fork, HasNumbers, IsNumber, AreDigits, id_text, written_text, read_on, number_of}
-use Rattle.stamp_codec.specs.Scan.{is_digit}
+use Rattle.stamp_codec.specs.StampText.{Written, Number, Fork, HasNumbers, IsWrittenNumber, AreDigits, id_text, written_text, read_on, number_written}
+use Rattle.stamp_codec.specs.Scan.{is_digit_byte}
 use Rattle.stamp_codec.specs.Walks.{greatest_number, leading, EndsDigits, BeginsTree}
 
 -- equal lists have equal first elements, and equal rests
@@ -19,7 +19,7 @@ pair_text-append left right after =
     append_assoc left (44 ∷ (right ++ (41 ∷ []))) after ∙ ap (λ t. left ++ (44 ∷ t)) (append_assoc right (41 ∷ []) after)
 
 -- no number begins with a parenthesis
-pub number_first : (first : ℕ) (others : List ℕ) → IsNumber (first ∷ others) → first ≢ 40
+pub number_first : (first : ℕ) (others : List ℕ) → IsWrittenNumber (first ∷ others) → first ≢ 40
 number_first first others (inl zero) is = omega (arith, zero.0)
 number_first first others (inr more) is = omega (arith, more.0)
 
@@ -82,30 +82,30 @@ at_second first found second one other rest start first_start second_start first
     (is, omega (arith, end, at, ap (λ t. length t) is, ap (λ t. length t) first_is, length-append one (44 ∷ (other ++ (41 ∷ rest)))))
 
 -- the digits of a number are digits
-pub AreDigits-number : (digits : List ℕ) → IsNumber digits → AreDigits digits
+pub AreDigits-number : (digits : List ℕ) → IsWrittenNumber digits → AreDigits digits
 AreDigits-number [] number = absurd number
 AreDigits-number (d ∷ digits) (inl zero) = (omega (arith, zero.0), omega (arith, zero.0), rw zero.1 tt)
 AreDigits-number (d ∷ digits) (inr more) = (omega (arith, more.0), more.1, more.2)
 
 -- the test for a digit, and what it says
-pub digit_test : (byte : ℕ) → (48 ≤ byte) × (byte ≤ 57) → is_digit byte ≡ true
+pub digit_test : (byte : ℕ) → (48 ≤ byte) × (byte ≤ 57) → is_digit_byte byte ≡ true
 digit_test byte digit = rw (le-leb 48 byte digit.0, le-leb byte 57 digit.1) refl
 
-other_test : (byte : ℕ) → (byte < 48) ⊎ (57 < byte) → is_digit byte ≡ false
+other_test : (byte : ℕ) → (byte < 48) ⊎ (57 < byte) → is_digit_byte byte ≡ false
 other_test byte (inl low) = rw (lt-leb 48 byte low) refl
 other_test byte (inr high) = rw (le-leb 48 byte (omega arith), lt-leb byte 57 high) refl
 
-digit_or_not : (byte : ℕ) → ((48 ≤ byte) × (byte ≤ 57)) ⊎ (is_digit byte ≡ false)
+digit_or_not : (byte : ℕ) → ((48 ≤ byte) × (byte ≤ 57)) ⊎ (is_digit_byte byte ≡ false)
 digit_or_not byte =
     elim (cases_lt byte 48) [
       | inl low ↦ inr (other_test byte (inl low))
       | inr high ↦ elim (cases_lt 57 byte) [ inl above ↦ inr (other_test byte (inr above)) | inr below ↦ inl (high, below) ]
     ]
 
-pub digit_true : (byte : ℕ) → is_digit byte ≡ true → (48 ≤ byte) × (byte ≤ 57)
+pub digit_true : (byte : ℕ) → is_digit_byte byte ≡ true → (48 ≤ byte) × (byte ≤ 57)
 digit_true byte is = elim (digit_or_not byte) [ inl digit ↦ digit | inr other ↦ let clash : false ≡ true = sym other ∙ is in cc ]
 
-no_digit : (byte : ℕ) → ((48 ≤ byte) × (byte ≤ 57) → ⊥) → is_digit byte ≡ false
+no_digit : (byte : ℕ) → ((48 ≤ byte) × (byte ≤ 57) → ⊥) → is_digit_byte byte ≡ false
 no_digit byte stops = elim (digit_or_not byte) [ inl digit ↦ absurd (stops digit) | inr other ↦ other ]
 
 -- a number read on from what fits is the whole number, as far as it fits
@@ -116,8 +116,8 @@ leading_on n m (d ∷ digits) rest is are ends =
     rw (digit_test d (are.0, are.1)) (leading_on (min (min (n * 10) greatest_number + (d - 48)) greatest_number) (m * 10 + (d - 48)) digits rest (omega (arith, is)) are.2 ends)
 
 -- the number at the front, and what is behind it
-pub number_is : (text digits rest : List ℕ) (number : ℕ) (found : List ℕ) → text ≡ digits ++ rest → IsNumber digits → EndsDigits rest → (number, found) ≡ leading 0 text →
-    (number ≡ min (number_of digits) greatest_number) × (found ≡ rest)
+pub number_is : (text digits rest : List ℕ) (number : ℕ) (found : List ℕ) → text ≡ digits ++ rest → IsWrittenNumber digits → EndsDigits rest → (number, found) ≡ leading 0 text →
+    (number ≡ min (number_written digits) greatest_number) × (found ≡ rest)
 number_is text digits rest number found whole is_number ends is =
     let same = is ∙ ap (λ t. leading 0 t) whole ∙ leading_on 0 0 digits rest refl (AreDigits-number digits is_number) ends in
     (ap (λ p. p.0) same, ap (λ p. p.1) same)

@@ -8,7 +8,7 @@ use Rattle.trace_types.specs.clock.Id.{Id, Zero, One, Pair}
 use Rattle.trace_types.specs.clock.Id as ids
 use Rattle.trace_types.specs.clock.EventTree.{EventTree, Leaf, Node, maximum, IsNormal}
 use Rattle.event_tree.specs.Height.{height}
-use Rattle.stamp_codec.specs.StampText.{Written, Number, Fork, HasNumbers, IsNumber, AreDigits, id_text, tree_text, stamp_text, written_text, read_on, number_of, tree_of}
+use Rattle.stamp_codec.specs.StampText.{Written, Number, Fork, HasNumbers, IsWrittenNumber, AreDigits, id_text, tree_text, stamp_as_text, written_text, read_on, number_written, written_tree}
 use Rattle.stamp_codec.specs.Faults.{most_nested, greatest_sum, tree_start, IsIdTooDeepAt, IsTreeTooLargeAt, IsTooLargeAt, IsIdNotNormalAt, IsTreeNotNormalAt, IsNotNormalAt}
 use Rattle.stamp_codec.proofs.Parts.{first_child, second_child, second_id, AreDigits-number}
 use Rattle.stamp_codec.specs.Bounds.{id_height, IsBounded, as_written}
@@ -21,26 +21,26 @@ pub own : IsNumeralModel AreDigits (read_on 0)
 own = numerals_by_fold _ (search rules) read_on (search rules)
 
 -- a number of one digit or more begins with a 0 only if that is all
-one_zero : (digits : List ℕ) → IsNumber digits → (0 < length digits) × (get_or digits 0 0 ≡ 48 → length digits ≡ 1)
+one_zero : (digits : List ℕ) → IsWrittenNumber digits → (0 < length digits) × (get_or digits 0 0 ≡ 48 → length digits ≡ 1)
 one_zero [] number = absurd number
 one_zero (d ∷ digits) (inl zero) = (omega arith, λ is. rw zero.1 refl)
 one_zero (d ∷ digits) (inr more) = (omega arith, λ is. absurd (omega (arith, is, more.0)))
 
-pub decimal-number : (digits : List ℕ) → IsNumber digits → number_of digits < 2 ^ 64 → decimal (number_of digits) ≡ digits
+pub decimal-number : (digits : List ℕ) → IsWrittenNumber digits → number_written digits < 2 ^ 64 → decimal (number_written digits) ≡ digits
 decimal-number digits number small = decimal-digits_value own digits (AreDigits-number digits number) (one_zero digits number).0 (one_zero digits number).1 small
 
 -- a tree whose numbers fit is written as its text
-pub tree_text-written : (tree : Written) → HasNumbers tree → maximum (tree_of tree) < 2 ^ 64 → tree_text (tree_of tree) ≡ written_text tree
+pub tree_text-written : (tree : Written) → HasNumbers tree → maximum (written_tree tree) < 2 ^ 64 → tree_text (written_tree tree) ≡ written_text tree
 tree_text-written (Number digits) numbers small = decimal-number digits numbers small
 tree_text-written (Fork digits left right) numbers small =
     rw (decimal-number digits numbers.0 (omega (arith, small)), tree_text-written left numbers.1 (omega (arith, small)), tree_text-written right numbers.2 (omega (arith, small))) refl
 
 -- digits of which the first is not 0, or which are 0 alone, are a number
-is_number : (digits : List ℕ) → AreDigits digits → 48 < get_or digits 0 0 → IsNumber digits
+is_number : (digits : List ℕ) → AreDigits digits → 48 < get_or digits 0 0 → IsWrittenNumber digits
 is_number [] are first = absurd (omega (arith, first))
 is_number (d ∷ digits) are first = inr (omega (arith, first), are.1, are.2)
 
-number_decimal : (n : ℕ) → n < 2 ^ 64 → IsNumber (decimal n)
+number_decimal : (n : ℕ) → n < 2 ^ 64 → IsWrittenNumber (decimal n)
 number_decimal n small =
     elim (cases_eq n 0) [
       | inl zero ↦ rw (zero, decimal_digit 0 (omega arith)) (inl (refl, refl))
@@ -52,7 +52,7 @@ pub numbers-written : (tree : EventTree) → maximum tree < 2 ^ 64 → HasNumber
 numbers-written (Leaf n) small = number_decimal n small
 numbers-written (Node n left right) small = (number_decimal n (omega (arith, small)), numbers-written left (omega (arith, small)), numbers-written right (omega (arith, small)))
 
-pub tree_of-written : (tree : EventTree) → maximum tree < 2 ^ 64 → tree_of (as_written tree) ≡ tree
+pub tree_of-written : (tree : EventTree) → maximum tree < 2 ^ 64 → written_tree (as_written tree) ≡ tree
 tree_of-written (Leaf n) small = ap (λ k. Leaf k) (digits_value-decimal own n small)
 tree_of-written (Node n left right) small =
     rw (digits_value-decimal own n (omega (arith, small)), tree_of-written left (omega (arith, small)), tree_of-written right (omega (arith, small))) refl
@@ -75,12 +75,12 @@ not_large start nested sum (Leaf n) place low small is = omega (arith, small, is
 not_large start nested sum (Node n left right) place low small (inl deep) = omega (arith, low, deep.0)
 not_large start nested sum (Node n left right) place low small (inr (inl head)) = omega (arith, small, head.0, digits_value-decimal own n (omega (arith, small)))
 not_large start nested sum (Node n left right) place low small (inr (inr (inl l))) =
-    not_large (first_child start (decimal n)) (nested + 1) (sum + number_of (decimal n)) left place (omega (arith, low)) (omega (arith, small, digits_value-decimal own n (omega (arith, small)))) l
+    not_large (first_child start (decimal n)) (nested + 1) (sum + number_written (decimal n)) left place (omega (arith, low)) (omega (arith, small, digits_value-decimal own n (omega (arith, small)))) l
 not_large start nested sum (Node n left right) place low small (inr (inr (inr r))) =
-    not_large (second_child start (decimal n) (as_written left)) (nested + 1) (sum + number_of (decimal n)) right place (omega (arith, low)) (omega (arith, small, digits_value-decimal own n (omega (arith, small)))) r
+    not_large (second_child start (decimal n) (as_written left)) (nested + 1) (sum + number_written (decimal n)) right place (omega (arith, low)) (omega (arith, small, digits_value-decimal own n (omega (arith, small)))) r
 
 -- a normal id has no fault
-no_id_fault : (start : ℕ) (id : Id) (place : ℕ) → ids.IsNormal id → ¬ IsIdNotNormalAt start id place
+no_id_fault : (start : ℕ) (id : Id) (place : ℕ) → ids.IsNormalId id → ¬ IsIdNotNormalAt start id place
 no_id_fault start Zero place normal is = is
 no_id_fault start One place normal is = is
 no_id_fault start (Pair left right) place normal (inl own) = own.0 normal.2
@@ -106,7 +106,7 @@ normal_everywhere : (stamp : Stamp) → IsBounded stamp → (place : ℕ) → ¬
 normal_everywhere stamp bounded place (inl fault) = no_id_fault 1 stamp.id place bounded.id_normal fault
 normal_everywhere stamp bounded place (inr fault) = no_tree_fault (tree_start stamp.id) stamp.tree place bounded.tree_normal (omega (arith, bounded.sums)) fault
 
-pub text_spells : (stamp : Stamp) → IsBounded stamp → SpellsNormal (stamp_text stamp) stamp.id (as_written stamp.tree)
+pub text_spells : (stamp : Stamp) → IsBounded stamp → SpellsNormal (stamp_as_text stamp) stamp.id (as_written stamp.tree)
 text_spells stamp bounded = record {
   within = record {
     spells = record {
@@ -118,13 +118,13 @@ text_spells stamp bounded = record {
   normal = normal_everywhere stamp bounded;
 }
 
-pub text_is : (stamp : Stamp) → IsBounded stamp → SpellsNormal (stamp_text stamp) stamp.id (as_written stamp.tree) × (tree_of (as_written stamp.tree) ≡ stamp.tree)
+pub text_is : (stamp : Stamp) → IsBounded stamp → SpellsNormal (stamp_as_text stamp) stamp.id (as_written stamp.tree) × (written_tree (as_written stamp.tree) ≡ stamp.tree)
 text_is stamp bounded = (text_spells stamp bounded, tree_of-written stamp.tree (omega (arith, bounded.sums)))
 
 -- a text that is that of the stamp spells it
-pub spells_again : (text : List ℕ) (stamp : Stamp) → IsBounded stamp → text ≡ stamp_text stamp → SpellsNormal text stamp.id (as_written stamp.tree)
+pub spells_again : (text : List ℕ) (stamp : Stamp) → IsBounded stamp → text ≡ stamp_as_text stamp → SpellsNormal text stamp.id (as_written stamp.tree)
 spells_again text stamp bounded whole = subst (λ (t : List ℕ). SpellsNormal t stamp.id (as_written stamp.tree)) (sym whole) (text_spells stamp bounded)
 
 -- and gives it
-pub gives_again : (result : Result Stamp StampFault) (stamp : Stamp) → IsBounded stamp → GivesStamp result stamp.id (tree_of (as_written stamp.tree)) → GivesStamp result stamp.id stamp.tree
+pub gives_again : (result : Result Stamp StampFault) (stamp : Stamp) → IsBounded stamp → GivesStamp result stamp.id (written_tree (as_written stamp.tree)) → GivesStamp result stamp.id stamp.tree
 gives_again result stamp bounded gives = subst (λ (tree : EventTree). GivesStamp result stamp.id tree) (tree_of-written stamp.tree (omega (arith, bounded.sums))) gives

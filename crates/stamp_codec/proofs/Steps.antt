@@ -3,8 +3,8 @@ use Rattle.std.proofs.Common.{◌≡◌, ◌↔◌, ◌⊎◌, inl, inr, ℕ, �
 use Rattle.std.proofs.lemmas.Bool.{eqb-true, eq-eqb}
 use Rattle.trace_types.specs.clock.Id as ids
 use Rattle.trace_types.specs.clock.Id.{Zero, One, Pair}
-use Rattle.stamp_codec.specs.StampText.{Written, Number, Fork, HasNumbers, AreDigits, IsNumber, id_text, written_text}
-use Rattle.stamp_codec.specs.Scan.{awaiting, closed, number_begun, is_digit, stepped}
+use Rattle.stamp_codec.specs.StampText.{Written, Number, Fork, HasNumbers, AreDigits, IsWrittenNumber, id_text, written_text}
+use Rattle.stamp_codec.specs.Scan.{awaiting, closed, number_begun, is_digit_byte, stepped}
 use Rattle.stamp_codec.specs.declared.shape.Part.{Part}
 use Rattle.stamp_codec.specs.declared.shape.Part.TheVariants.{Id, Tree}
 use Rattle.stamp_codec.specs.declared.shape.nesting.Side.{Side}
@@ -38,7 +38,7 @@ Make [] rest = rest ≡ []
 Make (Byte byte ∷ pieces) rest = (after : List ℕ) × (rest ≡ byte ∷ after) × Make pieces after
 Make (AnId ∷ pieces) rest = TextThen IsIdText (Make pieces) rest
 Make (ATree ∷ pieces) rest = TextThen IsTreeText (Make pieces) rest
-Make (ANumber ∷ pieces) rest = TextThen IsNumber (Make pieces) rest
+Make (ANumber ∷ pieces) rest = TextThen IsWrittenNumber (Make pieces) rest
 Make (SomeDigits ∷ pieces) rest = TextThen AreDigits (Make pieces) rest
 
 -- what is to come behind a whole node
@@ -184,7 +184,7 @@ number_step : (alone_state with_digits : Awaited) (inside : List Side) (pieces :
     Make (ANumber ∷ pieces) (byte ∷ rest) ↔ MakeNext (number_begun alone_state with_digits inside byte) rest
 number_step alone_state with_digits inside pieces byte rest zero more =
     decide _ (byte ≡ 48) _ _ (eqb byte 48) _ _ rest (eqb-true byte 48) (eq-eqb byte 48) (number_forth pieces byte rest, number_back pieces byte rest) zero
-    (decide _ (IsDigit byte) _ ⊥ (is_digit byte) _ None rest (digit_true byte) (digit_test byte) (alone _ _ _ (itself _)) more (itself _))
+    (decide _ (IsDigit byte) _ ⊥ (is_digit_byte byte) _ None rest (digit_true byte) (digit_test byte) (alone _ _ _ (itself _)) more (itself _))
 
 -- digits go on, or end where no digit follows
 digits_forth : (pieces : List Piece) (byte : ℕ) (rest : List ℕ) → (IsDigit byte → Make pieces (byte ∷ rest) → ⊥) → Make (SomeDigits ∷ pieces) (byte ∷ rest) → Either (IsDigit byte) (Make (SomeDigits ∷ pieces) rest) (Make pieces (byte ∷ rest))
@@ -197,9 +197,9 @@ digits_back pieces byte rest (inl (digit, (digits, after, are, whole, more))) = 
 digits_back pieces byte rest (inr (apart, more)) = ([], byte ∷ rest, tt, refl, more)
 
 digits_step : (pieces : List Piece) (next : Scan) (other : Option Scan) (byte : ℕ) (rest : List ℕ) → (IsDigit byte → Make pieces (byte ∷ rest) → ⊥) → (Make (SomeDigits ∷ pieces) rest ↔ MakeNext (Some next) rest) →
-    (Make pieces (byte ∷ rest) ↔ MakeNext other rest) → Make (SomeDigits ∷ pieces) (byte ∷ rest) ↔ MakeNext (cond (is_digit byte) (Some next) other) rest
+    (Make pieces (byte ∷ rest) ↔ MakeNext other rest) → Make (SomeDigits ∷ pieces) (byte ∷ rest) ↔ MakeNext (cond (is_digit_byte byte) (Some next) other) rest
 digits_step pieces next other byte rest stops more ends =
-    decide _ (IsDigit byte) _ _ (is_digit byte) (Some next) other rest (digit_true byte) (digit_test byte) (digits_forth pieces byte rest stops, digits_back pieces byte rest) more ends
+    decide _ (IsDigit byte) _ _ (is_digit_byte byte) (Some next) other rest (digit_true byte) (digit_test byte) (digits_forth pieces byte rest stops, digits_back pieces byte rest) more ends
 
 -- no digit ends a tree
 closing_stops : (inside : List Side) (byte : ℕ) (rest : List ℕ) → IsDigit byte → Make (closing Tree inside) (byte ∷ rest) → ⊥

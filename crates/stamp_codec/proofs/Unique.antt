@@ -1,7 +1,7 @@
 -- A text spells one id and one tree.
 use Rattle.std.proofs.Common.{◌≡◌, ℕ, ◌≤◌, List, [], ◌∷◌, ◌++◌, refl, sym, ap, ◌∙◌, arith}
 use Rattle.trace_types.specs.clock.Id.{Id, Zero, One, Pair}
-use Rattle.stamp_codec.specs.StampText.{Written, Number, Fork, HasNumbers, IsNumber, Spells, id_text, written_text}
+use Rattle.stamp_codec.specs.StampText.{Written, Number, Fork, HasNumbers, IsWrittenNumber, SpellsStamp, id_text, written_text}
 use Rattle.std.proofs.lemmas.List.{append_cancel_right}
 use Rattle.stamp_codec.specs.Walks.{leading, EndsDigits}
 use Rattle.stamp_codec.proofs.Parts.{heads, pair_text-append, number_first, number_is, fork_behind, comma_ends, end_ends}
@@ -24,14 +24,14 @@ id_once (Pair l r) (Pair l' r') x y same =
     (whole, (heads 41 41 x y right.1).1)
 
 -- no number begins another, where no digit follows
-numbers_once : (a b x y : List ℕ) → IsNumber a → IsNumber b → EndsDigits x → EndsDigits y → a ++ x ≡ b ++ y → (a ≡ b) × (x ≡ y)
+numbers_once : (a b x y : List ℕ) → IsWrittenNumber a → IsWrittenNumber b → EndsDigits x → EndsDigits y → a ++ x ≡ b ++ y → (a ≡ b) × (x ≡ y)
 numbers_once a b x y number other ends stops same =
     let read : ℕ × List ℕ = leading 0 (a ++ x) in
     let behind : x ≡ y = sym (number_is (a ++ x) a x read.0 read.1 refl number ends refl).1 ∙ (number_is (a ++ x) b y read.0 read.1 same other stops refl).1 in
     (append_cancel_right a b y (ap (λ t. a ++ t) (sym behind) ∙ same), behind)
 
 -- no number begins as a node does
-number_not_fork : (digits x y : List ℕ) → IsNumber digits → digits ++ x ≡ 40 ∷ y → ⊥
+number_not_fork : (digits x y : List ℕ) → IsWrittenNumber digits → digits ++ x ≡ 40 ∷ y → ⊥
 number_not_fork [] x y number same = number
 number_not_fork (d ∷ digits) x y number same = number_first d digits number (heads d 40 (digits ++ x) y same).0
 
@@ -54,7 +54,7 @@ tree_once (Fork m l r) (Fork n l' r') x y numbers others ends stops same =
 bracket_ends : (48 ≤ 93) × (93 ≤ 57) → ⊥
 bracket_ends digit = omega (arith, digit.1)
 
-pub spells_once : (text : List ℕ) (id id' : Id) (tree tree' : Written) → Spells text id tree → Spells text id' tree' → (id ≡ id') × (tree ≡ tree')
+pub spells_once : (text : List ℕ) (id id' : Id) (tree tree' : Written) → SpellsStamp text id tree → SpellsStamp text id' tree' → (id ≡ id') × (tree ≡ tree')
 spells_once text id id' tree tree' one other =
     let whole = heads 91 91 _ _ (sym one.whole ∙ other.whole) in
     let ids_same = id_once id id' _ _ whole.1 in

@@ -2,7 +2,7 @@
 use Rattle.std.proofs.Common.{◌≡◌, ◌≢◌, ◌↔◌, inl, inr, ℕ, ◌+◌, ◌≤◌, Bool, Option, None, Ok, List, [], ◌∷◌, ◌++◌, length, drop, get_or, refl, ap, ◌∙◌, arith, length-append}
 use Rattle.std.specs.Prelude.{IsTrue}
 use Rattle.trace_types.specs.clock.Id.{Id, Zero, One, Pair, AreApart}
-use Rattle.trace_types.specs.clock.IdOperations.{norm}
+use Rattle.trace_types.specs.clock.IdOperations.{norm_id}
 use Rattle.stamp_codec.specs.StampText.{id_text}
 use Rattle.stamp_codec.specs.Faults.{most_nested, IsIdTooDeepAt, IsIdNotNormalAt}
 use Rattle.stamp_codec.specs.Walks.{IsFirstWith, IsSizeFault, Walks, IsIdBuilt}
@@ -94,7 +94,7 @@ same_leaf One (Pair l r) x y = ((λ same. absurd (omega (arith, same.0))), (λ i
 same_leaf (Pair l r) right x y = ((λ same. absurd (same.1 refl)), (λ is. absurd (is tt)))
 
 -- halves that are not the same leaf are a pair in normal form
-norm-apart : (left right : Id) → ¬ ¬ AreApart left right → norm left right ≡ Pair left right
+norm-apart : (left right : Id) → ¬ ¬ AreApart left right → norm_id left right ≡ Pair left right
 norm-apart Zero Zero is = absurd (is (λ apart. apart))
 norm-apart One One is = absurd (is (λ apart. apart))
 norm-apart Zero One is = refl
@@ -109,7 +109,7 @@ norm-apart (Pair l r) (Pair l' r') is = refl
 pub walks_pair : (text inner found second end behind : List ℕ) (start inner_start second_start nested left_byte right_byte : ℕ) (left_built right_built built : Id) (u0 v0 u1 v1 u2 v2 u3 : Option ℕ) (test : Bool) →
     InPair text inner start inner_start nested → v0 ≡ u0 → v1 ≡ u1 → v2 ≡ u2 → WalksId inner found inner_start (nested + 1) left_built v0 u1 → second ≡ drop 1 found →
     second_start + length second ≡ inner_start + length inner → WalksId second end second_start (nested + 1) right_built v1 u2 → behind ≡ drop 1 end → left_byte ≡ get_or inner 0 0 → right_byte ≡ get_or second 0 0 →
-    (IsTrue test ↔ ((left_byte ≡ right_byte) × (left_byte ≢ 40))) → IsFirstWith v2 (λ place. IsTrue test × (place ≡ start)) u3 → (u3 ≡ None → built ≡ norm left_built right_built) → WalksId text behind start nested built u0 u3
+    (IsTrue test ↔ ((left_byte ≡ right_byte) × (left_byte ≢ 40))) → IsFirstWith v2 (λ place. IsTrue test × (place ≡ start)) u3 → (u3 ≡ None → built ≡ norm_id left_built right_built) → WalksId text behind start nested built u0 u3
 walks_pair text inner found second end behind start inner_start second_start nested left_byte right_byte left_built right_built built u0 v0 u1 v1 u2 v2 u3 test known v0_is v1_is v2_is in_left second_is second_end in_right behind_is left_is right_is tells noted built_is =
     for_pairs text _ known.not_zero known.not_one (λ left right rest whole.
     let l = at_left text inner _ start inner_start nested known whole in

@@ -5,7 +5,7 @@ use Rattle.std.proofs.lemmas.Bool.{cases_eq}
 use Rattle.trace_types.specs.clock.EventTree.{EventTree, Leaf, Node, minimum, AreUnequal, IsNormal}
 use Rattle.trace_types.specs.clock.Norm.{norm}
 use Rattle.event_tree.proofs.Values.{norm-normal}
-use Rattle.stamp_codec.specs.StampText.{Written, Number, Fork, HasNumbers, IsNumber, written_text, number_of, tree_of}
+use Rattle.stamp_codec.specs.StampText.{Written, Number, Fork, HasNumbers, IsWrittenNumber, written_text, number_written, written_tree}
 use Rattle.stamp_codec.specs.Faults.{most_nested, greatest_sum, IsTreeTooLargeAt, IsTreeNotNormalAt}
 use Rattle.stamp_codec.specs.Walks.{leading, greatest_number, BeginsTree, IsFirstWith, IsSizeFault, Walks, IsTreeBuilt}
 use Rattle.stamp_codec.specs.declared.fault.StampFault.{StampFault}
@@ -19,11 +19,11 @@ large_in start nested sum (Number digits) place is = (omega (arith, is.1), omega
 large_in start nested sum (Fork digits left right) place (inl own) = (omega (arith, own.1), omega (arith, own.1))
 large_in start nested sum (Fork digits left right) place (inr (inl head)) = (omega (arith, head.1), omega (arith, head.1, length-append digits (44 ∷ (written_text left ++ (44 ∷ (written_text right ++ (41 ∷ [])))))))
 large_in start nested sum (Fork digits left right) place (inr (inr (inl l))) =
-    let i = large_in (first_child start digits) (nested + 1) (sum + number_of digits) left place l in
+    let i = large_in (first_child start digits) (nested + 1) (sum + number_written digits) left place l in
     let rest : List ℕ = 44 ∷ (written_text right ++ (41 ∷ [])) in
     (omega (arith, i.0), omega (arith, i.1, length-append digits (44 ∷ (written_text left ++ rest)), length-append (written_text left) rest))
 large_in start nested sum (Fork digits left right) place (inr (inr (inr r))) =
-    let i = large_in (second_child start digits left) (nested + 1) (sum + number_of digits) right place r in
+    let i = large_in (second_child start digits left) (nested + 1) (sum + number_written digits) right place r in
     let rest : List ℕ = 44 ∷ (written_text right ++ (41 ∷ [])) in
     (omega (arith, i.0), omega (arith, i.1, length-append digits (44 ∷ (written_text left ++ rest)), length-append (written_text left) rest, length-append (written_text right) (41 ∷ [])))
 
@@ -48,7 +48,7 @@ pub walks_number : (text found : List ℕ) (start nested sum number : ℕ) (know
 walks_number text found start nested sum number known first other within is below same =
     for_numbers text _ other (λ digits rest begins.
     let n = number_is text digits rest number found begins.whole begins.numbers begins.ends is in
-    let value : number ≡ number_of digits = omega (arith, n.0) in
+    let value : number ≡ number_written digits = omega (arith, n.0) in
     (n.1, (λ place large. omega (arith, large.0, value)), rw same (first_none _ known (λ place uneven. uneven)), (value, (λ none. ap (λ n. Leaf n) value))))
 
 -- the parenthesis at the front is too deep
@@ -58,7 +58,7 @@ large_here text start nested sum opens most =
 
 -- the number at the front of a node, as far as it fits, and what is behind its comma
 abbrev pub HeadRead : List ℕ → List ℕ → ℕ → Type 0
-HeadRead text first number = (digits behind : List ℕ) → text ≡ 40 ∷ (digits ++ (44 ∷ behind)) → IsNumber digits → (number ≡ min (number_of digits) greatest_number) × (first ≡ behind)
+HeadRead text first number = (digits behind : List ℕ) → text ≡ 40 ∷ (digits ++ (44 ∷ behind)) → IsWrittenNumber digits → (number ≡ min (number_written digits) greatest_number) × (first ≡ behind)
 
 -- the number of the node is too great
 pub large_head : (text first : List ℕ) (start nested sum number : ℕ) → get_or text 0 0 ≡ 40 → nested ≢ most_nested → sum ≤ greatest_sum → HeadRead text first number → greatest_sum - sum < number →
@@ -71,8 +71,8 @@ large_head text first start nested sum number opens room within head above =
       least = λ p large. elim large [
         | inl own ↦ absurd (room own.0)
         | inr (inl head) ↦ omega (arith, head.1)
-        | inr (inr (inl l)) ↦ omega (arith, (large_in (first_child start digits) (nested + 1) (sum + number_of digits) left p l).0)
-        | inr (inr (inr r)) ↦ omega (arith, (large_in (second_child start digits left) (nested + 1) (sum + number_of digits) right p r).0)
+        | inr (inr (inl l)) ↦ omega (arith, (large_in (first_child start digits) (nested + 1) (sum + number_written digits) left p l).0)
+        | inr (inr (inr r)) ↦ omega (arith, (large_in (second_child start digits left) (nested + 1) (sum + number_written digits) right p r).0)
       ];
     })
 
@@ -86,7 +86,7 @@ pub record InFork (text first : List ℕ) (start first_start nested sum number :
 
 -- the left child stands behind the number
 pub record AtLeft (first : List ℕ) (start first_start number : ℕ) (digits : List ℕ) (left right : Written) (rest : List ℕ) : Type 0 where
-  pub value : number ≡ number_of digits
+  pub value : number ≡ number_written digits
   pub begins : BeginsTree first left (44 ∷ (written_text right ++ (41 ∷ rest)))
   pub at : first_start ≡ first_child start digits
 
@@ -111,8 +111,8 @@ ends_left text first start first_start nested sum number fault known in_left =
     (ends_late fault _ _ (λ place head. omega (arith, head.0, l.value, known.within))
     (ends_early fault _ _ (λ place other is later. omega (
       arith,
-      (large_in (first_child start digits) (nested + 1) (sum + number_of digits) left place is).1,
-      (large_in (second_child start digits left) (nested + 1) (sum + number_of digits) right other later).0,
+      (large_in (first_child start digits) (nested + 1) (sum + number_written digits) left place is).1,
+      (large_in (second_child start digits left) (nested + 1) (sum + number_written digits) right other later).0,
     )) (rw (l.at, l.value) at (in_left left _ l.begins)))))
 
 -- a walk that ends in the right child
@@ -130,12 +130,12 @@ ends_right text first found second start first_start second_start nested sum num
 
 -- whether two children are the same number is told by their first bytes and least values
 same_number : (left right : Written) (x y : List ℕ) → HasNumbers left → HasNumbers right → let a = get_or (written_text left ++ x) 0 0 in let b = get_or (written_text right ++ y) 0 0 in
-    let Same = (a ≢ 40) × (b ≢ 40) × (minimum (tree_of left) ≡ minimum (tree_of right)) in (Same → ¬ AreUnequal (tree_of left) (tree_of right)) × (¬ AreUnequal (tree_of left) (tree_of right) → Same)
+    let Same = (a ≢ 40) × (b ≢ 40) × (minimum (written_tree left) ≡ minimum (written_tree right)) in (Same → ¬ AreUnequal (written_tree left) (written_tree right)) × (¬ AreUnequal (written_tree left) (written_tree right) → Same)
 same_number (Number []) right x y numbers others = absurd numbers
 same_number (Number (d ∷ m)) (Number []) x y numbers others = absurd others
 same_number (Number (d ∷ m)) (Number (e ∷ n)) x y numbers others = (
   (λ same unequal. unequal same.2),
-  (λ is. (number_first d m numbers, number_first e n others, elim (cases_eq (number_of (d ∷ m)) (number_of (e ∷ n))) [ inl same ↦ same | inr differs ↦ absurd (is differs) ])),
+  (λ is. (number_first d m numbers, number_first e n others, elim (cases_eq (number_written (d ∷ m)) (number_written (e ∷ n))) [ inl same ↦ same | inr differs ↦ absurd (is differs) ])),
 )
 same_number (Number (d ∷ m)) (Fork n l r) x y numbers others = ((λ same. absurd (same.1 refl)), (λ is. absurd (is tt)))
 same_number (Fork m l r) (Number n) x y numbers others = ((λ same. absurd (same.0 refl)), (λ is. absurd (is tt)))
@@ -176,13 +176,13 @@ walks_fork text first found second end behind start first_start second_start nes
     let other = rw (r.1, l.value, v1_is) at (in_right right _ (record { numbers = fork.numbers.2; ends = end_ends; whole = r.0 })) in
     let same = same_number left right (44 ∷ (written_text right ++ (41 ∷ rest))) (41 ∷ rest) fork.numbers.1 fork.numbers.2 in
     let told = rw (left_is, right_is, l.begins.whole, r.0, one.3.0, other.3.0) at tells in
-    let own : IsFirstWith u2 (λ place. IsUnevenOver (tree_of left) (tree_of right) × (place ≡ start)) u3 =
+    let own : IsFirstWith u2 (λ place. IsUnevenOver (written_tree left) (written_tree right) × (place ≡ start)) u3 =
     first_told _ _ u2 u3
     (λ place (is, at). (elim (told.0 is) [ inl some ↦ inl some | inr are ↦ inr (same.0 are) ], at))
     (λ place (is, at). (told.1 (elim is [ inl some ↦ inl some | inr are ↦ inr (same.1 are) ]), at)) (rw v2_is at noted) in
-    let whole : u3 ≡ None → built ≡ tree_of (Fork digits left right) = λ none.
+    let whole : u3 ≡ None → built ≡ written_tree (Fork digits left right) = λ none.
     let none_2 = none_before _ u2 u3 own none in
-    let clean : IsFirstWith u2 (λ place. IsUnevenOver (tree_of left) (tree_of right) × (place ≡ start)) None = rw none at own in
+    let clean : IsFirstWith u2 (λ place. IsUnevenOver (written_tree left) (written_tree right) × (place ≡ start)) None = rw none at own in
     built_is.1 none ∙ norm_node number _ left_built right_built _ _ left_normal right_normal l.value (one.3.1 (none_before _ u1 u2 other.2 none_2)) (other.3.1 none_2) (λ faulty. clean start (inr (faulty, refl))) in (
       behind_is ∙ ap (λ t. drop 1 t) other.0,
       (λ place is. elim is [ inl own ↦ known.room own.0 | inr (inl head) ↦ omega (arith, head.0, l.value, known.within) | inr (inr (inl l)) ↦ one.1 place l | inr (inr (inr r)) ↦ other.1 place r ]),

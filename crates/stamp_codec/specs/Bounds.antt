@@ -17,7 +17,7 @@ id_height (Pair left right) = max (id_height left) (id_height right) + 1
 
 -- a normal stamp that is nowhere nested too deep, and whose numbers nowhere sum too high
 pub record IsBounded (stamp : Stamp) : Type 0 where
-  pub id_normal : ids.IsNormal stamp.id
+  pub id_normal : ids.IsNormalId stamp.id
   pub tree_normal : IsNormal stamp.tree
   pub id_nesting : id_height stamp.id ≤ most_nested
   pub tree_nesting : height stamp.tree ≤ most_nested

@@ -2,7 +2,7 @@
 use Rattle.std.specs.Prelude.{◌≡◌, ◌≢◌, ℕ, ◌+◌, ◌<◌, ◌≤◌, ◌⊎◌, min, List, ◌++◌, length, take}
 use Rattle.trace_types.specs.clock.Id.{Id, Zero, One, Pair, AreApart}
 use Rattle.trace_types.specs.clock.EventTree.{minimum, AreUnequal}
-use Rattle.stamp_codec.specs.StampText.{Written, Number, Fork, id_text, written_text, number_of, tree_of, IsShaped}
+use Rattle.stamp_codec.specs.StampText.{Written, Number, Fork, id_text, written_text, number_written, written_tree, IsShaped}
 
 -- some text with the shape of a stamp begins with the first so many bytes
 abbrev pub Begins : List ℕ → ℕ → Type 0
@@ -40,12 +40,12 @@ IsIdTooDeepAt start nested (Pair left right) place =
 -- a parenthesis too many is opened at the place, or a number begins there with which the sum from the root is too great;
 -- the tree stands at start, inside so many, and above it the numbers have this sum
 abbrev pub IsTreeTooLargeAt : ℕ → ℕ → ℕ → Written → ℕ → Type 0
-IsTreeTooLargeAt start nested sum (Number digits) place = (greatest_sum < sum + number_of digits) × (place ≡ start)
+IsTreeTooLargeAt start nested sum (Number digits) place = (greatest_sum < sum + number_written digits) × (place ≡ start)
 IsTreeTooLargeAt start nested sum (Fork digits left right) place =
     ((nested ≡ most_nested) × (place ≡ start))
-    ⊎ (((greatest_sum < sum + number_of digits) × (place ≡ start + 1))
-    ⊎ (IsTreeTooLargeAt (start + 1 + length digits + 1) (nested + 1) (sum + number_of digits) left place
-    ⊎ IsTreeTooLargeAt (start + 1 + length digits + 1 + length (written_text left) + 1) (nested + 1) (sum + number_of digits) right place))
+    ⊎ (((greatest_sum < sum + number_written digits) × (place ≡ start + 1))
+    ⊎ (IsTreeTooLargeAt (start + 1 + length digits + 1) (nested + 1) (sum + number_written digits) left place
+    ⊎ IsTreeTooLargeAt (start + 1 + length digits + 1 + length (written_text left) + 1) (nested + 1) (sum + number_written digits) right place))
 
 -- where the tree of a stamp stands
 abbrev pub tree_start : Id → ℕ
@@ -68,7 +68,7 @@ IsIdNotNormalAt start (Pair left right) place =
 abbrev pub IsTreeNotNormalAt : ℕ → Written → ℕ → Type 0
 IsTreeNotNormalAt start (Number digits) place = ⊥
 IsTreeNotNormalAt start (Fork digits left right) place =
-    (((min (minimum (tree_of left)) (minimum (tree_of right)) ≢ 0) ⊎ (¬ AreUnequal (tree_of left) (tree_of right))) × (place ≡ start))
+    (((min (minimum (written_tree left)) (minimum (written_tree right)) ≢ 0) ⊎ (¬ AreUnequal (written_tree left) (written_tree right))) × (place ≡ start))
     ⊎ (IsTreeNotNormalAt (start + 1 + length digits + 1) left place
     ⊎ IsTreeNotNormalAt (start + 1 + length digits + 1 + length (written_text left) + 1) right place)
 

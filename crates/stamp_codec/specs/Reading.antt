@@ -2,7 +2,7 @@
 use Rattle.std.specs.Prelude.{◌≡◌, ℕ, List, Result, Ok, Err}
 use Rattle.trace_types.specs.clock.Id.{Id}
 use Rattle.trace_types.specs.clock.EventTree.{EventTree}
-use Rattle.stamp_codec.specs.StampText.{Written, Spells, tree_of}
+use Rattle.stamp_codec.specs.StampText.{Written, SpellsStamp, written_tree}
 use Rattle.stamp_codec.specs.Faults.{IsShapeFault, IsLeast, IsTooLargeAt, IsNotNormalAt}
 use Rattle.stamp_codec.specs.declared.stamp.Stamp.{Stamp}
 use Rattle.stamp_codec.specs.declared.fault.StampFault.{StampFault}
@@ -10,7 +10,7 @@ use Rattle.stamp_codec.specs.declared.fault.StampFault.TheVariants.{Shape, TooLa
 
 -- the text is shaped as this id and this tree, and neither nests too deep nor sums too high
 pub record SpellsBounded (text : List ℕ) (id : Id) (tree : Written) : Type 0 where
-  pub spells : Spells text id tree
+  pub spells : SpellsStamp text id tree
   pub bounded : (place : ℕ) → ¬ IsTooLargeAt id tree place
 
 -- and each node is normal
@@ -21,14 +21,14 @@ pub record SpellsNormal (text : List ℕ) (id : Id) (tree : Written) : Type 0 wh
 -- why the text is refused: its shape, else its size, else a node that is not normal; want of memory may come before
 abbrev pub Refuses : List ℕ → StampFault → Type 0
 Refuses text (Shape place) = IsShapeFault text place
-Refuses text (TooLarge place) = (id : Id) × (tree : Written) × Spells text id tree × IsLeast (IsTooLargeAt id tree) place
+Refuses text (TooLarge place) = (id : Id) × (tree : Written) × SpellsStamp text id tree × IsLeast (IsTooLargeAt id tree) place
 Refuses text (NotNormal place) = (id : Id) × (tree : Written) × SpellsBounded text id tree × IsLeast (IsNotNormalAt id tree) place
 Refuses text Memory = Unit {0}
 
 -- the stamp that the text spells, or why there is none
-abbrev pub Reads : List ℕ → Result Stamp StampFault → Type 0
-Reads text (Ok stamp) = (tree : Written) × SpellsNormal text stamp.id tree × (stamp.tree ≡ tree_of tree)
-Reads text (Err fault) = Refuses text fault
+abbrev pub ReadsStamp : List ℕ → Result Stamp StampFault → Type 0
+ReadsStamp text (Ok stamp) = (tree : Written) × SpellsNormal text stamp.id tree × (stamp.tree ≡ written_tree tree)
+ReadsStamp text (Err fault) = Refuses text fault
 
 -- there was no memory
 abbrev pub IsNoMemory : StampFault → Type 0

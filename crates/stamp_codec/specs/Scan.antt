@@ -27,8 +27,8 @@ closed part [] byte = if byte == end_of part then Some (awaiting (behind part) [
 closed part (Left ∷ inside) byte = if byte == 44 then Some (awaiting (Node part) (Right ∷ inside)) else None
 closed part (Right ∷ inside) byte = if byte == 41 then Some (awaiting (NodeEnd part) inside) else None
 
-abbrev pub is_digit : ℕ → Bool
-is_digit byte = nat_le 48 byte && nat_le byte 57
+abbrev pub is_digit_byte : ℕ → Bool
+is_digit_byte byte = nat_le 48 byte && nat_le byte 57
 
 -- an id begins
 abbrev pub id_begun : List Side → ℕ → Option Scan
@@ -42,7 +42,7 @@ id_begun inside byte =
 abbrev pub number_begun : Awaited → Awaited → List Side → ℕ → Option Scan
 number_begun alone with_digits inside byte =
     if byte == 48 then Some (awaiting alone inside)
-    else if is_digit byte then Some (awaiting with_digits inside)
+    else if is_digit_byte byte then Some (awaiting with_digits inside)
     else None
 
 -- a tree begins
@@ -61,8 +61,8 @@ stepped Start inside byte = if byte == 91 then Some (awaiting (Node Id) inside) 
 stepped (Node Id) inside byte = id_begun inside byte
 stepped (Node Tree) inside byte = tree_begun inside byte
 stepped (NodeEnd part) inside byte = closed part inside byte
-stepped LeafDigits inside byte = if is_digit byte then Some (awaiting LeafDigits inside) else closed Tree inside byte
+stepped LeafDigits inside byte = if is_digit_byte byte then Some (awaiting LeafDigits inside) else closed Tree inside byte
 stepped Number inside byte = number_begun Comma NumberDigits inside byte
-stepped NumberDigits inside byte = if is_digit byte then Some (awaiting NumberDigits inside) else number_ended inside byte
+stepped NumberDigits inside byte = if is_digit_byte byte then Some (awaiting NumberDigits inside) else number_ended inside byte
 stepped Comma inside byte = number_ended inside byte
 stepped Nothing inside byte = None

@@ -14,13 +14,13 @@ seed = record { id = One; tree = Leaf 0 }
 abbrev pub fork : Stamp → Stamp × Stamp
 fork s = (record s { id = (ids.split s.id).0 }, record s { id = (ids.split s.id).1 })
 
--- the stamp after an event
-abbrev pub event : Stamp → Stamp
-event s = record s { tree = trees.event s.id s.tree }
+-- the stamp after an stamp_event
+abbrev pub stamp_event : Stamp → Stamp
+stamp_event s = record s { tree = trees.event s.id s.tree }
 
 -- the ids together, with what either tree says
-abbrev pub join : Stamp → Stamp → Stamp
-join s t = record { id = ids.sum s.id t.id; tree = joins.join s.tree t.tree }
+abbrev pub stamp_join : Stamp → Stamp → Stamp
+stamp_join s t = record { id = ids.sum s.id t.id; tree = joins.join s.tree t.tree }
 
 -- the tree alone, with an id that owns no point
 abbrev pub peek : Stamp → Stamp

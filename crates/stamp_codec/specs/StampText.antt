@@ -12,8 +12,8 @@ use Rattle.trace_types.specs.text.StampText.{stamp_text as text_of_stamp}
 use Rattle.stamp_codec.specs.declared.stamp.Stamp.{Stamp}
 
 -- the text of a stamp
-abbrev pub stamp_text : Stamp → List ℕ
-stamp_text s = text_of_stamp s.id s.tree
+abbrev pub stamp_as_text : Stamp → List ℕ
+stamp_as_text s = text_of_stamp s.id s.tree
 
 -- An event tree as it may be written: each number is a list of digits, of any size.
 pub data Written : Type 0 where
@@ -26,14 +26,14 @@ AreDigits [] = Unit {0}
 AreDigits (digit ∷ digits) = (48 ≤ digit) × (digit ≤ 57) × AreDigits digits
 
 -- a 0 alone, or a digit that is not 0 and any digits
-abbrev pub IsNumber : List ℕ → Type 0
-IsNumber [] = ⊥
-IsNumber (first ∷ others) = ((first ≡ 48) × (others ≡ [])) ⊎ ((49 ≤ first) × (first ≤ 57) × AreDigits others)
+abbrev pub IsWrittenNumber : List ℕ → Type 0
+IsWrittenNumber [] = ⊥
+IsWrittenNumber (first ∷ others) = ((first ≡ 48) × (others ≡ [])) ⊎ ((49 ≤ first) × (first ≤ 57) × AreDigits others)
 
 -- each number of the tree is one
 abbrev pub HasNumbers : Written → Type 0
-HasNumbers (Number digits) = IsNumber digits
-HasNumbers (Fork digits left right) = IsNumber digits × HasNumbers left × HasNumbers right
+HasNumbers (Number digits) = IsWrittenNumber digits
+HasNumbers (Fork digits left right) = IsWrittenNumber digits × HasNumbers left × HasNumbers right
 
 -- the number that the digits say after those of n
 abbrev pub read_on : ℕ → List ℕ → ℕ
@@ -41,13 +41,13 @@ read_on n [] = n
 read_on n (digit ∷ digits) = read_on (n * 10 + (digit - 48)) digits
 
 -- the number that the digits say
-abbrev pub number_of : List ℕ → ℕ
-number_of digits = read_on 0 digits
+abbrev pub number_written : List ℕ → ℕ
+number_written digits = read_on 0 digits
 
 -- the event tree that is written
-abbrev pub tree_of : Written → EventTree
-tree_of (Number digits) = Leaf (number_of digits)
-tree_of (Fork digits left right) = Node (number_of digits) (tree_of left) (tree_of right)
+abbrev pub written_tree : Written → EventTree
+written_tree (Number digits) = Leaf (number_written digits)
+written_tree (Fork digits left right) = Node (number_written digits) (written_tree left) (written_tree right)
 
 -- the bytes of the tree as it is written
 abbrev pub written_text : Written → List ℕ
@@ -59,10 +59,10 @@ abbrev pub whole_text : Id → Written → List ℕ
 whole_text id tree = codes "[" ++ (id_text id ++ (codes ";" ++ (written_text tree ++ codes "]")))
 
 -- the text is that of this id and this tree
-pub record Spells (text : List ℕ) (id : Id) (tree : Written) : Type 0 where
+pub record SpellsStamp (text : List ℕ) (id : Id) (tree : Written) : Type 0 where
   pub numbers : HasNumbers tree
   pub whole : text ≡ whole_text id tree
 
 -- the text has the shape of a stamp
 abbrev pub IsShaped : List ℕ → Type 0
-IsShaped text = (id : Id) × (tree : Written) × Spells text id tree
+IsShaped text = (id : Id) × (tree : Written) × SpellsStamp text id tree

@@ -2,9 +2,9 @@
 use Rattle.std.specs.Prelude.{◌≡◌, ℕ, ◌+◌, ◌-◌, ◌*◌, ◌≤◌, ◌⊎◌, min, if◌then◌else◌, List, [], ◌∷◌, ◌++◌, Option, Some, None, Result, Ok, Err}
 use Rattle.trace_types.specs.clock.Id.{Id}
 use Rattle.trace_types.specs.clock.EventTree.{EventTree, minimum, maximum, IsNormal}
-use Rattle.stamp_codec.specs.StampText.{Written, HasNumbers, written_text, tree_of}
+use Rattle.stamp_codec.specs.StampText.{Written, HasNumbers, written_text, written_tree}
 use Rattle.stamp_codec.specs.Faults.{IsLeast, greatest_sum, IsTooLargeAt, IsNotNormalAt}
-use Rattle.stamp_codec.specs.Scan.{is_digit}
+use Rattle.stamp_codec.specs.Scan.{is_digit_byte}
 use Rattle.stamp_codec.specs.declared.stamp.Stamp.{Stamp}
 use Rattle.stamp_codec.specs.declared.fault.StampFault.{StampFault}
 use Rattle.stamp_codec.specs.declared.fault.StampFault.TheVariants.{Shape, TooLarge, NotNormal, Memory}
@@ -17,7 +17,7 @@ greatest_number = 18446744073709551615
 abbrev pub leading : ℕ → List ℕ → ℕ × List ℕ
 leading n [] = (n, [])
 leading n (byte ∷ bytes) =
-    if is_digit byte then leading (min (min (n * 10) greatest_number + (byte - 48)) greatest_number) bytes
+    if is_digit_byte byte then leading (min (min (n * 10) greatest_number + (byte - 48)) greatest_number) bytes
     else (n, byte ∷ bytes)
 
 -- the text does not go on with a digit
@@ -59,7 +59,7 @@ abbrev pub IsIdBuilt : Option ℕ → Id → Id → Type 0
 IsIdBuilt first id built = first ≡ None → built ≡ id
 
 abbrev pub IsTreeBuilt : Option ℕ → Written → EventTree → Type 0
-IsTreeBuilt first tree built = (minimum built ≡ minimum (tree_of tree)) × (first ≡ None → built ≡ tree_of tree)
+IsTreeBuilt first tree built = (minimum built ≡ minimum (written_tree tree)) × (first ≡ None → built ≡ written_tree tree)
 
 -- a normal tree that leads to no sum that is too great
 pub record IsWithin (sum : ℕ) (tree : EventTree) : Type 0 where
@@ -68,7 +68,7 @@ pub record IsWithin (sum : ℕ) (tree : EventTree) : Type 0 where
 
 -- what the walk over a stamp's text gives
 abbrev pub WalksStamp : Result Stamp StampFault → Id → Written → Type 0
-WalksStamp (Ok stamp) id tree = (stamp.id ≡ id) × (stamp.tree ≡ tree_of tree) × ((place : ℕ) → ¬ IsTooLargeAt id tree place) × ((place : ℕ) → ¬ IsNotNormalAt id tree place)
+WalksStamp (Ok stamp) id tree = (stamp.id ≡ id) × (stamp.tree ≡ written_tree tree) × ((place : ℕ) → ¬ IsTooLargeAt id tree place) × ((place : ℕ) → ¬ IsNotNormalAt id tree place)
 WalksStamp (Err (Shape place)) id tree = ⊥
 WalksStamp (Err (TooLarge place)) id tree = IsLeast (IsTooLargeAt id tree) place
 WalksStamp (Err (NotNormal place)) id tree = ((place : ℕ) → ¬ IsTooLargeAt id tree place) × IsLeast (IsNotNormalAt id tree) place

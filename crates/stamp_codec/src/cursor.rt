@@ -1,6 +1,6 @@
 //! The place in a text where a walk over it is.
 ghost use Rattle.std.specs.Prelude.{◌≡◌, ℕ, ◌+◌, ◌^◌, ◌<◌, min, List, ◌∷◌, ◌++◌, length, drop, slice_index_or, None, IsTrue};
-ghost use Rattle.stamp_codec.specs.StampText.{IsNumber, number_of};
+ghost use Rattle.stamp_codec.specs.StampText.{IsWrittenNumber, number_written};
 ghost use Rattle.stamp_codec.specs.Walks.{leading, greatest_number, IsFirstWith};
 
 /// What is left of a text, and what was found on the way there.
@@ -74,8 +74,8 @@ impl<'a> Cursor<'a> {
     /// `u64::MAX` for a greater one.
     pub fn head(&mut self) -> u64
         requires { self.old.place + length self.old.rest.now < 2 ^ 64 }
-        ensures exact { (digits behind : List ℕ) → self.old.rest.now ≡ 40 ∷ (digits ++ (44 ∷ behind)) → IsNumber digits
-            → (result ≡ min (number_of digits) greatest_number) × (self.new.rest.now ≡ behind) }
+        ensures exact { (digits behind : List ℕ) → self.old.rest.now ≡ 40 ∷ (digits ++ (44 ∷ behind)) → IsWrittenNumber digits
+            → (result ≡ min (number_written digits) greatest_number) × (self.new.rest.now ≡ behind) }
         ensures end { self.new.place + length self.new.rest.now ≡ self.old.place + length self.old.rest.now }
         ensures uneven { self.new.uneven ≡ self.old.uneven }
     {

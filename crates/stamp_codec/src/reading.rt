@@ -2,11 +2,11 @@
 ghost use Rattle.std.specs.Prelude.{◌≡◌, ◌+◌, ◌^◌, ◌<◌, IfOk};
 ghost use Rattle.trace_types.specs.clock.Id.{Id};
 ghost use Rattle.trace_types.specs.clock.EventTree.{maximum};
-ghost use Rattle.stamp_codec.specs.StampText.{Written, Spells, tree_of, stamp_text};
+ghost use Rattle.stamp_codec.specs.StampText.{Written, SpellsStamp, written_tree, stamp_as_text};
 ghost use Rattle.stamp_codec.specs.Walks.{WalksStamp};
 ghost use Rattle.stamp_codec.specs.Bounds.{IsBounded};
 ghost use Rattle.stamp_codec.specs.declared.stamp.Stamp.{Stamp};
-ghost use Rattle.stamp_codec.specs.Reading.{Reads, SpellsNormal, GivesStamp};
+ghost use Rattle.stamp_codec.specs.Reading.{ReadsStamp, SpellsNormal, GivesStamp};
 
 use crate::cursor::Cursor;
 use crate::shape::shape_fault;
@@ -25,13 +25,13 @@ use std::alloc::Global;
 /// A text without parentheses takes no memory.
 pub fn read_stamp(alloc: Global, text: &[u8]) -> Result<Stamp, StampFault>
     // The stamp that the text spells, or the fault and its place.
-    ensures exact { Reads text.now result }
+    ensures exact { ReadsStamp text.now result }
     // What spells a stamp is read, unless memory runs out.
-    ensures only { (id : Id) (tree : Written) → SpellsNormal text.now id tree → GivesStamp result id (tree_of tree) }
+    ensures only { (id : Id) (tree : Written) → SpellsNormal text.now id tree → GivesStamp result id (written_tree tree) }
     // What was written of a normal stamp within the bounds is that stamp again, unless memory runs out.
-    ensures again { (stamp : Stamp) → IsBounded stamp → text.now ≡ stamp_text stamp → GivesStamp result stamp.id stamp.tree }
+    ensures again { (stamp : Stamp) → IsBounded stamp → text.now ≡ stamp_as_text stamp → GivesStamp result stamp.id stamp.tree }
     // What is read is the text that is written of the stamp.
-    ensures found { IfOk result (λ stamp. text.now ≡ stamp_text stamp) }
+    ensures found { IfOk result (λ stamp. text.now ≡ stamp_as_text stamp) }
 {
     match shape_fault(alloc, text)? {
         Some(place) => Err(StampFault::Shape(place)),
@@ -42,7 +42,7 @@ pub fn read_stamp(alloc: Global, text: &[u8]) -> Result<Stamp, StampFault>
 /// What a text with the shape of a stamp spells.
 fn walk(alloc: Global, text: &[u8]) -> Result<Stamp, StampFault>
     ensures small { IfOk result (λ stamp. maximum stamp.tree < 2 ^ 64) }
-    ensures exact { (id : Id) (tree : Written) → Spells text.now id tree → WalksStamp result id tree }
+    ensures exact { (id : Id) (tree : Written) → SpellsStamp text.now id tree → WalksStamp result id tree }
 {
     let mut cursor = Cursor::new(text);
     cursor.skip();

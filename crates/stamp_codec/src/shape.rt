@@ -45,7 +45,7 @@ struct Scan {
 }
 
 impl Scan {
-    ghost use Rattle.stamp_codec.specs.Scan.{awaiting, stepped, closed, id_begun, number_begun, tree_begun, number_ended, is_digit};
+    ghost use Rattle.stamp_codec.specs.Scan.{awaiting, stepped, closed, id_begun, number_begun, tree_begun, number_ended, is_digit_byte};
     ghost use Rattle.stamp_codec.specs.declared.shape.nesting.Side.TheVariants.{Left};
     ghost use Rattle.stamp_codec.specs.declared.shape.Awaited.TheVariants as awaits;
 

@@ -19,7 +19,7 @@ pub struct Stamp {
 }
 
 impl Stamp {
-    ghost use Rattle.stamp_codec.specs.Stamp.{seed, fork, event, join, peek};
+    ghost use Rattle.stamp_codec.specs.Stamp.{seed, fork, stamp_event, stamp_join, peek};
 
     /// The stamp that every other comes from: it owns every point, and nothing has happened. Takes no memory.
     pub fn seed() -> Stamp
@@ -57,7 +57,7 @@ impl Stamp {
     pub fn event(&self, alloc: Global) -> Result<Stamp, Memory>
         requires some { self.now.id ≢ Zero }
         requires fits { maximum self.now.tree + 1 < 2 ^ 64 }
-        ensures { IfOk result (λ stamp. stamp ≡ event self.now) }
+        ensures { IfOk result (λ stamp. stamp ≡ stamp_event self.now) }
     {
         let id = self.id.share(alloc)?;
         let tree = EvTree::event(alloc, &self.id, &self.tree)?;
@@ -70,7 +70,7 @@ impl Stamp {
     /// `Memory`: there was none for the sum of the ids or for the tree.
     pub fn join(&self, alloc: Global, other: &Stamp) -> Result<Stamp, Memory>
         requires { AreDisjoint self.now.id other.now.id }
-        ensures { IfOk result (λ stamp. stamp ≡ join self.now other.now) }
+        ensures { IfOk result (λ stamp. stamp ≡ stamp_join self.now other.now) }
     {
         let id = self.id.sum(alloc, &other.id)?;
         let tree = self.tree.join(alloc, &other.tree)?;

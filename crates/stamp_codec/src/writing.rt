@@ -1,7 +1,7 @@
 //! The text of a stamp.
 ghost use Rattle.std.specs.Prelude.{◌≡◌, ◌++◌, decimal, IfOk};
 ghost use Rattle.trace_types.specs.text.StampText.{stamp_text as text_of_parts};
-ghost use Rattle.stamp_codec.specs.StampText.{id_text, tree_text, stamp_text};
+ghost use Rattle.stamp_codec.specs.StampText.{id_text, tree_text, stamp_as_text};
 
 use crate::Stamp;
 use event_tree::{EvTree, Parts as TreeParts};
@@ -15,7 +15,7 @@ use trace_types::Memory;
 ///
 /// `Memory`: there was none for the text.
 pub fn write_stamp(alloc: Global, stamp: &Stamp) -> Result<Vec<u8>, Memory>
-    ensures { IfOk result (λ text. text.items ≡ stamp_text stamp.now) }
+    ensures { IfOk result (λ text. text.items ≡ stamp_as_text stamp.now) }
 {
     write_parts(alloc, &stamp.id, &stamp.tree)
 }

@@ -13,7 +13,7 @@ use Rattle.trace_types.specs.clock.EventTree.{EventTree, Leaf}
 use Rattle.event_tree.specs.Comparison.{StandsAs}
 use Rattle.event_tree.proofs.Standing.{stand_one_way}
 use Rattle.trace_query.specs.Compared.{tree_order, is_order}
-use Rattle.trace_query.specs.Queries.{is_event, events_of, tree_at, order_between, is_other_standing, others_standing, order_due}
+use Rattle.trace_query.specs.Queries.{has_tree, events_of, tree_at, order_between, is_other_standing, others_standing, order_due}
 use Rattle.trace_query.specs.declared.query_fault.QueryFault.TheVariants.{Unknown}
 use Rattle.trace_query.proofs.ComparedTrees.{stands_as_compared, is_order_iff}
 use Rattle.trace_query.proofs.Listed.{is_other_standing_iff}
@@ -57,12 +57,12 @@ gathered_none test n place events within so_far fails =
     ∙ sym (more test n place within ∙ ap (λ list. filter test (take place (range_with_len 1 n)) ++ list) (cond-false (test (place + 1)) ((place + 1) ∷ []) [] fails) ∙ append-nil (filter test (take place (range_with_len 1 n))))
 
 -- the order of two events that there are
-pub ordered : (trees : List EventTree) (first second : ℕ) (one other : EventTree) (order : Order) → is_event trees first ≡ true → is_event trees second ≡ true
+pub ordered : (trees : List EventTree) (first second : ℕ) (one other : EventTree) (order : Order) → has_tree trees first ≡ true → has_tree trees second ≡ true
     → one ≡ tree_at trees first → other ≡ tree_at trees second → StandsAs order one other → Ok order ≡ order_due trees first second
 ordered trees first second one other order is_first is_second is_one is_other stands =
-    let both : (is_event trees first && is_event trees second) ≡ true = and_from (is_event trees first) (is_event trees second) is_first is_second in
+    let both : (has_tree trees first && has_tree trees second) ≡ true = and_from (has_tree trees first) (has_tree trees second) is_first is_second in
     let told : order ≡ order_between trees first second = stands_as_compared order one other stands ∙ ap (λ e. tree_order e other) is_one ∙ ap (tree_order (tree_at trees first)) is_other in
-    ap Ok told ∙ sym (cond-true (is_event trees first && is_event trees second) (Ok (order_between trees first second)) (Err Unknown) both)
+    ap Ok told ∙ sym (cond-true (has_tree trees first && has_tree trees second) (Ok (order_between trees first second)) (Err Unknown) both)
 
 -- of trees of which none more passes the events are all there
 pub passed_over : (test : ℕ → Bool) (n place left : ℕ) → place + left ≡ n → ((later : ℕ) → place < later → later ≤ n → test later ≡ false)

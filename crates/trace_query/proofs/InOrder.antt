@@ -6,23 +6,23 @@ use Rattle.trace_types.specs.declared.order.Order.TheVariants.{Before, Concurren
 use Rattle.trace_types.specs.clock.EventTree.{EventTree, Leaf}
 use Rattle.event_tree.specs.Comparison.{IsBelow, StandsAs}
 use Rattle.trace_query.specs.Compared.{is_below}
-use Rattle.trace_query.specs.Queries.{is_event, tree_at, StandInOrder, past_of}
+use Rattle.trace_query.specs.Queries.{has_tree, tree_at, StandInOrder, trees_before}
 use Rattle.trace_query.proofs.ComparedTrees.{is_below_iff}
 use Rattle.trace_query.proofs.Gathered.{refuted, refuted_by, listed_to, unlisted, listed_before, tree_in_place}
 
-pub event_bounds : (trees : List EventTree) (event : ℕ) → IsTrue (is_event trees event) → (0 < event) × (event ≤ length trees)
+pub event_bounds : (trees : List EventTree) (event : ℕ) → IsTrue (has_tree trees event) → (0 < event) × (event ≤ length trees)
 event_bounds trees event is =
     let parts = and_parts (ltb 0 event) (ltb event (suc (length trees))) is in
     let high : event < suc (length trees) = ltb-true event (suc (length trees)) parts.1 in
     (ltb-true 0 event parts.0, omega (arith, high))
 
-event_from_bounds : (trees : List EventTree) (event : ℕ) → 0 < event → event ≤ length trees → IsTrue (is_event trees event)
+event_from_bounds : (trees : List EventTree) (event : ℕ) → 0 < event → event ≤ length trees → IsTrue (has_tree trees event)
 event_from_bounds trees event positive within =
     and_from (ltb 0 event) (ltb event (suc (length trees))) (lt-ltb 0 event positive) (lt-ltb event (suc (length trees)) (omega (arith, within)))
 
 -- no later event is in the past, so the list is that of the earlier ones
-pub earlier_are_all : (trees : List EventTree) (event place : ℕ) (events : List ℕ) → StandInOrder trees → IsTrue (is_event trees event) → place ≡ event - 1
-    → events ≡ listed_to Before trees event place → events ≡ past_of trees event
+pub earlier_are_all : (trees : List EventTree) (event place : ℕ) (events : List ℕ) → StandInOrder trees → IsTrue (has_tree trees event) → place ≡ event - 1
+    → events ≡ listed_to Before trees event place → events ≡ trees_before trees event
 earlier_are_all trees event place events in_order is last =
     let bounds = event_bounds trees event is in
     listed_before Before trees event place events (omega (arith, bounds.1, last))
@@ -32,8 +32,8 @@ earlier_are_all trees event place events in_order is last =
 
 module _ {K : Type 0} (tree : K → EventTree) (kept : List K) (in_order : StandInOrder (map tree kept)) (event place : ℕ) (other one : K)
     (is_other : other ≡ get_or kept place other) (is_one : tree one ≡ tree_at (map tree kept) event) (within : place < length kept)
-    (event_is : IsTrue (is_event (map tree kept) event)) where
-  here : IsTrue (is_event (map tree kept) (place + 1))
+    (event_is : IsTrue (has_tree (map tree kept) event)) where
+  here : IsTrue (has_tree (map tree kept) (place + 1))
   here =
       let long : length (map tree kept) ≡ length kept = length-map kept tree in
       event_from_bounds (map tree kept) (place + 1) (omega arith) (omega arith)

@@ -10,7 +10,7 @@ use Rattle.trace_types.specs.declared.order.Order.{Order}
 use Rattle.trace_types.specs.clock.EventTree.{EventTree}
 use Rattle.event_tree.specs.Comparison.{StandsAs}
 use Rattle.trace_query.specs.Compared.{is_order}
-use Rattle.trace_query.specs.Queries.{is_event, events_of, tree_at, order_between, is_other_standing, others_standing}
+use Rattle.trace_query.specs.Queries.{has_tree, events_of, tree_at, order_between, is_other_standing, others_standing}
 use Rattle.trace_query.proofs.ComparedTrees.{tree_order_stands, stands_as_compared, is_order_iff}
 
 -- one more in front
@@ -37,7 +37,7 @@ filter-Contains test xs x one = (
 )
 
 -- the list of the events has each event
-pub Contains-events : (trees : List EventTree) (event : ℕ) → Contains (events_of trees) event ↔ IsTrue (is_event trees event)
+pub Contains-events : (trees : List EventTree) (event : ℕ) → Contains (events_of trees) event ↔ IsTrue (has_tree trees event)
 Contains-events trees event = (
   λ one.
       let long : length (events_of trees) ≡ length trees = length-range_with_len 1 (length trees) in
@@ -71,7 +71,7 @@ is_other_standing_iff wanted trees first second = (
 )
 
 pub others_are_exact : (wanted : Order) (trees : List EventTree) (event other : ℕ) → Contains (others_standing wanted trees event) other
-    ↔ (IsTrue (is_event trees other) × (other ≢ event) × StandsAs wanted (tree_at trees other) (tree_at trees event))
+    ↔ (IsTrue (has_tree trees other) × (other ≢ event) × StandsAs wanted (tree_at trees other) (tree_at trees event))
 others_are_exact wanted trees event other =
     let test : ℕ → Bool = λ one. is_other_standing wanted trees one event in
     let told = is_other_standing_iff wanted trees other event in (

@@ -6,7 +6,7 @@ use Rattle.trace_types.specs.declared.order.Order.{Order}
 use Rattle.trace_types.specs.declared.order.Order.TheVariants.{Same}
 use Rattle.trace_types.specs.clock.EventTree.{EventTree}
 use Rattle.trace_query.specs.Compared.{is_order}
-use Rattle.trace_query.specs.Queries.{is_event, events_of, tree_at, order_between, is_other_standing, others_standing}
+use Rattle.trace_query.specs.Queries.{has_tree, events_of, tree_at, order_between, is_other_standing, others_standing}
 use Rattle.trace_query.specs.Laws.{Tells}
 use Rattle.trace_query.proofs.ComparedTrees.{stands_as_compared, tree_order_itself}
 use Rattle.trace_query.proofs.Listed.{Contains-cons, Contains-events}
@@ -20,7 +20,7 @@ filter_agree_at p q (x ∷ xs) agree =
     rw (here, later)
 
 pub told_by_orders : (wanted : Order) → is_order wanted Same ≡ false → (trees : List EventTree) (order_of : ℕ → ℕ → Order) → Tells trees order_of
-    → (event : ℕ) → IsTrue (is_event trees event) → others_standing wanted trees event ≡ filter (λ other. is_order wanted (order_of other event)) (events_of trees)
+    → (event : ℕ) → IsTrue (has_tree trees event) → others_standing wanted trees event ≡ filter (λ other. is_order wanted (order_of other event)) (events_of trees)
 told_by_orders wanted differs trees order_of tells event is =
     filter_agree_at (λ other. is_other_standing wanted trees other event) (λ other. is_order wanted (order_of other event)) (events_of trees) agree
   where

@@ -3,7 +3,7 @@ use Rattle.std.proofs.Common.{◌≡◌, List, [], ◌∷◌, Ok, Err, refl}
 use Rattle.trace_types.specs.declared.order.Order.TheVariants.{Before, Concurrent}
 use Rattle.trace_types.specs.clock.EventTree.{EventTree, Leaf, Node}
 use Rattle.trace_query.specs.Compared.{tree_order}
-use Rattle.trace_query.specs.Queries.{StandInOrder, past_of, concurrent_of, order_due, fault_due}
+use Rattle.trace_query.specs.Queries.{StandInOrder, trees_before, concurrent_of, order_due, fault_due}
 use Rattle.trace_query.specs.declared.query_fault.QueryFault.TheVariants.{Unknown, Memory}
 use Rattle.trace_query.proofs.InOrder.{stand_in_order}
 
@@ -23,13 +23,13 @@ run = Leaf 1 ∷ Leaf 2 ∷ Node 2 (Leaf 0) (Leaf 1) ∷ Node 2 (Leaf 1) (Leaf 0
 pub run-in_order : StandInOrder run
 run-in_order = stand_in_order run refl
 
-pub past-4 : past_of run 4 ≡ 1 ∷ 2 ∷ []
+pub past-4 : trees_before run 4 ≡ 1 ∷ 2 ∷ []
 past-4 = refl
 
 pub concurrent-4 : concurrent_of run 4 ≡ 3 ∷ 5 ∷ []
 concurrent-4 = refl
 
-pub past-6 : past_of run 6 ≡ 1 ∷ 2 ∷ 3 ∷ 4 ∷ 5 ∷ []
+pub past-6 : trees_before run 6 ≡ 1 ∷ 2 ∷ 3 ∷ 4 ∷ 5 ∷ []
 past-6 = refl
 
 pub concurrent-6 : concurrent_of run 6 ≡ []

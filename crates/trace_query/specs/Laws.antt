@@ -6,7 +6,7 @@ use Rattle.trace_types.specs.clock.EventTree.{EventTree}
 use Rattle.trace_types.specs.declared.order.Order.{Order}
 use Rattle.event_tree.specs.Comparison.{StandsAs}
 use Rattle.trace_query.specs.Compared.{tree_order, is_order}
-use Rattle.trace_query.specs.Queries.{is_event, events_of, tree_at}
+use Rattle.trace_query.specs.Queries.{has_tree, events_of, tree_at}
 
 -- the computed order is the one in which the trees stand
 abbrev pub ComparesAsStands : Type 0
@@ -20,7 +20,7 @@ Lists = List EventTree → ℕ → List ℕ
 abbrev pub HasExactly : Order → Lists → Type 0
 HasExactly wanted list_of =
     (trees : List EventTree) (event other : ℕ) → Contains (list_of trees event) other
-    ↔ (IsTrue (is_event trees other) × (other ≢ event) × StandsAs wanted (tree_at trees other) (tree_at trees event))
+    ↔ (IsTrue (has_tree trees other) × (other ≢ event) × StandsAs wanted (tree_at trees other) (tree_at trees event))
 
 -- the list is increasing
 abbrev pub IsIncreasing : Lists → Type 0
@@ -29,12 +29,12 @@ IsIncreasing list_of = (trees : List EventTree) (event : ℕ) → IsStrictlyIncr
 -- the tree of each event stands to that of the other as the events do
 abbrev pub Tells : List EventTree → (ℕ → ℕ → Order) → Type 0
 Tells trees order_of =
-    (first second : ℕ) → IsTrue (is_event trees first) → IsTrue (is_event trees second)
+    (first second : ℕ) → IsTrue (has_tree trees first) → IsTrue (has_tree trees second)
     → StandsAs (order_of first second) (tree_at trees first) (tree_at trees second)
 
 -- the list is that of the events which stand so by the order that the trees tell
 abbrev pub IsToldByOrders : Order → Lists → Type 0
 IsToldByOrders wanted list_of =
     (trees : List EventTree) (order_of : ℕ → ℕ → Order) → Tells trees order_of
-    → (event : ℕ) → IsTrue (is_event trees event)
+    → (event : ℕ) → IsTrue (has_tree trees event)
     → list_of trees event ≡ filter (λ other. is_order wanted (order_of other event)) (events_of trees)

@@ -10,8 +10,8 @@ use Rattle.trace_query.specs.declared.query_fault.QueryFault.{QueryFault}
 use Rattle.trace_query.specs.declared.query_fault.QueryFault.TheVariants.{Unknown, Memory}
 
 -- whether there is an event of this number
-abbrev pub is_event : List EventTree → ℕ → Bool
-is_event trees event = nat_lt 0 event && nat_lt event (suc (length trees))
+abbrev pub has_tree : List EventTree → ℕ → Bool
+has_tree trees event = nat_lt 0 event && nat_lt event (suc (length trees))
 
 -- the events, increasing: from 1 to the number of trees
 abbrev pub events_of : List EventTree → List ℕ
@@ -24,7 +24,7 @@ tree_at trees event = slice_index_or trees (event - 1) (Leaf 0)
 -- the trees stand in the order of the events: no later event's tree is below an earlier one's
 abbrev pub StandInOrder : List EventTree → Type 0
 StandInOrder trees =
-    (earlier later : ℕ) → IsTrue (is_event trees earlier) → IsTrue (is_event trees later) → earlier < later
+    (earlier later : ℕ) → IsTrue (has_tree trees earlier) → IsTrue (has_tree trees later) → earlier < later
     → ¬ IsBelow (tree_at trees later) (tree_at trees earlier)
 
 -- how the tree of the first event stands to that of the second
@@ -40,8 +40,8 @@ abbrev pub others_standing : Order → List EventTree → ℕ → List ℕ
 others_standing wanted trees event = filter (λ other. is_other_standing wanted trees other event) (events_of trees)
 
 -- the other events before the event
-abbrev pub past_of : List EventTree → ℕ → List ℕ
-past_of trees event = others_standing Before trees event
+abbrev pub trees_before : List EventTree → ℕ → List ℕ
+trees_before trees event = others_standing Before trees event
 
 -- the other events that are concurrent with the event
 abbrev pub concurrent_of : List EventTree → ℕ → List ℕ
@@ -49,8 +49,8 @@ concurrent_of trees event = others_standing Concurrent trees event
 
 -- what is answered when the order of two events is asked for
 abbrev pub order_due : List EventTree → ℕ → ℕ → Result Order QueryFault
-order_due trees first second = if is_event trees first && is_event trees second then Ok (order_between trees first second) else Err Unknown
+order_due trees first second = if has_tree trees first && has_tree trees second then Ok (order_between trees first second) else Err Unknown
 
 -- why a list is refused for this event, if it is
 abbrev pub fault_due : List EventTree → ℕ → QueryFault
-fault_due trees event = if is_event trees event then Memory else Unknown
+fault_due trees event = if has_tree trees event then Memory else Unknown

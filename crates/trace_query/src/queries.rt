@@ -1,6 +1,6 @@
 //! Queries about the order of events. Event k has the k-th of the kept trees, from 1.
 ghost use Rattle.std.specs.Prelude.{◌≡◌, IfOk, IfErr, map, true, false};
-ghost use Rattle.trace_query.specs.Queries.{is_event, tree_at, StandInOrder, past_of, concurrent_of, order_due, fault_due};
+ghost use Rattle.trace_query.specs.Queries.{has_tree, tree_at, StandInOrder, trees_before, concurrent_of, order_due, fault_due};
 
 use crate::{Compare, Meant, QueryFault};
 use std::alloc::Global;
@@ -32,9 +32,9 @@ pub fn past<C: Compare>(
     kept: &[C::Kept],
     event: u64,
 ) -> Result<Vec<u64>, QueryFault>
-    ensures known { IfOk result (λ _. is_event (map C.Kept.tree kept.now) event ≡ true) }
+    ensures known { IfOk result (λ _. has_tree (map C.Kept.tree kept.now) event ≡ true) }
     ensures events { IfOk result
-        (λ events. events.items ≡ past_of (map C.Kept.tree kept.now) event) }
+        (λ events. events.items ≡ trees_before (map C.Kept.tree kept.now) event) }
     ensures fault { IfErr result (λ fault. fault ≡ fault_due (map C.Kept.tree kept.now) event) }
 {
     let tree = kept_of(kept, event)?;
@@ -57,9 +57,9 @@ pub fn past_in_order<C: Compare>(
     event: u64,
 ) -> Result<Vec<u64>, QueryFault>
     requires { StandInOrder (map C.Kept.tree kept.now) }
-    ensures known { IfOk result (λ _. is_event (map C.Kept.tree kept.now) event ≡ true) }
+    ensures known { IfOk result (λ _. has_tree (map C.Kept.tree kept.now) event ≡ true) }
     ensures events { IfOk result
-        (λ events. events.items ≡ past_of (map C.Kept.tree kept.now) event) }
+        (λ events. events.items ≡ trees_before (map C.Kept.tree kept.now) event) }
     ensures fault { IfErr result (λ fault. fault ≡ fault_due (map C.Kept.tree kept.now) event) }
 {
     let tree = kept_of(kept, event)?;
@@ -82,7 +82,7 @@ pub fn concurrent_with<C: Compare>(
     kept: &[C::Kept],
     event: u64,
 ) -> Result<Vec<u64>, QueryFault>
-    ensures known { IfOk result (λ _. is_event (map C.Kept.tree kept.now) event ≡ true) }
+    ensures known { IfOk result (λ _. has_tree (map C.Kept.tree kept.now) event ≡ true) }
     ensures events { IfOk result
         (λ events. events.items ≡ concurrent_of (map C.Kept.tree kept.now) event) }
     ensures fault { IfErr result (λ fault. fault ≡ fault_due (map C.Kept.tree kept.now) event) }
@@ -107,7 +107,7 @@ pub fn concurrent_in_order<C: Compare>(
     event: u64,
 ) -> Result<Vec<u64>, QueryFault>
     requires { StandInOrder (map C.Kept.tree kept.now) }
-    ensures known { IfOk result (λ _. is_event (map C.Kept.tree kept.now) event ≡ true) }
+    ensures known { IfOk result (λ _. has_tree (map C.Kept.tree kept.now) event ≡ true) }
     ensures events { IfOk result
         (λ events. events.items ≡ concurrent_of (map C.Kept.tree kept.now) event) }
     ensures fault { IfErr result (λ fault. fault ≡ fault_due (map C.Kept.tree kept.now) event) }
@@ -130,10 +130,10 @@ pub fn concurrent_in_order<C: Compare>(
 
 /// What is kept for the event.
 fn kept_of<K: Meant>(kept: &[K], event: u64) -> Result<&K, QueryFault>
-    ensures known { IfOk result (λ _. is_event (map K.tree kept.now) event ≡ true) }
+    ensures known { IfOk result (λ _. has_tree (map K.tree kept.now) event ≡ true) }
     ensures tree { IfOk result (λ one. K.tree one.now ≡ tree_at (map K.tree kept.now) event) }
     ensures unknown { IfErr result
-        (λ fault. (fault ≡ QueryFault.Unknown) × (is_event (map K.tree kept.now) event ≡ false)) }
+        (λ fault. (fault ≡ QueryFault.Unknown) × (has_tree (map K.tree kept.now) event ≡ false)) }
 {
     let place = event.checked_sub(1).ok_or(QueryFault::Unknown)?;
     kept.get(place as usize).ok_or(QueryFault::Unknown)

@@ -1,8 +1,8 @@
 //! The words of the trace collector: names, requests, rows and replies of a tenant.
 //!
-//! Its one contract is a set of definitions, in specs/: what a tenant alone is due (`Rows`, `Reachability`, `Refusal`,
-//! `Tenant`), how lines are read and written (`Lines`, `Reading`, `Text`), and what many tenants together are due
-//! (`Interleaving`, `World`, `Replay`). The laws in [`laws`] say that they mean what they should.
+//! Its one contract is a set of definitions, in specs/: ids, event trees and the clock that they make (`clock`), what a
+//! tenant alone is due (`tenant`), how lines are read and written (`text`), and what many tenants together are due
+//! (`world`). The laws in [`laws`] say that they mean what they should.
 #![tactic(auto)]
 
 mod code;

@@ -12,7 +12,7 @@ use Rattle.trace_types.specs.declared.code.Code.TheVariants as code
 use Rattle.trace_types.specs.declared.request.Request.{Request}
 use Rattle.trace_types.specs.declared.reply.Reply.{Reply}
 use Rattle.trace_types.specs.declared.reply.Reply.TheVariants.{Refused}
-use Rattle.trace_world.specs.Replayed.{Answers}
+use Rattle.trace_world.specs.Replayed.{DoesLine}
 use Rattle.trace_world.proofs.Places.{IsPlace, IsPlace-place_of}
 
 -- the name at a place that was found
@@ -24,7 +24,7 @@ named names name tenant found =
 -- a request of a tenant was done
 pub answers_request : (old new : World) (line : Text) (named_and_asked : Text × Option Request) (tenant : ℕ) (request : Request) (reply : Reply)
     → is_too_long line ≡ false → addressed_by line ≡ Some named_and_asked → named_and_asked.1 ≡ Some request → place_of old.names named_and_asked.0 ≡ Some tenant
-    → StepsOne old tenant request reply new → IsDue old tenant request reply new → Answers old line named_and_asked.0 reply new
+    → StepsOne old tenant request reply new → IsDue old tenant request reply new → DoesLine old line named_and_asked.0 reply new
 answers_request old new line (name, asks_for) tenant request reply short addressed spelled found steps due =
     let asks : asked old.names line ≡ Asks tenant request = rw (short, addressed, found, spelled) refl in
     record {
@@ -41,7 +41,7 @@ answers_request old new line (name, asks_for) tenant request reply short address
 -- a line names a tenant and spells no request
 pub answers_no_request : (world : World) (line : Text) (named_and_asked : Text × Option Request) (tenant : ℕ)
     → is_too_long line ≡ false → addressed_by line ≡ Some named_and_asked → named_and_asked.1 ≡ None → place_of world.names named_and_asked.0 ≡ Some tenant
-    → Answers world line named_and_asked.0 (Refused code.Line) world
+    → DoesLine world line named_and_asked.0 (Refused code.Line) world
 answers_no_request world line (name, asks_for) tenant short addressed spelled found =
     let asks : asked world.names line ≡ NoRequest tenant = rw (short, addressed, found, spelled) refl in
     record {
@@ -56,7 +56,7 @@ answers_no_request world line (name, asks_for) tenant short addressed spelled fo
     }
 
 -- a line belongs to no tenant
-pub answers_nobody : (world : World) (line : Text) (code : Code) → asked world.names line ≡ NoTenants code → Answers world line (codes "?") (Refused code) world
+pub answers_nobody : (world : World) (line : Text) (code : Code) → asked world.names line ≡ NoTenants code → DoesLine world line (codes "?") (Refused code) world
 answers_nobody world line code asks = record {
   mark = false;
   names = refl;

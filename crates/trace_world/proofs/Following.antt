@@ -16,7 +16,7 @@ use Rattle.line_protocol.specs.Source.{one_if}
 use Rattle.line_protocol.specs.LineReading.{HasRead, GivesLine}
 use Rattle.trace_world.specs.declared.counts.Counts.{Counts}
 use Rattle.trace_world.specs.Counted.{counted_with}
-use Rattle.trace_world.specs.Replayed.{counts_of, LeadsTo, Answers}
+use Rattle.trace_world.specs.Replayed.{counts_of, LeadsTo, DoesLine}
 
 -- The lines that were found were replayed.
 pub record Follows (start given taken taken' : List ℕ) (old : World) (held : Held) (counts : Counts) (new : World) : Type 0 where
@@ -63,7 +63,7 @@ counts_of-push replies reply = λ i. record {
 
 -- one line more
 pub LeadsTo-line : (old mid new : World) (found : List Text) (marks : List Bool) (text : Text) (counts : Counts) (line to : Text) (reply : Reply)
-    → LeadsTo old found marks text counts mid → (answers : Answers mid line to reply new)
+    → LeadsTo old found marks text counts mid → (answers : DoesLine mid line to reply new)
     → LeadsTo old (found ++ line ∷ []) (marks ++ answers.mark ∷ []) (text ++ (to ++ codes " " ++ reply_text reply ++ 10 ∷ [])) (counted_with counts reply) new
 LeadsTo-line old mid new found marks text counts line to reply before answers =
     let es : List Entry = entries old.names found marks in
@@ -103,7 +103,7 @@ LeadsTo-line old mid new found marks text counts line to reply before answers =
 pub Follows-line : {start given given' taken taken' taken'' : List ℕ} {old mid new : World} {held held' : Held} {counts : Counts} (line to : Text) (reply : Reply)
     → Follows start given taken taken' old held counts mid
     → GivesLine given given' held.left held'.left held'.is_ended line → (IsTrue held.is_ended → (given' ≡ given) × IsTrue held'.is_ended)
-    → Answers mid line to reply new → taken'' ≡ taken' ++ (to ++ codes " " ++ reply_text reply ++ 10 ∷ [])
+    → DoesLine mid line to reply new → taken'' ≡ taken' ++ (to ++ codes " " ++ reply_text reply ++ 10 ∷ [])
     → Follows start given' taken taken'' old held' (counted_with counts reply) new
 Follows-line {taken = taken} {old = old} {mid = mid} {new = new} {counts = counts} line to reply before gives at_end answers writes = record {
   found = before.found ++ line ∷ [];

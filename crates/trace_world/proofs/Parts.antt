@@ -27,7 +27,7 @@ use Rattle.trace_world.specs.declared.counts.Counts.{Counts}
 use Rattle.trace_world.specs.declared.replay_fault.ReplayFault.{ReplayFault}
 use Rattle.trace_world.specs.declared.replay_fault.ReplayFault.TheVariants.{Read, Write, TooLong, Memory}
 use Rattle.trace_world.specs.Counted.{counted_with}
-use Rattle.trace_world.specs.Replayed.{Answers, AreFirstLines, HandsOn, ReplaysInPart, Replays}
+use Rattle.trace_world.specs.Replayed.{DoesLine, AreFirstLines, HandsOn, ReplaysInPart, Replays}
 use Rattle.trace_world.proofs.Answering.{answers_nobody}
 use Rattle.trace_world.proofs.Following.{Follows, no_counts, LeadsTo-none, LeadsTo-line}
 
@@ -35,7 +35,7 @@ use Rattle.trace_world.proofs.Following.{Follows, no_counts, LeadsTo-none, Leads
 pub record Answered (given given' : List ℕ) (held held' : Held) (old : World) (to : Text) (reply : Reply) (new : World) : Type 0 where
   pub line : Text
   pub gives : GivesLine given given' held.left held'.left held'.is_ended line
-  pub answers : Answers old line to reply new
+  pub answers : DoesLine old line to reply new
 
 pub answered_too_long : (given given' : List ℕ) (held held' : Held) (world : World) → Finds given given' held held' TooLong
     → Answered given given' held held' world (codes "?") (Refused code.Line) world
@@ -46,7 +46,7 @@ answered_too_long given given' held held' world (line, gives, long) = record {
 }
 
 pub answered_whole : (given given' : List ℕ) (held held' : Held) (old : World) (to : Text) (reply : Reply) (new : World) → Finds given given' held held' Whole
-    → Answers old held'.line to reply new → Answered given given' held held' old to reply new
+    → DoesLine old held'.line to reply new → Answered given given' held held' old to reply new
 answered_whole given given' held held' old to reply new finds answers = record { line = held'.line; gives = finds.0; answers = answers }
 
 -- the lines that were found are first, however the input goes on
@@ -213,11 +213,11 @@ answered_where_too_long given given' held held' world world' found answer result
     rw (same ∙ result_is, world_is) (answered_too_long given given' held held' world (subst (Finds given given' held held') is finds))
 
 pub answered_where_whole : (given given' : List ℕ) (held held' : Held) (old new world' : World) (found : Line) (answer result : Answer) (line : Text)
-    → found ≡ Whole → Finds given given' held held' found → answer ≡ result → line ≡ held'.line → world' ≡ new → Answers old line (addressee_text result.tenant) result.reply new
+    → found ≡ Whole → Finds given given' held held' found → answer ≡ result → line ≡ held'.line → world' ≡ new → DoesLine old line (addressee_text result.tenant) result.reply new
     → Answered given given' held held' old (addressee_text answer.tenant) answer.reply world'
 answered_where_whole given given' held held' old new world' found answer result line is finds same line_is world_is answers =
     rw (same, world_is) (answered_whole given given' held held' old (addressee_text result.tenant) result.reply new (subst (Finds given given' held held') is finds)
-    (subst (λ (l : Text). Answers old l (addressee_text result.tenant) result.reply new) line_is answers))
+    (subst (λ (l : Text). DoesLine old l (addressee_text result.tenant) result.reply new) line_is answers))
 
 -- what is flushed is as it was
 pub Follows-flushed : {start given taken taken' taken'' : List ℕ} {old new : World} {held : Held} {counts : Counts} → taken'' ≡ taken' → Follows start given taken taken' old held counts new → Follows start given taken taken'' old held counts new

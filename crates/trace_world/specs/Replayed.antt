@@ -81,7 +81,7 @@ HandsOn (Err Write) taken = Unit {0}
 HandsOn (Err Memory) taken = Unit {0}
 
 -- One line leads from the old world to the new one, and this reply is due to this addressee.
-pub record Answers (old : World) (line : Text) (to : Text) (reply : Reply) (new : World) : Type 0 where
+pub record DoesLine (old : World) (line : Text) (to : Text) (reply : Reply) (new : World) : Type 0 where
   pub mark : Bool
   pub names : new.names ≡ old.names
   pub limits : new.limits ≡ old.limits

@@ -2,7 +2,7 @@
 ghost use Rattle.std.specs.Prelude.{◌≡◌, ◌≤◌, false, None, OnOk, OnErr};
 ghost use Rattle.trace_types.specs.text.Lines.{is_too_long};
 ghost use Rattle.line_protocol.specs.Writing.{WritesText, EndsInFault};
-ghost use Rattle.trace_world.specs.Replayed.{Answers};
+ghost use Rattle.trace_world.specs.Replayed.{DoesLine};
 ghost use Rattle.line_protocol.specs.Answer.{addressee_text, answer_text};
 
 use crate::World;
@@ -21,7 +21,7 @@ impl Answer {
     /// Does what the line asks of the tenants.
     pub(crate) fn to_line<R>(rt: &R, world: &mut World, line: &[u8]) -> Answer
         requires { is_too_long line.now ≡ false }
-        ensures { Answers world.old line.now (addressee_text result.tenant) result.reply world.new }
+        ensures { DoesLine world.old line.now (addressee_text result.tenant) result.reply world.new }
     {
         let Some((name, request)) = read_addressed(line) else {
             return Answer::to_nobody(Code::Line);

@@ -2,7 +2,7 @@
 ghost use Rattle.std.specs.Prelude.{◌≡◌, ◌+◌, ◌^◌, ◌<◌, ◌⊎◌, false, Some, IfOk, IfSome, IfNone};
 ghost use Rattle.trace_types.specs.clock.Id.{Pair};
 ghost use Rattle.trace_types.specs.clock.EventTree.{Leaf, maximum, IsNormal};
-ghost use Rattle.trace_types.specs.clock.Grow.{root, left_of, right_of, expansion, is_less, is_cheaper, cheaper, dearer, cost};
+ghost use Rattle.trace_types.specs.clock.Grow.{root_number, left_of, right_of, expansion, is_less, is_cheaper, cheaper, dearer, cost};
 ghost use Rattle.event_tree.specs.GrownFor.{grown_for};
 
 use super::{EvTree, Node};
@@ -91,7 +91,7 @@ struct Opened<'a> {
 impl EvTree {
     fn opened<'a>(&'a self, zero: &'a EvTree) -> Opened<'a>
         requires { zero.now ≡ Leaf 0 }
-        ensures root { result.root ≡ root self.now }
+        ensures root { result.root ≡ root_number self.now }
         ensures left { result.left.now ≡ left_of self.now }
         ensures right { result.right.now ≡ right_of self.now }
         ensures expansion { result.expansion ≡ expansion self.now }

@@ -18,16 +18,16 @@ use Rattle.tenant_ledger.specs.ClockLaws.{ClockLaws, OwnsSome}
 pub some_is_not_Zero : (id : Id) → OwnsSome owns id → id ≢ Zero
 some_is_not_Zero id some is = false≢true (ap (λ i. owns i some.0) (sym is) ∙ some.1)
 
-pub split_parts_some : (id : Id) → ids.IsNormal id → OwnsSome owns id → OwnsSome owns (split id).0 × OwnsSome owns (split id).1
+pub split_parts_some : (id : Id) → ids.IsNormalId id → OwnsSome owns id → OwnsSome owns (split id).0 × OwnsSome owns (split id).1
 split_parts_some id normal some =
     let parts = split-some id (some_is_not_Zero id some) in
     let parts_normal = IsNormal-split id normal in
     (some_point true (split id).0 parts_normal.0 parts.0, some_point true (split id).1 parts_normal.1 parts.1)
 
-pub raises : (id : Id) (tree : EventTree) → ids.IsNormal id → OwnsSome owns id → trees.IsNormal tree → Raises id tree (tree_clock.event id tree)
+pub raises : (id : Id) (tree : EventTree) → ids.IsNormalId id → OwnsSome owns id → trees.IsNormal tree → Raises id tree (tree_clock.event id tree)
 raises id tree id_normal some normal = raises_event id tree id_normal (some_is_not_Zero id some) normal
 
-abbrev pub tree_clock_laws : ClockLaws tree_clock Point ids.IsNormal trees.IsNormal
+abbrev pub tree_clock_laws : ClockLaws tree_clock Point ids.IsNormalId trees.IsNormal
 tree_clock_laws = record {
   owns = owns;
   value = value;

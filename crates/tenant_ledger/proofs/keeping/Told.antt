@@ -88,7 +88,7 @@ module _ (book : Contents) (is : IsKept book) where
   as_many = one_tree book is ∙ sym (length-reverse book.rows)
 
   -- an event by the trees is one by the rows
-  pub same_events : (event : ℕ) → query.is_event trees event ≡ is_event history event
+  pub same_events : (event : ℕ) → query.has_tree trees event ≡ is_event history event
   same_events event = ap (λ n. ltb 0 event && ltb event (suc n)) as_many
 
   -- the tree that is kept of an event is what it knows
@@ -118,47 +118,47 @@ module _ (book : Contents) (is : IsKept book) where
       let reached : IsTrue (reaches history later earlier) = (below_iff_reaches tree_clock_laws history holds later earlier other_is).0 kept_below in
       elim (reaches_forward history later earlier reached) [ inl same ↦ omega (arith, same, before) | inr after ↦ omega (arith, after.0, before) ]
 
-  told : (wanted : Order) → is_order wanted Same ≡ false → (event : ℕ) → IsTrue (query.is_event trees event)
+  told : (wanted : Order) → is_order wanted Same ≡ false → (event : ℕ) → IsTrue (query.has_tree trees event)
       → others_standing wanted trees event ≡ filter (λ other. is_order wanted (order_of history other event)) (events history)
   told wanted differs event event_is =
       told_by_orders wanted differs trees (order_of history) trees_tell event event_is
       ∙ ap (λ n. filter (λ other. is_order wanted (order_of history other event)) (range_with_len 1 n)) as_many
 
   -- so the lists are those of the graph
-  pub past_told : (event : ℕ) → IsTrue (query.is_event trees event) → query.past_of trees event ≡ past_of history event
+  pub past_told : (event : ℕ) → IsTrue (query.has_tree trees event) → query.trees_before trees event ≡ past_of history event
   past_told event event_is = told Before refl event event_is ∙ (λ i. filter (λ other. in_past history event other i) (events history))
 
-  pub concurrent_told : (event : ℕ) → IsTrue (query.is_event trees event) → query.concurrent_of trees event ≡ concurrent_with history event
+  pub concurrent_told : (event : ℕ) → IsTrue (query.has_tree trees event) → query.concurrent_of trees event ≡ concurrent_with history event
   concurrent_told event event_is = told Concurrent refl event event_is ∙ (λ i. filter (λ other. is_concurrent history event other i) (events history))
 
 module _ (book : Contents) (is : IsKept book) {V : Type 0} (items : V → List ℕ) (event : ℕ) (found : Result V QueryFault) (answer : Reply)
-    (known : IfOk found (λ _. query.is_event book.trees event ≡ true))
+    (known : IfOk found (λ _. query.has_tree book.trees event ≡ true))
     (fault : IfErr found (λ refusal. refusal ≡ fault_due book.trees event))
     (listed : IfOk found (λ value. answer ≡ reply.List (items value))) (refused : IfErr found (λ refusal. answer ≡ reply.Refused (code_of refusal))) where
   -- a list of events that is told by the trees is answered as it is due
-  list_answered : (asked : Request) (graph list : List ℕ) → (IsTrue (query.is_event book.trees event) → list ≡ graph)
+  list_answered : (asked : Request) (graph list : List ℕ) → (IsTrue (query.has_tree book.trees event) → list ≡ graph)
       → (is_event (history_in book) event ≡ true → (reply.List graph ≡ reply_to_view (tenant_of book) asked) × IsTrue (not (is_report asked)) × MayLackMemory (tenant_of book) asked)
       → (is_event (history_in book) event ≡ false → reply.Refused NoEvent ≡ reply_to_view (tenant_of book) asked)
       → IfOk found (λ value. items value ≡ list) → Answers (tenant_of book) asked answer
   list_answered asked graph list told due none events = by found known fault listed refused events
     where
-      by : (outcome : Result V QueryFault) → IfOk outcome (λ _. query.is_event book.trees event ≡ true)
+      by : (outcome : Result V QueryFault) → IfOk outcome (λ _. query.has_tree book.trees event ≡ true)
           → IfErr outcome (λ refusal. refusal ≡ fault_due book.trees event) → IfOk outcome (λ value. answer ≡ reply.List (items value))
           → IfErr outcome (λ refusal. answer ≡ reply.Refused (code_of refusal)) → IfOk outcome (λ value. items value ≡ list) → Answers (tenant_of book) asked answer
       by (Ok value) known fault listed refused events =
           inl (listed ∙ ap reply.List (events ∙ told known) ∙ (due (sym (same_events book is event) ∙ known)).0)
-      by (Err refusal) known fault listed refused events = elim (cases_Bool (query.is_event book.trees event)) [
+      by (Err refusal) known fault listed refused events = elim (cases_Bool (query.has_tree book.trees event)) [
         | inl there ↦
             let given = due (sym (same_events book is event) ∙ there) in
-            inr (given.1, given.2, refused ∙ ap (λ f. reply.Refused (code_of f)) (fault ∙ cond-true (query.is_event book.trees event) _ _ there))
+            inr (given.1, given.2, refused ∙ ap (λ f. reply.Refused (code_of f)) (fault ∙ cond-true (query.has_tree book.trees event) _ _ there))
         | inr nowhere ↦
-            inl (refused ∙ ap (λ f. reply.Refused (code_of f)) (fault ∙ cond-false (query.is_event book.trees event) _ _ nowhere)
+            inl (refused ∙ ap (λ f. reply.Refused (code_of f)) (fault ∙ cond-false (query.has_tree book.trees event) _ _ nowhere)
             ∙ none (sym (same_events book is event) ∙ nowhere))
       ]
 
-  pub past_answered : IfOk found (λ value. items value ≡ query.past_of book.trees event) → Answers (tenant_of book) (request.Past event) answer
+  pub past_answered : IfOk found (λ value. items value ≡ query.trees_before book.trees event) → Answers (tenant_of book) (request.Past event) answer
   past_answered =
-      list_answered (request.Past event) (past_of (history_in book) event) (query.past_of book.trees event) (past_told book is event)
+      list_answered (request.Past event) (past_of (history_in book) event) (query.trees_before book.trees event) (past_told book is event)
       (λ there. (rw there refl, refl, (refl, rw there refl))) (λ nowhere. rw nowhere refl)
 
   pub concurrent_answered : IfOk found (λ value. items value ≡ query.concurrent_of book.trees event) → Answers (tenant_of book) (request.Concurrent event) answer
@@ -186,12 +186,12 @@ pub order_answered : (book : Contents) → IsKept book → (first second : ℕ) 
     → reply.Ordering order ≡ reply_to_view (tenant_of book) (request.Order first second)
 order_answered book is first second order told =
     let trees = book.trees in
-    elim (cases_Bool (query.is_event trees first && query.is_event trees second)) [
+    elim (cases_Bool (query.has_tree trees first && query.has_tree trees second)) [
       | inl there ↦
-          let parts = and_parts (query.is_event trees first) (query.is_event trees second) there in
+          let parts = and_parts (query.has_tree trees first) (query.has_tree trees second) there in
           let first_is : is_event (history book is) first ≡ true = sym (same_events book is first) ∙ parts.0 in
           let second_is : is_event (history book is) second ≡ true = sym (same_events book is second) ∙ parts.1 in
-          let compared : Ok order ≡ Ok (order_between trees first second) = told ∙ cond-true (query.is_event trees first && query.is_event trees second) _ _ there in
+          let compared : Ok order ≡ Ok (order_between trees first second) = told ∙ cond-true (query.has_tree trees first && query.has_tree trees second) _ _ there in
           let is_compared : order ≡ order_between trees first second = ap order_found compared in
           let stands : StandsAs (order_between trees first second) (tree_at trees first) (tree_at trees second) = tree_order_stands (tree_at trees first) (tree_at trees second) in
           ordered book first second order is first_is second_is
@@ -199,17 +199,17 @@ order_answered book is first second order told =
           (subst (λ tree. StandsAs (order_between trees first second) tree (tree_of tree_clock (history book is) second)) (tree_is_kept book is first first_is)
           (subst (StandsAs (order_between trees first second) (tree_at trees first)) (tree_is_kept book is second second_is) stands)))
       | inr nowhere ↦
-          let clash : Ok order ≡ Err Unknown = told ∙ cond-false (query.is_event trees first && query.is_event trees second) _ _ nowhere in cc
+          let clash : Ok order ≡ Err Unknown = told ∙ cond-false (query.has_tree trees first && query.has_tree trees second) _ _ nowhere in cc
     ]
 
 -- and one that is not is refused as it is due
 pub order_refused : (book : Contents) → IsKept book → (first second : ℕ) (fault : QueryFault) → Err fault ≡ query.order_due book.trees first second
     → reply.Refused (code_of fault) ≡ reply_to_view (tenant_of book) (request.Order first second)
 order_refused book is first second fault told =
-    let both = query.is_event book.trees first && query.is_event book.trees second in
+    let both = query.has_tree book.trees first && query.has_tree book.trees second in
     let unknown : both ≡ false → fault ≡ Unknown = λ nowhere. (let refused : Err fault ≡ Err Unknown = told ∙ cond-false both _ _ nowhere in cc) in
-    elim (cases_Bool (query.is_event book.trees first)) [
-      | inl one ↦ elim (cases_Bool (query.is_event book.trees second)) [
+    elim (cases_Bool (query.has_tree book.trees first)) [
+      | inl one ↦ elim (cases_Bool (query.has_tree book.trees second)) [
         | inl other ↦ let clash : Err fault ≡ Ok (order_between book.trees first second) = told ∙ cond-true both _ _ (rw (one, other) refl) in cc
         | inr other ↦ rw (sym (same_events book is first) ∙ one, sym (same_events book is second) ∙ other) (ap (λ f. reply.Refused (code_of f)) (unknown (rw (one, other) refl)))
       ]

@@ -8,10 +8,10 @@ pub record Cost : Type 0 where
   pub expansions : ℕ
   pub steps : ℕ
 
--- the number of the root
-abbrev pub root : EventTree → ℕ
-root (Leaf n) = n
-root (Node n left right) = n
+-- the number of the root_number
+abbrev pub root_number : EventTree → ℕ
+root_number (Leaf n) = n
+root_number (Node n left right) = n
 
 -- the left child; a leaf counts as a node over 0 and 0
 abbrev pub left_of : EventTree → EventTree
@@ -23,7 +23,7 @@ abbrev pub right_of : EventTree → EventTree
 right_of (Leaf n) = Leaf 0
 right_of (Node n left right) = right
 
--- what it takes to make the root a node
+-- what it takes to make the root_number a node
 abbrev pub expansion : EventTree → ℕ
 expansion (Leaf n) = 1
 expansion (Node n left right) = 0
@@ -59,5 +59,5 @@ grown Zero tree = tree
 grown One tree = Leaf (maximum tree + 1)
 grown (Pair il ir) tree =
     if is_cheaper (cost il (left_of tree)) (cost ir (right_of tree))
-    then Node (root tree) (grown il (left_of tree)) (right_of tree)
-    else Node (root tree) (left_of tree) (grown ir (right_of tree))
+    then Node (root_number tree) (grown il (left_of tree)) (right_of tree)
+    else Node (root_number tree) (left_of tree) (grown ir (right_of tree))

@@ -21,10 +21,10 @@ AreApart One One = ⊥
 AreApart left right = Unit {0}
 
 -- no node of the id could be written shorter
-abbrev pub IsNormal : Id → Type 0
-IsNormal Zero = Unit {0}
-IsNormal One = Unit {0}
-IsNormal (Pair left right) = IsNormal left × IsNormal right × AreApart left right
+abbrev pub IsNormalId : Id → Type 0
+IsNormalId Zero = Unit {0}
+IsNormalId One = Unit {0}
+IsNormalId (Pair left right) = IsNormalId left × IsNormalId right × AreApart left right
 
 -- no point is owned by both
 abbrev pub AreDisjoint : Id → Id → Type 0

@@ -2,10 +2,10 @@
 use Rattle.trace_types.specs.clock.Id.{Id, Zero, One, Pair}
 
 -- the normal form of a pair of normal ids
-abbrev pub norm : Id → Id → Id
-norm Zero Zero = Zero
-norm One One = One
-norm left right = Pair left right
+abbrev pub norm_id : Id → Id → Id
+norm_id Zero Zero = Zero
+norm_id One One = One
+norm_id left right = Pair left right
 
 -- the two parts of an id
 abbrev pub split : Id → Id × Id
@@ -19,6 +19,6 @@ split (Pair left right) = (Pair left Zero, Pair Zero right)
 abbrev pub sum : Id → Id → Id
 sum Zero b = b
 sum a Zero = a
-sum (Pair left right) (Pair left' right') = norm (sum left left') (sum right right')
+sum (Pair left right) (Pair left' right') = norm_id (sum left left') (sum right right')
 sum One b = One
 sum a One = One

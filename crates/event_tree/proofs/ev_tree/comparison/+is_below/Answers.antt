@@ -1,7 +1,7 @@
 use Rattle.std.proofs.Common.{ℕ, refl, sym, ap, ◌∙◌, arith}
 use Rattle.std.proofs.lemmas.Bool.{false≢true}
 use Rattle.std.proofs.lemmas.Grind.{common_steps}
-use Rattle.event_tree.specs.Kept.{tree_of}
+use Rattle.event_tree.specs.Kept.{tree_of_node}
 use Rattle.event_tree.proofs.Walk.{AreNodes, ranges_from_below, below_from_ranges, not_below_by_left, below_by_right}
 use Rattle.event_tree.proofs.ev_tree.comparison.+is_below.Goals as goal
 
@@ -13,14 +13,14 @@ returns-then-is_below t c =
 -- the nodes whose sides are compared
 nodes_at_left : (t : ℕ) (c : goal.Else-is_below-2 t) → AreNodes c.args.one.now c.args.other.now c.in-Fork-Fork.base c.in-Fork-Fork.other_base c.deref.result.now.left c.in-Fork-Fork.children.value.right c.deref-in-Fork-Fork.result.now.left c.in-Fork-Fork.other_children.value.right
 nodes_at_left t c = record {
-  one = rw c.deref.ensures (sym c.one.view_is ∙ ap tree_of c.in-Fork-Fork.is-0);
-  other = rw c.deref-in-Fork-Fork.ensures (sym c.other.view_is ∙ ap tree_of c.in-Fork-Fork.is-1);
+  one = rw c.deref.ensures (sym c.one.view_is ∙ ap tree_of_node c.in-Fork-Fork.is-0);
+  other = rw c.deref-in-Fork-Fork.ensures (sym c.other.view_is ∙ ap tree_of_node c.in-Fork-Fork.is-1);
 }
 
 nodes_at_right : (t : ℕ) (c : goal.After-is_below-then-is_below-2 t) → AreNodes c.args.one.now c.args.other.now c.in-Fork-Fork.base c.in-Fork-Fork.other_base c.deref.result.now.left c.deref-then-is_below-2.result.now.right c.deref-in-Fork-Fork.result.now.left c.deref-then-is_below-2-2.result.now.right
 nodes_at_right t c = record {
-  one = rw (c.deref.ensures, c.deref-then-is_below-2.ensures) (sym c.one.view_is ∙ ap tree_of c.in-Fork-Fork.is-0);
-  other = rw (c.deref-in-Fork-Fork.ensures, c.deref-then-is_below-2-2.ensures) (sym c.other.view_is ∙ ap tree_of c.in-Fork-Fork.is-1);
+  one = rw (c.deref.ensures, c.deref-then-is_below-2.ensures) (sym c.one.view_is ∙ ap tree_of_node c.in-Fork-Fork.is-0);
+  other = rw (c.deref-in-Fork-Fork.ensures, c.deref-then-is_below-2-2.ensures) (sym c.other.view_is ∙ ap tree_of_node c.in-Fork-Fork.is-1);
 }
 
 pub returns-then-not-can_be_below : goal.returns-then-not-can_be_below

@@ -29,7 +29,7 @@ use denote.Triple.Spec.{Meets, triple_of}
 use denote.Triple.Table.{entered}
 use denote.Triple.Walked.{says, Stays, stay_ref, stay_none_slice, walk_of, AllGo, Goes-ref, Goes-none_slice, Walks, ends_at, walked, walk_Meets}
 use Rattle.line_protocol.specs.declared.log.Log.{Log}
-use Rattle.line_protocol.specs.Calls.{call_of}
+use Rattle.line_protocol.specs.Calls.{edge_call_of}
 use Rattle.line_protocol.specs.contracts.log.Log as log
 use Rattle.line_protocol.specs.contracts.log.Log.note.Key.{name as #note}
 use Rattle.line_protocol.specs.contracts.log.Log.note as contract_of
@@ -50,7 +50,7 @@ module _ {M : Type 1} {𝓤 : Ura M} (𝓛 : Logic 𝓤) (at_mem : Memory → SP
 
   -- the log with the call
   abbrev after : Log
-  after = record { marker = before.marker; calls = call_of ending.now moved.now ∷ before.calls }
+  after = record { marker = before.marker; calls = edge_call_of ending.now moved.now ∷ before.calls }
 
   abbrev at : List Val × (List Val × (List Val × Unit {0}))
   at = (vptr b o ∷ [], (slice_val ending.ref_ptr (length ending.now) ∷ [], (slice_val moved.ref_ptr (length moved.now) ∷ [], tt)))

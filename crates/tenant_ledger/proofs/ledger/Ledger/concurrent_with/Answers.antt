@@ -1,5 +1,5 @@
 use Rattle.std.proofs.Common.{◌≡◌, true, List, IfOk, IfErr, sym, subst}
-use Rattle.trace_query.specs.Queries.{StandInOrder, is_event, concurrent_of, fault_due}
+use Rattle.trace_query.specs.Queries.{StandInOrder, has_tree, concurrent_of, fault_due}
 use Rattle.trace_types.specs.clock.EventTree.{EventTree}
 use Rattle.trace_types.specs.tenant.Tenant.{Tenant, Answers}
 use Rattle.trace_types.specs.declared.request.Request.TheVariants as request
@@ -13,7 +13,7 @@ pub returns : goal.returns
 returns g c =
     let event = c.args.event in
     let found = c.concurrent_in_order.result in
-    let known = subst (λ (trees : List EventTree). IfOk found (λ _. is_event trees event ≡ true)) c.trees.ensures c.concurrent_in_order.ensures.known in
+    let known = subst (λ (trees : List EventTree). IfOk found (λ _. has_tree trees event ≡ true)) c.trees.ensures c.concurrent_in_order.ensures.known in
     let fault = subst (λ (trees : List EventTree). IfErr found (λ refusal. refusal ≡ fault_due trees event)) c.trees.ensures c.concurrent_in_order.ensures.fault in
     let events = subst (λ (trees : List EventTree). IfOk found (λ listed. listed.items ≡ concurrent_of trees event)) c.trees.ensures c.concurrent_in_order.ensures.events in
     subst (λ (tenant : Tenant). Answers tenant (request.Concurrent event) c.listed.result) c.self.view_is

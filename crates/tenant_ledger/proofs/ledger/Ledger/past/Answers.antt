@@ -1,5 +1,5 @@
 use Rattle.std.proofs.Common.{◌≡◌, true, List, IfOk, IfErr, sym, subst}
-use Rattle.trace_query.specs.Queries.{StandInOrder, is_event, past_of, fault_due}
+use Rattle.trace_query.specs.Queries.{StandInOrder, has_tree, trees_before, fault_due}
 use Rattle.trace_types.specs.clock.EventTree.{EventTree}
 use Rattle.trace_types.specs.tenant.Tenant.{Tenant, Answers}
 use Rattle.trace_types.specs.declared.request.Request.TheVariants as request
@@ -13,8 +13,8 @@ pub returns : goal.returns
 returns g c =
     let event = c.args.event in
     let found = c.past_in_order.result in
-    let known = subst (λ (trees : List EventTree). IfOk found (λ _. is_event trees event ≡ true)) c.trees.ensures c.past_in_order.ensures.known in
+    let known = subst (λ (trees : List EventTree). IfOk found (λ _. has_tree trees event ≡ true)) c.trees.ensures c.past_in_order.ensures.known in
     let fault = subst (λ (trees : List EventTree). IfErr found (λ refusal. refusal ≡ fault_due trees event)) c.trees.ensures c.past_in_order.ensures.fault in
-    let events = subst (λ (trees : List EventTree). IfOk found (λ listed. listed.items ≡ past_of trees event)) c.trees.ensures c.past_in_order.ensures.events in
+    let events = subst (λ (trees : List EventTree). IfOk found (λ listed. listed.items ≡ trees_before trees event)) c.trees.ensures c.past_in_order.ensures.events in
     subst (λ (tenant : Tenant). Answers tenant (request.Past event) c.listed.result) c.self.view_is
     (past_answered c.self.inside.book c.self.invariant (λ v. v.items) event found c.listed.result known fault c.listed.ensures.events c.listed.ensures.fault events)
