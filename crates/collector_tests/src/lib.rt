@@ -20,6 +20,8 @@ mod replays;
 #[cfg(test)]
 mod runs;
 #[cfg(test)]
+mod shares;
+#[cfg(test)]
 mod stamps;
 #[cfg(test)]
 mod trees;

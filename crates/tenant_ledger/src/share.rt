@@ -72,6 +72,3 @@ impl<R, S: Share<R>> Compare for Through<'_, R, S> {
         self.share.below_kept(self.rt, first, second)
     }
 }
-
-#[cfg(test)]
-mod tests;

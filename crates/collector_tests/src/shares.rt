@@ -1,8 +1,12 @@
-use super::*;
-use crate::Ledger;
+//! A share that takes a lock.
+
+use event_tree::EvTree;
+use id_tree::IdTree;
 use std::sync::{Mutex, Wait};
 use std::test::Fail;
-use trace_types::{Code, Limits, Name, Reply, Request};
+use tenant_ledger::{Keep, Ledger, Share};
+use trace_query::Compare;
+use trace_types::{Code, Limits, Memory, Name, Order, Reply, Request};
 
 /// Counts under a lock what it keeps and what it compares.
 #[derive(Drop)]
