@@ -1,4 +1,4 @@
-use Rattle.std.proofs.Common.{◌++◌, codes}
+use Rattle.std.proofs.Common.{codes}
 use Rattle.std.proofs.lemmas.Result.{err_from_is_err_and}
 use Rattle.line_protocol.specs.Answer.{reply_tail}
 use Rattle.line_protocol.proofs.GatherLemmas.{WritesFront-held, WritesText-gathered, behind-parts}
