@@ -57,21 +57,21 @@ impl<S: Keep> Model for Book<S> {
     ghost coded = { Prim.hlevel (codes, event_tree_code, id_code) };
 
     ghost view = { λ b. record {
-        limits = b.limits;
-        rows = b.rows.items;
-        trees = map S.Kept.tree b.trees.items;
-        places = b.places.items;
-        ids = with_seed (map S.Id.id b.ids.items);
-        kept_ids = length b.ids.items;
-        tasks = b.tasks.entries;
-        messages = b.messages;
-        room = record {
-            rows = vec_capacity b.rows - vec_len b.rows;
-            trees = vec_capacity b.trees - vec_len b.trees;
-            places = vec_capacity b.places - vec_len b.places;
-            ids = vec_capacity b.ids - vec_len b.ids;
-            tasks = spare b.tasks;
-        };
+      limits = b.limits;
+      rows = b.rows.items;
+      trees = map S.Kept.tree b.trees.items;
+      places = b.places.items;
+      ids = with_seed (map S.Id.id b.ids.items);
+      kept_ids = length b.ids.items;
+      tasks = b.tasks.entries;
+      messages = b.messages;
+      room = record {
+        rows = vec_capacity b.rows - vec_len b.rows;
+        trees = vec_capacity b.trees - vec_len b.trees;
+        places = vec_capacity b.places - vec_len b.places;
+        ids = vec_capacity b.ids - vec_len b.ids;
+        tasks = spare b.tasks;
+      };
     } };
 }
 
@@ -187,11 +187,11 @@ impl<S: Keep> Model for Draft<S> {
     ghost coded = { Prim.hlevel (codes, event_tree_code, id_code) };
 
     ghost view = { λ d. record {
-        row = d.row;
-        tree = S.Kept.tree d.tree;
-        ids = map S.Id.id (option_to_list d.first ++ option_to_list d.second);
-        acting = d.acting;
-        named = d.named;
+      row = d.row;
+      tree = S.Kept.tree d.tree;
+      ids = map S.Id.id (option_to_list d.first ++ option_to_list d.second);
+      acting = d.acting;
+      named = d.named;
     } };
 }
 
@@ -693,7 +693,11 @@ fn takes_in(kind: Kind) -> bool
 }
 
 /// Keeps the ids that an event makes.
-fn keep_ids<R, S: Share<R>>(rt: &R, share: &S, ids: Ids) -> Result<(Option<S::Id>, Option<S::Id>), Memory>
+fn keep_ids<R, S: Share<R>>(
+    rt: &R,
+    share: &S,
+    ids: Ids,
+) -> Result<(Option<S::Id>, Option<S::Id>), Memory>
     ensures { IfOk result (λ kept. map S.Id.id (option_to_list kept.0 ++ option_to_list kept.1) ≡ made_ids ids) }
 {
     match ids {

@@ -67,13 +67,24 @@ module _ (book : Contents) (kept : IsKept book) where
   -- how many ids are kept, and for how many more there is room, does not matter
   pub kept_with_room : (new : Contents) → new ≡ record book { kept_ids = new.kept_ids; room = new.room } → book.kept_ids ≤ new.kept_ids → IsKept new
   kept_with_room new same more = subst IsKept (sym same) (record {
-    legal = kept.legal; small = kept.small; trees = kept.trees; places = kept.places; tasks_are = kept.tasks_are; counted = kept.counted; messages = kept.messages;
+    legal = kept.legal;
+    small = kept.small;
+    trees = kept.trees;
+    places = kept.places;
+    tasks_are = kept.tasks_are;
+    counted = kept.counted;
+    messages = kept.messages;
     seeded = λ some. omega (arith, kept.seeded some, more);
   })
 
   pub report_with_room : (new : Contents) → new ≡ record book { kept_ids = new.kept_ids; room = new.room } → (report : Report) → IsReport book report → IsReport new report
   report_with_room new same report is = subst (λ b. IsReport b report) (sym same) (record {
-    legal = is.legal; few = is.few; acting = is.acting; second = is.second; joined = is.joined; may = is.may;
+    legal = is.legal;
+    few = is.few;
+    acting = is.acting;
+    second = is.second;
+    joined = is.joined;
+    may = is.may;
   })
 
 module _ (book : Contents) (kept : IsKept book) (report : Report) (is : IsReport book report) where
@@ -107,7 +118,7 @@ module _ (book : Contents) (kept : IsKept book) (report : Report) (is : IsReport
             let place = id_is_kept book kept report.task report.acting is.acting live report.kind report.name in
             map-append (slice_get (book.ids ++ event.ids)) book.places (event.acting.id ∷ [])
             ∙ (λ i. same_places book.ids event.ids book.places (of_each id_after history) kept.places i
-                ++ (place ∙ ap Some (sym (id_after-new row history))) i ∷ [])
+            ++ (place ∙ ap Some (sym (id_after-new row history))) i ∷ [])
             ∙ sym (map-append Some (of_each id_after history) (id_after (row ∷ history) (suc (length history)) ∷ []))
             ∙ ap (λ h. map Some (of_each id_after h)) to_longer;
         tasks_are = λ name. subst (λ h. IsTask (book.ids ++ event.ids) h name (tasks_with event book name)) to_longer
@@ -142,7 +153,11 @@ added_is_kept book event ready new limits messages rows trees places ids some ta
     transport (λ i. IsKeptWith (record (with_event event book) { limits = sym limits i; messages = sym messages i; rows = sym rows i; trees = sym trees i; places = sym places i; ids = sym ids i })
     (tasks_with event book) (task_count_with event book)) ready.next in
     record {
-      legal = next.legal; small = next.small; trees = next.trees; places = next.places; messages = next.messages;
+      legal = next.legal;
+      small = next.small;
+      trees = next.trees;
+      places = next.places;
+      messages = next.messages;
       tasks_are = λ name. subst (IsTask new.ids (history_in new) name) (sym (tasks name)) (next.tasks_are name);
       counted = count ∙ next.counted;
       seeded = λ _. some;
