@@ -298,6 +298,11 @@ Notes (Some name) Recv event before after =
 Notes (Some name) End event before after = after ≡ before
 Notes (Some name) Join event before after = after ≡ before
 
+-- the id of its task after an event: the first that the event makes, else the one that is kept at this place
+abbrev pub id_left : List Id → List Id → ℕ → Option Id
+id_left kept [] place = slice_get kept place
+id_left kept (id ∷ made) place = Some id
+
 -- The event can be added to the book, which has its message and room for all else; and it can be dropped.
 pub record IsReady (book : Contents) (event : Event) : Type 0 where
   pub before : message_book.Book
@@ -305,6 +310,7 @@ pub record IsReady (book : Contents) (event : Event) : Type 0 where
   pub notes : Notes event.row.name event.row.kind (suc (length book.rows)) before book.messages
   pub next : IsKeptWith (with_event event book) (tasks_with event book) (task_count_with event book)
   pub room : HasRoom book
+  pub id : id_left book.ids event.ids event.acting.id ≡ Some (id_of tree_clock (event.row ∷ history_in book) event.row.task)
 
 -- The event of the request is ready, and with its row the tenant's step is done; or the request was refused, or there
 -- was no memory where that may be.

@@ -1,5 +1,5 @@
 //! What a ledger keeps.
-ghost use Rattle.std.specs.Prelude.{◌≡◌, ℕ, suc, ◌+◌, ◌-◌, false, ◌<◌, ◌≤◌, ◌∷◌, [], true, IfOk, OnOk, OnErr, IfErr, IfSome, IsTrue, is_some, Some, None, length, not, option_to_list, slice_get, vec_len, vec_capacity, ◌++◌, map};
+ghost use Rattle.std.specs.Prelude.{◌≡◌, ℕ, suc, ◌+◌, ◌-◌, false, ◌<◌, ◌≤◌, ◌∷◌, [], true, IfOk, OnOk, OnErr, IfErr, IfSome, IfNone, IsTrue, is_some, Some, None, length, not, option_to_list, slice_get, vec_len, vec_capacity, ◌++◌, map};
 ghost use Rattle.std.specs.Result.{result_err};
 ghost use Rattle.indexmap.specs.IndexMap.{get, index_map_len, spare};
 ghost use Rattle.trace_types.specs.text.Name.{Text as Characters, is_name, is_same};
@@ -207,6 +207,14 @@ impl<S: Keep> Draft<S> {
         ensures { S.Kept.tree result.now ≡ self.now.tree }
     {
         &self.tree
+    }
+
+    /// The first of the ids that its event makes, where it makes one.
+    fn first_id(&self) -> Option<&S::Id>
+        ensures some { IfSome result (λ id. slice_get self.now.ids 0 ≡ Some (S.Id.id id.now)) }
+        ensures none { IfNone result (self.now.ids ≡ []) }
+    {
+        self.first.as_ref().or(self.second.as_ref())
     }
 }
 
@@ -648,6 +656,17 @@ impl<S: Keep> Book<S> {
         self.ids.reserve(2)?;
         self.tasks.reserve(2)?;
         Ok(())
+    }
+
+    /// The id that the draft's task has after its event: the first that the event makes, else the one that it had.
+    pub(crate) fn id_after<'a>(&'a self, draft: &'a Draft<S>) -> &'a S::Id
+        requires { IsReady self.now draft.now }
+        ensures { S.Id.id result.now ≡ id_of tree_clock (draft.now.row ∷ history_in self.now) draft.now.row.task }
+    {
+        match draft.first_id() {
+            Some(id) => id,
+            None => &self.ids[draft.acting.id],
+        }
     }
 
     /// Adds the event of the draft, and gives its number. It takes no memory.

@@ -2,7 +2,7 @@
 ghost use Rattle.std.specs.Prelude.{◌≡◌, suc, ◌∷◌, Some, length};
 ghost use Rattle.trace_types.specs.clock.Clock.{tree_clock};
 ghost use Rattle.trace_types.specs.tenant.Rows.{history_of};
-ghost use Rattle.trace_types.specs.clock.Stamps.{tree_of};
+ghost use Rattle.trace_types.specs.clock.Stamps.{id_of, tree_of};
 ghost use Rattle.trace_types.specs.tenant.Tenant.{with_row};
 ghost use Rattle.trace_types.specs.declared.reply.Reply.TheVariants as reply;
 
@@ -45,6 +45,13 @@ impl<S: Keep> Prepared<S> {
         ensures { S.Kept.tree result.now ≡ tree_of tree_clock (self.now.row ∷ history_of self.now.tenant.rows) (suc (length self.now.tenant.rows)) }
     {
         self.draft.tree()
+    }
+
+    /// The id that its task has after its event, as it is kept.
+    pub fn id(&self) -> &S::Id
+        ensures { S.Id.id result.now ≡ id_of tree_clock (self.now.row ∷ history_of self.now.tenant.rows) self.now.row.task }
+    {
+        self.book.id_after(&self.draft)
     }
 
     /// Adds the report as the tenant's next event.

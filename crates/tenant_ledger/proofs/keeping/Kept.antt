@@ -22,7 +22,7 @@ use Rattle.tenant_ledger.proofs.clock.Tasks.{live_from_Allows}
 use Rattle.tenant_ledger.proofs.keeping.Known.{legal_history}
 use Rattle.tenant_ledger.proofs.keeping.Lists.{length-of_each, at_event, same_places}
 use Rattle.tenant_ledger.proofs.keeping.Messages.{noted_are_messages}
-use Rattle.tenant_ledger.proofs.keeping.Tasks.{id_is_kept, tasks_are_kept, tasks_are_counted}
+use Rattle.tenant_ledger.proofs.keeping.Tasks.{id_is_kept, id_is_left, tasks_are_kept, tasks_are_counted}
 
 -- the rows with one more, the newest first
 pub longer : (rows : List Row) (row : Row) → history_of (rows ++ row ∷ []) ≡ row ∷ history_of rows
@@ -141,6 +141,7 @@ module _ (book : Contents) (kept : IsKept book) (report : Report) (is : IsReport
     notes = notes;
     next = keeps_report after notes room.seeded;
     room = record { rows = room.rows; trees = room.trees; places = room.places; ids = room.ids; tasks = room.tasks; seeded = room.seeded };
+    id = id_is_left book kept report.task report.acting is.acting live report.kind report.name;
   }
 
 -- A book to which a ready event was added is kept.

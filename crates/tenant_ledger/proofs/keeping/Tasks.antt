@@ -15,7 +15,7 @@ use Rattle.trace_types.specs.declared.row.Kind.TheVariants.{Local, Spawn, Send, 
 use Rattle.trace_types.specs.declared.task_state.TaskState.TheVariants.{Live, Ended, Joined}
 use Rattle.trace_types.proofs.Names.{is_same-itself, is_same_iff}
 use Rattle.tenant_ledger.specs.Legal.{IsLive, Allows, IsLegal}
-use Rattle.tenant_ledger.specs.Ledger.{Contents, IsKept, IsTask, history_in, task_in, ids_made, made_ids, acting_after, named_after, joined_by, task_with, count_with, task_with_some, count_with_some}
+use Rattle.tenant_ledger.specs.Ledger.{Contents, IsKept, IsTask, history_in, task_in, ids_made, made_ids, acting_after, id_left, named_after, joined_by, task_with, count_with, task_with_some, count_with_some}
 use Rattle.tenant_ledger.specs.declared.book.Task.{Task}
 use Rattle.tenant_ledger.proofs.clock.Tasks.{live_from_Allows, last_event-acting, last_event-bystander, last_event-started, live_is_not_unknown, live_is_not_ended, unknown_has_no_event}
 use Rattle.tenant_ledger.proofs.keeping.Known.{differ_back, legal_history, task_kept, has_known, unknown_has_not_ended, unended_is_not_joined}
@@ -108,6 +108,22 @@ module _ (book : Contents) (kept : IsKept book) (task : Text) (acting : Task) (f
     pub id_is_kept : (kind : Kind) (name : Option Text)
         → slice_get (ids_after kind name) (acting_after kind event place acting).id ≡ Some (id_of tree_clock (row kind name ∷ history) task)
     id_is_kept kind name = id_after kind name ∙ ap Some (sym (cond-true (is_same task task) _ _ (is_same-itself task)))
+
+    -- which is the first that the event makes, else the one that the task had
+    id_left_after : (kind : Kind) (name : Option Text)
+        → id_left book.ids (made_ids (ids_made kind (id_of tree_clock history task) (of_named Zero (id_of tree_clock history) name))) (acting_after kind event place acting).id
+        ≡ Some (id_kept tree_clock kind (id_of tree_clock history task) (of_named Zero (id_of tree_clock history) name))
+    id_left_after Local name = own_id
+    id_left_after Spawn name = refl
+    id_left_after Send name = own_id
+    id_left_after Recv name = own_id
+    id_left_after End name = own_id
+    id_left_after Join name = refl
+
+    pub id_is_left : (kind : Kind) (name : Option Text)
+        → id_left book.ids (made_ids (ids_made kind (id_of tree_clock history task) (of_named Zero (id_of tree_clock history) name))) (acting_after kind event place acting).id
+        ≡ Some (id_of tree_clock (row kind name ∷ history) task)
+    id_is_left kind name = id_left_after kind name ∙ ap Some (sym (cond-true (is_same task task) _ _ (is_same-itself task)))
 
     -- so what is to be kept of it is right
     acting_is_task : (kind : Kind) (name : Option Text) → Allows history task kind name
