@@ -1,5 +1,5 @@
 //! What a ledger keeps.
-ghost use Rattle.std.specs.Prelude.{◌≡◌, ℕ, suc, ◌+◌, ◌-◌, false, ◌<◌, ◌≤◌, ◌∷◌, [], true, IfOk, OnOk, OnErr, IfErr, IfSome, IfNone, IsTrue, is_some, Some, None, length, not, option_to_list, slice_get, vec_len, vec_capacity, ◌++◌, map};
+ghost use Rattle.std.specs.Prelude.{◌≡◌, ℕ, suc, ◌+◌, ◌-◌, false, ◌<◌, ◌≤◌, ◌∷◌, [], true, IfOk, OnOk, OnErr, IfErr, IfSome, IfNone, IsTrue, is_some, Some, None, length, not, option_to_list, if◌then◌else◌, slice_get, vec_len, vec_capacity, ◌++◌, map};
 ghost use Rattle.std.specs.Result.{result_err};
 ghost use Rattle.indexmap.specs.IndexMap.{get, index_map_len, spare};
 ghost use Rattle.trace_types.specs.text.Name.{Text as Characters, is_name, is_same};
@@ -255,11 +255,18 @@ impl<S: Keep> Book<S> {
         ensures some { IfSome result (λ row. row_of (history_in self.now) event ≡ Some row.now) }
         ensures there { is_some result ≡ is_event (history_in self.now) event }
     {
-        if 0 < event && event <= self.event_count() {
+        if self.is_event(event) {
             Some(&self.rows[event as usize - 1])
         } else {
             None
         }
+    }
+
+    /// Whether there is such an event.
+    fn is_event(&self, event: u64) -> bool
+        ensures { result ≡ is_event (history_in self.now) event }
+    {
+        0 < event && event <= self.event_count()
     }
 
     pub(crate) fn event_count(&self) -> u64
@@ -328,12 +335,16 @@ impl<S: Keep> Book<S> {
         self.ids.len()
     }
 
-    /// The text of the event's stamp.
-    pub(crate) fn stamp_text(&self, event: u64) -> Result<Text, Memory>
-        requires book { IsKept self.now }
-        requires event { is_event (history_in self.now) event ≡ true }
-        ensures { IfOk result (λ text. text ≡ stamp_text_of (history_in self.now) event) }
+    /// The text of the event's stamp; `NoEvent` where there is no such event, and `NoMemory` where memory was refused.
+    pub(crate) fn stamp_text(&self, event: u64) -> Result<Text, Code>
+        requires { IsKept self.now }
+        ensures there { OnOk result (is_event (history_in self.now) event ≡ true) }
+        ensures text { IfOk result (λ text. text ≡ stamp_text_of (history_in self.now) event) }
+        ensures err { IfErr result (λ code. code ≡ (if is_event (history_in self.now) event then Code.NoMemory else Code.NoEvent)) }
     {
+        if !self.is_event(event) {
+            return Err(Code::NoEvent);
+        }
         let id = self.id(self.place(event));
         let text = write_parts(self.alloc, id, self.tree(event))?;
         Ok(Text::from(text))

@@ -179,12 +179,9 @@ impl<S: Keep> Ledger<S> {
     fn stamp(&self, event: u64) -> Reply
         ensures { Answers self.now (Request.Stamp event) result }
     {
-        if self.book.row(event).is_none() {
-            return Reply::Refused(Code::NoEvent);
-        }
         match self.book.stamp_text(event) {
             Ok(text) => Reply::Stamp(text),
-            Err(Memory) => Reply::Refused(Code::NoMemory),
+            Err(code) => Reply::Refused(code),
         }
     }
 
