@@ -7,7 +7,7 @@ use Rattle.std.proofs.Math.Path.{transport}
 use Rattle.trace_types.specs.text.Name.{Text}
 use Rattle.trace_types.specs.tenant.Rows.{History, history_of, task_count}
 use Rattle.trace_types.specs.clock.Clock.{tree_clock}
-use Rattle.trace_types.specs.clock.Stamps.{id_of, tree_of, stamp_of}
+use Rattle.trace_types.specs.clock.Stamps.{id_of, tree_of}
 use Rattle.trace_types.specs.clock.Id.{Id}
 use Rattle.trace_types.specs.clock.EventTree.{EventTree}
 use Rattle.trace_types.specs.tenant.Tenant.{row_after}

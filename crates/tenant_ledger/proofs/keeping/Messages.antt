@@ -1,8 +1,7 @@
 -- What is kept of the messages is right after one more row.
-use Rattle.std.proofs.Common.{◌≡◌, ℕ, suc, ◌+◌, Bool, true, false, cond, List, [], ◌∷◌, ◌++◌, length, Option, Some, None, Result, Ok, Err, OnOk, is_err, option_map, is_some, not, nat_lt, nat_le, refl, sym, ap, ◌∙◌, subst, inl, inr, arith}
+use Rattle.std.proofs.Common.{◌≡◌, ℕ, suc, ◌+◌, Bool, true, false, cond, List, [], ◌∷◌, ◌++◌, length, Option, Some, None, option_map, is_some, nat_lt, nat_le, refl, sym, ap, ◌∙◌, subst, inl, inr, arith}
 use Rattle.std.specs.List.{list_any}
-use Rattle.std.specs.Result.{result_err}
-use Rattle.std.proofs.lemmas.Bool.{false≢true, not-false, cases_Bool, cond-true, cond-false, cond_both, and_left, or_left, or_parts, false_from_ne_true}
+use Rattle.std.proofs.lemmas.Bool.{false≢true, cases_Bool, cond-true, cond-false, cond_both, and_left, or_left, or_parts, false_from_ne_true}
 use Rattle.std.proofs.lemmas.Bool.Decides.{nat_tests}
 use Rattle.std.proofs.lemmas.List.{length-append}
 use Rattle.std.proofs.lemmas.List.Sums.{sum_by-append}
@@ -12,9 +11,8 @@ use Rattle.message_book.specs.declared.entry.Entry.{Entry}
 use Rattle.message_book.proofs.Messages.{no_first_code, received_has_receipt, without_receipts-received}
 use Rattle.trace_types.specs.tenant.Limits.{Limits}
 use Rattle.trace_types.specs.text.Name.{Text, is_same}
-use Rattle.trace_types.specs.tenant.Rows.{History, history_of, names, sends, sends_message, receives, receives_message, is_sent, is_received, send_event, receipts, message_count}
+use Rattle.trace_types.specs.tenant.Rows.{History, names, sends, sends_message, receives, receives_message, is_sent, is_received, send_event, receipts, message_count}
 use Rattle.trace_types.specs.tenant.Refusal.{has_all_messages}
-use Rattle.trace_types.specs.declared.code.Code.TheVariants.{NoMessage, MessageExists, AlreadyReceived, MessagesFull}
 use Rattle.trace_types.specs.declared.row.Row.{Row}
 use Rattle.trace_types.specs.declared.row.Kind.{Kind}
 use Rattle.trace_types.specs.declared.row.Kind.TheVariants.{Local, Spawn, Send, Recv, End, Join}

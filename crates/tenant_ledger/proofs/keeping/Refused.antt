@@ -1,5 +1,5 @@
 -- Which refusal is due, and what a request that is not refused steps to.
-use Rattle.std.proofs.Common.{◌≡◌, suc, Bool, true, false, cond, List, [], ◌∷◌, ◌++◌, length, Option, Some, None, Result, Ok, Err, IfErr, IsTrue, refl, sym, ap, ◌∙◌, inl, inr}
+use Rattle.std.proofs.Common.{◌≡◌, suc, Bool, true, false, cond, List, [], ◌∷◌, ◌++◌, length, Option, Some, None, Result, Ok, Err, IsTrue, refl, sym, ap, ◌∙◌, inl, inr}
 use Rattle.std.specs.Result.{result_err, IsErrAnd}
 use Rattle.std.proofs.lemmas.Bool.{false≢true, cond-false}
 use Rattle.std.proofs.lemmas.List.{length-reverse}

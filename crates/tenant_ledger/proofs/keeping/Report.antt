@@ -1,5 +1,5 @@
 -- What a report that is not refused says of the ids and of the trees that its event is made of.
-use Rattle.std.proofs.Common.{◌≡◌, ◌≢◌, ℕ, suc, ◌+◌, ◌<◌, ◌≤◌, true, false, ◌∷◌, length, slice_get, Option, Some, None, is_some, refl, sym, ap, ◌∙◌, subst, inl, inr, arith}
+use Rattle.std.proofs.Common.{◌≡◌, ◌≢◌, suc, ◌+◌, ◌<◌, ◌≤◌, true, false, ◌∷◌, length, slice_get, Option, Some, None, is_some, refl, sym, ap, ◌∙◌, subst, inl, inr, arith}
 use Rattle.std.proofs.lemmas.Bool.{false≢true, cond-true, cond-false}
 use Rattle.std.proofs.lemmas.List.{length-reverse}
 use Rattle.std.proofs.lemmas.Option.{same_Some, slice_get_within}
@@ -13,7 +13,6 @@ use Rattle.trace_types.specs.clock.EventTree.{EventTree, maximum}
 use Rattle.trace_types.specs.declared.row.Row.{Row}
 use Rattle.trace_types.specs.declared.row.Kind.{Kind}
 use Rattle.trace_types.specs.declared.row.Kind.TheVariants.{Local, Spawn, Send, Recv, End, Join}
-use Rattle.trace_types.specs.declared.task_state.TaskState.TheVariants as state
 use Rattle.trace_types.proofs.Names.{differ_by_test}
 use Rattle.tenant_ledger.specs.Legal.{Allows}
 use Rattle.tenant_ledger.specs.Ledger.{Contents, IsKept, IsReport, history_in, task_in, row_of_report, ids_made, id_for, joined_by}

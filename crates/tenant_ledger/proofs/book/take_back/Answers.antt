@@ -1,6 +1,5 @@
-use Rattle.std.proofs.Common.{Some, ◌∙◌}
+use Rattle.std.proofs.Common.{◌∙◌}
 use Rattle.std.proofs.Math.Path.{transport}
-use Rattle.trace_types.specs.declared.row.Kind.TheVariants.{Recv}
 use Rattle.tenant_ledger.specs.Ledger.{Notes}
 use Rattle.tenant_ledger.proofs.keeping.Messages.{receive_is_received, receive_taken_back}
 use Rattle.tenant_ledger.proofs.book.take_back.Goals as goal

@@ -1,7 +1,5 @@
-use Rattle.std.proofs.Common.{Some, sym, ap, ◌∙◌, arith}
-use Rattle.std.proofs.lemmas.List.{length-reverse}
+use Rattle.std.proofs.Common.{sym, ap, ◌∙◌, arith}
 use Rattle.std.proofs.lemmas.Option.{same_Some}
-use Rattle.std.specs.Prelude.{length}
 use Rattle.trace_types.specs.clock.Clock.{tree_clock}
 use Rattle.trace_types.specs.clock.Stamps.{tree_of}
 use Rattle.tenant_ledger.specs.Ledger.{history_in}

@@ -2,7 +2,7 @@ use Rattle.std.proofs.Common.{◌≡◌, sym, ◌∙◌}
 use Rattle.trace_types.specs.clock.Clock.{tree_clock}
 use Rattle.tenant_ledger.specs.Ledger.{history_in, row_of_report}
 use Rattle.tenant_ledger.proofs.clock.Events.{known_before_new}
-use Rattle.tenant_ledger.proofs.keeping.Report.{last-le, second-le, id_some, fits, knows_both, knows_own, made_of}
+use Rattle.tenant_ledger.proofs.keeping.Report.{last-le, second-le, id_some, fits, knows_both, knows_own}
 use Rattle.tenant_ledger.proofs.book.Book.tree_after.Goals.{In_ok-known, Else-takes_in}
 use Rattle.tenant_ledger.proofs.book.Book.tree_after.Given.{Over}
 use Rattle.tenant_ledger.proofs.book.Book.tree_after.Goals as goal

@@ -1,4 +1,4 @@
-use Rattle.std.proofs.Common.{◌≡◌, List, Ok, sym, ap, ◌∙◌, subst}
+use Rattle.std.proofs.Common.{◌≡◌, List, sym, ap, ◌∙◌, subst}
 use Rattle.trace_query.specs.Queries.{order_due}
 use Rattle.trace_types.specs.clock.EventTree.{EventTree}
 use Rattle.trace_types.specs.tenant.Tenant.{Tenant, reply_to_view}
