@@ -120,7 +120,7 @@ fn a_report_that_was_abandoned_leaves_no_trace(rt: HostRuntime) -> Result<(), Fa
     Ok(())
 }
 
-/// The row and the tree that are prepared for a report are those that the ledger has of its event.
+/// The row, the id and the tree that are prepared for a report are those that the ledger has of its event.
 fn keeps_what_it_prepared<R: Abort + AllocGlobal>(
     rt: &R,
     ledger: Ledger,
@@ -134,18 +134,18 @@ fn keeps_what_it_prepared<R: Abort + AllocGlobal>(
         Err((ledger, _)) => return Ok(ledger),
     };
     let row = Reply::Event(prepared.row().share());
-    let tree = format!(in rt.alloc(); ";{:?}]", prepared.tree());
+    let text = format!(in rt.alloc(); "[{:?};{:?}]", prepared.id(), prepared.tree());
     let (ledger, _) = prepared.commit();
     let event = ledger.rows().len() as u64;
     assert_eq!(rt; ledger.ask(&PlainShare, &Request::Event(event)), row);
     let stamp = ledger.ask(&PlainShare, &Request::Stamp(event));
-    assert!(rt; is_stamp_with(&stamp, tree?.as_bytes()), "{report:?}");
+    assert!(rt; is_stamp(&stamp, text?.as_bytes()), "{report:?}");
     Ok(ledger)
 }
 
-/// Whether the reply is a stamp whose text ends so.
-fn is_stamp_with(reply: &Reply, end: &[u8]) -> bool {
-    matches!(reply, Reply::Stamp(text) if text.as_bytes().ends_with(end))
+/// Whether the reply is a stamp of this text.
+fn is_stamp(reply: &Reply, wanted: &[u8]) -> bool {
+    matches!(reply, Reply::Stamp(text) if text.as_bytes() == wanted)
 }
 
 #[test]
