@@ -1,6 +1,4 @@
 //! One tenant's ledger, by its calls: reports in two steps, views, and how often it compares.
-ghost use Rattle.std.specs.Prelude.{◌≡◌};
-ghost use Rattle.trace_types.specs.tenant.Tenant.{is_report};
 
 use crate::runs::{Amounts, DEFAULTS, FAMILY, OF_EVERY_SORT, RUNS, TALK};
 use event_tree::EvTree;
@@ -31,24 +29,9 @@ fn ledger_of(alloc: Global, (events, tasks, messages): Amounts) -> Result<Ledger
     Ok(Ledger::new(alloc, limits)?)
 }
 
-/// Whether the request reports something.
-fn is_report(request: &Request) -> bool
-    ensures { result ≡ is_report request.now }
-{
-    matches!(
-        request,
-        Request::Local(_)
-            | Request::Spawn(..)
-            | Request::Send(..)
-            | Request::Recv(..)
-            | Request::End(_)
-            | Request::Join(..)
-    )
-}
-
 /// The ledger after the request was prepared, if it is a report, and abandoned.
 fn abandoned<R>(rt: &R, ledger: Ledger, request: &Request) -> Ledger {
-    if !is_report(request) {
+    if !request.is_report() {
         return ledger;
     }
     match ledger.prepare(rt, &PlainShare, request) {
@@ -67,7 +50,7 @@ fn asked_again(ledger: &Ledger, query: &Request) -> Reply {
 
 /// What is answered to a report that is prepared, again where it finds no memory, and committed, or to a query.
 fn committed<R>(rt: &R, ledger: Ledger, request: &Request) -> (Ledger, Reply) {
-    if !is_report(request) {
+    if !request.is_report() {
         let reply = asked_again(&ledger, request);
         return (ledger, reply);
     }
@@ -126,7 +109,7 @@ fn keeps_what_it_prepared<R: Abort + AllocGlobal>(
     ledger: Ledger,
     report: &Request,
 ) -> Result<Ledger, Fail> {
-    if !is_report(report) {
+    if !report.is_report() {
         return Ok(ledger);
     }
     let prepared = match ledger.prepare(rt, &PlainShare, report) {
@@ -163,7 +146,7 @@ fn what_is_prepared_is_what_is_kept(rt: HostRuntime) -> Result<(), Fail> {
 fn views_answer<R: Abort>(rt: &R, ledger: &mut Ledger, request: &Request) {
     let view = ledger.ask(&PlainShare, request);
     let reply = ledger.report(rt, &PlainShare, request);
-    let want = if is_report(request) {
+    let want = if request.is_report() {
         Reply::Refused(Code::ViewOnly)
     } else {
         reply

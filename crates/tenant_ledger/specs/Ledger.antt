@@ -19,14 +19,15 @@ use Rattle.trace_types.specs.declared.task_state.TaskState.TheVariants as state
 use Rattle.trace_types.specs.declared.row.Kind.{Kind}
 use Rattle.trace_types.specs.declared.row.Kind.TheVariants.{Local, Spawn, Send, Recv, End, Join}
 use Rattle.trace_types.specs.declared.reply.Reply.TheVariants as reply
+use Rattle.trace_types.specs.declared.request.Reported.{Reported}
 use Rattle.trace_types.specs.declared.request.Request.{Request}
 use Rattle.trace_types.specs.declared.code.Code.TheVariants.{NoTask, TaskExists, TaskEnded, NoMessage, MessageExists, AlreadyReceived, NotEnded, AlreadyJoined, EventsFull, TasksFull, MessagesFull, NoEvent, NoMemory}
 use Rattle.trace_query.specs.declared.query_fault.QueryFault.{QueryFault}
 use Rattle.trace_query.specs.declared.query_fault.QueryFault.TheVariants as fault
-use Rattle.tenant_ledger.specs.declared.book.Task.{Task}
-use Rattle.tenant_ledger.specs.declared.book.Report.{Report}
-use Rattle.tenant_ledger.specs.declared.book.Ids.{Ids}
-use Rattle.tenant_ledger.specs.declared.book.Ids.TheVariants as ids
+use Rattle.tenant_ledger.specs.declared.book.task.Task.{Task}
+use Rattle.tenant_ledger.specs.declared.book.report.Report.{Report}
+use Rattle.tenant_ledger.specs.declared.book.ids.Ids.{Ids}
+use Rattle.tenant_ledger.specs.declared.book.ids.Ids.TheVariants as ids
 use Rattle.message_book.specs.Book.{entry_of, with_message, with_receipt, refusal_of_send, refusal_of_receive}
 use Rattle.message_book.specs.Book as message_book
 use Rattle.message_book.specs.declared.entry.Entry.{Entry}
@@ -126,60 +127,37 @@ Decides refusals (Ok value) = (others : List (Bool × Code)) → first_code (ref
 Decides refusals (Err code) = (others : List (Bool × Code)) → first_code (refusals ++ others) ≡ Some code
 
 -- what each report is refused for first, and last
-abbrev pub refusals_of_task : Contents → Text → List (Bool × Code)
-refusals_of_task book task = (not (is_known (history_in book) task), NoTask) ∷ (is_ended (history_in book) task, TaskEnded) ∷ []
+abbrev pub refusals_of_task : History → Text → List (Bool × Code)
+refusals_of_task history task = (not (is_known history task), NoTask) ∷ (is_ended history task, TaskEnded) ∷ []
 
-abbrev pub refusals_of_room : Contents → List (Bool × Code)
-refusals_of_room book = (has_all_events book.limits (history_in book), EventsFull) ∷ []
+abbrev pub refusals_of_room : Limits → History → List (Bool × Code)
+refusals_of_room limits history = (has_all_events limits history, EventsFull) ∷ []
 
 -- what it is refused for in between, for what it names
-abbrev pub refusals_of_named : Contents → Option Text → Kind → List (Bool × Code)
-refusals_of_named book None kind = []
-refusals_of_named book (Some name) Local = []
-refusals_of_named book (Some child) Spawn =
-    (is_known (history_in book) child, TaskExists) ∷ (has_all_tasks book.limits (history_in book), TasksFull) ∷ []
-refusals_of_named book (Some message) Send =
-    (is_sent (history_in book) message, MessageExists) ∷ (has_all_messages book.limits (history_in book), MessagesFull) ∷ []
-refusals_of_named book (Some message) Recv =
-    (not (is_sent (history_in book) message), NoMessage) ∷ (is_received (history_in book) message, AlreadyReceived) ∷ []
-refusals_of_named book (Some name) End = []
-refusals_of_named book (Some child) Join =
-    (not (is_known (history_in book) child), NoTask) ∷ (not (is_ended (history_in book) child), NotEnded)
-    ∷ (is_joined (history_in book) child, AlreadyJoined) ∷ []
+abbrev pub refusals_of_named : Limits → History → Kind → Option Text → List (Bool × Code)
+refusals_of_named limits history Spawn (Some child) = (is_known history child, TaskExists) ∷ (has_all_tasks limits history, TasksFull) ∷ []
+refusals_of_named limits history Send (Some message) = (is_sent history message, MessageExists) ∷ (has_all_messages limits history, MessagesFull) ∷ []
+refusals_of_named limits history Recv (Some message) =
+    (not (is_sent history message), NoMessage) ∷ (is_received history message, AlreadyReceived) ∷ []
+refusals_of_named limits history Join (Some child) =
+    (not (is_known history child), NoTask) ∷ (not (is_ended history child), NotEnded) ∷ (is_joined history child, AlreadyJoined) ∷ []
+refusals_of_named limits history kind name = []
 
 -- all of it, in the order in which it is looked at
-abbrev pub refusals_of_report : Contents → Text → Kind → Option Text → List (Bool × Code)
-refusals_of_report book task kind name = refusals_of_task book task ++ refusals_of_named book name kind ++ refusals_of_room book
-
--- the name, where there is one, can be written
-abbrev pub IsWritten : Option Text → Type 0
-IsWritten None = Unit {0}
-IsWritten (Some name) = IsTrue (is_name name)
-
--- the request reports this
-pub record Reports (book : Contents) (request : Request) (task : Text) (kind : Kind) (name : Option Text) : Type 0 where
-  pub answer : answer_to (history_in book) request ≡ accepted (history_in book) task kind name
-  pub refused_for : refusals book.limits (history_in book) request ≡ refusals_of_report book task kind name
-  pub written : IsTrue (is_name task) → IsWritten name → CanBeWritten request
+abbrev pub refusals_of_report : Limits → History → Reported → List (Bool × Code)
+refusals_of_report limits history report =
+    refusals_of_task history report.task ++ refusals_of_named limits history report.kind report.name ++ refusals_of_room limits history
 
 -- what the book has of the task that a report of this kind takes in
 abbrev pub joined_by : (Text → Option Task) → Kind → Option Text → Option Task
-joined_by tasks Local name = None
-joined_by tasks Spawn name = None
-joined_by tasks Send name = None
-joined_by tasks Recv name = None
-joined_by tasks End name = None
 joined_by tasks Join name = of_named None tasks name
+joined_by tasks kind name = None
 
 -- the message that such a report sends or receives is not refused
-abbrev pub MayNote : message_book.Book → Option Text → Kind → Type 0
-MayNote messages None kind = Unit {0}
-MayNote messages (Some name) Local = Unit {0}
-MayNote messages (Some name) Spawn = Unit {0}
-MayNote messages (Some name) Send = refusal_of_send messages name ≡ None
-MayNote messages (Some name) Recv = refusal_of_receive messages name ≡ None
-MayNote messages (Some name) End = Unit {0}
-MayNote messages (Some name) Join = Unit {0}
+abbrev pub MayNote : message_book.Book → Kind → Option Text → Type 0
+MayNote messages Send (Some name) = refusal_of_send messages name ≡ None
+MayNote messages Recv (Some name) = refusal_of_receive messages name ≡ None
+MayNote messages kind name = Unit {0}
 
 -- the row of a report
 abbrev pub row_of_report : Contents → Report → Row
@@ -192,16 +170,13 @@ pub record IsReport (book : Contents) (report : Report) : Type 0 where
   pub acting : task_in book report.task ≡ Some report.acting
   pub second : report.second ≡ second_event (history_in book) report.kind report.name
   pub joined : report.joined ≡ joined_by (task_in book) report.kind report.name
-  pub may : MayNote book.messages report.name report.kind
+  pub may : MayNote book.messages report.kind report.name
 
 -- the ids that a report of this kind makes, of its task's id and of that of the task that it names
 abbrev pub ids_made : Kind → Id → Id → Ids
-ids_made Local own named = ids.Same
 ids_made Spawn own named = ids.Split (split own).0 (split own).1
-ids_made Send own named = ids.Same
-ids_made Recv own named = ids.Same
-ids_made End own named = ids.Same
 ids_made Join own named = ids.Sum (sum own named)
+ids_made kind own named = ids.Same
 
 abbrev pub made_ids : Ids → List Id
 made_ids ids.Same = []
@@ -216,22 +191,16 @@ id_for (ids.Sum id) own = id
 
 -- what is to be kept of its task, as this event and with the first of these ids at this place
 abbrev pub acting_after : Kind → ℕ → ℕ → Task → Task
-acting_after Local event place task = record task { last = event }
 acting_after Spawn event place task = record task { last = event; id = place }
-acting_after Send event place task = record task { last = event }
-acting_after Recv event place task = record task { last = event }
 acting_after End event place task = record task { last = event; state = state.Ended }
 acting_after Join event place task = record task { last = event; id = place }
+acting_after kind event place task = record task { last = event }
 
 -- what is to be kept of the task that it names, where it starts or takes in one
 abbrev pub named_after : Kind → ℕ → ℕ → Option Task → Option Task
-named_after Local event place joined = None
 named_after Spawn event place joined = Some (record { state = state.Live; last = event; id = suc place })
-named_after Send event place joined = None
-named_after Recv event place joined = None
-named_after End event place joined = None
-named_after Join event place None = None
 named_after Join event place (Some task) = Some (record task { state = state.Joined })
+named_after kind event place joined = None
 
 -- What is to be kept of an event: its row, what it knows, the ids that it makes, and its tasks.
 pub record Event : Type 0 where
@@ -287,15 +256,11 @@ task_count_with event book =
     count_with event.row.task (task_with_some event.named event.row.name (task_in book)) (count_with_some event.named event.row.name (task_in book) (length book.tasks))
 
 -- what a report of this kind, with this name and as this event, makes of the messages
-abbrev pub Notes : Option Text → Kind → ℕ → message_book.Book → message_book.Book → Type 0
-Notes None kind event before after = after ≡ before
-Notes (Some name) Local event before after = after ≡ before
-Notes (Some name) Spawn event before after = after ≡ before
-Notes (Some name) Send event before after = after ≡ record before { messages = with_message name event before.messages }
-Notes (Some name) Recv event before after =
+abbrev pub Notes : Kind → Option Text → ℕ → message_book.Book → message_book.Book → Type 0
+Notes Send (Some name) event before after = after ≡ record before { messages = with_message name event before.messages }
+Notes Recv (Some name) event before after =
     (refusal_of_receive before name ≡ None) × (after ≡ record before { messages = with_receipt name event before.messages })
-Notes (Some name) End event before after = after ≡ before
-Notes (Some name) Join event before after = after ≡ before
+Notes kind name event before after = after ≡ before
 
 -- the id of its task after an event: the first that the event makes, else the one that is kept at this place
 abbrev pub id_left : List Id → List Id → ℕ → Option Id
@@ -306,7 +271,7 @@ id_left kept (id ∷ made) place = Some id
 pub record IsReady (book : Contents) (event : Event) : Type 0 where
   pub before : message_book.Book
   pub was : IsKept (record book { messages = before })
-  pub notes : Notes event.row.name event.row.kind (suc (length book.rows)) before book.messages
+  pub notes : Notes event.row.kind event.row.name (suc (length book.rows)) before book.messages
   pub next : IsKeptWith (with_event event book) (tasks_with event book) (task_count_with event book)
   pub room : HasRoom book
   pub id : id_left book.ids event.ids event.acting.id ≡ Some (id_of tree_clock (event.row ∷ history_in book) event.row.task)

@@ -9,19 +9,20 @@ use Rattle.trace_types.specs.declared.row.Kind.TheVariants.{Local, Spawn, Send, 
 abbrev pub IsLive : History → Text → Type 0
 IsLive history task = IsTrue (is_known history task) × (is_ended history task ≡ false)
 
--- after these rows a report of this kind is not refused for its tasks or its message
+-- after these rows a report of this kind is not refused for what it names
+abbrev pub AllowsNamed : History → Kind → Option Text → Type 0
+AllowsNamed history Local name = Unit {0}
+AllowsNamed history End name = Unit {0}
+AllowsNamed history Spawn (Some child) = is_known history child ≡ false
+AllowsNamed history Send (Some message) = is_sent history message ≡ false
+AllowsNamed history Recv (Some message) = IsTrue (is_sent history message) × (is_received history message ≡ false)
+AllowsNamed history Join (Some child) =
+    IsTrue (is_known history child) × IsTrue (is_ended history child) × (is_joined history child ≡ false)
+AllowsNamed history kind None = ⊥
+
+-- nor for its task
 abbrev pub Allows : History → Text → Kind → Option Text → Type 0
-Allows history task Local name = IsLive history task
-Allows history task Spawn None = ⊥
-Allows history task Spawn (Some child) = IsLive history task × (is_known history child ≡ false)
-Allows history task Send None = ⊥
-Allows history task Send (Some message) = IsLive history task × (is_sent history message ≡ false)
-Allows history task Recv None = ⊥
-Allows history task Recv (Some message) = IsLive history task × IsTrue (is_sent history message) × (is_received history message ≡ false)
-Allows history task End name = IsLive history task
-Allows history task Join None = ⊥
-Allows history task Join (Some child) =
-    IsLive history task × IsTrue (is_known history child) × IsTrue (is_ended history child) × (is_joined history child ≡ false)
+Allows history task kind name = IsLive history task × AllowsNamed history kind name
 
 -- each row was allowed after those before it
 abbrev pub IsLegal : History → Type 0

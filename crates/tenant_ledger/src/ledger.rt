@@ -79,13 +79,15 @@ impl<S: Keep> Ledger<S> {
     pub fn report<R>(&mut self, rt: &R, share: &S, request: &Request) -> Reply
     where
         S: Share<R>,
-        ensures { Steps self.old request.now result self.new }
+        ensures steps { Steps self.old request.now result self.new }
+        ensures legal { AreLegal self.new.limits self.new.rows }
     {
-        if !is_report(request) {
+        let book = &mut self.book;
+        if !request.is_report() {
             return self.ask(&Through { rt, share }, request);
         }
-        match self.book.prepare(rt, share, request) {
-            Ok(draft) => Reply::Accepted(self.book.commit(draft)),
+        match book.prepare(rt, share, request) {
+            Ok(draft) => Reply::Accepted(book.commit(draft)),
             Err(code) => Reply::Refused(code),
         }
     }
@@ -225,19 +227,4 @@ fn code_of(fault: QueryFault) -> Code
         QueryFault::Unknown => Code::NoEvent,
         QueryFault::Memory => Code::NoMemory,
     }
-}
-
-/// Whether the request reports something.
-fn is_report(request: &Request) -> bool
-    ensures { result ≡ is_report request.now }
-{
-    matches!(
-        request,
-        Request::Local(_)
-            | Request::Spawn(..)
-            | Request::Send(..)
-            | Request::Recv(..)
-            | Request::End(_)
-            | Request::Join(..)
-    )
 }

@@ -4,4 +4,5 @@ pub mod Code
 pub mod Rows
 pub mod Reachability
 pub mod Refusal
+pub mod Reported
 pub mod Tenant

@@ -30,7 +30,7 @@ pub use order::Order;
 pub use preds::Preds;
 pub use receipts::Receipts;
 pub use reply::Reply;
-pub use request::Request;
+pub use request::{Reported, Request};
 pub use row::{Kind, Row};
 pub use task_state::TaskState;
 pub use text::Text;

@@ -19,7 +19,7 @@ use std::marker::Model;
 pub struct Name {
     /// The text, and then zeros.
     bytes: [u8; Name::MOST],
-    len: usize,
+    pub(crate) len: usize,
 }
 
 impl Model for Name {

@@ -1,6 +1,11 @@
 //! What a tenant may ask.
+ghost use Rattle.std.specs.Prelude.{◌≡◌, IsTrue, IfSome, None, Some};
+ghost use Rattle.trace_types.specs.tenant.Reported.{reported};
+ghost use Rattle.trace_types.specs.tenant.Tenant.{is_report};
+ghost use Rattle.trace_types.specs.text.Name.{is_name};
+ghost use Rattle.trace_types.specs.text.Text.{CanBeWritten};
 
-use crate::Name;
+use crate::{Kind, Name};
 
 /// A request of one tenant. A line can spell event numbers below 1 000 000 000 alone.
 #[derive(Clone, Copy, Debug, PartialEq, Eq)]
@@ -33,4 +38,82 @@ pub enum Request {
     Message(Name),
     /// Asks for the numbers of events, of tasks ever and of messages.
     Count,
+}
+
+/// What a request reports.
+#[derive(Clone, Copy, Debug, PartialEq, Eq)]
+pub struct Reported {
+    /// What the task did.
+    pub kind: Kind,
+    /// The acting task.
+    pub task: Name,
+    /// The task or message that the report names beside the acting task.
+    pub name: Option<Name>,
+}
+
+impl Request {
+    /// Whether it reports something.
+    pub fn is_report(&self) -> bool
+        ensures { result ≡ is_report self.now }
+    {
+        matches!(
+            self,
+            Request::Local(_)
+                | Request::Spawn(..)
+                | Request::Send(..)
+                | Request::Recv(..)
+                | Request::End(_)
+                | Request::Join(..)
+        )
+    }
+
+    /// What it reports; `None` where it is a query. It takes no memory.
+    pub fn reported(&self) -> Option<Reported>
+        ensures reported { result ≡ reported self.now }
+        ensures written { IfSome result (λ _. CanBeWritten self.now) }
+    {
+        match *self {
+            Request::Local(task) => Some(alone(Kind::Local, task)),
+            Request::Spawn(task, child) => Some(naming(Kind::Spawn, task, child)),
+            Request::Send(task, message) => Some(naming(Kind::Send, task, message)),
+            Request::Recv(task, message) => Some(naming(Kind::Recv, task, message)),
+            Request::End(task) => Some(alone(Kind::End, task)),
+            Request::Join(task, child) => Some(naming(Kind::Join, task, child)),
+            Request::Order(..)
+            | Request::Past(_)
+            | Request::Concurrent(_)
+            | Request::Event(_)
+            | Request::Stamp(_)
+            | Request::Task(_)
+            | Request::Message(_)
+            | Request::Count => None,
+        }
+    }
+}
+
+/// What a task reports that names nothing.
+fn alone(kind: Kind, task: Name) -> Reported
+    ensures reported { result ≡ record { kind = kind; task = task; name = None } }
+    ensures written { IsTrue (is_name task) }
+{
+    let _ = task.len;
+    Reported {
+        kind,
+        task,
+        name: None,
+    }
+}
+
+/// What a task reports that names this task or message.
+fn naming(kind: Kind, task: Name, name: Name) -> Reported
+    ensures reported { result ≡ record { kind = kind; task = task; name = Some name } }
+    ensures task { IsTrue (is_name task) }
+    ensures name { IsTrue (is_name name) }
+{
+    let _ = (task.len, name.len);
+    Reported {
+        kind,
+        task,
+        name: Some(name),
+    }
 }

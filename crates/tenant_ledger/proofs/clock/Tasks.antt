@@ -1,27 +1,12 @@
 -- What one row more makes of the tasks: which are known and ended, and their last events.
-use Rattle.std.proofs.Common.{◌≡◌, ◌≢◌, suc, true, false, [], ◌∷◌, length, Option, Some, None, refl, sym, ◌∙◌, subst, inl, inr, arith}
+use Rattle.std.proofs.Common.{◌≡◌, ◌≢◌, suc, true, false, [], ◌∷◌, length, refl, sym, ◌∙◌, subst, inl, inr, arith}
 use Rattle.std.specs.List.{list_any}
 use Rattle.std.proofs.lemmas.Bool.{false≢true, cases_Bool, ne_eqb, or_parts, false_from_ne_true}
 use Rattle.trace_types.specs.text.Name.{Text, is_same, root}
 use Rattle.trace_types.specs.tenant.Rows.{History, newest, is_of, starts, ends, last_event, is_known, is_ended}
 use Rattle.trace_types.specs.declared.row.Row.{Row}
-use Rattle.trace_types.specs.declared.row.Kind.{Kind}
-use Rattle.trace_types.specs.declared.row.Kind.TheVariants.{Local, Spawn, Send, Recv, End, Join}
 use Rattle.trace_types.proofs.Names.{is_same_iff}
-use Rattle.tenant_ledger.specs.Legal.{IsLive, Allows, IsLegal}
-
--- whoever is allowed to report is live
-pub live_from_Allows : (history : History) (task : Text) (kind : Kind) (name : Option Text) → Allows history task kind name → IsLive history task
-live_from_Allows history task Local name allowed = allowed
-live_from_Allows history task Spawn None allowed = absurd allowed
-live_from_Allows history task Spawn (Some child) allowed = allowed.0
-live_from_Allows history task Send None allowed = absurd allowed
-live_from_Allows history task Send (Some message) allowed = allowed.0
-live_from_Allows history task Recv None allowed = absurd allowed
-live_from_Allows history task Recv (Some message) allowed = allowed.0
-live_from_Allows history task End name allowed = allowed
-live_from_Allows history task Join None allowed = absurd allowed
-live_from_Allows history task Join (Some child) allowed = allowed.0
+use Rattle.tenant_ledger.specs.Legal.{IsLive, IsLegal}
 
 -- the acting task's last event is the new one
 pub last_event-acting : (row : Row) (earlier : History) (task : Text) → is_same row.task task ≡ true → last_event (row ∷ earlier) task ≡ suc (length earlier)
@@ -74,8 +59,7 @@ pub unknown_has_no_event : (history : History) (task : Text) → IsLegal history
 unknown_has_no_event [] task legal unknown = refl
 unknown_has_no_event (row ∷ earlier) task legal unknown =
     let not_before : is_known earlier task ≡ false = unwas_known row earlier task unknown in
-    let live : IsLive earlier row.task = live_from_Allows earlier row.task row.kind row.name legal.0 in
-    rw (live_is_not_unknown earlier row.task task live not_before) (unknown_has_no_event earlier task legal.1 not_before)
+    rw (live_is_not_unknown earlier row.task task legal.0.0 not_before) (unknown_has_no_event earlier task legal.1 not_before)
 
 -- what holds of two tasks, and of each that is neither, holds of each task
 pub for_each_task : (P : Text → Type 0) (one other : Text) → P one → P other

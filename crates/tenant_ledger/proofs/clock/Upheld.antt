@@ -54,26 +54,21 @@ module _ {Id Tree : Type 0} {clock : Clock Id Tree} {Point : Type 0} {IsNormalId
   -- an allowed row is in order
   allowed_row_in_order : (task : Text) (kind : Kind) (name : Option Text) (preds : List ℕ) (earlier : History) → Invariant laws earlier → IsLegal earlier
       → Allows earlier task kind name → IsInOrder laws (record { task = task; kind = kind; name = name; preds = preds }) earlier
-  allowed_row_in_order task Local name preds earlier before legal allowed =
+  allowed_row_in_order task Local name preds earlier before legal (live, named) =
       let row : Row = record { task = task; kind = Local; name = name; preds = preds } in
-      keeping_row_in_order laws row earlier before (local_keeps_ids clock) allowed (gathers_alone laws row earlier before refl refl)
-  allowed_row_in_order task Spawn None preds earlier before legal allowed = absurd allowed
-  allowed_row_in_order task Spawn (Some child) preds earlier before legal allowed =
-      spawning_row_in_order laws task child preds earlier before allowed.0 allowed.1 legal
-  allowed_row_in_order task Send None preds earlier before legal allowed = absurd allowed
-  allowed_row_in_order task Send (Some message) preds earlier before legal allowed =
+      keeping_row_in_order laws row earlier before (local_keeps_ids clock) live (gathers_alone laws row earlier before refl refl)
+  allowed_row_in_order task Spawn (Some child) preds earlier before legal (live, new) = spawning_row_in_order laws task child preds earlier before live new legal
+  allowed_row_in_order task Send (Some message) preds earlier before legal (live, named) =
       let row : Row = record { task = task; kind = Send; name = Some message; preds = preds } in
-      keeping_row_in_order laws row earlier before (send_keeps_ids clock) allowed.0 (gathers_alone laws row earlier before refl refl)
-  allowed_row_in_order task Recv None preds earlier before legal allowed = absurd allowed
-  allowed_row_in_order task Recv (Some message) preds earlier before legal allowed =
+      keeping_row_in_order laws row earlier before (send_keeps_ids clock) live (gathers_alone laws row earlier before refl refl)
+  allowed_row_in_order task Recv (Some message) preds earlier before legal (live, named) =
       let row : Row = record { task = task; kind = Recv; name = Some message; preds = preds } in
-      keeping_row_in_order laws row earlier before (receive_keeps_ids clock) allowed.0 (gathers_joined laws row earlier before refl)
-  allowed_row_in_order task End name preds earlier before legal allowed =
+      keeping_row_in_order laws row earlier before (receive_keeps_ids clock) live (gathers_joined laws row earlier before refl)
+  allowed_row_in_order task End name preds earlier before legal (live, named) =
       let row : Row = record { task = task; kind = End; name = name; preds = preds } in
-      keeping_row_in_order laws row earlier before (end_keeps_ids clock) allowed (gathers_alone laws row earlier before refl refl)
-  allowed_row_in_order task Join None preds earlier before legal allowed = absurd allowed
-  allowed_row_in_order task Join (Some child) preds earlier before legal allowed =
-      joining_row_in_order laws task child preds earlier before allowed.0 allowed.2
+      keeping_row_in_order laws row earlier before (end_keeps_ids clock) live (gathers_alone laws row earlier before refl refl)
+  allowed_row_in_order task Join (Some child) preds earlier before legal (live, named) = joining_row_in_order laws task child preds earlier before live named.1
+  allowed_row_in_order task kind None preds earlier before legal (live, never) = absurd never
 
   pub invariant_upheld : (history : History) → IsLegal history → Invariant laws history
   invariant_upheld [] legal = first_invariant

@@ -13,12 +13,11 @@ use Rattle.trace_types.specs.clock.EventTree.{EventTree}
 use Rattle.trace_types.specs.tenant.Tenant.{row_after}
 use Rattle.trace_types.specs.declared.row.Row.{Row}
 use Rattle.message_book.specs.Book as message_book
-use Rattle.tenant_ledger.specs.Legal.{IsLive, Allows, IsLegal}
+use Rattle.tenant_ledger.specs.Legal.{IsLive, AllowsNamed, IsLegal}
 use Rattle.tenant_ledger.specs.Ledger.{Contents, Event, IsKept, IsKeptWith, IsTask, IsReport, IsReady, HasRoom, AreMessages, Notes, history_in, task_in, of_each, id_after, event_of, with_event, tasks_with, task_count_with}
-use Rattle.tenant_ledger.specs.declared.book.Report.{Report}
+use Rattle.tenant_ledger.specs.declared.book.report.Report.{Report}
 use Rattle.tenant_ledger.proofs.clock.Events.{tree_of-older}
 use Rattle.tenant_ledger.proofs.clock.Legality.{IsLegal_from_AreLegal}
-use Rattle.tenant_ledger.proofs.clock.Tasks.{live_from_Allows}
 use Rattle.tenant_ledger.proofs.keeping.Known.{legal_history}
 use Rattle.tenant_ledger.proofs.keeping.Lists.{length-of_each, at_event, same_places}
 use Rattle.tenant_ledger.proofs.keeping.Messages.{noted_are_messages}
@@ -98,13 +97,13 @@ module _ (book : Contents) (kept : IsKept book) (report : Report) (is : IsReport
   pub legal_with_row : IsLegal (row ∷ history)
   legal_with_row = subst IsLegal (longer book.rows row) (IsLegal_from_AreLegal book.limits (book.rows ++ row ∷ []) is.legal)
 
-  allowed : Allows history report.task report.kind report.name
-  allowed = legal_with_row.0
+  allowed : AllowsNamed history report.kind report.name
+  allowed = legal_with_row.0.1
 
   pub live : IsLive history report.task
-  live = live_from_Allows history report.task report.kind report.name allowed
+  live = legal_with_row.0.0
 
-  pub keeps_report : (after : message_book.Book) → Notes report.name report.kind (suc (length book.rows)) book.messages after → 0 < book.kept_ids
+  pub keeps_report : (after : message_book.Book) → Notes report.kind report.name (suc (length book.rows)) book.messages after → 0 < book.kept_ids
       → IsKeptWith (with_event (event_of book report) (record book { messages = after })) (tasks_with (event_of book report) book) (task_count_with (event_of book report) book)
   keeps_report after notes seeded =
       let event = event_of book report in
@@ -128,12 +127,12 @@ module _ (book : Contents) (kept : IsKept book) (report : Report) (is : IsReport
             ∙ tasks_are_counted book kept report.task report.acting is.acting live report.kind report.name allowed ∙ ap task_count to_longer;
         messages = subst (λ h. AreMessages book.limits h after) to_longer
             (noted_are_messages book.limits history report.task report.kind report.name row.preds book.messages after (legal_history book kept) allowed kept.messages
-            (subst (λ n. Notes report.name report.kind (suc n) book.messages after) (sym (length-reverse book.rows)) notes));
+            (subst (λ n. Notes report.kind report.name (suc n) book.messages after) (sym (length-reverse book.rows)) notes));
         seeded = λ _. seeded;
       }
 
   -- so it is ready to be added
-  pub report_is_ready : (after : message_book.Book) → Notes report.name report.kind (suc (length book.rows)) book.messages after → HasRoom book
+  pub report_is_ready : (after : message_book.Book) → Notes report.kind report.name (suc (length book.rows)) book.messages after → HasRoom book
       → IsReady (record book { messages = after }) (event_of book report)
   report_is_ready after notes room = record {
     before = book.messages;

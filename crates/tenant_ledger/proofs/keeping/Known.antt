@@ -6,40 +6,38 @@ use Rattle.std.proofs.Math.Bool.{or-true}
 use Rattle.std.proofs.lemmas.Bool.{false≢true, or_cases, cond_both, and_right, false_from_ne_true}
 use Rattle.trace_types.specs.text.Name.{Text, is_same}
 use Rattle.trace_types.specs.tenant.Rows.{History, joins, ends, ends_task, is_known, is_ended, is_joined, state_of}
+use Rattle.trace_types.specs.declared.row.Row.{Row}
 use Rattle.trace_types.specs.declared.row.Kind.{Kind}
-use Rattle.trace_types.specs.declared.row.Kind.TheVariants.{Local, Spawn, Send, Recv, End, Join}
+use Rattle.trace_types.specs.declared.row.Kind.TheVariants.{Join}
 use Rattle.trace_types.specs.declared.task_state.TaskState.{TaskState}
 use Rattle.trace_types.specs.declared.task_state.TaskState.TheVariants as state
 use Rattle.trace_types.proofs.Names.{is_same_iff}
-use Rattle.tenant_ledger.specs.declared.book.Task.{Task}
-use Rattle.tenant_ledger.specs.Legal.{IsLive, Allows, IsLegal}
+use Rattle.tenant_ledger.specs.declared.book.task.Task.{Task}
+use Rattle.tenant_ledger.specs.Legal.{AllowsNamed, IsLegal}
 use Rattle.tenant_ledger.specs.Ledger.{Contents, IsKept, IsTask, history_in, task_in}
 use Rattle.tenant_ledger.proofs.clock.Legality.{IsLegal_from_AreLegal}
-use Rattle.tenant_ledger.proofs.clock.Tasks.{live_from_Allows, live_is_not_unknown, unwas_known}
+use Rattle.tenant_ledger.proofs.clock.Tasks.{live_is_not_unknown, unwas_known}
 
 -- the order in which names are compared does not matter
 pub differ_back : (one other : Text) → is_same one other ≡ false → is_same other one ≡ false
 differ_back one other differ = false_from_ne_true (is_same other one) λ same.
     false≢true (sym differ ∙ (is_same_iff one other).1 (sym ((is_same_iff other one).0 same)))
 
--- a task that a row may take in has ended, and is known
-joined_was : (earlier : History) (acting : Text) (kind : Kind) (name : Option Text) (preds : List ℕ) (task : Text) → Allows earlier acting kind name
-    → joins task (record { task = acting; kind = kind; name = name; preds = preds }) ≡ true → (is_known earlier task ≡ true) × (is_ended earlier task ≡ true)
-joined_was earlier acting Local name preds task allowed joins_it = absurd (false≢true joins_it)
-joined_was earlier acting Spawn name preds task allowed joins_it = absurd (false≢true joins_it)
-joined_was earlier acting Send name preds task allowed joins_it = absurd (false≢true joins_it)
-joined_was earlier acting Recv name preds task allowed joins_it = absurd (false≢true joins_it)
-joined_was earlier acting End name preds task allowed joins_it = absurd (false≢true joins_it)
-joined_was earlier acting Join None preds task allowed joins_it = absurd allowed
-joined_was earlier acting Join (Some child) preds task allowed joins_it =
-    subst (λ name. (is_known earlier name ≡ true) × (is_ended earlier name ≡ true)) ((is_same_iff child task).0 joins_it) (allowed.1, allowed.2)
+-- a task that a row may take in has ended
+joined_was : (earlier : History) (row : Row) (task : Text) → AllowsNamed earlier row.kind row.name → joins task row ≡ true → is_ended earlier task ≡ true
+joined_was earlier row task allowed = by row.kind row.name allowed
+  where
+    by : (kind : Kind) (name : Option Text) → AllowsNamed earlier kind name → joins task (record row { kind = kind; name = name }) ≡ true → is_ended earlier task ≡ true
+    by Join (Some child) allowed joins_it = subst (λ name. is_ended earlier name ≡ true) ((is_same_iff child task).0 joins_it) allowed.1
+    by Join None allowed joins_it = absurd allowed
+    by kind name allowed joins_it = absurd (false≢true joins_it)
 
 -- so each task that was joined has ended
 pub joined_has_ended : (history : History) (task : Text) → IsLegal history → is_joined history task ≡ true → is_ended history task ≡ true
 joined_has_ended [] task legal joined = absurd (false≢true joined)
 joined_has_ended (row ∷ earlier) task legal joined =
     let ended : is_ended earlier task ≡ true = elim (or_cases (joins task row) (list_any (joins task) earlier) joined) [
-      | inl now ↦ (joined_was earlier row.task row.kind row.name row.preds task legal.0 now).1
+      | inl now ↦ joined_was earlier row task legal.0.1 now
       | inr before ↦ joined_has_ended earlier task legal.1 before
     ] in
     rw ended (or-true (ends task row))
@@ -49,8 +47,7 @@ pub unknown_has_not_ended : (history : History) (task : Text) → IsLegal histor
 unknown_has_not_ended [] task legal unknown = refl
 unknown_has_not_ended (row ∷ earlier) task legal unknown =
     let not_before : is_known earlier task ≡ false = unwas_known row earlier task unknown in
-    let live : IsLive earlier row.task = live_from_Allows earlier row.task row.kind row.name legal.0 in
-    let not_by_row : ends task row ≡ false = and_right (ends_task row.kind) (is_same row.task task) (live_is_not_unknown earlier row.task task live not_before) in
+    let not_by_row : ends task row ≡ false = and_right (ends_task row.kind) (is_same row.task task) (live_is_not_unknown earlier row.task task legal.0.0 not_before) in
     rw not_by_row (unknown_has_not_ended earlier task legal.1 not_before)
 
 -- so neither was joined

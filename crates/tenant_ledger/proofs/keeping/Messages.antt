@@ -15,10 +15,10 @@ use Rattle.trace_types.specs.tenant.Rows.{History, names, sends, sends_message, 
 use Rattle.trace_types.specs.tenant.Refusal.{has_all_messages}
 use Rattle.trace_types.specs.declared.row.Row.{Row}
 use Rattle.trace_types.specs.declared.row.Kind.{Kind}
-use Rattle.trace_types.specs.declared.row.Kind.TheVariants.{Local, Spawn, Send, Recv, End, Join}
+use Rattle.trace_types.specs.declared.row.Kind.TheVariants.{Send, Recv}
 use Rattle.trace_types.proofs.Names.{is_same_iff}
 use Rattle.tenant_ledger.specs.Ledger.{IsMessage, AreMessages, Notes}
-use Rattle.tenant_ledger.specs.Legal.{Allows, IsLegal}
+use Rattle.tenant_ledger.specs.Legal.{AllowsNamed, IsLegal}
 use Rattle.tenant_ledger.proofs.keeping.Known.{differ_back}
 
 -- ---- the messages with one more, or with a receipt
@@ -97,16 +97,13 @@ messages_stay limits row earlier messages sends_none receives_none before = reco
 }
 
 -- a message that a row may receive was sent
-received_was_sent : (earlier : History) (task : Text) (kind : Kind) (named : Option Text) (preds : List ℕ) (name : Text) → Allows earlier task kind named
-    → receives name (record { task = task; kind = kind; name = named; preds = preds }) ≡ true → is_sent earlier name ≡ true
-received_was_sent earlier task Local named preds name allowed received = absurd (false≢true received)
-received_was_sent earlier task Spawn named preds name allowed received = absurd (false≢true received)
-received_was_sent earlier task Send named preds name allowed received = absurd (false≢true received)
-received_was_sent earlier task Recv None preds name allowed received = absurd allowed
-received_was_sent earlier task Recv (Some message) preds name allowed received =
-    subst (λ m. is_sent earlier m ≡ true) ((is_same_iff message name).0 received) allowed.1
-received_was_sent earlier task End named preds name allowed received = absurd (false≢true received)
-received_was_sent earlier task Join named preds name allowed received = absurd (false≢true received)
+received_was_sent : (earlier : History) (row : Row) (name : Text) → AllowsNamed earlier row.kind row.name → receives name row ≡ true → is_sent earlier name ≡ true
+received_was_sent earlier row name allowed = by row.kind row.name allowed
+  where
+    by : (kind : Kind) (named : Option Text) → AllowsNamed earlier kind named → receives name (record row { kind = kind; name = named }) ≡ true → is_sent earlier name ≡ true
+    by Recv (Some message) allowed received = subst (λ m. is_sent earlier m ≡ true) ((is_same_iff message name).0 received) allowed.0
+    by Recv None allowed received = absurd allowed
+    by kind named allowed received = absurd (false≢true received)
 
 -- so one that was not sent has no receipts
 unsent_has_no_receipts : (history : History) (name : Text) → IsLegal history → is_sent history name ≡ false → receipts history name ≡ []
@@ -114,7 +111,7 @@ unsent_has_no_receipts [] name legal unsent = refl
 unsent_has_no_receipts (row ∷ earlier) name legal unsent =
     let not_before : is_sent earlier name ≡ false = (or_parts (sends name row) (list_any (sends name) earlier) unsent).1 in
     let not_now : receives name row ≡ false = false_from_ne_true (receives name row)
-    (λ received. false≢true (sym not_before ∙ received_was_sent earlier row.task row.kind row.name row.preds name legal.0 received)) in
+    (λ received. false≢true (sym not_before ∙ received_was_sent earlier row name legal.0.1 received)) in
     cond-false (receives name row) _ _ not_now ∙ unsent_has_no_receipts earlier name legal.1 not_before
 
 -- what was not sent is not kept
@@ -219,29 +216,22 @@ is_full limits history messages are = λ i. nat_le (are.limit i) (are.counted i)
 
 -- What a report that is allowed makes of the messages is right.
 pub noted_are_messages : (limits : Limits) (history : History) (task : Text) (kind : Kind) (name : Option Text) (preds : List ℕ) (before after : message_book.Book)
-    → IsLegal history → Allows history task kind name → AreMessages limits history before → Notes name kind (suc (length history)) before after
+    → IsLegal history → AllowsNamed history kind name → AreMessages limits history before → Notes kind name (suc (length history)) before after
     → AreMessages limits (record { task = task; kind = kind; name = name; preds = preds } ∷ history) after
-noted_are_messages limits history task Local None preds before after legal allowed are notes = rw notes (messages_stay limits _ history before refl refl are)
-noted_are_messages limits history task Local (Some name) preds before after legal allowed are notes = rw notes (messages_stay limits _ history before refl refl are)
-noted_are_messages limits history task Spawn None preds before after legal allowed are notes = absurd allowed
-noted_are_messages limits history task Spawn (Some name) preds before after legal allowed are notes = rw notes (messages_stay limits _ history before refl refl are)
 noted_are_messages limits history task Send None preds before after legal allowed are notes = absurd allowed
-noted_are_messages limits history task Send (Some name) preds before after legal allowed are notes =
-    rw notes (messages_sent limits task name preds history before (suc (length history)) refl are legal allowed.1)
 noted_are_messages limits history task Recv None preds before after legal allowed are notes = absurd allowed
+noted_are_messages limits history task Send (Some name) preds before after legal allowed are notes =
+    rw notes (messages_sent limits task name preds history before (suc (length history)) refl are legal allowed)
 noted_are_messages limits history task Recv (Some name) preds before after legal allowed are notes =
-    rw notes.1 (messages_received limits task name preds history before (suc (length history)) refl are allowed.1)
-noted_are_messages limits history task End None preds before after legal allowed are notes = rw notes (messages_stay limits _ history before refl refl are)
-noted_are_messages limits history task End (Some name) preds before after legal allowed are notes = rw notes (messages_stay limits _ history before refl refl are)
-noted_are_messages limits history task Join None preds before after legal allowed are notes = absurd allowed
-noted_are_messages limits history task Join (Some name) preds before after legal allowed are notes = rw notes (messages_stay limits _ history before refl refl are)
+    rw notes.1 (messages_received limits task name preds history before (suc (length history)) refl are allowed.0)
+noted_are_messages limits history task kind name preds before after legal allowed are notes = rw notes (messages_stay limits _ history before refl refl are)
 
 -- what was received can be taken back
-pub receive_is_received : (name : Text) (event : ℕ) (before after : message_book.Book) → Notes (Some name) Recv event before after
+pub receive_is_received : (name : Text) (event : ℕ) (before after : message_book.Book) → Notes Recv (Some name) event before after
     → has_receipt (entry_of after.messages name) ≡ true
 receive_is_received name event before after notes = received_has_receipt name event before after notes.0 notes.1
 
-pub receive_taken_back : (name : Text) (event : ℕ) (before after : message_book.Book) → Notes (Some name) Recv event before after
+pub receive_taken_back : (name : Text) (event : ℕ) (before after : message_book.Book) → Notes Recv (Some name) event before after
     → record after { messages = without_receipts name after.messages } ≡ before
 receive_taken_back name event before after notes =
     let unreceived : has_receipt (entry_of before.messages name) ≡ false = (no_first_code _ _ _ (no_first_code _ _ _ notes.0).1).0 in

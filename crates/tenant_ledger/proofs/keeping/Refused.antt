@@ -1,21 +1,24 @@
 -- Which refusal is due, and what a request that is not refused steps to.
-use Rattle.std.proofs.Common.{◌≡◌, suc, Bool, true, false, cond, List, [], ◌∷◌, ◌++◌, length, Option, Some, None, Result, Ok, Err, IsTrue, refl, sym, ap, ◌∙◌, inl, inr}
+use Rattle.std.proofs.Common.{◌≡◌, suc, Bool, true, false, cond, List, [], ◌∷◌, ◌++◌, length, Option, Some, None, Result, Ok, Err, IsTrue, refl, sym, ap, ◌∙◌, subst, inl, inr}
 use Rattle.std.specs.Result.{result_err, IsErrAnd}
 use Rattle.std.proofs.lemmas.Bool.{false≢true, cond-false}
 use Rattle.std.proofs.lemmas.List.{length-reverse}
-use Rattle.trace_types.specs.tenant.Rows.{history_of}
-use Rattle.trace_types.specs.tenant.Refusal.{first_code, refusal_of}
+use Rattle.trace_types.specs.tenant.Limits.{Limits}
+use Rattle.trace_types.specs.tenant.Rows.{History, history_of}
+use Rattle.trace_types.specs.tenant.Refusal.{first_code, refusals, refusal_of}
+use Rattle.trace_types.specs.tenant.Reported.{reported}
 use Rattle.trace_types.specs.tenant.Tenant.{Steps, step_unless, answer_to, accepted, row_after, with_row, may_lack_memory, Tenant, Answers, is_report, step}
 use Rattle.trace_types.specs.text.Name.{Text}
 use Rattle.trace_types.specs.declared.code.Code.{Code}
 use Rattle.trace_types.specs.declared.code.Code.TheVariants.{NoMemory}
 use Rattle.trace_types.specs.declared.reply.Reply.{Reply}
 use Rattle.trace_types.specs.declared.reply.Reply.TheVariants as reply
+use Rattle.trace_types.specs.declared.request.Reported.{Reported}
 use Rattle.trace_types.specs.declared.request.Request.{Request}
 use Rattle.trace_types.specs.declared.request.Request.TheVariants as request
 use Rattle.trace_types.specs.declared.row.Row.{Row}
 use Rattle.trace_types.specs.declared.row.Kind.{Kind}
-use Rattle.tenant_ledger.specs.Ledger.{Contents, Event, IsKept, Decides, Prepares, history_in, tenant_of}
+use Rattle.tenant_ledger.specs.Ledger.{Contents, Event, IsKept, Decides, Prepares, refusals_of_report, history_in, tenant_of}
 
 -- the first code that applies decides, whatever else may apply
 pub decides_by_first : {A : Type 0} (refusals : List (Bool × Code)) (outcome : Result A Code) → result_err outcome ≡ first_code refusals → Decides refusals outcome
@@ -34,22 +37,23 @@ decides_by_first {A = A} (refusal ∷ rest) (Err code) is = λ others. by others
     by others true found later = sym found
     by others false found later = later found
 
+-- a request by what it reports: the answer and the refusals of a report are those of its kind
+abbrev IsRequestOf : Limits → History → Request → Option Reported → Type 0
+IsRequestOf limits history request None = is_report request ≡ false
+IsRequestOf limits history request (Some report) =
+    (answer_to history request ≡ accepted history report.task report.kind report.name) × (refusals limits history request ≡ refusals_of_report limits history report)
+
+is_request_of : (limits : Limits) (history : History) (request : Request) → IsRequestOf limits history request (reported request)
+is_request_of limits history request.Count = refl
+is_request_of limits history request = search
+
+pub by_report : (limits : Limits) (history : History) (request : Request) (report : Option Reported) → report ≡ reported request → IsRequestOf limits history request report
+by_report limits history request report is = subst (IsRequestOf limits history request) (sym is) (is_request_of limits history request)
+
 -- a report may lack memory
 report_may_lack : (request : Request) → is_report request ≡ true → IsTrue (may_lack_memory request)
-report_may_lack (request.Local task) report = refl
-report_may_lack (request.Spawn task child) report = refl
-report_may_lack (request.Send task message) report = refl
-report_may_lack (request.Recv task message) report = refl
-report_may_lack (request.End task) report = refl
-report_may_lack (request.Join task child) report = refl
-report_may_lack (request.Order a b) report = absurd (false≢true report)
-report_may_lack (request.Past event) report = refl
-report_may_lack (request.Concurrent event) report = refl
-report_may_lack (request.Event event) report = absurd (false≢true report)
-report_may_lack (request.Stamp event) report = refl
-report_may_lack (request.Task task) report = absurd (false≢true report)
-report_may_lack (request.Message message) report = absurd (false≢true report)
-report_may_lack request.Count report = absurd (false≢true report)
+report_may_lack request.Count report = cc
+report_may_lack request report = cc
 
 -- one that is not may find no memory
 pub lacked : (old new : Contents) (request : Request) (outcome : Result Event Code) → is_report request ≡ true → IsErrAnd outcome (λ given. given ≡ NoMemory)
@@ -68,20 +72,8 @@ steps_to_row book request task kind name none answer =
 
 -- a request that reports nothing leaves the tenant as it was
 query_leaves : (tenant : Tenant) (request : Request) → is_report request ≡ false → (answer_to (history_of tenant.rows) request).1 ≡ None
-query_leaves tenant (request.Local task) query = absurd (false≢true (sym query))
-query_leaves tenant (request.Spawn task child) query = absurd (false≢true (sym query))
-query_leaves tenant (request.Send task message) query = absurd (false≢true (sym query))
-query_leaves tenant (request.Recv task message) query = absurd (false≢true (sym query))
-query_leaves tenant (request.End task) query = absurd (false≢true (sym query))
-query_leaves tenant (request.Join task child) query = absurd (false≢true (sym query))
-query_leaves tenant (request.Order a b) query = refl
-query_leaves tenant (request.Past event) query = refl
-query_leaves tenant (request.Concurrent event) query = refl
-query_leaves tenant (request.Event event) query = refl
-query_leaves tenant (request.Stamp event) query = refl
-query_leaves tenant (request.Task task) query = refl
-query_leaves tenant (request.Message message) query = refl
 query_leaves tenant request.Count query = refl
+query_leaves tenant request query = cc
 
 -- so it steps as it is answered
 pub query_steps : (tenant : Tenant) (request : Request) (answer : Reply) → is_report request ≡ false → Answers tenant request answer → Steps tenant request answer tenant

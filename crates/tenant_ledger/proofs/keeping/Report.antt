@@ -12,12 +12,12 @@ use Rattle.trace_types.specs.clock.Id.{Id, Zero, AreDisjoint, owns}
 use Rattle.trace_types.specs.clock.EventTree.{EventTree, maximum}
 use Rattle.trace_types.specs.declared.row.Row.{Row}
 use Rattle.trace_types.specs.declared.row.Kind.{Kind}
-use Rattle.trace_types.specs.declared.row.Kind.TheVariants.{Local, Spawn, Send, Recv, End, Join}
+use Rattle.trace_types.specs.declared.row.Kind.TheVariants.{Join}
 use Rattle.trace_types.proofs.Names.{differ_by_test}
-use Rattle.tenant_ledger.specs.Legal.{Allows}
+use Rattle.tenant_ledger.specs.Legal.{AllowsNamed}
 use Rattle.tenant_ledger.specs.Ledger.{Contents, IsKept, IsReport, history_in, task_in, row_of_report, ids_made, id_for, joined_by}
-use Rattle.tenant_ledger.specs.declared.book.Report.{Report}
-use Rattle.tenant_ledger.specs.declared.book.Task.{Task}
+use Rattle.tenant_ledger.specs.declared.book.report.Report.{Report}
+use Rattle.tenant_ledger.specs.declared.book.task.Task.{Task}
 use Rattle.tenant_ledger.proofs.clock.Consequences.{ids_are_disjoint, acting_id_is_not_Zero, known_before_maximum-le}
 use Rattle.tenant_ledger.proofs.clock.Events.{known_before_new, tree_of-new}
 use Rattle.tenant_ledger.proofs.clock.Reaching.{followed-le}
@@ -28,12 +28,8 @@ use Rattle.tenant_ledger.proofs.keeping.Tasks.{own_id}
 
 -- the id with which an event is made
 pub acting_of_made : (kind : Kind) (own named : Id) → id_for (ids_made kind own named) own ≡ id_at tree_clock kind own named
-acting_of_made Local own named = refl
-acting_of_made Spawn own named = refl
-acting_of_made Send own named = refl
-acting_of_made Recv own named = refl
-acting_of_made End own named = refl
 acting_of_made Join own named = refl
+acting_of_made kind own named = refl
 
 -- a task that is joined is named, and has ended
 abbrev IsJoined : Contents → Text → Option Text → Option Task → Type 0
@@ -41,13 +37,13 @@ IsJoined book task name joined = (child : Text) × (had : Task) × (name ≡ Som
     × (is_ended (history_in book) child ≡ true) × (is_joined (history_in book) child ≡ false)
 
 pub joined_is_there : (book : Contents) (kept : IsKept book) (task : Text) (name : Option Text) (joined : Option Task)
-    → Allows (history_in book) task Join name → joined ≡ joined_by (task_in book) Join name → IsJoined book task name joined
+    → AllowsNamed (history_in book) Join name → joined ≡ joined_by (task_in book) Join name → IsJoined book task name joined
 joined_is_there book kept task None joined allowed is = absurd allowed
 joined_is_there book kept task (Some child) joined allowed is = by (task_in book child) refl
   where
     by : (had : Option Task) → task_in book child ≡ had → IsJoined book task (Some child) joined
-    by None none = absurd (false≢true (ap is_some (sym none) ∙ has_known book kept child ∙ allowed.1))
-    by (Some had) found = (child, had, refl, is ∙ found, found, allowed.2, allowed.3)
+    by None none = absurd (false≢true (ap is_some (sym none) ∙ has_known book kept child ∙ allowed.0))
+    by (Some had) found = (child, had, refl, is ∙ found, found, allowed.1, allowed.2)
 
 module _ (book : Contents) (kept : IsKept book) (report : Report) (is : IsReport book report) where
   abbrev history : History
@@ -102,7 +98,7 @@ module _ (book : Contents) (kept : IsKept book) (report : Report) (is : IsReport
   module _ (kind_is : report.kind ≡ Join) where
     pub joins : IsJoined book report.task report.name report.joined
     joins = joined_is_there book kept report.task report.name report.joined
-        (subst (λ kind. Allows history report.task kind report.name) kind_is (legal_with_row book kept report is).0)
+        (subst (λ kind. AllowsNamed history kind report.name) kind_is (legal_with_row book kept report is).0.1)
         (subst (λ kind. report.joined ≡ joined_by (task_in book) kind report.name) kind_is is.joined)
 
     module _ (had : Task) (had_is : report.joined ≡ Some had) where

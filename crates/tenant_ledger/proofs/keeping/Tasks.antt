@@ -11,12 +11,12 @@ use Rattle.trace_types.specs.tenant.Tenant.{row_after}
 use Rattle.trace_types.specs.clock.Id.{Id, Zero}
 use Rattle.trace_types.specs.declared.row.Row.{Row}
 use Rattle.trace_types.specs.declared.row.Kind.{Kind}
-use Rattle.trace_types.specs.declared.row.Kind.TheVariants.{Local, Spawn, Send, Recv, End, Join}
+use Rattle.trace_types.specs.declared.row.Kind.TheVariants.{Local, Spawn, End, Join}
 use Rattle.trace_types.specs.declared.task_state.TaskState.TheVariants.{Live, Joined}
 use Rattle.trace_types.proofs.Names.{is_same-itself, is_same_iff}
-use Rattle.tenant_ledger.specs.Legal.{IsLive, Allows}
+use Rattle.tenant_ledger.specs.Legal.{IsLive, AllowsNamed}
 use Rattle.tenant_ledger.specs.Ledger.{Contents, IsKept, IsTask, history_in, task_in, ids_made, made_ids, acting_after, id_left, named_after, joined_by, task_with, count_with, task_with_some, count_with_some}
-use Rattle.tenant_ledger.specs.declared.book.Task.{Task}
+use Rattle.tenant_ledger.specs.declared.book.task.Task.{Task}
 use Rattle.tenant_ledger.proofs.clock.Tasks.{last_event-acting, last_event-bystander, last_event-started, live_is_not_unknown, live_is_not_ended, unknown_has_no_event}
 use Rattle.tenant_ledger.proofs.keeping.Known.{differ_back, legal_history, task_kept, has_known, unknown_has_not_ended, unended_is_not_joined}
 use Rattle.tenant_ledger.proofs.keeping.Lists.{slice_get-longer, slice_get-seam, slice_get-behind}
@@ -77,33 +77,23 @@ module _ (book : Contents) (kept : IsKept book) (task : Text) (acting : Task) (f
     own_id = was_kept.3 λ joined. let clash : Live ≡ Joined = sym was_live ∙ joined in cc
 
     -- the acting task is left in this state
-    state_after : (kind : Kind) (name : Option Text) → Allows history task kind name → (acting_after kind event place acting).state ≡ state_of (row kind name ∷ history) task
-    state_after Local name allowed = was_kept.1
-    state_after Spawn name allowed = was_kept.1
-    state_after Send name allowed = was_kept.1
-    state_after Recv name allowed = was_kept.1
+    state_after : (kind : Kind) (name : Option Text) → AllowsNamed history kind name → (acting_after kind event place acting).state ≡ state_of (row kind name ∷ history) task
     state_after End name allowed =
         sym (cond-false (is_joined history task) _ _ unjoined ∙ cond-true (is_ended (row End name ∷ history) task) _ _ (or_left (is_same task task) _ (is_same-itself task)))
     state_after Join None allowed = absurd allowed
-    state_after Join (Some child) allowed = rw (differ_back task child (live_is_not_ended history task child live allowed.2)) was_kept.1
+    state_after Join (Some child) allowed = rw (differ_back task child (live_is_not_ended history task child live allowed.1)) was_kept.1
+    state_after kind name allowed = was_kept.1
 
     -- with this id
     id_after : (kind : Kind) (name : Option Text)
         → slice_get (ids_after kind name) (acting_after kind event place acting).id ≡ Some (id_kept tree_clock kind (id_of tree_clock history task) (of_named Zero (id_of tree_clock history) name))
-    id_after Local name = slice_get-longer book.ids [] acting.id _ own_id
     id_after Spawn name = slice_get-seam book.ids _ _
-    id_after Send name = slice_get-longer book.ids [] acting.id _ own_id
-    id_after Recv name = slice_get-longer book.ids [] acting.id _ own_id
-    id_after End name = slice_get-longer book.ids [] acting.id _ own_id
     id_after Join name = slice_get-seam book.ids _ _
+    id_after kind name = slice_get-longer book.ids [] acting.id _ own_id
 
     last_after : (kind : Kind) → (acting_after kind event place acting).last ≡ event
     last_after Local = refl
-    last_after Spawn = refl
-    last_after Send = refl
-    last_after Recv = refl
-    last_after End = refl
-    last_after Join = refl
+    last_after kind = refl
 
     pub id_is_kept : (kind : Kind) (name : Option Text)
         → slice_get (ids_after kind name) (acting_after kind event place acting).id ≡ Some (id_of tree_clock (row kind name ∷ history) task)
@@ -113,12 +103,9 @@ module _ (book : Contents) (kept : IsKept book) (task : Text) (acting : Task) (f
     id_left_after : (kind : Kind) (name : Option Text)
         → id_left book.ids (made_ids (ids_made kind (id_of tree_clock history task) (of_named Zero (id_of tree_clock history) name))) (acting_after kind event place acting).id
         ≡ Some (id_kept tree_clock kind (id_of tree_clock history task) (of_named Zero (id_of tree_clock history) name))
-    id_left_after Local name = own_id
     id_left_after Spawn name = refl
-    id_left_after Send name = own_id
-    id_left_after Recv name = own_id
-    id_left_after End name = own_id
     id_left_after Join name = refl
+    id_left_after kind name = own_id
 
     pub id_is_left : (kind : Kind) (name : Option Text)
         → id_left book.ids (made_ids (ids_made kind (id_of tree_clock history task) (of_named Zero (id_of tree_clock history) name))) (acting_after kind event place acting).id
@@ -126,7 +113,7 @@ module _ (book : Contents) (kept : IsKept book) (task : Text) (acting : Task) (f
     id_is_left kind name = id_left_after kind name ∙ ap Some (sym (cond-true (is_same task task) _ _ (is_same-itself task)))
 
     -- so what is to be kept of it is right
-    acting_is_task : (kind : Kind) (name : Option Text) → Allows history task kind name
+    acting_is_task : (kind : Kind) (name : Option Text) → AllowsNamed history kind name
         → IsTask (ids_after kind name) (row kind name ∷ history) task (Some (acting_after kind event place acting))
     acting_is_task kind name allowed = (
       known_stays (row kind name) history task live.0,
@@ -184,27 +171,24 @@ module _ (book : Contents) (kept : IsKept book) (task : Text) (acting : Task) (f
         (λ same. subst (λ name. IsTask (ids_after kind (Some child)) (row kind (Some child) ∷ history) name (Some kept_of)) ((is_same_iff child other).0 same) right)
         (λ not_named. unnamed kind (Some child) other differ not_named)
 
-    others_are_tasks : (kind : Kind) (name : Option Text) → Allows history task kind name → (other : Text) → is_same task other ≡ false
+    others_are_tasks : (kind : Kind) (name : Option Text) → AllowsNamed history kind name → (other : Text) → is_same task other ≡ false
         → IsTask (ids_after kind name) (row kind name ∷ history) other (task_with_some (named_after kind event place (joined_by (task_in book) kind name)) name (task_in book) other)
-    others_are_tasks Local name allowed other differ = untouched Local name other differ refl refl (λ own named. refl)
     others_are_tasks Spawn None allowed other differ = absurd allowed
-    others_are_tasks Spawn (Some child) allowed other differ = named_or_not Spawn child _ (started_is_task child allowed.1) other differ
-    others_are_tasks Send name allowed other differ = untouched Send name other differ refl refl (λ own named. refl)
-    others_are_tasks Recv name allowed other differ = untouched Recv name other differ refl refl (λ own named. refl)
-    others_are_tasks End name allowed other differ = untouched End name other differ refl refl (λ own named. refl)
     others_are_tasks Join None allowed other differ = absurd allowed
+    others_are_tasks Spawn (Some child) allowed other differ = named_or_not Spawn child _ (started_is_task child allowed) other differ
     others_are_tasks Join (Some child) allowed other differ = by (task_in book child) refl
       where
         by : (had : Option Task) → task_in book child ≡ had
             → IsTask (ids_after Join (Some child)) (row Join (Some child) ∷ history) other (task_with_some (named_after Join event place had) (Some child) (task_in book) other)
-        by None none = absurd (false≢true (ap is_some (sym none) ∙ has_known book kept child ∙ allowed.1))
-        by (Some joined) had = named_or_not Join child _ (joined_is_task child joined had allowed.2) other differ
+        by None none = absurd (false≢true (ap is_some (sym none) ∙ has_known book kept child ∙ allowed.0))
+        by (Some joined) had = named_or_not Join child _ (joined_is_task child joined had allowed.1) other differ
+    others_are_tasks kind name allowed other differ = untouched kind name other differ refl refl (λ own named. refl)
 
     abbrev tasks_after : Kind → Option Text → Text → Option Task
     tasks_after kind name = task_with_some (named_after kind event place (joined_by (task_in book) kind name)) name (task_in book)
 
     -- so it is of each task
-    pub tasks_are_kept : (kind : Kind) (name : Option Text) → Allows history task kind name → (other : Text)
+    pub tasks_are_kept : (kind : Kind) (name : Option Text) → AllowsNamed history kind name → (other : Text)
         → IsTask (ids_after kind name) (row kind name ∷ history) other (task_with task (acting_after kind event place acting) (tasks_after kind name) other)
     tasks_are_kept kind name allowed other =
         cond_both (is_same task other) _ _ (IsTask (ids_after kind name) (row kind name ∷ history) other)
@@ -218,24 +202,21 @@ module _ (book : Contents) (kept : IsKept book) (task : Text) (acting : Task) (f
     acting_is_there (Some child) (Some put) = cond_both (is_same child task) _ _ (λ had. is_some had ≡ true) (λ _. refl) (λ _. ap is_some found)
 
     -- and the tasks are counted
-    pub tasks_are_counted : (kind : Kind) (name : Option Text) → Allows history task kind name
+    pub tasks_are_counted : (kind : Kind) (name : Option Text) → AllowsNamed history kind name
         → count_with task (tasks_after kind name) (count_with_some (named_after kind event place (joined_by (task_in book) kind name)) name (task_in book) (length book.tasks))
         ≡ task_count (row kind name ∷ history)
     tasks_are_counted kind name allowed =
         let there = acting_is_there name (named_after kind event place (joined_by (task_in book) kind name)) in
         rw there (omega (arith, by kind name allowed, task_count-more (row kind name) history))
       where
-        by : (kind : Kind) (name : Option Text) → Allows history task kind name
+        by : (kind : Kind) (name : Option Text) → AllowsNamed history kind name
             → count_with_some (named_after kind event place (joined_by (task_in book) kind name)) name (task_in book) (length book.tasks) ≡ task_count history + cond (starts_task kind) 1 0
-        by Local name allowed = kept.counted ∙ omega arith
         by Spawn None allowed = absurd allowed
-        by Spawn (Some child) allowed = rw (has_known book kept child ∙ allowed.1) (omega (arith, kept.counted))
-        by Send name allowed = kept.counted ∙ omega arith
-        by Recv name allowed = kept.counted ∙ omega arith
-        by End name allowed = kept.counted ∙ omega arith
         by Join None allowed = absurd allowed
-        by Join (Some child) allowed = of_child (task_in book child) (has_known book kept child ∙ allowed.1)
+        by Spawn (Some child) allowed = rw (has_known book kept child ∙ allowed) (omega (arith, kept.counted))
+        by Join (Some child) allowed = of_child (task_in book child) (has_known book kept child ∙ allowed.0)
           where
             of_child : (had : Option Task) → is_some had ≡ true → count_with_some (named_after Join event place had) (Some child) (task_in book) (length book.tasks) ≡ task_count history + 0
             of_child None none = absurd (false≢true none)
-            of_child (Some joined) had = rw (has_known book kept child ∙ allowed.1) (omega (arith, kept.counted))
+            of_child (Some joined) had = rw (has_known book kept child ∙ allowed.0) (omega (arith, kept.counted))
+        by kind name allowed = kept.counted ∙ omega arith

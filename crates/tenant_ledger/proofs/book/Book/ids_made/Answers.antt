@@ -4,7 +4,7 @@ use Rattle.trace_types.specs.clock.IdOperations.{split, sum}
 use Rattle.trace_types.specs.clock.Stamps.{id_of, of_named}
 use Rattle.trace_types.specs.clock.Id.{Zero}
 use Rattle.tenant_ledger.specs.Ledger.{history_in, ids_made}
-use Rattle.tenant_ledger.specs.declared.book.Ids.TheVariants as ids
+use Rattle.tenant_ledger.specs.declared.book.ids.Ids.TheVariants as ids
 use Rattle.tenant_ledger.proofs.keeping.Report.{own_place, own_is, joins, joined_place, joined_is, disjoint}
 use Rattle.tenant_ledger.proofs.book.Book.ids_made.Goals as goal
 

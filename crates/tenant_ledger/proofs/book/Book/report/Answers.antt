@@ -1,25 +1,49 @@
-use Rattle.std.proofs.Common.{refl}
-use Rattle.trace_types.specs.declared.request.Request.TheVariants as request
+use Rattle.std.proofs.Common.{◌≡◌, [], ◌++◌, Some, None, sym, ap, ◌∙◌, rules}
+use Rattle.trace_types.specs.tenant.Refusal.{first_code, refusal_of}
+use Rattle.tenant_ledger.specs.Ledger.{history_in, refusals_of_named, refusals_of_room}
+use Rattle.tenant_ledger.proofs.keeping.Legal.{AreLegal-push}
+use Rattle.tenant_ledger.proofs.keeping.Refused.{by_report}
+use Rattle.tenant_ledger.proofs.book.Book.report.Goals.{In_ok-check_room}
+use Rattle.tenant_ledger.proofs.book.Book.report.Given.{Over}
 use Rattle.tenant_ledger.proofs.book.Book.report.Goals as goal
 
-pub check-requires-clause-request : goal.check-requires-clause-request
-check-requires-clause-request g c = (request.Local c.in-Local.task, record { answer = refl; refused_for = refl; written = λ task named. task })
+not_refused : (g : Over) (c : In_ok-check_room g) → refusal_of c.args.self.now.limits (history_in c.args.self.now) c.args.request.now ≡ None
+not_refused g c =
+    let limits = c.args.self.now.limits in
+    let history = history_in c.args.self.now in
+    let report = c.in-Some.reported in
+    let of_report = by_report limits history c.args.request.now (Some report) (sym c.in-Some.is ∙ c.reported.ensures.reported) in
+    ap first_code of_report.1 ∙ c.in_ok-acting.ensures.decides (refusals_of_named limits history report.kind report.name ++ refusals_of_room limits history)
+    ∙ c.in_ok-second.ensures.decides (refusals_of_room limits history) ∙ c.in_ok-check_room.ensures.decides []
 
-pub check-requires-in-Spawn-clause-request : goal.check-requires-in-Spawn-clause-request
-check-requires-in-Spawn-clause-request g c =
-    (request.Spawn c.in-Spawn.task c.in-Spawn.child, record { answer = refl; refused_for = refl; written = λ task named. (task, named) })
+pub returns-in_err-acting-clause-refused : goal.returns-in_err-acting-clause-refused
+returns-in_err-acting-clause-refused g c =
+    let of_report = by_report c.args.self.now.limits (history_in c.args.self.now) c.args.request.now (Some c.in-Some.reported) (sym c.in-Some.is ∙ c.reported.ensures.reported) in
+    rw of_report.1 (search rules)
 
-pub check-requires-in-Send-clause-request : goal.check-requires-in-Send-clause-request
-check-requires-in-Send-clause-request g c =
-    (request.Send c.in-Send.task c.in-Send.message, record { answer = refl; refused_for = refl; written = λ task named. (task, named) })
+pub returns-in_err-second-clause-refused : goal.returns-in_err-second-clause-refused
+returns-in_err-second-clause-refused g c =
+    let of_report = by_report c.args.self.now.limits (history_in c.args.self.now) c.args.request.now (Some c.in-Some.reported) (sym c.in-Some.is ∙ c.reported.ensures.reported) in
+    rw of_report.1 (search rules)
 
-pub check-requires-in-Recv-clause-request : goal.check-requires-in-Recv-clause-request
-check-requires-in-Recv-clause-request g c =
-    (request.Recv c.in-Recv.task c.in-Recv.message, record { answer = refl; refused_for = refl; written = λ task named. (task, named) })
+pub returns-in_err-check_room-clause-refused : goal.returns-in_err-check_room-clause-refused
+returns-in_err-check_room-clause-refused g c =
+    let of_report = by_report c.args.self.now.limits (history_in c.args.self.now) c.args.request.now (Some c.in-Some.reported) (sym c.in-Some.is ∙ c.reported.ensures.reported) in
+    rw of_report.1 (search rules)
 
-pub check-requires-in-End-clause-request : goal.check-requires-in-End-clause-request
-check-requires-in-End-clause-request g c = (request.End c.in-End.task, record { answer = refl; refused_for = refl; written = λ task named. task })
+pub returns-clause-refused : goal.returns-clause-refused
+returns-clause-refused g c = sym (not_refused g (goal.at.returns-clause-refused g c).In_ok-check_room)
 
-pub check-requires-in-Join-clause-request : goal.check-requires-in-Join-clause-request
-check-requires-in-Join-clause-request g c =
-    (request.Join c.in-Join.task c.in-Join.child, record { answer = refl; refused_for = refl; written = λ task named. (task, named) })
+pub returns-clause-report : goal.returns-clause-report
+returns-clause-report g c =
+    let book = c.args.self.now in
+    let of_report = by_report book.limits (history_in book) c.args.request.now (Some c.in-Some.reported) (sym c.in-Some.is ∙ c.reported.ensures.reported) in
+    record {
+      legal = AreLegal-push book.limits book.rows c.args.request.now _ c.in-Some.ensures.written
+          (not_refused g (goal.at.returns-clause-report g c).In_ok-check_room) (ap (λ answer. answer.1) of_report.0) c.requires.book.legal;
+      few = c.in_ok-check_room.ensures.room;
+      acting = c.in_ok-acting.ensures.task;
+      second = ap (λ found. found.0) c.in_ok-second.ensures.found;
+      joined = ap (λ found. found.1) c.in_ok-second.ensures.found;
+      may = c.in_ok-second.ensures.may;
+    }

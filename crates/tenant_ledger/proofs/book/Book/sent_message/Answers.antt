@@ -15,6 +15,6 @@ returns-clause-decides g c =
     let name = c.args.name.now in
     let sent = has_sent book.limits (history_in book) book.messages c.requires.messages name in
     let received = has_received book.limits (history_in book) book.messages c.requires.messages name (legal_history book c.requires) in
-    let same : refusal_of_receive book.messages name ≡ first_code (refusals_of_named book (Some name) Recv) =
+    let same : refusal_of_receive book.messages name ≡ first_code (refusals_of_named book.limits (history_in book) Recv (Some name)) =
     λ i. first_code ((not (sent i), NoMessage) ∷ (received i, AlreadyReceived) ∷ []) in
-    decides_by_first (refusals_of_named book (Some name) Recv) c.check_receive.result (c.check_receive.ensures.code ∙ ap (λ (b : Contents). refusal_of_receive b.messages name) c.self.view_is ∙ same)
+    decides_by_first (refusals_of_named book.limits (history_in book) Recv (Some name)) c.check_receive.result (c.check_receive.ensures.code ∙ ap (λ (b : Contents). refusal_of_receive b.messages name) c.self.view_is ∙ same)

@@ -1,7 +1,10 @@
-use Rattle.std.proofs.Common.{sym}
+use Rattle.std.proofs.Common.{sym, subst}
+use Rattle.trace_types.specs.tenant.Tenant.{Tenant, Answers, Steps}
 use Rattle.tenant_ledger.proofs.keeping.Refused.{query_steps}
 use Rattle.tenant_ledger.proofs.ledger.Ledger.report.Goals as goal
 
-pub returns-then-not-is_report : goal.returns-then-not-is_report
-returns-then-not-is_report g c =
-    query_steps c.args.self.now c.args.request.now c.ask.result (sym c.if-not-is_report.ensures) c.ask.ensures
+pub returns-then-not-is_report-clause-steps : goal.returns-then-not-is_report-clause-steps
+returns-then-not-is_report-clause-steps g c =
+    let answered = subst (λ (tenant : Tenant). Answers tenant c.args.request.now c.ask.result) c.self.view_is c.ask.ensures in
+    subst (Steps c.args.self.now c.args.request.now c.ask.result) (sym c.self.view_is)
+    (query_steps c.args.self.now c.args.request.now c.ask.result (sym c.if-not-is_report.ensures) answered)

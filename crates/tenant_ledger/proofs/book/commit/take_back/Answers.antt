@@ -2,16 +2,16 @@ use Rattle.std.proofs.Common.{◌∙◌}
 use Rattle.std.proofs.Math.Path.{transport}
 use Rattle.tenant_ledger.specs.Ledger.{Notes}
 use Rattle.tenant_ledger.proofs.keeping.Messages.{receive_is_received, receive_taken_back}
-use Rattle.tenant_ledger.proofs.book.take_back.Goals as goal
+use Rattle.tenant_ledger.proofs.book.commit.take_back.Goals as goal
 
 pub undo_receive-requires : goal.undo_receive-requires
 undo_receive-requires c =
     let after = c.args.messages.now in
     receive_is_received c.in-Recv-Some.name c.requires.0 c.requires.1 after
-    (transport (λ i. Notes (c.in-Recv-Some.is-1 i) (c.in-Recv-Some.is-0 i) c.requires.0 c.requires.1 after) c.requires.2)
+    (transport (λ i. Notes (c.in-Recv-Some.is-0 i) (c.in-Recv-Some.is-1 i) c.requires.0 c.requires.1 after) c.requires.2)
 
 pub returns-in-Recv-Some : goal.returns-in-Recv-Some
 returns-in-Recv-Some c event before noted =
     let after = c.args.messages.now in
     c.undo_receive.ensures ∙ receive_taken_back c.in-Recv-Some.name event before after
-    (transport (λ i. Notes (c.in-Recv-Some.is-1 i) (c.in-Recv-Some.is-0 i) event before after) noted)
+    (transport (λ i. Notes (c.in-Recv-Some.is-0 i) (c.in-Recv-Some.is-1 i) event before after) noted)

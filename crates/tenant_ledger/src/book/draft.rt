@@ -1,0 +1,220 @@
+//! What is to be kept of an event.
+ghost use Rattle.std.specs.Prelude.{◌≡◌, suc, ◌<◌, ◌≤◌, [], true, IfOk, OnOk, OnErr, IfSome, IfNone, Some, length, slice_get};
+ghost use Rattle.trace_types.specs.tenant.Reachability.{increasing};
+ghost use Rattle.trace_types.specs.clock.Clock.{tree_clock};
+ghost use Rattle.trace_types.specs.clock.Stamps.{tree_of, acting_id, takes_in};
+ghost use Rattle.trace_types.specs.tenant.Tenant.{is_report, row_after};
+ghost use Rattle.trace_types.specs.clock.EventTree.{Leaf};
+ghost use Rattle.tenant_ledger.specs.Ledger.{IsKept, HasRoom, history_in, MayNote, IsReport, row_of_report, event_of, Notes, Prepares};
+
+use super::{Book, Report, Task};
+use crate::share::{Keep, Share};
+use event_tree::EvTree;
+use id_tree::IdTree;
+use std::alloc::Global;
+use std::marker::Model;
+use trace_types::{Code, Kind, Memory, Name, Preds, Request, Row};
+
+/// What is to be kept of an event.
+#[derive(Drop)]
+pub(crate) struct Draft<S: Keep> {
+    pub(super) row: Row,
+    pub(super) tree: S::Kept,
+    /// The ids that it makes, which are to stand after those that the book has.
+    pub(super) first: Option<S::Id>,
+    pub(super) second: Option<S::Id>,
+    /// What is to be kept of the acting task.
+    pub(super) acting: Task,
+    /// What is to be kept of the task that it names.
+    pub(super) named: Option<Task>,
+}
+
+impl<S: Keep> Model for Draft<S> {
+    ghost use Rattle.std.specs.Prelude.{◌++◌, map, option_to_list};
+    ghost use Rattle.std.specs.Coded.{codes};
+    ghost use Rattle.event_tree.specs.EventTreeCode.{event_tree_code};
+    ghost use Rattle.id_tree.specs.IdCode.{id_code};
+    ghost use Rattle.tenant_ledger.specs.Ledger.{Event};
+
+    ghost Value = { Event };
+
+    ghost coded = { Prim.hlevel (codes, event_tree_code, id_code) };
+
+    ghost view = { λ d. record {
+      row = d.row;
+      tree = S.Kept.tree d.tree;
+      ids = map S.Id.id (option_to_list d.first ++ option_to_list d.second);
+      acting = d.acting;
+      named = d.named;
+    } };
+}
+
+impl<S: Keep> Draft<S> {
+    pub(crate) fn row(&self) -> &Row
+        ensures { result.now ≡ self.now.row }
+    {
+        &self.row
+    }
+
+    /// What its event knows, as it is kept.
+    pub(crate) fn tree(&self) -> &S::Kept
+        ensures { S.Kept.tree result.now ≡ self.now.tree }
+    {
+        &self.tree
+    }
+
+    /// The first of the ids that its event makes, where it makes one.
+    pub(super) fn first_id(&self) -> Option<&S::Id>
+        ensures some { IfSome result (λ id. slice_get self.now.ids 0 ≡ Some (S.Id.id id.now)) }
+        ensures none { IfNone result (self.now.ids ≡ []) }
+    {
+        self.first.as_ref().or(self.second.as_ref())
+    }
+}
+
+impl<S: Keep> Book<S> {
+    /// Prepares a report: its draft is to be committed or abandoned.
+    pub(crate) fn prepare<R>(
+        &mut self,
+        rt: &R,
+        share: &S,
+        request: &Request,
+    ) -> Result<Draft<S>, Code>
+    where
+        S: Share<R>,
+        requires book { IsKept self.old }
+        requires report { is_report request.now ≡ true }
+        ensures { Prepares result self.old request.now self.new }
+    {
+        let report = self.report(request)?;
+        self.make_room(rt, share)?;
+        let draft = self.draft(rt, share, &report)?;
+        self.note(report.kind, report.name)?;
+        Ok(draft)
+    }
+
+    /// What is to be kept of the report's event.
+    fn draft<R>(&self, rt: &R, share: &S, report: &Report) -> Result<Draft<S>, Memory>
+    where
+        S: Share<R>,
+        requires book { IsKept self.now }
+        requires seeded { 0 < self.now.kept_ids }
+        requires report { IsReport self.now report.now }
+        ensures { IfOk result (λ draft. draft ≡ event_of self.now report.now) }
+    {
+        let ids = self.ids_made(report)?;
+        let id = ids.acting(self.id(report.acting.id));
+        let tree = share.keep_tree(rt, self.tree_after(report, id)?)?;
+        let (first, second) = ids.keep(rt, share)?;
+        let event = self.event_count() + 1;
+        let place = self.id_count();
+        Ok(Draft {
+            row: self.row_after(report),
+            tree,
+            first,
+            second,
+            acting: report.acting_after(event, place),
+            named: report.named_after(event, place),
+        })
+    }
+
+    /// The row of the report, which follows its task's last event and the second one.
+    fn row_after(&self, report: &Report) -> Row
+        requires book { IsKept self.now }
+        requires report { IsReport self.now report.now }
+        ensures { result ≡ row_after (history_in self.now) report.now.task report.now.kind report.now.name }
+    {
+        Row {
+            task: report.task,
+            kind: report.kind,
+            name: report.name,
+            preds: increasing(self.alloc, report.acting.last, report.second),
+        }
+    }
+
+    /// What the report's event knows, which is made with this id.
+    fn tree_after(&self, report: &Report, id: &IdTree) -> Result<EvTree, Memory>
+        requires book { IsKept self.now }
+        requires report { IsReport self.now report.now }
+        requires id { id.now ≡ acting_id tree_clock (history_in self.now) (row_of_report self.now report.now) }
+        ensures { IfOk result (λ tree. tree ≡ (event_of self.now report.now).tree) }
+    {
+        let start = EvTree::leaf(0);
+        let own = self.known(report.acting.last, &start);
+        if takes_in(report.kind) {
+            let known = own.join(self.alloc, self.known(report.second, &start))?;
+            Ok(EvTree::event(self.alloc, id, &known)?)
+        } else {
+            Ok(EvTree::event(self.alloc, id, own)?)
+        }
+    }
+
+    /// What the event knows; before any event that is `start`.
+    fn known<'a>(&'a self, event: u64, start: &'a EvTree) -> &'a EvTree
+        requires book { IsKept self.now }
+        requires event { event ≤ length self.now.rows }
+        requires start { start.now ≡ Leaf 0 }
+        ensures { result.now ≡ tree_of tree_clock (history_in self.now) event }
+    {
+        if event == 0 { start } else { self.tree(event) }
+    }
+
+    /// Notes the message that the next event sends or receives.
+    fn note(&mut self, kind: Kind, name: Option<Name>) -> Result<(), Memory>
+        requires { MayNote self.old.messages kind name }
+        ensures noted { OnOk result (Notes kind name (suc (length self.old.rows)) self.old.messages self.new.messages) }
+        ensures unchanged { OnErr result (self.new ≡ self.old) }
+        ensures others { self.new ≡ record self.old { messages = self.new.messages } }
+    {
+        let event = self.event_count() + 1;
+        match (kind, name) {
+            (Kind::Send, Some(message)) => {
+                self.messages.send(message, event).map_err(|_| Memory)
+            }
+            (Kind::Recv, Some(message)) => {
+                self.messages.receive(&message, event).map_err(|_| Memory)
+            }
+            _ => Ok(()),
+        }
+    }
+
+    /// Keeps the id of `root`, unless that was done, and makes room for one event, its ids and its tasks.
+    fn make_room<R>(&mut self, rt: &R, share: &S) -> Result<(), Memory>
+    where
+        S: Share<R>,
+        ensures same { self.new ≡ record self.old { kept_ids = self.new.kept_ids; room = self.new.room } }
+        ensures seeded { self.old.kept_ids ≤ self.new.kept_ids }
+        ensures room { OnOk result (HasRoom self.new) }
+    {
+        if self.ids.is_empty() {
+            let id = share.keep_id(rt, IdTree::one())?;
+            self.ids.push(id)?;
+        }
+        self.rows.reserve(1)?;
+        self.trees.reserve(1)?;
+        self.places.reserve(1)?;
+        self.ids.reserve(2)?;
+        self.tasks.reserve(2)?;
+        Ok(())
+    }
+}
+
+/// Whether a report of this kind takes in what its second event knew.
+fn takes_in(kind: Kind) -> bool
+    ensures { result ≡ takes_in kind }
+{
+    matches!(kind, Kind::Recv | Kind::Join)
+}
+
+/// The events among two numbers, increasing and each once; 0 is no event.
+fn increasing(alloc: Global, first: u64, second: u64) -> Preds
+    ensures { result ≡ increasing first second }
+{
+    match (first, second) {
+        (0, 0) => Preds::of(alloc, &[]),
+        (0, event) | (event, 0) => Preds::of(alloc, &[event]),
+        _ if first == second => Preds::of(alloc, &[first]),
+        _ if first < second => Preds::of(alloc, &[first, second]),
+        _ => Preds::of(alloc, &[second, first]),
+    }
+}

@@ -1,0 +1,77 @@
+//! The ids that an event makes.
+ghost use Rattle.std.specs.Prelude.{◌≡◌, ◌+◌, ◌<◌, IfOk, option_to_list, ◌++◌, map};
+ghost use Rattle.trace_types.specs.clock.Id.{Zero};
+ghost use Rattle.trace_types.specs.clock.Clock.{tree_clock};
+ghost use Rattle.trace_types.specs.clock.Stamps.{id_of, of_named};
+ghost use Rattle.tenant_ledger.specs.Ledger.{IsKept, history_in, IsReport, id_for, ids_made, made_ids};
+
+use super::{Book, Report};
+use crate::share::{Keep, Share};
+use id_tree::IdTree;
+use trace_types::{Kind, Memory};
+
+/// The ids that an event makes.
+#[derive(Drop)]
+pub(super) enum Ids {
+    Same,
+    /// The part that the task keeps, and the one that it gives the task that it starts.
+    Split(IdTree, IdTree),
+    Sum(IdTree),
+}
+
+impl Ids {
+    /// The id with which the event is made, of a task that has this one.
+    pub(super) fn acting<'a>(&'a self, own: &'a IdTree) -> &'a IdTree
+        ensures { result.now ≡ id_for self.now own.now }
+    {
+        match self {
+            Ids::Same | Ids::Split(..) => own,
+            Ids::Sum(id) => id,
+        }
+    }
+
+    /// Keeps them.
+    pub(super) fn keep<R, S: Share<R>>(
+        self,
+        rt: &R,
+        share: &S,
+    ) -> Result<(Option<S::Id>, Option<S::Id>), Memory>
+        ensures { IfOk result (λ kept. map S.Id.id (option_to_list kept.0 ++ option_to_list kept.1) ≡ made_ids self) }
+    {
+        match self {
+            Ids::Same => Ok((None, None)),
+            Ids::Split(kept, given) => {
+                let kept = share.keep_id(rt, kept)?;
+                let given = share.keep_id(rt, given)?;
+                Ok((Some(kept), Some(given)))
+            }
+            Ids::Sum(id) => Ok((Some(share.keep_id(rt, id)?), None)),
+        }
+    }
+}
+
+impl<S: Keep> Book<S> {
+    /// The ids that the report makes.
+    pub(super) fn ids_made(&self, report: &Report) -> Result<Ids, Memory>
+        requires book { IsKept self.now }
+        requires seeded { 0 < self.now.kept_ids }
+        requires report { IsReport self.now report.now }
+        ensures { IfOk result (λ ids. ids ≡ ids_made report.now.kind (id_of tree_clock (history_in self.now) report.now.task)
+            (of_named Zero (id_of tree_clock (history_in self.now)) report.now.name)) }
+    {
+        match report.kind {
+            Kind::Local | Kind::Send | Kind::Recv | Kind::End => Ok(Ids::Same),
+            Kind::Spawn => {
+                let (kept, given) = self.id(report.acting.id).split(self.alloc)?;
+                Ok(Ids::Split(kept, given))
+            }
+            Kind::Join => match report.joined {
+                Some(joined) => {
+                    let own = self.id(report.acting.id);
+                    Ok(Ids::Sum(own.sum(self.alloc, self.id(joined.id))?))
+                }
+                None => Ok(Ids::Same),
+            },
+        }
+    }
+}

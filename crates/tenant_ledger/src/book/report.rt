@@ -1,0 +1,193 @@
+//! A report that is not refused.
+ghost use Rattle.std.specs.Prelude.{◌≡◌, ◌<◌, true, IfOk, OnOk, Some, None, length};
+ghost use Rattle.std.specs.Result.{result_err};
+ghost use Rattle.trace_types.specs.tenant.Rows.{send_event};
+ghost use Rattle.trace_types.specs.tenant.Reachability.{second_event};
+ghost use Rattle.trace_types.specs.tenant.Refusal.{refusal_of};
+ghost use Rattle.trace_types.specs.tenant.Tenant.{is_report, answer_to, accepted};
+ghost use Rattle.message_book.specs.Book.{refusal_of_send, refusal_of_receive};
+ghost use Rattle.tenant_ledger.specs.Ledger.{IsKept, history_in, task_in, Decides, refusals_of_task, refusals_of_named, refusals_of_room, MayNote, joined_by, IsReport, acting_after, named_after};
+
+use super::{Book, Task};
+use crate::share::Keep;
+use trace_types::{Code, Kind, Name, Request, TaskState};
+
+/// A report that is not refused, and what the book has of those that it speaks of.
+#[derive(Clone, Copy)]
+pub(super) struct Report {
+    pub(super) task: Name,
+    pub(super) kind: Kind,
+    pub(super) name: Option<Name>,
+    pub(super) acting: Task,
+    /// The event beside the acting task's last one that it follows, or 0.
+    pub(super) second: u64,
+    /// The task that it takes in.
+    pub(super) joined: Option<Task>,
+}
+
+impl Report {
+    /// What is to be kept of the acting task, as this event, with the first of the ids that are made at this place.
+    pub(super) fn acting_after(&self, event: u64, place: usize) -> Task
+        ensures { result ≡ acting_after self.now.kind event place self.now.acting }
+    {
+        let task = Task {
+            last: event,
+            ..self.acting
+        };
+        match self.kind {
+            Kind::Local | Kind::Send | Kind::Recv => task,
+            Kind::End => Task {
+                state: TaskState::Ended,
+                ..task
+            },
+            Kind::Spawn | Kind::Join => Task { id: place, ..task },
+        }
+    }
+
+    /// What is to be kept of the task that it starts or takes in.
+    pub(super) fn named_after(&self, event: u64, place: usize) -> Option<Task>
+        requires { place < 18446744073709551615 }
+        ensures { result ≡ named_after self.now.kind event place self.now.joined }
+    {
+        match self.kind {
+            Kind::Local | Kind::Send | Kind::Recv | Kind::End => None,
+            Kind::Spawn => Some(Task {
+                state: TaskState::Live,
+                last: event,
+                id: place + 1,
+            }),
+            Kind::Join => match self.joined {
+                Some(task) => Some(Task {
+                    state: TaskState::Joined,
+                    ..task
+                }),
+                None => None,
+            },
+        }
+    }
+}
+
+impl<S: Keep> Book<S> {
+    /// The task, where it may report; else `NoTask` or `TaskEnded`.
+    fn live_task(&self, name: &Name) -> Result<Task, Code>
+        requires { IsKept self.now }
+        ensures task { IfOk result (λ task. task_in self.now name.now ≡ Some task) }
+        ensures decides { Decides (refusals_of_task (history_in self.now) name.now) result }
+    {
+        let task = self.task(name)?;
+        match task.state {
+            TaskState::Live => Ok(task),
+            TaskState::Ended | TaskState::Joined => Err(Code::TaskEnded),
+        }
+    }
+
+    /// The task, where it may be joined; else `NoTask`, `NotEnded` or `AlreadyJoined`.
+    fn ended_task(&self, name: &Name) -> Result<Task, Code>
+        requires { IsKept self.now }
+        ensures task { IfOk result (λ task. task_in self.now name.now ≡ Some task) }
+        ensures decides { Decides (refusals_of_named self.now.limits (history_in self.now) Kind.Join (Some name.now)) result }
+    {
+        let task = self.task(name)?;
+        match task.state {
+            TaskState::Live => Err(Code::NotEnded),
+            TaskState::Ended => Ok(task),
+            TaskState::Joined => Err(Code::AlreadyJoined),
+        }
+    }
+
+    /// Refuses one task more at the limit, and a task that exists.
+    fn check_child(&self, name: &Name) -> Result<(), Code>
+        requires { IsKept self.now }
+        ensures decides { Decides (refusals_of_named self.now.limits (history_in self.now) Kind.Spawn (Some name.now)) result }
+    {
+        match self.task(name) {
+            Ok(_) => Err(Code::TaskExists),
+            Err(_) if self.task_count() >= self.limits.tasks() => Err(Code::TasksFull),
+            Err(_) => Ok(()),
+        }
+    }
+
+    /// Refuses a message that was sent, and one message more at the limit.
+    fn check_message(&self, name: &Name) -> Result<(), Code>
+        requires { IsKept self.now }
+        ensures may { OnOk result (refusal_of_send self.now.messages name.now ≡ None) }
+        ensures decides { Decides (refusals_of_named self.now.limits (history_in self.now) Kind.Send (Some name.now)) result }
+    {
+        self.messages.check_send(name)
+    }
+
+    /// The event that sent the message, where the message may be received; else `NoMessage` or `AlreadyReceived`.
+    fn sent_message(&self, name: &Name) -> Result<u64, Code>
+        requires { IsKept self.now }
+        ensures may { OnOk result (refusal_of_receive self.now.messages name.now ≡ None) }
+        ensures sent { IfOk result (λ event. event ≡ send_event (history_in self.now) name.now) }
+        ensures decides { Decides (refusals_of_named self.now.limits (history_in self.now) Kind.Recv (Some name.now)) result }
+    {
+        self.messages.check_receive(name)
+    }
+
+    /// Refuses one event more at the limit.
+    fn check_room(&self) -> Result<(), Code>
+        ensures room { OnOk result (length self.now.rows < 16384) }
+        ensures decides { Decides (refusals_of_room self.now.limits (history_in self.now)) result }
+    {
+        if self.event_count() < self.limits.events() {
+            Ok(())
+        } else {
+            Err(Code::EventsFull)
+        }
+    }
+
+    /// What the book has of the task or message that a report of this kind names, where it is not refused for it.
+    fn named(&self, kind: Kind, name: &Option<Name>) -> Result<(u64, Option<Task>), Code>
+        requires { IsKept self.now }
+        ensures found { IfOk result (λ found. found ≡ (second_event (history_in self.now) kind name.now, joined_by (task_in self.now) kind name.now)) }
+        ensures may { OnOk result (MayNote self.now.messages kind name.now) }
+        ensures decides { Decides (refusals_of_named self.now.limits (history_in self.now) kind name.now) result }
+    {
+        let Some(name) = *name else {
+            return Ok((0, None));
+        };
+        match kind {
+            Kind::Local => Ok((0, None)),
+            Kind::Spawn => {
+                self.check_child(&name)?;
+                Ok((0, None))
+            }
+            Kind::Send => {
+                self.check_message(&name)?;
+                Ok((0, None))
+            }
+            Kind::Recv => Ok((self.sent_message(&name)?, None)),
+            Kind::End => Ok((0, None)),
+            Kind::Join => {
+                let task = self.ended_task(&name)?;
+                Ok((task.last, Some(task)))
+            }
+        }
+    }
+
+    /// What is reported, where it is not refused.
+    pub(super) fn report(&self, request: &Request) -> Result<Report, Code>
+        requires book { IsKept self.now }
+        requires report { is_report request.now ≡ true }
+        ensures report { IfOk result (IsReport self.now) }
+        ensures answer { IfOk result (λ report. answer_to (history_in self.now) request.now ≡ accepted (history_in self.now) report.task report.kind report.name) }
+        ensures refused { result_err result ≡ refusal_of self.now.limits (history_in self.now) request.now }
+    {
+        let Some(reported) = request.reported() else {
+            return Err(Code::ViewOnly);
+        };
+        let acting = self.live_task(&reported.task)?;
+        let (second, joined) = self.named(reported.kind, &reported.name)?;
+        self.check_room()?;
+        Ok(Report {
+            task: reported.task,
+            kind: reported.kind,
+            name: reported.name,
+            acting,
+            second,
+            joined,
+        })
+    }
+}
