@@ -1,14 +1,12 @@
 pub mod Consequences
 pub mod Events
 pub mod Gathered
-pub mod Joining
-pub mod KeepingRows
 pub mod Legality
-pub mod NamingRows
+pub mod Normal
 pub mod OneMore
 pub mod Ordering
 pub mod Reaching
-pub mod Spawning
+pub mod Sharing
 pub mod Tasks
 pub mod TreeClock
 pub mod Upheld

@@ -18,9 +18,8 @@ module _ {Id Tree : Type 0} {clock : Clock Id Tree} {Point : Type 0} {IsNormalId
   abbrev pub value_of : ℕ → Point → ℕ
   value_of event point = laws.value (tree_of clock history event) point
 
-  -- ids and trees are normal, and a live task owns some point
+  -- trees are normal, and a live task owns some point
   pub record AreNormal : Type 0 where
-    pub ids : (task : Text) → IsNormalId (id_of clock history task)
     pub trees : (event : ℕ) → IsNormalTree (tree_of clock history event)
     pub some : (task : Text) → IsLive history task → OwnsSome laws.owns (id_of clock history task)
 

@@ -11,6 +11,8 @@ use Rattle.trace_types.specs.declared.row.Row.{Row}
 use Rattle.event_tree.proofs.Joined.{maximum-joined-le}
 use Rattle.tenant_ledger.specs.Legal.{IsLive, IsLegal}
 use Rattle.tenant_ledger.proofs.clock.Events.{known_before_new, tree_of-new, tree_of-older}
+use Rattle.tenant_ledger.proofs.clock.Gathered.{gathers}
+use Rattle.tenant_ledger.proofs.clock.Normal.{acting_id_normal}
 use Rattle.tenant_ledger.proofs.clock.Reaching.{new_event, first_of, second_of, followed-le}
 use Rattle.tenant_ledger.proofs.clock.TreeClock.{tree_clock_laws, some_is_not_Zero, raises}
 use Rattle.tenant_ledger.proofs.clock.Upheld.{invariant_upheld, legal_row_in_order}
@@ -29,7 +31,7 @@ live_id_is_not_Zero history legal task live =
 -- so does each id with which an event is made
 pub acting_id_is_not_Zero : (row : Row) (earlier : History) → IsLegal (row ∷ earlier) → acting_id tree_clock earlier row ≢ Zero
 acting_id_is_not_Zero row earlier legal =
-    some_is_not_Zero (acting_id tree_clock earlier row) (legal_row_in_order tree_clock_laws row earlier legal).id_some
+    some_is_not_Zero (acting_id tree_clock earlier row) (legal_row_in_order tree_clock_laws row earlier (invariant_upheld tree_clock_laws earlier legal.1) legal).id_some
 
 -- what is known before an event has no value above the number of events, where that holds of each event
 known_before_new-le : (row : Row) (earlier : History) → ((event : ℕ) → maximum (tree_of tree_clock earlier event) ≤ event)
@@ -47,11 +49,12 @@ pub maximum_of-le : (history : History) → IsLegal history → (event : ℕ) �
 maximum_of-le [] legal event = omega arith
 maximum_of-le (row ∷ earlier) legal event =
     let bounded = maximum_of-le earlier legal.1 in
-    let order = legal_row_in_order tree_clock_laws row earlier legal in
+    let before = invariant_upheld tree_clock_laws earlier legal.1 in
+    let order = legal_row_in_order tree_clock_laws row earlier before legal in
     elim (cases_eq event (new_event earlier)) [
       | inl is ↦
           let base = known_before_new tree_clock row earlier in
-          let higher = (raises (acting_id tree_clock earlier row) base order.id_normal order.id_some order.base.normal).bounded in
+          let higher = (raises (acting_id tree_clock earlier row) base (acting_id_normal tree_clock_laws row earlier) order.id_some (gathers tree_clock_laws row earlier before.normal.trees).normal).bounded in
           let same = ap maximum (ap (tree_of tree_clock (row ∷ earlier)) is ∙ tree_of-new tree_clock row earlier) in
           omega (arith, is, same, higher, known_before_new-le row earlier bounded)
       | inr older ↦ omega (arith, ap maximum (tree_of-older tree_clock row earlier event older), bounded event)

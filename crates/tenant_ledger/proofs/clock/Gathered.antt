@@ -1,51 +1,62 @@
 -- What is known before the new event: what its task knew, or the join of that with what its second event knew.
-use Rattle.std.proofs.Common.{◌≡◌, ℕ, ◌≤◌, true, false, refl, sym, ap, ◌∙◌, subst, inl, inr, arith}
-use Rattle.std.proofs.lemmas.Bool.{cond-true, cond-false, cases_lt}
+use Rattle.std.proofs.Common.{◌≡◌, ℕ, ◌≤◌, false, Option, refl, ap, ◌∙◌, inl, inr, arith}
+use Rattle.std.proofs.lemmas.Bool.{cond_both, cases_lt}
+use Rattle.trace_types.specs.text.Name.{Text}
 use Rattle.trace_types.specs.tenant.Rows.{History}
+use Rattle.trace_types.specs.tenant.Reachability.{second_event}
 use Rattle.trace_types.specs.clock.Clock.{Clock}
 use Rattle.trace_types.specs.clock.Stamps.{tree_of, takes_in}
 use Rattle.trace_types.specs.declared.row.Row.{Row}
+use Rattle.trace_types.specs.declared.row.Kind.{Kind}
+use Rattle.trace_types.specs.declared.row.Kind.TheVariants.{Local}
 use Rattle.tenant_ledger.specs.ClockLaws.{ClockLaws}
-use Rattle.tenant_ledger.specs.Invariant.{value_of, Invariant}
+use Rattle.tenant_ledger.specs.Invariant.{value_of}
 use Rattle.tenant_ledger.proofs.clock.Events.{known_before_new, tree_of-nothing}
-use Rattle.tenant_ledger.proofs.clock.OneMore.{base_value, Gathers}
 use Rattle.tenant_ledger.proofs.clock.Reaching.{first_of, second_of, Follows}
 
+-- a report that takes nothing in follows no second event
+second_event-nothing : (history : History) (kind : Kind) (name : Option Text) → takes_in kind ≡ false → second_event history kind name ≡ 0
+second_event-nothing history Local name alone = refl
+second_event-nothing history kind name alone = cc
+
 module _ {Id Tree : Type 0} {clock : Clock Id Tree} {Point : Type 0} {IsNormalId : Id → Type 0} {IsNormalTree : Tree → Type 0}
-    (laws : ClockLaws clock Point IsNormalId IsNormalTree) (row : Row) (earlier : History) (before : Invariant laws earlier) where
-  nothing_known : (event : ℕ) (point : Point) → event ≡ 0 → value_of laws earlier event point ≡ 0
-  nothing_known event point none =
-      ap (λ e. value_of laws earlier e point) none ∙ (ap (λ tree. laws.value tree point) (tree_of-nothing clock earlier) ∙ laws.start_value point)
+    (laws : ClockLaws clock Point IsNormalId IsNormalTree) (row : Row) (earlier : History) where
+  -- the tree is what the events that the row follows know
+  pub record Gathers (tree : Tree) : Type 0 where
+    pub normal : IsNormalTree tree
+    pub followed_below : (event : ℕ) → Follows row earlier event → (point : Point) → value_of laws earlier event point ≤ laws.value tree point
+    pub from_followed : (point : Point) → (event : ℕ) × Follows row earlier event × (laws.value tree point ≤ value_of laws earlier event point)
 
-  followed_below : (event : ℕ) (point : Point) → Follows row earlier event → value_of laws earlier (first_of row earlier) point ≤ base_value laws row earlier point
-      → value_of laws earlier (second_of row earlier) point ≤ base_value laws row earlier point → value_of laws earlier event point ≤ base_value laws row earlier point
-  followed_below event point (inl first) first_below second_below = omega (arith, ap (λ e. value_of laws earlier e point) first, first_below)
-  followed_below event point (inr second) first_below second_below = omega (arith, ap (λ e. value_of laws earlier e point) second, second_below)
+  module _ (normal : (event : ℕ) → IsNormalTree (tree_of clock earlier event)) where
+    abbrev first : Tree
+    first = tree_of clock earlier (first_of row earlier)
 
-  -- a row that follows one event alone knows what that one knows
-  pub gathers_alone : takes_in row.kind ≡ false → second_of row earlier ≡ 0 → Gathers laws row earlier
-  gathers_alone alone none =
-      let is : known_before_new clock row earlier ≡ tree_of clock earlier (first_of row earlier) = cond-false (takes_in row.kind) _ _ alone in
-      let value_is = λ (point : Point). ap (λ tree. laws.value tree point) is in
-      record {
-        normal = subst IsNormalTree (sym is) (before.normal.trees (first_of row earlier));
-        followed_below = λ event follows point.
-            followed_below event point follows (omega (arith, value_is point)) (omega (arith, nothing_known (second_of row earlier) point none));
-        from_followed = λ point. (first_of row earlier, inl refl, omega (arith, value_is point));
-      }
+    abbrev second : Tree
+    second = tree_of clock earlier (second_of row earlier)
 
-  -- a row that takes in its second event knows what either knows
-  pub gathers_joined : takes_in row.kind ≡ true → Gathers laws row earlier
-  gathers_joined joins =
-      let first = tree_of clock earlier (first_of row earlier) in
-      let second = tree_of clock earlier (second_of row earlier) in
-      let is : known_before_new clock row earlier ≡ clock.join first second = cond-true (takes_in row.kind) _ _ joins in
-      let value_is = λ (point : Point). ap (λ tree. laws.value tree point) is ∙ laws.join_value first second point in
-      record {
-        normal = subst IsNormalTree (sym is) (laws.join_normal first second (before.normal.trees (first_of row earlier)) (before.normal.trees (second_of row earlier)));
-        followed_below = λ event follows point. followed_below event point follows (omega (arith, value_is point)) (omega (arith, value_is point));
-        from_followed = λ point. elim (cases_lt (laws.value first point) (laws.value second point)) [
-          | inl less ↦ (second_of row earlier, inr refl, omega (arith, value_is point, less))
-          | inr other ↦ (first_of row earlier, inl refl, omega (arith, value_is point, other))
-        ];
-      }
+    alone : takes_in row.kind ≡ false → Gathers first
+    alone takes = record {
+      normal = normal (first_of row earlier);
+      followed_below = λ event follows point. elim follows [
+        | inl is ↦ omega (arith, ap (λ e. value_of laws earlier e point) is)
+        | inr is ↦ omega (arith, ap (λ e. value_of laws earlier e point) (is ∙ second_event-nothing earlier row.kind row.name takes),
+            ap (λ tree. laws.value tree point) (tree_of-nothing clock earlier), laws.start_value point)
+      ];
+      from_followed = λ point. (first_of row earlier, inl refl, omega arith);
+    }
+
+    joined : Gathers (clock.join first second)
+    joined = record {
+      normal = laws.join_normal first second (normal (first_of row earlier)) (normal (second_of row earlier));
+      followed_below = λ event follows point. elim follows [
+        | inl is ↦ omega (arith, ap (λ e. value_of laws earlier e point) is, laws.join_value first second point)
+        | inr is ↦ omega (arith, ap (λ e. value_of laws earlier e point) is, laws.join_value first second point)
+      ];
+      from_followed = λ point. elim (cases_lt (laws.value first point) (laws.value second point)) [
+        | inl less ↦ (second_of row earlier, inr refl, omega (arith, laws.join_value first second point, less))
+        | inr other ↦ (first_of row earlier, inl refl, omega (arith, laws.join_value first second point, other))
+      ];
+    }
+
+    pub gathers : Gathers (known_before_new clock row earlier)
+    gathers = cond_both (takes_in row.kind) _ _ Gathers (λ _. joined) alone

@@ -7,13 +7,14 @@ use Rattle.trace_types.specs.tenant.Reachability.{reaches}
 use Rattle.trace_types.specs.clock.Clock.{Clock}
 use Rattle.trace_types.specs.clock.Stamps.{id_of, tree_of, acting_id}
 use Rattle.trace_types.specs.declared.row.Row.{Row}
-use Rattle.trace_types.proofs.Reachability.{last_event-le}
+use Rattle.trace_types.proofs.Reachability.{last_event-le, reaches_earlier}
 use Rattle.tenant_ledger.specs.ClockLaws.{OwnsSome, Raises, ClockLaws}
 use Rattle.tenant_ledger.specs.Legal.{IsLive}
 use Rattle.tenant_ledger.specs.Invariant.{holds, value_of, OneHolder, HolderIsAhead, HasPrivatePoint, EventsHavePrivatePoints, TreesRise, Invariant}
 use Rattle.tenant_ledger.proofs.clock.Events.{known_before_new, new_tree, tree_of-new, tree_of-older, event_bounds, older_event}
-use Rattle.trace_types.proofs.Reachability.{reaches_earlier}
-use Rattle.tenant_ledger.proofs.clock.Reaching.{new_event, Follows, ReachesFollowed, new_reaches_itself, reaches_forward, followed_from_reaches, reaches_from_followed}
+use Rattle.tenant_ledger.proofs.clock.Gathered.{Gathers, gathers}
+use Rattle.tenant_ledger.proofs.clock.Normal.{acting_id_normal}
+use Rattle.tenant_ledger.proofs.clock.Reaching.{new_event, Follows, new_reaches_itself, followed-le, reached_from, reached_from_older, reaches_from_followed}
 
 module _ {Id Tree : Type 0} {clock : Clock Id Tree} {Point : Type 0} {IsNormalId : Id → Type 0} {IsNormalTree : Tree → Type 0}
     (laws : ClockLaws clock Point IsNormalId IsNormalTree) (row : Row) (earlier : History) where
@@ -21,19 +22,12 @@ module _ {Id Tree : Type 0} {clock : Clock Id Tree} {Point : Type 0} {IsNormalId
   abbrev pub is_within : Point → Bool
   is_within point = laws.owns (acting_id clock earlier row) point
 
-  -- the value at the point before the new event
-  abbrev pub base_value : Point → ℕ
+  -- the value at the point before the new event, and of it
+  abbrev base_value : Point → ℕ
   base_value point = laws.value (known_before_new clock row earlier) point
 
-  -- the value at the point of the new event
   abbrev new_value : Point → ℕ
   new_value point = value_of laws (row ∷ earlier) (new_event earlier) point
-
-  -- what is known before the new event is what the events that its row follows know
-  pub record Gathers : Type 0 where
-    pub normal : IsNormalTree (known_before_new clock row earlier)
-    pub followed_below : (event : ℕ) → Follows row earlier event → (point : Point) → value_of laws earlier event point ≤ base_value point
-    pub from_followed : (point : Point) → (event : ℕ) × Follows row earlier event × (base_value point ≤ value_of laws earlier event point)
 
   -- a task held the point, and the row follows its last event
   pub record WasHeld (point : Point) : Type 0 where
@@ -49,20 +43,14 @@ module _ {Id Tree : Type 0} {clock : Clock Id Tree} {Point : Type 0} {IsNormalId
   abbrev pub StoodBy : Text → Point → Type 0
   StoodBy task point = (last_event (row ∷ earlier) task ≡ last_event earlier task) × (holds laws earlier task point ≡ true) × (is_within point ≡ false)
 
-  -- what is asked of the new event, and of the ids after it
+  -- what is asked of the ids with which the new event is made, and which it leaves
   pub record IsInOrder : Type 0 where
-    pub id_normal : IsNormalId (acting_id clock earlier row)
     pub id_some : OwnsSome laws.owns (acting_id clock earlier row)
-    pub base : Gathers
     pub was_held : (point : Point) → is_within point ≡ true → WasHeld point
     pub holders : (task : Text) (point : Point) → holds laws (row ∷ earlier) task point ≡ true → TookPart task point ⊎ StoodBy task point
     pub one_within : (task other : Text) (point : Point) → is_within point ≡ true
         → holds laws (row ∷ earlier) task point ≡ true → holds laws (row ∷ earlier) other point ≡ true → task ≡ other
-    pub ids_normal : (task : Text) → IsNormalId (id_of clock (row ∷ earlier) task)
     pub live_some : (task : Text) → IsLive (row ∷ earlier) task → OwnsSome laws.owns (id_of clock (row ∷ earlier) task)
-
-  new_value_is : (point : Point) → new_value point ≡ laws.value (new_tree clock row earlier) point
-  new_value_is point = ap (λ tree. laws.value tree point) (tree_of-new clock row earlier)
 
   value_of-new : (event : ℕ) (point : Point) → event ≡ new_event earlier → value_of laws (row ∷ earlier) event point ≡ new_value point
   value_of-new event point new = ap (λ e. value_of laws (row ∷ earlier) e point) new
@@ -70,29 +58,24 @@ module _ {Id Tree : Type 0} {clock : Clock Id Tree} {Point : Type 0} {IsNormalId
   value_of-older : (event : ℕ) (point : Point) → event ≢ new_event earlier → value_of laws (row ∷ earlier) event point ≡ value_of laws earlier event point
   value_of-older event point older = ap (λ tree. laws.value tree point) (tree_of-older clock row earlier event older)
 
-  not_new : (event : ℕ) → event ≤ length earlier → event ≢ new_event earlier
-  not_new event within is = omega (arith, within, is)
-
   module _ (before : Invariant laws earlier) (new : IsInOrder) where
-    new_raises : Raises laws.owns laws.value IsNormalTree (acting_id clock earlier row) (known_before_new clock row earlier) (new_tree clock row earlier)
-    new_raises = laws.event_raises (acting_id clock earlier row) (known_before_new clock row earlier) new.id_normal new.id_some new.base.normal
+    gathered : Gathers laws row earlier (known_before_new clock row earlier)
+    gathered = gathers laws row earlier before.normal.trees
 
-    base_below : (point : Point) → base_value point ≤ new_value point
-    base_below point = omega (arith, new_value_is point, new_raises.above point)
+    -- the new event's tree is above what is known before it at some point of its id, and nowhere else
+    pub new_raises : Raises laws.owns laws.value IsNormalTree (acting_id clock earlier row) (known_before_new clock row earlier) (tree_of clock (row ∷ earlier) (new_event earlier))
+    new_raises = subst (Raises laws.owns laws.value IsNormalTree (acting_id clock earlier row) (known_before_new clock row earlier)) (sym (tree_of-new clock row earlier))
+        (laws.event_raises (acting_id clock earlier row) (known_before_new clock row earlier) (acting_id_normal laws row earlier) new.id_some gathered.normal)
 
-    unchanged_outside : (point : Point) → is_within point ≡ false → new_value point ≡ base_value point
-    unchanged_outside point outside = new_value_is point ∙ new_raises.outside point outside
-
-    -- the new event raises a point of its id
-    raised : (point : Point) × (base_value point < new_value point) × (is_within point ≡ true)
-    raised =
-        let point = new_raises.rises.0 in
-        let higher : base_value point < new_value point = omega (arith, new_raises.rises.1, new_value_is point) in
-        (point, higher, elim (cases_Bool (is_within point)) [ inl within ↦ within | inr outside ↦ absurd (omega (arith, higher, unchanged_outside point outside)) ])
+    raised_within : is_within new_raises.rises.0 ≡ true
+    raised_within = elim (cases_Bool (is_within new_raises.rises.0)) [
+      | inl within ↦ within
+      | inr outside ↦ absurd (omega (arith, new_raises.rises.1, new_raises.outside new_raises.rises.0 outside))
+    ]
 
     trees_normal : (event : ℕ) → IsNormalTree (tree_of clock (row ∷ earlier) event)
     trees_normal event = elim (cases_eq event (new_event earlier)) [
-      | inl is ↦ subst IsNormalTree (sym (ap (tree_of clock (row ∷ earlier)) is ∙ tree_of-new clock row earlier)) new_raises.normal
+      | inl is ↦ subst (λ e. IsNormalTree (tree_of clock (row ∷ earlier) e)) (sym is) new_raises.normal
       | inr older ↦ subst IsNormalTree (sym (tree_of-older clock row earlier event older)) (before.normal.trees event)
     ]
 
@@ -110,12 +93,12 @@ module _ {Id Tree : Type 0} {clock : Clock Id Tree} {Point : Type 0} {IsNormalId
     all_below point within event =
         let was : WasHeld point = new.was_held point within in
         let ahead : value_of laws earlier event point ≤ value_of laws earlier (last_event earlier was.task) point = before.holder_is_ahead was.task point was.held event in
-        omega (arith, ahead, new.base.followed_below (last_event earlier was.task) was.followed point)
+        omega (arith, ahead, gathered.followed_below (last_event earlier was.task) was.followed point)
 
     new_is_ahead : (point : Point) → is_within point ≡ true → (event : ℕ) → value_of laws (row ∷ earlier) event point ≤ new_value point
     new_is_ahead point within event = elim (cases_eq event (new_event earlier)) [
       | inl is ↦ omega (arith, value_of-new event point is)
-      | inr older ↦ omega (arith, value_of-older event point older, all_below point within event, base_below point)
+      | inr older ↦ omega (arith, value_of-older event point older, all_below point within event, new_raises.above point)
     ]
 
     -- a holder stays ahead of all events at a point that the new event does not raise
@@ -123,8 +106,8 @@ module _ {Id Tree : Type 0} {clock : Clock Id Tree} {Point : Type 0} {IsNormalId
         → value_of laws (row ∷ earlier) event point ≤ value_of laws earlier (last_event earlier task) point
     stays_ahead task point held outside event = elim (cases_eq event (new_event earlier)) [
       | inl is ↦
-          let from = new.base.from_followed point in
-          omega (arith, value_of-new event point is, unchanged_outside point outside, from.2, before.holder_is_ahead task point held from.0)
+          let from = gathered.from_followed point in
+          omega (arith, value_of-new event point is, new_raises.outside point outside, from.2, before.holder_is_ahead task point held from.0)
       | inr older ↦ omega (arith, value_of-older event point older, before.holder_is_ahead task point held event)
     ]
 
@@ -134,8 +117,8 @@ module _ {Id Tree : Type 0} {clock : Clock Id Tree} {Point : Type 0} {IsNormalId
         elim (new.holders task point held) [
           | inl took ↦ subst IsAhead (sym took.0) (new_is_ahead point took.1 event)
           | inr stood ↦
-              let last = last_event earlier task in
-              subst IsAhead (sym stood.0) (omega (arith, value_of-older last point (not_new last (last_event-le earlier task)), stays_ahead task point stood.1 stood.2 event))
+              let not_new : last_event earlier task ≢ new_event earlier = λ is. omega (arith, last_event-le earlier task, is) in
+              subst IsAhead (sym stood.0) (omega (arith, value_of-older (last_event earlier task) point not_new, stays_ahead task point stood.1 stood.2 event))
         ]
 
     -- the new event knows as much of a point as an event before it only where one that its row follows does
@@ -145,30 +128,30 @@ module _ {Id Tree : Type 0} {clock : Clock Id Tree} {Point : Type 0} {IsNormalId
       | inl within ↦
           let was : WasHeld point = new.was_held point within in
           (last_event earlier was.task, was.followed, before.holder_is_ahead was.task point was.held event)
-      | inr outside ↦ let from = new.base.from_followed point in (from.0, from.1, omega (arith, known, unchanged_outside point outside, from.2))
+      | inr outside ↦ let from = gathered.from_followed point in (from.0, from.1, omega (arith, known, new_raises.outside point outside, from.2))
     ]
 
     new_has_private_point : HasPrivatePoint laws (row ∷ earlier) (new_event earlier)
-    new_has_private_point = (
-      raised.0,
-      λ other known. elim (cases_eq other (new_event earlier)) [
-        | inl is ↦ subst (λ e. reaches (row ∷ earlier) (new_event earlier) e ≡ true) (sym is) (new_reaches_itself row earlier)
-        | inr older ↦ absurd (omega (arith, known, value_of-older other raised.0 older, all_below raised.0 raised.2 other, raised.1))
-      ],
-    )
+    new_has_private_point =
+        let point = new_raises.rises.0 in (
+          point,
+          λ other known. elim (cases_eq other (new_event earlier)) [
+            | inl is ↦ subst (λ e. reaches (row ∷ earlier) (new_event earlier) e ≡ true) (sym is) (new_reaches_itself row earlier)
+            | inr older ↦ absurd (omega (arith, known, value_of-older other point older, all_below point raised_within other, new_raises.rises.1))
+          ],
+        )
 
     keeps_private_point : (event : ℕ) → IsTrue (is_event earlier event) → HasPrivatePoint laws earlier event → HasPrivatePoint laws (row ∷ earlier) event
-    keeps_private_point event is_old private =
+    keeps_private_point event is_old (point, private) =
         let bounds = event_bounds earlier event is_old in
-        let some : event ≢ 0 = λ zero. omega (arith, zero, bounds.0) in
-        let same = value_of-older event private.0 (not_new event bounds.1) in (
-          private.0,
+        let same = value_of-older event point (λ is. omega (arith, bounds.1, is)) in (
+          point,
           λ other known. elim (cases_eq other (new_event earlier)) [
             | inl is ↦
-                let follows = followed_knows event private.0 (omega (arith, known, same, value_of-new other private.0 is)) in
+                let follows = followed_knows event point (omega (arith, known, same, value_of-new other point is)) in
                 subst (λ e. reaches (row ∷ earlier) event e ≡ true) (sym is)
-                (reaches_from_followed row earlier event some (follows.0, follows.1, private.1 follows.0 follows.2))
-            | inr older ↦ reaches_earlier row earlier event other older ∙ private.1 other (omega (arith, known, same, value_of-older other private.0 older))
+                (reaches_from_followed row earlier event (λ zero. omega (arith, zero, bounds.0)) (follows.0, follows.1, private follows.0 follows.2))
+            | inr older ↦ reaches_earlier row earlier event other older ∙ private other (omega (arith, known, same, value_of-older other point older))
           ],
         )
 
@@ -178,39 +161,24 @@ module _ {Id Tree : Type 0} {clock : Clock Id Tree} {Point : Type 0} {IsNormalId
       | inr older ↦ let is_old = older_event row earlier event older is_one in keeps_private_point event is_old (before.private_points event is_old)
     ]
 
-    -- what reaches an event that the row follows knows no more than the new event
-    rises_by_followed : (event : ℕ) → ReachesFollowed row earlier event → (point : Point) → value_of laws earlier event point ≤ new_value point
-    rises_by_followed event found point =
-        omega (arith, before.trees_rise event found.0 found.2 point, new.base.followed_below found.0 found.1 point, base_below point)
-
-    rises_to_new : (event : ℕ) → reaches (row ∷ earlier) event (new_event earlier) ≡ true → (point : Point)
-        → value_of laws (row ∷ earlier) event point ≤ new_value point
-    rises_to_new event reached point = elim (cases_eq event (new_event earlier)) [
-      | inl is ↦ omega (arith, value_of-new event point is)
-      | inr older ↦ omega (arith, value_of-older event point older, rises_by_followed event (followed_from_reaches row earlier event older reached) point)
-    ]
-
-    new_reaches_no_older : (other : ℕ) → other ≢ new_event earlier → reaches earlier (new_event earlier) other ≡ true → ⊥
-    new_reaches_no_older other older reached =
-        elim (reaches_forward earlier (new_event earlier) other reached) [ inl same ↦ older (sym same) | inr forward ↦ omega (arith, forward.0, forward.1) ]
-
-    rises_to_older : (event other : ℕ) → other ≢ new_event earlier → reaches earlier event other ≡ true → (point : Point)
-        → value_of laws (row ∷ earlier) event point ≤ value_of laws (row ∷ earlier) other point
-    rises_to_older event other other_older reached point = elim (cases_eq event (new_event earlier)) [
-      | inl is ↦ absurd (new_reaches_no_older other other_older (subst (λ e. reaches earlier e other ≡ true) is reached))
-      | inr older ↦ omega (arith, value_of-older event point older, value_of-older other point other_older, before.trees_rise event other reached point)
-    ]
-
     trees_rise : TreesRise laws (row ∷ earlier)
-    trees_rise event other reached point = elim (cases_eq other (new_event earlier)) [
-      | inl is ↦ omega (arith, value_of-new other point is, rises_to_new event (subst (λ e. reaches (row ∷ earlier) event e ≡ true) is reached) point)
-      | inr older ↦ rises_to_older event other older (sym (reaches_earlier row earlier event other older) ∙ reached) point
+    trees_rise event other reached point = elim (reached_from row earlier event other reached) [
+      | inl same ↦ omega (arith, ap (λ e. value_of laws (row ∷ earlier) e point) same)
+      | inr earlier_one ↦ elim earlier_one [
+        | inl (last, (followed, follows, known)) ↦
+            let older = reached_from_older earlier event followed (λ is. omega (arith, followed-le row earlier followed follows, is)) known in
+            omega (arith, value_of-older event point older, value_of-new other point last, before.trees_rise event followed known point,
+            gathered.followed_below followed follows point, new_raises.above point)
+        | inr (other_older, known) ↦
+            let older = reached_from_older earlier event other other_older known in
+            omega (arith, value_of-older event point older, value_of-older other point other_older, before.trees_rise event other known point)
+      ]
     ]
 
     -- one more row that is in order keeps the invariant
     pub keeps_invariant : Invariant laws (row ∷ earlier)
     keeps_invariant = record {
-      normal = record { ids = new.ids_normal; trees = trees_normal; some = new.live_some };
+      normal = record { trees = trees_normal; some = new.live_some };
       one_holder = one_holder;
       holder_is_ahead = holder_is_ahead;
       private_points = private_points;

@@ -12,7 +12,7 @@ use Rattle.event_tree.specs.Comparison.{StandsAs}
 use Rattle.tenant_ledger.specs.ClockLaws.{ClockLaws}
 use Rattle.tenant_ledger.specs.Legal.{IsLegal}
 use Rattle.tenant_ledger.specs.Invariant.{value_of, Invariant}
-use Rattle.tenant_ledger.proofs.clock.Reaching.{IsAtOrBefore, reaches_forward}
+use Rattle.tenant_ledger.proofs.clock.Reaching.{reaches_forward}
 use Rattle.tenant_ledger.proofs.clock.Upheld.{invariant_upheld}
 use Rattle.tenant_ledger.proofs.clock.TreeClock.{tree_clock_laws}
 
@@ -26,12 +26,10 @@ below_iff_reaches laws history holds a b is =
 
 -- two events that reach each other are the same
 reaches_antisymmetric : (history : History) (a b : ℕ) → IsTrue (reaches history a b) → IsTrue (reaches history b a) → a ≡ b
-reaches_antisymmetric history a b forth back = at (reaches_forward history a b forth) (reaches_forward history b a back)
-  where
-    at : IsAtOrBefore history a b → IsAtOrBefore history b a → a ≡ b
-    at (inl same) other = same
-    at (inr before) (inl same) = sym same
-    at (inr before) (inr after) = absurd (omega (arith, before.0, after.0))
+reaches_antisymmetric history a b forth back = elim (reaches_forward history a b forth) [
+  | inl same ↦ same
+  | inr before ↦ elim (reaches_forward history b a back) [ inl same ↦ sym same | inr after ↦ absurd (omega (arith, before.0, after.0)) ]
+]
 
 equal_stand_as_same : (e f : EventTree) → e ≡ f → StandsAs Same e f
 equal_stand_as_same e f equal = ((λ point. omega (arith, ap (λ tree. value tree point) equal)), (λ point. omega (arith, ap (λ tree. value tree point) equal)))

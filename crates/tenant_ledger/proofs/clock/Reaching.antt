@@ -94,56 +94,46 @@ reaches_followed row earlier a any =
 
 pub new_reaches_itself : (row : Row) (earlier : History) → reaches (row ∷ earlier) (new_event earlier) (new_event earlier) ≡ true
 new_reaches_itself row earlier =
-    reaches_newest row earlier (new_event earlier) (new_event earlier) refl ∙ or_left (eqb (new_event earlier) (new_event earlier)) _ (eq-eqb (new_event earlier) (new_event earlier) refl)
+    let new = new_event earlier in
+    reaches_newest row earlier new new refl ∙ or_left (eqb new new) _ (eq-eqb new new refl)
 
--- the one number is the other, or the other is a later event
-abbrev pub IsAtOrBefore : History → ℕ → ℕ → Type 0
-IsAtOrBefore history a b = (a ≡ b) ⊎ ((a < b) × (b ≤ length history))
-
-at_or_before-lt : (history : History) (a b : ℕ) → b ≤ length history → IsAtOrBefore history a b → a < suc (length history)
-at_or_before-lt history a b within (inl same) = omega (arith, same)
-at_or_before-lt history a b within (inr before) = omega (arith, before.0)
-
-at_or_before_more : (row : Row) (earlier : History) (a b : ℕ) → IsAtOrBefore earlier a b → IsAtOrBefore (row ∷ earlier) a b
-at_or_before_more row earlier a b (inl same) = inl same
-at_or_before_more row earlier a b (inr before) = inr (before.0, omega (arith, before.1))
+-- what reaches an event after one row more is that event, or reaches one that the row follows, or did so before
+pub reached_from : (row : Row) (earlier : History) (a b : ℕ) → reaches (row ∷ earlier) a b ≡ true
+    → (a ≡ b) ⊎ (((b ≡ new_event earlier) × ReachesFollowed row earlier a) ⊎ ((b ≢ new_event earlier) × (reaches earlier a b ≡ true)))
+reached_from row earlier a b reached = elim (cases_eq b (new_event earlier)) [
+  | inl last ↦ elim (or_cases (eqb b a) _ (sym (reaches_newest row earlier a b last) ∙ reached)) [
+    | inl same ↦ inl (sym (eqb-true b a same))
+    | inr any ↦ inr (inl (last, reaches_followed row earlier a any))
+  ]
+  | inr older ↦ inr (inr (older, sym (reaches_earlier row earlier a b older) ∙ reached))
+]
 
 -- an event that reaches another one comes before it
-pub reaches_forward : (history : History) (a b : ℕ) → reaches history a b ≡ true → IsAtOrBefore history a b
+pub reaches_forward : (history : History) (a b : ℕ) → reaches history a b ≡ true → (a ≡ b) ⊎ ((a < b) × (b ≤ length history))
 reaches_forward [] a b reached = inl (sym (eqb-true b a reached))
-reaches_forward (row ∷ earlier) a b reached = at (cases_eq b (new_event earlier)) (reaches_forward earlier a)
-  where
-    from_new : b ≡ new_event earlier → ((event : ℕ) → reaches earlier a event ≡ true → IsAtOrBefore earlier a event)
-        → (eqb (new_event earlier) a ≡ true) ⊎ (list_any (λ event. reaches earlier a event) (predecessors earlier row.task row.kind row.name) ≡ true)
-        → IsAtOrBefore (row ∷ earlier) a b
-    from_new last known (inl same) = inl (sym (last ∙ eqb-true (new_event earlier) a same))
-    from_new last known (inr any) =
-        let found : ReachesFollowed row earlier a = reaches_followed row earlier a any in
-        let before : a < new_event earlier = at_or_before-lt earlier a found.0 (followed-le row earlier found.0 found.1) (known found.0 found.2) in
-        inr (omega (arith, before, last), omega (arith, last))
+reaches_forward (row ∷ earlier) a b reached = elim (reached_from row earlier a b reached) [
+  | inl same ↦ inl same
+  | inr before ↦ elim before [
+    | inl (last, (event, follows, known)) ↦
+        let within = followed-le row earlier event follows in
+        elim (reaches_forward earlier a event known) [
+          | inl same ↦ inr (omega (arith, last, same, within), omega (arith, last))
+          | inr later ↦ inr (omega (arith, last, later.0, within), omega (arith, last))
+        ]
+    | inr (older, known) ↦ elim (reaches_forward earlier a b known) [ inl same ↦ inl same | inr later ↦ inr (later.0, omega (arith, later.1)) ]
+  ]
+]
 
-    at : (b ≡ new_event earlier) ⊎ (b ≢ new_event earlier) → ((event : ℕ) → reaches earlier a event ≡ true → IsAtOrBefore earlier a event)
-        → IsAtOrBefore (row ∷ earlier) a b
-    at (inl last) known =
-        let reached_new : reaches (row ∷ earlier) a (new_event earlier) ≡ true = subst (λ event. reaches (row ∷ earlier) a event ≡ true) last reached in
-        from_new last known (or_cases (eqb (new_event earlier) a) _ (sym (reaches_newest row earlier a (new_event earlier) refl) ∙ reached_new))
-    at (inr older) known = at_or_before_more row earlier a b (known b (sym (reaches_earlier row earlier a b older) ∙ reached))
+-- so the new event reaches none before it
+pub reached_from_older : (earlier : History) (a b : ℕ) → b ≢ new_event earlier → reaches earlier a b ≡ true → a ≢ new_event earlier
+reached_from_older earlier a b older reached is =
+    elim (reaches_forward earlier a b reached) [ inl same ↦ older (sym same ∙ is) | inr later ↦ omega (arith, later.0, later.1, is) ]
 
--- no event reaches 0
+-- and no event reaches 0
 reaches_nothing : (history : History) (a b : ℕ) → a ≢ 0 → reaches history a b ≡ true → b ≢ 0
-reaches_nothing history a b some reached zero =
-    elim (reaches_forward history a b reached) [ inl same ↦ some (same ∙ zero) | inr before ↦ omega (arith, before.0, zero) ]
+reaches_nothing history a b some reached zero = elim (reaches_forward history a b reached) [ inl same ↦ some (same ∙ zero) | inr later ↦ omega (arith, later.0, zero) ]
 
--- what reaches the new event is itself, or reaches one that its row follows
-pub followed_from_reaches : (row : Row) (earlier : History) (a : ℕ) → a ≢ new_event earlier → reaches (row ∷ earlier) a (new_event earlier) ≡ true
-    → ReachesFollowed row earlier a
-followed_from_reaches row earlier a older reached =
-    elim (or_cases (eqb (new_event earlier) a) _ (sym (reaches_newest row earlier a (new_event earlier) refl) ∙ reached)) [
-      | inl same ↦ absurd (older (sym (eqb-true (new_event earlier) a same)))
-      | inr any ↦ reaches_followed row earlier a any
-    ]
-
--- and an event that reaches one of those reaches the new one
+-- an event that reaches one that the row follows reaches the new one
 pub reaches_from_followed : (row : Row) (earlier : History) (a : ℕ) → a ≢ 0 → ReachesFollowed row earlier a
     → reaches (row ∷ earlier) a (new_event earlier) ≡ true
 reaches_from_followed row earlier a some (event, follows, reached) =

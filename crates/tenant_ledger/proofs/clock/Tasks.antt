@@ -60,14 +60,3 @@ unknown_has_no_event [] task legal unknown = refl
 unknown_has_no_event (row ∷ earlier) task legal unknown =
     let not_before : is_known earlier task ≡ false = unwas_known row earlier task unknown in
     rw (live_is_not_unknown earlier row.task task legal.0.0 not_before) (unknown_has_no_event earlier task legal.1 not_before)
-
--- what holds of two tasks, and of each that is neither, holds of each task
-pub for_each_task : (P : Text → Type 0) (one other : Text) → P one → P other
-    → ((task : Text) → is_same one task ≡ false → is_same other task ≡ false → P task) → (task : Text) → P task
-for_each_task P one other of_one of_other of_neither task = elim (cases_Bool (is_same one task)) [
-  | inl same ↦ subst P ((is_same_iff one task).0 same) of_one
-  | inr not_one ↦ elim (cases_Bool (is_same other task)) [
-    | inl same ↦ subst P ((is_same_iff other task).0 same) of_other
-    | inr neither ↦ of_neither task not_one neither
-  ]
-]
