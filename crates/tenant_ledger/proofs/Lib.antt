@@ -1,2 +1,3 @@
+pub mod Words
 pub mod clock
 pub mod keeping

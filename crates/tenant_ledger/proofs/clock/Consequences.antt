@@ -1,15 +1,8 @@
 -- What the interval tree clock's operations are asked, of the ids and trees of a legal history.
 use Rattle.std.proofs.Common.{◌≢◌, ℕ, ◌≤◌, [], ◌∷◌, length, refl, ap, ◌∙◌, inl, inr, arith}
 use Rattle.std.proofs.lemmas.Bool.{cases_eq, cond_both}
-use Rattle.trace_types.specs.text.Name.{Text}
-use Rattle.trace_types.specs.tenant.Rows.{History}
-use Rattle.trace_types.specs.clock.Id.{Zero, AreDisjoint}
-use Rattle.trace_types.specs.clock.EventTree.{maximum}
-use Rattle.trace_types.specs.clock.Clock.{tree_clock}
-use Rattle.trace_types.specs.clock.Stamps.{id_of, tree_of, acting_id, takes_in}
-use Rattle.trace_types.specs.declared.row.Row.{Row}
+use Rattle.tenant_ledger.proofs.Words.{Text, History, Zero, AreDisjoint, maximum, tree_clock, id_of, tree_of, acting_id, takes_in, Row, IsLive, IsLegal}
 use Rattle.event_tree.proofs.Joined.{maximum-joined-le}
-use Rattle.tenant_ledger.specs.Legal.{IsLive, IsLegal}
 use Rattle.tenant_ledger.proofs.clock.Events.{known_before_new, tree_of-new, tree_of-older}
 use Rattle.tenant_ledger.proofs.clock.Gathered.{gathers}
 use Rattle.tenant_ledger.proofs.clock.Normal.{acting_id_normal}
@@ -23,12 +16,7 @@ pub ids_are_disjoint : (history : History) → IsLegal history → (task other :
 ids_are_disjoint history legal task other differ point held other_held =
     differ ((invariant_upheld tree_clock_laws history legal).one_holder task other point held other_held)
 
--- a live task owns some point
-pub live_id_is_not_Zero : (history : History) → IsLegal history → (task : Text) → IsLive history task → id_of tree_clock history task ≢ Zero
-live_id_is_not_Zero history legal task live =
-    some_is_not_Zero (id_of tree_clock history task) ((invariant_upheld tree_clock_laws history legal).normal.some task live)
-
--- so does each id with which an event is made
+-- each id with which an event is made owns some point
 pub acting_id_is_not_Zero : (row : Row) (earlier : History) → IsLegal (row ∷ earlier) → acting_id tree_clock earlier row ≢ Zero
 acting_id_is_not_Zero row earlier legal =
     some_is_not_Zero (acting_id tree_clock earlier row) (legal_row_in_order tree_clock_laws row earlier (invariant_upheld tree_clock_laws earlier legal.1) legal).id_some

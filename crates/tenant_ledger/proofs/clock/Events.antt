@@ -1,10 +1,7 @@
 -- The numbers of events, and what is known at them after one row more.
 use Rattle.std.proofs.Common.{◌≡◌, ◌≢◌, ℕ, suc, ◌<◌, ◌≤◌, IsTrue, eqb, ltb, [], ◌∷◌, length, refl, ◌∙◌, arith}
 use Rattle.std.proofs.lemmas.Bool.{eq-eqb, ne_eqb, ltb-true, lt-ltb, and_parts, and_from, cond-true, cond-false}
-use Rattle.trace_types.specs.tenant.Rows.{History, is_event}
-use Rattle.trace_types.specs.clock.Clock.{Clock}
-use Rattle.trace_types.specs.clock.Stamps.{tree_of, acting_id, known_before}
-use Rattle.trace_types.specs.declared.row.Row.{Row}
+use Rattle.tenant_ledger.proofs.Words.{History, is_event, Clock, tree_of, acting_id, known_before, Row}
 use Rattle.tenant_ledger.proofs.clock.Reaching.{new_event, first_of, second_of}
 
 pub event_bounds : (history : History) (event : ℕ) → IsTrue (is_event history event) → (0 < event) × (event ≤ length history)

@@ -1,16 +1,7 @@
 -- What is known before the new event: what its task knew, or the join of that with what its second event knew.
 use Rattle.std.proofs.Common.{◌≡◌, ℕ, ◌≤◌, false, Option, refl, ap, ◌∙◌, inl, inr, arith}
 use Rattle.std.proofs.lemmas.Bool.{cond_both, cases_lt}
-use Rattle.trace_types.specs.text.Name.{Text}
-use Rattle.trace_types.specs.tenant.Rows.{History}
-use Rattle.trace_types.specs.tenant.Reachability.{second_event}
-use Rattle.trace_types.specs.clock.Clock.{Clock}
-use Rattle.trace_types.specs.clock.Stamps.{tree_of, takes_in}
-use Rattle.trace_types.specs.declared.row.Row.{Row}
-use Rattle.trace_types.specs.declared.row.Kind.{Kind}
-use Rattle.trace_types.specs.declared.row.Kind.TheVariants.{Local}
-use Rattle.tenant_ledger.specs.ClockLaws.{ClockLaws}
-use Rattle.tenant_ledger.specs.Invariant.{value_of}
+use Rattle.tenant_ledger.proofs.Words.{Text, History, second_event, Clock, tree_of, takes_in, Row, Kind, Local, ClockLaws, value_of}
 use Rattle.tenant_ledger.proofs.clock.Events.{known_before_new, tree_of-nothing}
 use Rattle.tenant_ledger.proofs.clock.Reaching.{first_of, second_of, Follows}
 
@@ -39,8 +30,12 @@ module _ {Id Tree : Type 0} {clock : Clock Id Tree} {Point : Type 0} {IsNormalId
       normal = normal (first_of row earlier);
       followed_below = λ event follows point. elim follows [
         | inl is ↦ omega (arith, ap (λ e. value_of laws earlier e point) is)
-        | inr is ↦ omega (arith, ap (λ e. value_of laws earlier e point) (is ∙ second_event-nothing earlier row.kind row.name takes),
-            ap (λ tree. laws.value tree point) (tree_of-nothing clock earlier), laws.start_value point)
+        | inr is ↦ omega (
+          arith,
+          ap (λ e. value_of laws earlier e point) (is ∙ second_event-nothing earlier row.kind row.name takes),
+          ap (λ tree. laws.value tree point) (tree_of-nothing clock earlier),
+          laws.start_value point,
+        )
       ];
       from_followed = λ point. (first_of row earlier, inl refl, omega arith);
     }

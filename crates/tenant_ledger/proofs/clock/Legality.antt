@@ -2,17 +2,8 @@
 use Rattle.std.proofs.Common.{◌≡◌, Bool, false, List, [], ◌∷◌, ◌++◌, Option, Some, None, option_map, refl, sym, ◌∙◌, subst, inl, inr}
 use Rattle.std.proofs.lemmas.Bool.{cases_Bool, not-false, cond-true, cond-false}
 use Rattle.std.proofs.lemmas.List.{reverse-append}
-use Rattle.trace_types.specs.tenant.Limits.{Limits}
-use Rattle.trace_types.specs.tenant.Rows.{History, history_of}
-use Rattle.trace_types.specs.tenant.Refusal.{first_code, refusals, refusal_of}
-use Rattle.trace_types.specs.tenant.Reported.{reported}
-use Rattle.trace_types.specs.tenant.Tenant.{Tenant, fresh, row_after, with_row, answer_to, step_unless, step, after, AreLegal}
-use Rattle.trace_types.specs.declared.code.Code.{Code}
-use Rattle.trace_types.specs.declared.row.Row.{Row}
-use Rattle.trace_types.specs.declared.request.Reported.{Reported}
-use Rattle.trace_types.specs.declared.request.Request.{Request}
+use Rattle.tenant_ledger.proofs.Words.{Limits, History, history_of, first_code, refusals, refusal_of, reported, Tenant, fresh, row_after, with_row, answer_to, step_unless, step, after, AreLegal, Code, Row, Reported, Request, Allows, IsLegal}
 use Rattle.trace_types.specs.declared.request.Request.TheVariants.{Local, Spawn, Send, Recv, End, Join, Count}
-use Rattle.tenant_ledger.specs.Legal.{Allows, IsLegal}
 
 -- no test holds
 abbrev NoneHolds : List (Bool × Code) → Type 0

@@ -1,14 +1,7 @@
 -- Ids are normal, whatever the rows.
 use Rattle.std.proofs.Common.{List, [], ◌∷◌, Option, Some, None}
 use Rattle.std.proofs.lemmas.Bool.{cond_both}
-use Rattle.trace_types.specs.text.Name.{Text, is_same, root}
-use Rattle.trace_types.specs.tenant.Rows.{History, names}
-use Rattle.trace_types.specs.clock.Clock.{Clock}
-use Rattle.trace_types.specs.clock.Stamps.{id_of, id_at, id_kept, id_given, of_named, acting_id}
-use Rattle.trace_types.specs.declared.row.Row.{Row}
-use Rattle.trace_types.specs.declared.row.Kind.{Kind}
-use Rattle.trace_types.specs.declared.row.Kind.TheVariants.{Spawn, Join}
-use Rattle.tenant_ledger.specs.ClockLaws.{ClockLaws}
+use Rattle.tenant_ledger.proofs.Words.{Text, is_same, root, History, names, Clock, id_of, id_at, id_kept, id_given, of_named, acting_id, Row, Kind, Spawn, Join, ClockLaws}
 
 module _ {Id Tree : Type 0} {clock : Clock Id Tree} {Point : Type 0} {IsNormalId : Id → Type 0} {IsNormalTree : Tree → Type 0}
     (laws : ClockLaws clock Point IsNormalId IsNormalTree) where

@@ -1,16 +1,8 @@
 -- One more row of any kind keeps the invariant, where its ids and its tree are in order.
 use Rattle.std.proofs.Common.{◌≡◌, ◌≢◌, ◌⊎◌, ℕ, ◌<◌, ◌≤◌, true, false, Bool, IsTrue, ◌∷◌, length, sym, ap, ◌∙◌, subst, inl, inr, arith}
 use Rattle.std.proofs.lemmas.Bool.{false≢true, cases_Bool, cases_eq}
-use Rattle.trace_types.specs.text.Name.{Text}
-use Rattle.trace_types.specs.tenant.Rows.{History, last_event, is_event}
-use Rattle.trace_types.specs.tenant.Reachability.{reaches}
-use Rattle.trace_types.specs.clock.Clock.{Clock}
-use Rattle.trace_types.specs.clock.Stamps.{id_of, tree_of, acting_id}
-use Rattle.trace_types.specs.declared.row.Row.{Row}
+use Rattle.tenant_ledger.proofs.Words.{Text, History, last_event, is_event, reaches, Clock, id_of, tree_of, acting_id, Row, OwnsSome, Raises, ClockLaws, IsLive, holds, value_of, OneHolder, HolderIsAhead, HasPrivatePoint, EventsHavePrivatePoints, TreesRise, Invariant}
 use Rattle.trace_types.proofs.Reachability.{last_event-le, reaches_earlier}
-use Rattle.tenant_ledger.specs.ClockLaws.{OwnsSome, Raises, ClockLaws}
-use Rattle.tenant_ledger.specs.Legal.{IsLive}
-use Rattle.tenant_ledger.specs.Invariant.{holds, value_of, OneHolder, HolderIsAhead, HasPrivatePoint, EventsHavePrivatePoints, TreesRise, Invariant}
 use Rattle.tenant_ledger.proofs.clock.Events.{known_before_new, new_tree, tree_of-new, tree_of-older, event_bounds, older_event}
 use Rattle.tenant_ledger.proofs.clock.Gathered.{Gathers, gathers}
 use Rattle.tenant_ledger.proofs.clock.Normal.{acting_id_normal}
@@ -167,8 +159,14 @@ module _ {Id Tree : Type 0} {clock : Clock Id Tree} {Point : Type 0} {IsNormalId
       | inr earlier_one ↦ elim earlier_one [
         | inl (last, (followed, follows, known)) ↦
             let older = reached_from_older earlier event followed (λ is. omega (arith, followed-le row earlier followed follows, is)) known in
-            omega (arith, value_of-older event point older, value_of-new other point last, before.trees_rise event followed known point,
-            gathered.followed_below followed follows point, new_raises.above point)
+            omega (
+              arith,
+              value_of-older event point older,
+              value_of-new other point last,
+              before.trees_rise event followed known point,
+              gathered.followed_below followed follows point,
+              new_raises.above point,
+            )
         | inr (other_older, known) ↦
             let older = reached_from_older earlier event other other_older known in
             omega (arith, value_of-older event point older, value_of-older other point other_older, before.trees_rise event other known point)

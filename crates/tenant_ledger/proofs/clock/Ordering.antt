@@ -1,17 +1,7 @@
 -- What events know tells how they stand in the graph.
 use Rattle.std.proofs.Common.{◌≡◌, ◌↔◌, ℕ, ◌≤◌, IsTrue, eqb, sym, ap, ◌∙◌, inl, inr, arith}
 use Rattle.std.proofs.lemmas.Bool.{false≢true, eqb-true, eqb-false, cond_both}
-use Rattle.trace_types.specs.tenant.Rows.{History, is_event}
-use Rattle.trace_types.specs.tenant.Reachability.{reaches, order_of}
-use Rattle.trace_types.specs.clock.EventTree.{EventTree, value}
-use Rattle.trace_types.specs.clock.Clock.{Clock, tree_clock}
-use Rattle.trace_types.specs.clock.Stamps.{tree_of}
-use Rattle.trace_types.specs.declared.order.Order.{Order}
-use Rattle.trace_types.specs.declared.order.Order.TheVariants.{Same}
-use Rattle.event_tree.specs.Comparison.{StandsAs}
-use Rattle.tenant_ledger.specs.ClockLaws.{ClockLaws}
-use Rattle.tenant_ledger.specs.Legal.{IsLegal}
-use Rattle.tenant_ledger.specs.Invariant.{value_of, Invariant}
+use Rattle.tenant_ledger.proofs.Words.{History, is_event, reaches, order_of, EventTree, value, Clock, tree_clock, tree_of, Order, Same, StandsAs, ClockLaws, IsLegal, value_of, Invariant}
 use Rattle.tenant_ledger.proofs.clock.Reaching.{reaches_forward}
 use Rattle.tenant_ledger.proofs.clock.Upheld.{invariant_upheld}
 use Rattle.tenant_ledger.proofs.clock.TreeClock.{tree_clock_laws}

@@ -2,9 +2,7 @@
 use Rattle.std.proofs.Common.{◌≡◌, ◌≢◌, ◌⊎◌, ℕ, suc, ◌<◌, ◌≤◌, Bool, true, false, eqb, ltb, List, [], ◌∷◌, length, refl, sym, ap, ◌∙◌, subst, inl, inr, arith}
 use Rattle.std.specs.List.{list_any}
 use Rattle.std.proofs.lemmas.Bool.{false≢true, eq-eqb, eqb-true, cases_eq, cond_both, or_cases, or_left, or_right}
-use Rattle.trace_types.specs.tenant.Rows.{History, last_event}
-use Rattle.trace_types.specs.tenant.Reachability.{event_or_none, increasing, second_event, predecessors, reaches}
-use Rattle.trace_types.specs.declared.row.Row.{Row}
+use Rattle.tenant_ledger.proofs.Words.{History, last_event, event_or_none, increasing, second_event, predecessors, reaches, Row}
 use Rattle.trace_types.proofs.Reachability.{last_event-le, second_event-le, reaches_newest, reaches_earlier}
 
 -- the event that a row adds

@@ -1,17 +1,8 @@
 -- What each report does with the ids: it leaves one holder to each point, and a live task some.
 use Rattle.std.proofs.Common.{◌≡◌, ◌⊎◌, ℕ, true, false, IsTrue, List, ◌∷◌, Option, Some, None, refl, sym, ap, ◌∙◌, subst, inl, inr}
 use Rattle.std.proofs.lemmas.Bool.{false≢true, cases_Bool, cond-true, cond-false, cond_both, and_right, and_from, or_left, or_right, or_cases, false_from_ne_true}
-use Rattle.trace_types.specs.text.Name.{Text, is_same}
-use Rattle.trace_types.specs.tenant.Rows.{History, names, starts, starts_task, last_event, is_known, is_ended}
-use Rattle.trace_types.specs.clock.Clock.{Clock}
-use Rattle.trace_types.specs.clock.Stamps.{id_of, id_kept, id_given, acting_id, of_named}
-use Rattle.trace_types.specs.declared.row.Row.{Row}
-use Rattle.trace_types.specs.declared.row.Kind.{Kind}
-use Rattle.trace_types.specs.declared.row.Kind.TheVariants.{Local, Spawn, Join}
+use Rattle.tenant_ledger.proofs.Words.{Text, is_same, History, names, starts, starts_task, last_event, is_known, is_ended, Clock, id_of, id_kept, id_given, acting_id, of_named, Row, Kind, Local, Spawn, Join, ClockLaws, OwnsSome, IsLive, AllowsNamed, IsLegal, holds, Invariant}
 use Rattle.trace_types.proofs.Names.{is_same_iff, is_same-itself, differ_by_test}
-use Rattle.tenant_ledger.specs.ClockLaws.{ClockLaws, OwnsSome}
-use Rattle.tenant_ledger.specs.Legal.{IsLive, AllowsNamed, IsLegal}
-use Rattle.tenant_ledger.specs.Invariant.{holds, Invariant}
 use Rattle.tenant_ledger.proofs.clock.Normal.{id_of_normal}
 use Rattle.tenant_ledger.proofs.clock.OneMore.{is_within, WasHeld, TookPart, StoodBy, IsInOrder}
 use Rattle.tenant_ledger.proofs.clock.Tasks.{last_event-acting, last_event-started, last_event-bystander, was_live, live_is_not_unknown, live_is_not_ended, unknown_has_no_event}
@@ -164,7 +155,7 @@ module _ {Id Tree : Type 0} {clock : Clock Id Tree} {Point : Type 0} {IsNormalId
   taken : (child : Text) → IsTrue (is_ended earlier child) → (other : Text) → is_same task other ≡ false → is_same child other ≡ true → Gives laws (row Join (Some child)) earlier other
   taken child ended other differ named =
       let owns_nothing = λ (point : Point) (held : holds laws (row Join (Some child) ∷ earlier) other point ≡ true).
-          false≢true (sym (laws.nobody_owns point) ∙ sym (ap (λ id. laws.owns id point) (id_of-named Join child other differ named)) ∙ held) in
+      false≢true (sym (laws.nobody_owns point) ∙ sym (ap (λ id. laws.owns id point) (id_of-named Join child other differ named)) ∙ held) in
       let other_ended = subst (λ name. is_ended earlier name ≡ true) ((is_same_iff child other).0 named) ended in
       record {
         named = named;

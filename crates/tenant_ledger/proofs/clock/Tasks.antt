@@ -2,11 +2,8 @@
 use Rattle.std.proofs.Common.{◌≡◌, ◌≢◌, suc, true, false, [], ◌∷◌, length, refl, sym, ◌∙◌, subst, inl, inr, arith}
 use Rattle.std.specs.List.{list_any}
 use Rattle.std.proofs.lemmas.Bool.{false≢true, cases_Bool, ne_eqb, or_parts, false_from_ne_true}
-use Rattle.trace_types.specs.text.Name.{Text, is_same, root}
-use Rattle.trace_types.specs.tenant.Rows.{History, newest, is_of, starts, ends, last_event, is_known, is_ended}
-use Rattle.trace_types.specs.declared.row.Row.{Row}
+use Rattle.tenant_ledger.proofs.Words.{Text, is_same, root, History, newest, is_of, starts, ends, last_event, is_known, is_ended, Row, IsLive, IsLegal}
 use Rattle.trace_types.proofs.Names.{is_same_iff}
-use Rattle.tenant_ledger.specs.Legal.{IsLive, IsLegal}
 
 -- the acting task's last event is the new one
 pub last_event-acting : (row : Row) (earlier : History) (task : Text) → is_same row.task task ≡ true → last_event (row ∷ earlier) task ≡ suc (length earlier)

@@ -3,17 +3,13 @@ use Rattle.std.proofs.Common.{◌≢◌, true, [], refl, sym, ap, ◌∙◌}
 use Rattle.std.proofs.lemmas.Bool.{false≢true}
 use Rattle.trace_types.specs.clock.Points.{Point}
 use Rattle.trace_types.specs.clock.Id as ids
-use Rattle.trace_types.specs.clock.Id.{Id, Zero, owns}
-use Rattle.trace_types.specs.clock.IdOperations.{split}
-use Rattle.trace_types.specs.clock.EventTree.{EventTree, value}
+use Rattle.tenant_ledger.proofs.Words.{Id, Zero, owns, split, EventTree, value, tree_clock, ClockLaws, OwnsSome}
 use Rattle.trace_types.specs.clock.EventTree as trees
-use Rattle.trace_types.specs.clock.Clock.{tree_clock}
 use Rattle.id_tree.proofs.Ids.{some_point}
 use Rattle.id_tree.proofs.Split.{SharesOut-split, split-some, IsNormal-split}
 use Rattle.id_tree.proofs.Sum.{owns-sum, IsNormal-sum}
 use Rattle.event_tree.proofs.Joined.{value-join, normal_joined}
 use Rattle.event_tree.proofs.Events.{Raises, raises_event}
-use Rattle.tenant_ledger.specs.ClockLaws.{ClockLaws, OwnsSome}
 
 pub some_is_not_Zero : (id : Id) → OwnsSome owns id → id ≢ Zero
 some_is_not_Zero id some is = false≢true (ap (λ i. owns i some.0) (sym is) ∙ some.1)

@@ -1,15 +1,8 @@
 -- Each legal history keeps the invariant.
 use Rattle.std.proofs.Common.{◌≡◌, ℕ, true, false, [], ◌∷◌, sym, ap, ◌∙◌, subst, inl, inr, arith}
 use Rattle.std.proofs.lemmas.Bool.{false≢true, cases_Bool, cond-true, cond-false, or_cases}
-use Rattle.trace_types.specs.text.Name.{Text, is_same, root}
-use Rattle.trace_types.specs.tenant.Rows.{History}
-use Rattle.trace_types.specs.clock.Clock.{Clock}
-use Rattle.trace_types.specs.clock.Stamps.{id_of}
-use Rattle.trace_types.specs.declared.row.Row.{Row}
+use Rattle.tenant_ledger.proofs.Words.{Text, is_same, root, History, Clock, id_of, Row, ClockLaws, OwnsSome, IsLive, IsLegal, holds, Invariant}
 use Rattle.trace_types.proofs.Names.{is_same_iff}
-use Rattle.tenant_ledger.specs.ClockLaws.{ClockLaws, OwnsSome}
-use Rattle.tenant_ledger.specs.Legal.{IsLive, IsLegal}
-use Rattle.tenant_ledger.specs.Invariant.{holds, Invariant}
 use Rattle.tenant_ledger.proofs.clock.Events.{event_bounds}
 use Rattle.tenant_ledger.proofs.clock.OneMore.{IsInOrder, keeps_invariant}
 use Rattle.tenant_ledger.proofs.clock.Sharing.{allowed_is_in_order}

@@ -4,18 +4,8 @@ use Rattle.std.proofs.lemmas.Bool.{eq-eqb, ne_eqb, cond-true, cond-false}
 use Rattle.std.proofs.lemmas.List.{length-append, length-map, length-reverse, reverse-append, map-append}
 use Rattle.std.proofs.lemmas.Option.{same_Some, slice_get-map}
 use Rattle.std.proofs.Math.Path.{transport}
-use Rattle.trace_types.specs.text.Name.{Text}
-use Rattle.trace_types.specs.tenant.Rows.{History, history_of, task_count}
-use Rattle.trace_types.specs.clock.Clock.{tree_clock}
-use Rattle.trace_types.specs.clock.Stamps.{id_of, tree_of}
-use Rattle.trace_types.specs.clock.Id.{Id}
-use Rattle.trace_types.specs.clock.EventTree.{EventTree}
-use Rattle.trace_types.specs.tenant.Tenant.{row_after}
-use Rattle.trace_types.specs.declared.row.Row.{Row}
+use Rattle.tenant_ledger.proofs.Words.{Text, History, history_of, task_count, tree_clock, id_of, tree_of, Id, EventTree, row_after, Row, IsLive, AllowsNamed, IsLegal, Contents, Event, IsKept, IsKeptWith, IsTask, IsReport, IsReady, HasRoom, AreMessages, Notes, history_in, task_in, of_each, id_after, event_of, with_event, tasks_with, task_count_with, Report}
 use Rattle.message_book.specs.Book as message_book
-use Rattle.tenant_ledger.specs.Legal.{IsLive, AllowsNamed, IsLegal}
-use Rattle.tenant_ledger.specs.Ledger.{Contents, Event, IsKept, IsKeptWith, IsTask, IsReport, IsReady, HasRoom, AreMessages, Notes, history_in, task_in, of_each, id_after, event_of, with_event, tasks_with, task_count_with}
-use Rattle.tenant_ledger.specs.declared.book.report.Report.{Report}
 use Rattle.tenant_ledger.proofs.clock.Events.{tree_of-older}
 use Rattle.tenant_ledger.proofs.clock.Legality.{IsLegal_from_AreLegal}
 use Rattle.tenant_ledger.proofs.keeping.Known.{legal_history}

@@ -4,17 +4,10 @@ use Rattle.std.specs.List.{list_any}
 use Rattle.std.specs.Prelude.{is_some}
 use Rattle.std.proofs.Math.Bool.{or-true}
 use Rattle.std.proofs.lemmas.Bool.{false≢true, or_cases, cond_both, and_right, false_from_ne_true}
-use Rattle.trace_types.specs.text.Name.{Text, is_same}
-use Rattle.trace_types.specs.tenant.Rows.{History, joins, ends, ends_task, is_known, is_ended, is_joined, state_of}
-use Rattle.trace_types.specs.declared.row.Row.{Row}
-use Rattle.trace_types.specs.declared.row.Kind.{Kind}
-use Rattle.trace_types.specs.declared.row.Kind.TheVariants.{Join}
+use Rattle.tenant_ledger.proofs.Words.{Text, is_same, History, joins, ends, ends_task, is_known, is_ended, is_joined, state_of, Row, Kind, Join, Task, AllowsNamed, IsLegal, Contents, IsKept, IsTask, history_in, task_in}
 use Rattle.trace_types.specs.declared.task_state.TaskState.{TaskState}
 use Rattle.trace_types.specs.declared.task_state.TaskState.TheVariants as state
 use Rattle.trace_types.proofs.Names.{is_same_iff}
-use Rattle.tenant_ledger.specs.declared.book.task.Task.{Task}
-use Rattle.tenant_ledger.specs.Legal.{AllowsNamed, IsLegal}
-use Rattle.tenant_ledger.specs.Ledger.{Contents, IsKept, IsTask, history_in, task_in}
 use Rattle.tenant_ledger.proofs.clock.Legality.{IsLegal_from_AreLegal}
 use Rattle.tenant_ledger.proofs.clock.Tasks.{live_is_not_unknown, unwas_known}
 

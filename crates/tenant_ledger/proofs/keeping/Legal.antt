@@ -1,15 +1,8 @@
 -- Legal rows stay legal with the row of a report that is not refused.
-use Rattle.std.proofs.Common.{◌≡◌, ◌<◌, false, List, [], ◌∷◌, ◌++◌, length, Some, None, ap, ◌∙◌, arith}
+use Rattle.std.proofs.Common.{◌≡◌, List, [], ◌∷◌, ◌++◌, Some, None, ap, ◌∙◌}
 use Rattle.std.specs.List.{AllByRecursion}
-use Rattle.std.proofs.lemmas.Bool.Decides.{nat_tests}
-use Rattle.std.proofs.lemmas.List.{length-reverse}
-use Rattle.trace_types.specs.tenant.Limits.{Limits}
-use Rattle.trace_types.specs.tenant.Rows.{history_of}
-use Rattle.trace_types.specs.tenant.Refusal.{has_all_events, refusal_of}
-use Rattle.trace_types.specs.tenant.Tenant.{Tenant, fresh, after, step, step_unless, answer_to, with_row, AreLegal}
+use Rattle.tenant_ledger.proofs.Words.{Limits, history_of, refusal_of, Tenant, fresh, after, step, step_unless, answer_to, with_row, AreLegal, Row, Request}
 use Rattle.trace_types.specs.text.Text.{CanBeWritten}
-use Rattle.trace_types.specs.declared.row.Row.{Row}
-use Rattle.trace_types.specs.declared.request.Request.{Request}
 use Rattle.trace_types.proofs.Interleaving.{after-push, limits-after}
 
 all_with_one_more : (requests : List Request) (request : Request) → AllByRecursion CanBeWritten requests → CanBeWritten request
@@ -35,7 +28,3 @@ AreLegal-push limits rows request row written unrefused answered legal =
           ∙ (ap (λ refusal. (step_unless refusal tenant request).1) unrefused ∙ ap (with_row tenant) answered))
           ),
     )
-
--- below the limit there is room for one event more
-pub has_room : (limits : Limits) (rows : List Row) → length rows < limits.events → has_all_events limits (history_of rows) ≡ false
-has_room limits rows few = rw (length-reverse rows) (grind (arith, nat_tests))

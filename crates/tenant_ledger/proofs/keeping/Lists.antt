@@ -4,10 +4,7 @@ use Rattle.std.proofs.Math.ListN.{get_or-append}
 use Rattle.std.proofs.lemmas.Bool.{cases_eq}
 use Rattle.std.proofs.lemmas.List.{length-append, length-map, map-append}
 use Rattle.std.proofs.lemmas.Option.{slice_get_within, slice_get-get_or, get_or_from_slice_get}
-use Rattle.trace_types.specs.clock.Id.{Id}
-use Rattle.trace_types.specs.tenant.Rows.{History}
-use Rattle.trace_types.specs.declared.row.Row.{Row}
-use Rattle.tenant_ledger.specs.Ledger.{of_each, with_seed}
+use Rattle.tenant_ledger.proofs.Words.{Id, History, Row, of_each, with_seed}
 
 -- what stands in a list stands there in a longer one
 pub slice_get-longer : {X : Type 0} (xs ys : List X) (place : ℕ) (x : X) → slice_get xs place ≡ Some x → slice_get (xs ++ ys) place ≡ Some x
@@ -64,10 +61,6 @@ module _ {A : Type 0} (told : History → ℕ → A) where
       ]
 
 -- the seed stands for the first id until one is kept
-pub length-seeded : {I : Type 0} (meant : I → Id) (ids : List I) → 0 < length ids → length (with_seed (map meant ids)) ≡ length ids
-length-seeded meant [] some = absurd (omega (arith, some))
-length-seeded meant (first ∷ ids) some = ap suc (length-map ids meant)
-
 pub seeded-append : {I : Type 0} (meant : I → Id) (ids more : List I) → 0 < length ids → with_seed (map meant (ids ++ more)) ≡ with_seed (map meant ids) ++ map meant more
 seeded-append meant [] more some = absurd (omega (arith, some))
 seeded-append meant (first ∷ ids) more some = map-append meant (first ∷ ids) more

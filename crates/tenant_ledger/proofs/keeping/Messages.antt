@@ -1,76 +1,48 @@
 -- What is kept of the messages is right after one more row.
-use Rattle.std.proofs.Common.{◌≡◌, ℕ, suc, ◌+◌, Bool, true, false, cond, List, [], ◌∷◌, ◌++◌, length, Option, Some, None, option_map, is_some, nat_lt, nat_le, refl, sym, ap, ◌∙◌, subst, inl, inr, arith}
+use Rattle.std.proofs.Common.{◌≡◌, ℕ, suc, ◌+◌, Bool, true, false, cond, List, [], ◌∷◌, ◌++◌, length, Option, Some, None, option_map, is_some, nat_lt, refl, sym, ap, ◌∙◌, subst, inl, inr, arith}
 use Rattle.std.specs.List.{list_any}
-use Rattle.std.proofs.lemmas.Bool.{false≢true, cases_Bool, cond-true, cond-false, cond_both, and_left, or_left, or_parts, false_from_ne_true}
+use Rattle.std.proofs.lemmas.Bool.{false≢true, cases_Bool, cond-true, cond-false, cond_both, and_left, and_right, or_left, or_parts, false_from_ne_true}
 use Rattle.std.proofs.lemmas.Bool.Decides.{nat_tests}
 use Rattle.std.proofs.lemmas.List.{length-append}
 use Rattle.std.proofs.lemmas.List.Sums.{sum_by-append}
-use Rattle.message_book.specs.Book.{Messages, entry_of, has_receipt, with_message, with_receipt, without_receipts, entry_with_receipt}
+use Rattle.tenant_ledger.proofs.Words.{Messages, entry_of, has_receipt, with_message, with_changed, with_receipt, without_receipts, entry_with_receipt, Limits, Text, is_same, History, names, sends, sends_message, receives, receives_message, is_sent, is_received, receipts, message_count, Row, Kind, Send, Recv, IsMessage, AreMessages, Notes, AllowsNamed, IsLegal}
 use Rattle.message_book.specs.Book as message_book
 use Rattle.message_book.specs.declared.entry.Entry.{Entry}
-use Rattle.message_book.proofs.Messages.{no_first_code, received_has_receipt, without_receipts-received}
-use Rattle.trace_types.specs.tenant.Limits.{Limits}
-use Rattle.trace_types.specs.text.Name.{Text, is_same}
-use Rattle.trace_types.specs.tenant.Rows.{History, names, sends, sends_message, receives, receives_message, is_sent, is_received, send_event, receipts, message_count}
-use Rattle.trace_types.specs.tenant.Refusal.{has_all_messages}
-use Rattle.trace_types.specs.declared.row.Row.{Row}
-use Rattle.trace_types.specs.declared.row.Kind.{Kind}
-use Rattle.trace_types.specs.declared.row.Kind.TheVariants.{Send, Recv}
-use Rattle.trace_types.proofs.Names.{is_same_iff}
-use Rattle.tenant_ledger.specs.Ledger.{IsMessage, AreMessages, Notes}
-use Rattle.tenant_ledger.specs.Legal.{AllowsNamed, IsLegal}
+use Rattle.message_book.proofs.Messages.{no_first_code, entry_of-changed, received_has_receipt, without_receipts-received}
+use Rattle.trace_types.proofs.Names.{is_same_iff, is_same-itself}
 use Rattle.tenant_ledger.proofs.keeping.Known.{differ_back}
 
--- ---- the messages with one more, or with a receipt
+-- ---- the messages with one more, or with one changed
 
--- a name by which something else is found is not that of a message that is not there
-other_name : (message name key : Text) → is_same message key ≡ false → is_same name key ≡ true → is_same name message ≡ false
-other_name message name key differ same =
-    differ_back message name (subst (λ k. is_same message k ≡ false) (sym ((is_same_iff name key).0 same)) differ)
-
-absent_later : (message : Text) (first : Text × Entry) (later : Messages) → entry_of (first ∷ later) message ≡ None
-    → (is_same message first.0 ≡ false) × (entry_of later message ≡ None)
-absent_later message first later none = by (is_same message first.0) none
+entry_of-new : (messages : Messages) (message : Text) (entry : Entry) → entry_of messages message ≡ None → entry_of (messages ++ (message, entry) ∷ []) message ≡ Some entry
+entry_of-new [] message entry none = cond-true (is_same message message) _ _ (is_same-itself message)
+entry_of-new (first ∷ later) message entry none = by (is_same message first.0) none (entry_of-new later message entry)
   where
-    by : (same : Bool) → cond same (Some first.1) (entry_of later message) ≡ None → (same ≡ false) × (entry_of later message ≡ None)
-    by true found = cc
-    by false found = (refl, found)
+    by : (same : Bool) → cond same (Some first.1) (entry_of later message) ≡ None → (entry_of later message ≡ None → entry_of (later ++ (message, entry) ∷ []) message ≡ Some entry)
+        → cond same (Some first.1) (entry_of (later ++ (message, entry) ∷ []) message) ≡ Some entry
+    by true found rest = cc
+    by false none rest = rest none
 
-entry_of-more : (messages : Messages) (message name : Text) (event : ℕ) → entry_of messages message ≡ None
-    → entry_of (with_message message event messages) name
-    ≡ cond (is_same name message) (Some (record { sent = event; receipts = [] })) (entry_of messages name)
-entry_of-more [] message name event none = refl
-entry_of-more (first ∷ later) message name event none =
-    let absent = absent_later message first later none in
-    let rest = entry_of-more later message name event absent.1 in
-    elim (cases_Bool (is_same name first.0)) [
-      | inl same ↦ rw (same, other_name message name first.0 absent.0 same) refl
-      | inr other ↦ rw other rest
-    ]
+-- any other message is as it was
+other_than-new : (messages : Messages) (message name : Text) (entry : Entry) → is_same name message ≡ false
+    → entry_of (messages ++ (message, entry) ∷ []) name ≡ entry_of messages name
+other_than-new [] message name entry differ = cond-false (is_same name message) _ _ differ
+other_than-new (first ∷ later) message name entry differ = ap (cond (is_same name first.0) (Some first.1)) (other_than-new later message name entry differ)
 
-entry_of-received : (messages : Messages) (message name : Text) (event : ℕ)
-    → entry_of (with_receipt message event messages) name
-    ≡ cond (is_same name message) (option_map (entry_with_receipt event) (entry_of messages name)) (entry_of messages name)
-entry_of-received [] message name event = sym (cond_both (is_same name message) None None (λ found. found ≡ None) (λ _. refl) (λ _. refl))
-entry_of-received (first ∷ later) message name event =
-    let rest = entry_of-received later message name event in
-    elim (cases_Bool (is_same message first.0)) [
-      | inl is ↦
-          let key : is_same name message ≡ is_same name first.0 = ap (is_same name) ((is_same_iff message first.0).0 is) in
-          elim (cases_Bool (is_same name first.0)) [
-            | inl same ↦ rw (is, key, same) refl
-            | inr other ↦ rw (is, key, other) refl
-          ]
-      | inr differ ↦ elim (cases_Bool (is_same name first.0)) [
-        | inl same ↦ rw (differ, same, other_name message name first.0 differ same) refl
-        | inr other ↦ rw (differ, other) rest
-      ]
-    ]
+other_than-changed : (change : Entry → Entry) (messages : Messages) (message name : Text) → is_same name message ≡ false
+    → entry_of (with_changed change message messages) name ≡ entry_of messages name
+other_than-changed change [] message name differ = refl
+other_than-changed change (first ∷ later) message name differ = elim (cases_Bool (is_same message first.0)) [
+  | inl is ↦
+      let other : is_same name first.0 ≡ false = subst (λ m. is_same name m ≡ false) ((is_same_iff message first.0).0 is) differ in
+      rw (is, other) refl
+  | inr not ↦ rw not (ap (cond (is_same name first.0) (Some first.1)) (other_than-changed change later message name differ))
+]
 
-length-received : (messages : Messages) (message : Text) (event : ℕ) → length (with_receipt message event messages) ≡ length messages
-length-received [] message event = refl
-length-received (first ∷ later) message event =
-    cond_both (is_same message first.0) _ _ (λ (found : Messages). length found ≡ suc (length later)) (λ _. refl) (λ _. ap suc (length-received later message event))
+length-changed : (change : Entry → Entry) (messages : Messages) (message : Text) → length (with_changed change message messages) ≡ length messages
+length-changed change [] message = refl
+length-changed change (first ∷ later) message =
+    cond_both (is_same message first.0) _ _ (λ (found : Messages). length found ≡ suc (length later)) (λ _. refl) (λ _. ap suc (length-changed change later message))
 
 -- ---- what the rows say of a message after one more row
 
@@ -119,61 +91,57 @@ unsent_is_absent : (history : History) (name : Text) (found : Option Entry) → 
 unsent_is_absent history name None right unsent = refl
 unsent_is_absent history name (Some entry) right unsent = absurd (false≢true (sym unsent ∙ right.0))
 
-module _ (limits : Limits) (task message : Text) (preds : List ℕ) (earlier : History) (messages : message_book.Book) (event : ℕ)
-    (number : event ≡ suc (length earlier)) (before : AreMessages limits earlier messages) where
+module _ (limits : Limits) (task message : Text) (preds : List ℕ) (earlier : History) (messages : message_book.Book) (before : AreMessages limits earlier messages) where
+  abbrev naming : Kind → Row
+  naming kind = record { task = task; kind = kind; name = Some message; preds = preds }
+
+  -- where the message that a row names is right, and the others are as they were, all are
+  one_changes : (kind : Kind) (after : Messages) → IsMessage (naming kind ∷ earlier) message (entry_of after message)
+      → ((name : Text) → is_same name message ≡ false → entry_of after name ≡ entry_of messages.messages name)
+      → length after ≡ message_count (naming kind ∷ earlier) → AreMessages limits (naming kind ∷ earlier) (record messages { messages = after })
+  one_changes kind after right others count = record {
+    limit = before.limit;
+    entries = λ name. elim (cases_Bool (is_same message name)) [
+      | inl same ↦ subst (λ n. IsMessage (naming kind ∷ earlier) n (entry_of after n)) ((is_same_iff message name).0 same) right
+      | inr other ↦ subst (IsMessage (naming kind ∷ earlier) name) (sym (others name (differ_back message name other)))
+          (is_message_stays (naming kind) earlier name (and_right (sends_message kind) _ other) (and_right (receives_message kind) _ other)
+          (entry_of messages.messages name) (before.entries name))
+    ];
+    counted = count;
+  }
+
   -- the message that a row sends
-  module _ (legal : IsLegal earlier) (new : is_sent earlier message ≡ false) where
-    abbrev pub sending : Row
-    sending = record { task = task; kind = Send; name = Some message; preds = preds }
-
-    sent_message : (name : Text) → is_same message name ≡ true → IsMessage (sending ∷ earlier) name (Some (record { sent = event; receipts = [] }))
-    sent_message name same = (
-      or_left (sends name sending) _ same,
-      number ∙ sym (cond-true (sends name sending) _ _ same),
-      sym (unsent_has_no_receipts earlier name legal (subst (λ m. is_sent earlier m ≡ false) ((is_same_iff message name).0 same) new)),
-    )
-
-    absent : entry_of messages.messages message ≡ None
-    absent = unsent_is_absent earlier message (entry_of messages.messages message) (before.entries message) new
-
-    pub messages_sent : AreMessages limits (sending ∷ earlier) (record messages { messages = with_message message event messages.messages })
-    messages_sent = record {
-      limit = before.limit;
-      entries = λ name. subst (IsMessage (sending ∷ earlier) name) (sym (entry_of-more messages.messages message name event absent)) (elim (cases_Bool (is_same message name)) [
-        | inl same ↦ subst (IsMessage (sending ∷ earlier) name) (sym (cond-true (is_same name message) _ _ ((is_same_iff name message).1 (sym ((is_same_iff message name).0 same)))))
-            (sent_message name same)
-        | inr other ↦ subst (IsMessage (sending ∷ earlier) name) (sym (cond-false (is_same name message) _ _ (differ_back message name other)))
-            (is_message_stays sending earlier name other refl (entry_of messages.messages name) (before.entries name))
-      ]);
-      counted = length-append messages.messages ((message, record { sent = event; receipts = [] }) ∷ []) ∙ omega (arith, before.counted, message_count-more sending earlier);
-    }
+  messages_sent : IsLegal earlier → is_sent earlier message ≡ false
+      → AreMessages limits (naming Send ∷ earlier) (record messages { messages = with_message message (suc (length earlier)) messages.messages })
+  messages_sent legal new =
+      let itself = is_same-itself message in
+      let entry : Entry = record { sent = suc (length earlier); receipts = [] } in
+      let absent = unsent_is_absent earlier message (entry_of messages.messages message) (before.entries message) new in
+      one_changes Send (messages.messages ++ (message, entry) ∷ [])
+      (subst (IsMessage (naming Send ∷ earlier) message) (sym (entry_of-new messages.messages message entry absent))
+      (or_left _ _ itself, sym (cond-true (is_same message message) _ _ itself), sym (unsent_has_no_receipts earlier message legal new)))
+      (λ name differ. other_than-new messages.messages message name entry differ)
+      (length-append messages.messages ((message, entry) ∷ []) ∙ omega (arith, before.counted, message_count-more (naming Send) earlier))
 
   -- the message that a row receives
-  module _ (sent : is_sent earlier message ≡ true) where
-    abbrev pub receiving : Row
-    receiving = record { task = task; kind = Recv; name = Some message; preds = preds }
+  received : is_sent earlier message ≡ true → (found : Option Entry) → IsMessage earlier message found
+      → IsMessage (naming Recv ∷ earlier) message (option_map (entry_with_receipt (suc (length earlier))) found)
+  received sent None unsent = absurd (false≢true (sym unsent ∙ sent))
+  received sent (Some entry) right = (
+    right.0,
+    right.1,
+    ap (λ (events : List ℕ). events ++ suc (length earlier) ∷ []) right.2 ∙ sym (cond-true (is_same message message) _ _ (is_same-itself message)),
+  )
 
-    received_message : (name : Text) → is_same message name ≡ true → (found : Option Entry) → IsMessage earlier name found
-        → IsMessage (receiving ∷ earlier) name (option_map (entry_with_receipt event) found)
-    received_message name same None unsent = absurd (false≢true (sym unsent ∙ subst (λ m. is_sent earlier m ≡ true) ((is_same_iff message name).0 same) sent))
-    received_message name same (Some entry) right = (
-      right.0,
-      right.1,
-      ap (λ (events : List ℕ). events ++ event ∷ []) right.2 ∙ ap (λ e. receipts earlier name ++ e ∷ []) number
-          ∙ sym (cond-true (receives name receiving) _ _ same),
-    )
-
-    pub messages_received : AreMessages limits (receiving ∷ earlier) (record messages { messages = with_receipt message event messages.messages })
-    messages_received = record {
-      limit = before.limit;
-      entries = λ name. subst (IsMessage (receiving ∷ earlier) name) (sym (entry_of-received messages.messages message name event)) (elim (cases_Bool (is_same message name)) [
-        | inl same ↦ subst (IsMessage (receiving ∷ earlier) name) (sym (cond-true (is_same name message) _ _ ((is_same_iff name message).1 (sym ((is_same_iff message name).0 same)))))
-            (received_message name same (entry_of messages.messages name) (before.entries name))
-        | inr other ↦ subst (IsMessage (receiving ∷ earlier) name) (sym (cond-false (is_same name message) _ _ (differ_back message name other)))
-            (is_message_stays receiving earlier name refl other (entry_of messages.messages name) (before.entries name))
-      ]);
-      counted = length-received messages.messages message event ∙ omega (arith, before.counted, message_count-more receiving earlier);
-    }
+  messages_received : is_sent earlier message ≡ true
+      → AreMessages limits (naming Recv ∷ earlier) (record messages { messages = with_receipt message (suc (length earlier)) messages.messages })
+  messages_received sent =
+      let change = entry_with_receipt (suc (length earlier)) in
+      one_changes Recv (with_changed change message messages.messages)
+      (subst (IsMessage (naming Recv ∷ earlier) message) (sym (entry_of-changed change messages.messages message))
+      (received sent (entry_of messages.messages message) (before.entries message)))
+      (λ name differ. other_than-changed change messages.messages message name differ)
+      (length-changed change messages.messages message ∙ omega (arith, before.counted, message_count-more (naming Recv) earlier))
 
 -- ---- what is kept says of the rows
 
@@ -197,10 +165,6 @@ module _ (limits : Limits) (history : History) (messages : message_book.Book) (a
       by None unsent = sym unsent
       by (Some entry) right = sym right.0
 
-  -- the event that sent it
-  pub sent_by : (entry : Entry) → entry_of messages.messages name ≡ Some entry → entry.sent ≡ send_event history name
-  sent_by entry found = (subst (IsMessage history name) found (are.entries name)).1
-
   -- and knows which were received
   pub has_received : IsLegal history → has_receipt (entry_of messages.messages name) ≡ is_received history name
   has_received legal = by (entry_of messages.messages name) (are.entries name)
@@ -209,11 +173,6 @@ module _ (limits : Limits) (history : History) (messages : message_book.Book) (a
       by None unsent = sym (is_received_by_receipts history name ∙ ap (λ (events : List ℕ). nat_lt 0 (length events)) (unsent_has_no_receipts history name legal unsent))
       by (Some entry) right = ap (λ (events : List ℕ). nat_lt 0 (length events)) right.2 ∙ sym (is_received_by_receipts history name)
 
--- the book has all the messages that the tenant may send where the tenant sent as many
-pub is_full : (limits : Limits) (history : History) (messages : message_book.Book) → AreMessages limits history messages
-    → nat_le messages.limit (length messages.messages) ≡ has_all_messages limits history
-is_full limits history messages are = λ i. nat_le (are.limit i) (are.counted i)
-
 -- What a report that is allowed makes of the messages is right.
 pub noted_are_messages : (limits : Limits) (history : History) (task : Text) (kind : Kind) (name : Option Text) (preds : List ℕ) (before after : message_book.Book)
     → IsLegal history → AllowsNamed history kind name → AreMessages limits history before → Notes kind name (suc (length history)) before after
@@ -221,9 +180,9 @@ pub noted_are_messages : (limits : Limits) (history : History) (task : Text) (ki
 noted_are_messages limits history task Send None preds before after legal allowed are notes = absurd allowed
 noted_are_messages limits history task Recv None preds before after legal allowed are notes = absurd allowed
 noted_are_messages limits history task Send (Some name) preds before after legal allowed are notes =
-    rw notes (messages_sent limits task name preds history before (suc (length history)) refl are legal allowed)
+    rw notes (messages_sent limits task name preds history before are legal allowed)
 noted_are_messages limits history task Recv (Some name) preds before after legal allowed are notes =
-    rw notes.1 (messages_received limits task name preds history before (suc (length history)) refl are allowed.0)
+    rw notes.1 (messages_received limits task name preds history before are allowed.0)
 noted_are_messages limits history task kind name preds before after legal allowed are notes = rw notes (messages_stay limits _ history before refl refl are)
 
 -- what was received can be taken back

@@ -3,22 +3,9 @@ use Rattle.std.proofs.Common.{◌≡◌, suc, Bool, true, false, cond, List, [],
 use Rattle.std.specs.Result.{result_err, IsErrAnd}
 use Rattle.std.proofs.lemmas.Bool.{false≢true, cond-false}
 use Rattle.std.proofs.lemmas.List.{length-reverse}
-use Rattle.trace_types.specs.tenant.Limits.{Limits}
-use Rattle.trace_types.specs.tenant.Rows.{History, history_of}
-use Rattle.trace_types.specs.tenant.Refusal.{first_code, refusals, refusal_of}
-use Rattle.trace_types.specs.tenant.Reported.{reported}
-use Rattle.trace_types.specs.tenant.Tenant.{Steps, step_unless, answer_to, accepted, row_after, with_row, may_lack_memory, Tenant, Answers, is_report, step}
-use Rattle.trace_types.specs.text.Name.{Text}
-use Rattle.trace_types.specs.declared.code.Code.{Code}
-use Rattle.trace_types.specs.declared.code.Code.TheVariants.{NoMemory}
-use Rattle.trace_types.specs.declared.reply.Reply.{Reply}
+use Rattle.tenant_ledger.proofs.Words.{Limits, History, history_of, first_code, refusals, refusal_of, reported, Steps, step_unless, answer_to, accepted, row_after, with_row, may_lack_memory, Tenant, Answers, is_report, step, Text, Code, NoMemory, Reply, Reported, Request, Row, Kind, Contents, Event, IsKept, Decides, Prepares, refusals_of_report, history_in, tenant_of}
 use Rattle.trace_types.specs.declared.reply.Reply.TheVariants as reply
-use Rattle.trace_types.specs.declared.request.Reported.{Reported}
-use Rattle.trace_types.specs.declared.request.Request.{Request}
 use Rattle.trace_types.specs.declared.request.Request.TheVariants as request
-use Rattle.trace_types.specs.declared.row.Row.{Row}
-use Rattle.trace_types.specs.declared.row.Kind.{Kind}
-use Rattle.tenant_ledger.specs.Ledger.{Contents, Event, IsKept, Decides, Prepares, refusals_of_report, history_in, tenant_of}
 
 -- the first code that applies decides, whatever else may apply
 pub decides_by_first : {A : Type 0} (refusals : List (Bool × Code)) (outcome : Result A Code) → result_err outcome ≡ first_code refusals → Decides refusals outcome

@@ -3,21 +3,8 @@ use Rattle.std.proofs.Common.{◌≡◌, ◌≢◌, suc, ◌+◌, ◌<◌, ◌�
 use Rattle.std.proofs.lemmas.Bool.{false≢true, cond-true, cond-false}
 use Rattle.std.proofs.lemmas.List.{length-reverse}
 use Rattle.std.proofs.lemmas.Option.{same_Some, slice_get_within}
-use Rattle.trace_types.specs.text.Name.{Text}
-use Rattle.trace_types.specs.tenant.Reachability.{second_event}
-use Rattle.trace_types.specs.tenant.Rows.{History, last_event, is_ended, is_joined}
-use Rattle.trace_types.specs.clock.Clock.{tree_clock}
-use Rattle.trace_types.specs.clock.Stamps.{id_of, tree_of, acting_id, id_at, of_named, takes_in}
-use Rattle.trace_types.specs.clock.Id.{Id, Zero, AreDisjoint, owns}
-use Rattle.trace_types.specs.clock.EventTree.{EventTree, maximum}
-use Rattle.trace_types.specs.declared.row.Row.{Row}
-use Rattle.trace_types.specs.declared.row.Kind.{Kind}
-use Rattle.trace_types.specs.declared.row.Kind.TheVariants.{Join}
+use Rattle.tenant_ledger.proofs.Words.{Text, second_event, History, last_event, is_ended, is_joined, tree_clock, id_of, tree_of, acting_id, id_at, of_named, takes_in, Id, Zero, AreDisjoint, owns, EventTree, maximum, Row, Kind, Join, AllowsNamed, Contents, IsKept, IsReport, history_in, task_in, row_of_report, ids_made, id_for, joined_by, Report, Task}
 use Rattle.trace_types.proofs.Names.{differ_by_test}
-use Rattle.tenant_ledger.specs.Legal.{AllowsNamed}
-use Rattle.tenant_ledger.specs.Ledger.{Contents, IsKept, IsReport, history_in, task_in, row_of_report, ids_made, id_for, joined_by}
-use Rattle.tenant_ledger.specs.declared.book.report.Report.{Report}
-use Rattle.tenant_ledger.specs.declared.book.task.Task.{Task}
 use Rattle.tenant_ledger.proofs.clock.Consequences.{ids_are_disjoint, acting_id_is_not_Zero, known_before_maximum-le}
 use Rattle.tenant_ledger.proofs.clock.Events.{known_before_new, tree_of-new}
 use Rattle.tenant_ledger.proofs.clock.Reaching.{followed-le}
@@ -89,11 +76,6 @@ module _ (book : Contents) (kept : IsKept book) (report : Report) (is : IsReport
 
   pub knows_own : takes_in report.kind ≡ false → (own : EventTree) → own ≡ tree_of tree_clock history report.acting.last → own ≡ known_before_new tree_clock row history
   knows_own takes own own_is = own_is ∙ ap (tree_of tree_clock history) acting_last ∙ sym (cond-false (takes_in report.kind) _ _ takes)
-
-  -- and the event is made so
-  pub made_of : (id : Id) (known tree : EventTree) → id ≡ acting_id tree_clock history row → known ≡ known_before_new tree_clock row history → tree ≡ tree_clock.event id known
-      → tree ≡ tree_of tree_clock (row ∷ history) (suc (length history))
-  made_of id known tree id_is known_is tree_is = tree_is ∙ (λ i. tree_clock.event (id_is i) (known_is i)) ∙ sym (tree_of-new tree_clock row history)
 
   module _ (kind_is : report.kind ≡ Join) where
     pub joins : IsJoined book report.task report.name report.joined

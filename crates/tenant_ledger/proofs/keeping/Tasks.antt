@@ -3,20 +3,9 @@ use Rattle.std.proofs.Common.{◌≡◌, ℕ, suc, ◌+◌, true, false, cond, L
 use Rattle.std.specs.List.{list_any}
 use Rattle.std.proofs.lemmas.Bool.{false≢true, cond-true, cond-false, cond_both, or_cases, or_left, or_right, and_left, and_right}
 use Rattle.std.proofs.lemmas.List.Sums.{sum_by-append}
-use Rattle.trace_types.specs.text.Name.{Text, is_same, root}
-use Rattle.trace_types.specs.tenant.Rows.{History, starts, starts_task, ends, ends_task, joins, joins_task, names, is_known, is_ended, is_joined, state_of, task_count}
-use Rattle.trace_types.specs.clock.Clock.{tree_clock}
-use Rattle.trace_types.specs.clock.Stamps.{id_of, id_kept, id_given, of_named}
-use Rattle.trace_types.specs.tenant.Tenant.{row_after}
-use Rattle.trace_types.specs.clock.Id.{Id, Zero}
-use Rattle.trace_types.specs.declared.row.Row.{Row}
-use Rattle.trace_types.specs.declared.row.Kind.{Kind}
-use Rattle.trace_types.specs.declared.row.Kind.TheVariants.{Local, Spawn, End, Join}
+use Rattle.tenant_ledger.proofs.Words.{Text, is_same, root, History, starts, starts_task, ends, ends_task, joins, joins_task, names, is_known, is_ended, is_joined, state_of, task_count, tree_clock, id_of, id_kept, id_given, of_named, row_after, Id, Zero, Row, Kind, Local, Spawn, End, Join, IsLive, AllowsNamed, Contents, IsKept, IsTask, history_in, task_in, ids_made, made_ids, acting_after, id_left, named_after, joined_by, task_with, count_with, task_with_some, count_with_some, Task}
 use Rattle.trace_types.specs.declared.task_state.TaskState.TheVariants.{Live, Joined}
 use Rattle.trace_types.proofs.Names.{is_same-itself, is_same_iff}
-use Rattle.tenant_ledger.specs.Legal.{IsLive, AllowsNamed}
-use Rattle.tenant_ledger.specs.Ledger.{Contents, IsKept, IsTask, history_in, task_in, ids_made, made_ids, acting_after, id_left, named_after, joined_by, task_with, count_with, task_with_some, count_with_some}
-use Rattle.tenant_ledger.specs.declared.book.task.Task.{Task}
 use Rattle.tenant_ledger.proofs.clock.Tasks.{last_event-acting, last_event-bystander, last_event-started, live_is_not_unknown, live_is_not_ended, unknown_has_no_event}
 use Rattle.tenant_ledger.proofs.keeping.Known.{differ_back, legal_history, task_kept, has_known, unknown_has_not_ended, unended_is_not_joined}
 use Rattle.tenant_ledger.proofs.keeping.Lists.{slice_get-longer, slice_get-seam, slice_get-behind}

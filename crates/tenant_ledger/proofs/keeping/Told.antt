@@ -5,32 +5,17 @@ use Rattle.std.proofs.lemmas.Bool.{cases_Bool, cond_both, and_parts, cases_eq, e
 use Rattle.std.proofs.lemmas.List.{length-reverse, reverse-append, reverse-reverse}
 use Rattle.std.proofs.lemmas.Option.{get_or_from_slice_get, slice_get-get_or, slice_get_read}
 use Rattle.trace_query.specs.Compared.{is_order}
-use Rattle.trace_query.specs.Queries.{tree_at, StandInOrder, order_between, others_standing, fault_due}
+use Rattle.tenant_ledger.proofs.Words.{tree_at, StandInOrder, order_between, others_standing, fault_due, History, history_of, is_event, row_of, events, reaches, order_of, past_of, concurrent_with, Id, EventTree, Leaf, tree_clock, tree_of, stamp_of, Order, Same, Before, Concurrent, Row, is_report, MayLackMemory, Answers, reply_to_view, NoEvent, Reply, Request, IsBelow, StandsAs, Contents, IsKept, tenant_of, history_in, code_of}
 use Rattle.trace_query.specs.Queries as query
 use Rattle.trace_query.specs.Laws.{Tells}
 use Rattle.trace_query.proofs.ComparedTrees.{tree_order_stands}
 use Rattle.trace_query.proofs.Told.{told_by_orders}
-use Rattle.trace_types.specs.tenant.Rows.{History, history_of, is_event, row_of, events}
-use Rattle.trace_types.specs.tenant.Reachability.{reaches, order_of, past_of, concurrent_with}
-use Rattle.trace_types.specs.clock.Id.{Id}
-use Rattle.trace_types.specs.clock.EventTree.{EventTree, Leaf}
-use Rattle.trace_types.specs.clock.Clock.{tree_clock}
-use Rattle.trace_types.specs.clock.Stamps.{tree_of, stamp_of}
-use Rattle.trace_types.specs.declared.order.Order.{Order}
-use Rattle.trace_types.specs.declared.order.Order.TheVariants.{Same, Before, Concurrent}
-use Rattle.trace_types.specs.declared.row.Row.{Row}
 use Rattle.trace_types.proofs.Reachability.{reaches_newest, reaches_earlier}
-use Rattle.trace_types.specs.tenant.Tenant.{is_report, MayLackMemory, Answers, reply_to_view}
-use Rattle.trace_types.specs.declared.code.Code.TheVariants.{NoEvent}
-use Rattle.trace_types.specs.declared.reply.Reply.{Reply}
 use Rattle.trace_types.specs.declared.reply.Reply.TheVariants as reply
-use Rattle.trace_types.specs.declared.request.Request.{Request}
 use Rattle.trace_types.specs.declared.request.Request.TheVariants as request
 use Rattle.trace_query.specs.declared.query_fault.QueryFault.{QueryFault}
 use Rattle.trace_query.specs.declared.query_fault.QueryFault.TheVariants.{Unknown}
-use Rattle.event_tree.specs.Comparison.{IsBelow, StandsAs}
 use Rattle.event_tree.proofs.Standing.{stand_one_way}
-use Rattle.tenant_ledger.specs.Ledger.{Contents, IsKept, tenant_of, history_in, code_of}
 use Rattle.tenant_ledger.proofs.keeping.Kept.{one_tree, tree_at_event}
 use Rattle.tenant_ledger.proofs.clock.Events.{event_bounds}
 use Rattle.tenant_ledger.proofs.keeping.Lists.{slice_get-longer, slice_get-seam}

@@ -1,4 +1,4 @@
-use Rattle.trace_types.specs.tenant.Rows.{history_of}
+use Rattle.tenant_ledger.proofs.Words.{history_of}
 use Rattle.tenant_ledger.proofs.clock.Consequences.{maximum_of-le}
 use Rattle.tenant_ledger.proofs.clock.Legality.{IsLegal_from_AreLegal}
 use Rattle.tenant_ledger.proofs.laws.greatest_value.Goals as goal

@@ -1,9 +1,6 @@
 use Rattle.std.proofs.Common.{◌≡◌, suc, ◌+◌, length, ap, ◌∙◌, arith}
 use Rattle.std.proofs.lemmas.List.{length-reverse}
-use Rattle.trace_types.specs.clock.Clock.{tree_clock}
-use Rattle.trace_types.specs.clock.Id.{Zero}
-use Rattle.trace_types.specs.clock.Stamps.{id_of, of_named}
-use Rattle.tenant_ledger.specs.Ledger.{history_in, made_ids, id_for, acting_after, named_after}
+use Rattle.tenant_ledger.proofs.Words.{tree_clock, Zero, id_of, of_named, history_in, made_ids, id_for, acting_after, named_after}
 use Rattle.tenant_ledger.proofs.keeping.Report.{acting_of_made, own_place, own_is}
 use Rattle.tenant_ledger.proofs.book.Book.draft.Goals as goal
 

@@ -1,5 +1,5 @@
 use Rattle.std.proofs.Common.{refl, subst}
-use Rattle.tenant_ledger.specs.Ledger.{history_in}
+use Rattle.tenant_ledger.proofs.Words.{history_in}
 use Rattle.tenant_ledger.proofs.keeping.Known.{IsAt, is_at, task_kept}
 use Rattle.tenant_ledger.proofs.book.Book.ended_task.Goals as goal
 

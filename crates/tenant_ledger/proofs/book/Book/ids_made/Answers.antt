@@ -1,9 +1,5 @@
 use Rattle.std.proofs.Common.{◌≡◌, Some, None, sym, ap, ◌∙◌, subst}
-use Rattle.trace_types.specs.clock.Clock.{tree_clock}
-use Rattle.trace_types.specs.clock.IdOperations.{split, sum}
-use Rattle.trace_types.specs.clock.Stamps.{id_of, of_named}
-use Rattle.trace_types.specs.clock.Id.{Zero}
-use Rattle.tenant_ledger.specs.Ledger.{history_in, ids_made}
+use Rattle.tenant_ledger.proofs.Words.{tree_clock, split, sum, id_of, of_named, Zero, history_in, ids_made}
 use Rattle.tenant_ledger.specs.declared.book.ids.Ids.TheVariants as ids
 use Rattle.tenant_ledger.proofs.keeping.Report.{own_place, own_is, joins, joined_place, joined_is, disjoint}
 use Rattle.tenant_ledger.proofs.book.Book.ids_made.Goals as goal

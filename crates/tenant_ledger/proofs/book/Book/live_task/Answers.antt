@@ -1,6 +1,5 @@
 use Rattle.std.proofs.Common.{◌≡◌, true, refl, inl, inr, subst}
-use Rattle.trace_types.specs.tenant.Rows.{is_ended}
-use Rattle.tenant_ledger.specs.Ledger.{history_in}
+use Rattle.tenant_ledger.proofs.Words.{is_ended, history_in}
 use Rattle.tenant_ledger.proofs.keeping.Known.{IsAt, is_at, task_kept}
 use Rattle.tenant_ledger.proofs.book.Book.live_task.Goals as goal
 

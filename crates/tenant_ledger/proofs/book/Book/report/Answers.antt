@@ -1,6 +1,5 @@
 use Rattle.std.proofs.Common.{◌≡◌, [], ◌++◌, Some, None, sym, ap, ◌∙◌, rules}
-use Rattle.trace_types.specs.tenant.Refusal.{first_code, refusal_of}
-use Rattle.tenant_ledger.specs.Ledger.{history_in, refusals_of_named, refusals_of_room}
+use Rattle.tenant_ledger.proofs.Words.{first_code, refusal_of, history_in, refusals_of_named, refusals_of_room}
 use Rattle.tenant_ledger.proofs.keeping.Legal.{AreLegal-push}
 use Rattle.tenant_ledger.proofs.keeping.Refused.{by_report}
 use Rattle.tenant_ledger.proofs.book.Book.report.Goals.{In_ok-check_room}

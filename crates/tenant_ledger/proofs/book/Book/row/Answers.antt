@@ -1,6 +1,5 @@
 use Rattle.std.proofs.Common.{◌≡◌, true, Some, sym, ◌∙◌, subst}
-use Rattle.trace_types.specs.tenant.Rows.{is_event, row_of}
-use Rattle.tenant_ledger.specs.Ledger.{Contents, history_in}
+use Rattle.tenant_ledger.proofs.Words.{is_event, row_of, Contents, history_in}
 use Rattle.tenant_ledger.proofs.keeping.Told.{row_is_kept}
 use Rattle.tenant_ledger.proofs.book.Book.row.Goals as goal
 

@@ -1,9 +1,5 @@
 use Rattle.std.proofs.Common.{◌≡◌, Some, ◌∷◌, [], not, ap, ◌∙◌}
-use Rattle.message_book.specs.Book.{refusal_of_receive}
-use Rattle.trace_types.specs.tenant.Refusal.{first_code}
-use Rattle.trace_types.specs.declared.code.Code.TheVariants.{NoMessage, AlreadyReceived}
-use Rattle.trace_types.specs.declared.row.Kind.TheVariants.{Recv}
-use Rattle.tenant_ledger.specs.Ledger.{Contents, history_in, refusals_of_named}
+use Rattle.tenant_ledger.proofs.Words.{refusal_of_receive, first_code, NoMessage, AlreadyReceived, Recv, Contents, history_in, refusals_of_named}
 use Rattle.tenant_ledger.proofs.keeping.Known.{legal_history}
 use Rattle.tenant_ledger.proofs.keeping.Messages.{has_sent, has_received}
 use Rattle.tenant_ledger.proofs.keeping.Refused.{decides_by_first}

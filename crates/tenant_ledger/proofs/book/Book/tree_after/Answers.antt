@@ -1,6 +1,5 @@
 use Rattle.std.proofs.Common.{◌≡◌, sym, ◌∙◌}
-use Rattle.trace_types.specs.clock.Clock.{tree_clock}
-use Rattle.tenant_ledger.specs.Ledger.{history_in, row_of_report}
+use Rattle.tenant_ledger.proofs.Words.{tree_clock, history_in, row_of_report}
 use Rattle.tenant_ledger.proofs.clock.Events.{known_before_new}
 use Rattle.tenant_ledger.proofs.keeping.Report.{last-le, second-le, id_some, fits, knows_both, knows_own}
 use Rattle.tenant_ledger.proofs.book.Book.tree_after.Goals.{In_ok-known, Else-takes_in}

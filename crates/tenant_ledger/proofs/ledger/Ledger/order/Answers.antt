@@ -1,7 +1,5 @@
 use Rattle.std.proofs.Common.{◌≡◌, List, sym, ap, ◌∙◌, subst}
-use Rattle.trace_query.specs.Queries.{order_due}
-use Rattle.trace_types.specs.clock.EventTree.{EventTree}
-use Rattle.trace_types.specs.tenant.Tenant.{Tenant, reply_to_view}
+use Rattle.tenant_ledger.proofs.Words.{order_due, EventTree, Tenant, reply_to_view}
 use Rattle.trace_types.specs.declared.reply.Reply.TheVariants as reply
 use Rattle.trace_types.specs.declared.request.Request.TheVariants as request
 use Rattle.tenant_ledger.proofs.keeping.Told.{order_answered, order_refused}

@@ -1,7 +1,5 @@
 use Rattle.std.proofs.Common.{◌≡◌, true, List, IfOk, IfErr, sym, subst}
-use Rattle.trace_query.specs.Queries.{StandInOrder, has_tree, trees_before, fault_due}
-use Rattle.trace_types.specs.clock.EventTree.{EventTree}
-use Rattle.trace_types.specs.tenant.Tenant.{Tenant, Answers}
+use Rattle.tenant_ledger.proofs.Words.{StandInOrder, has_tree, trees_before, fault_due, EventTree, Tenant, Answers}
 use Rattle.trace_types.specs.declared.request.Request.TheVariants as request
 use Rattle.tenant_ledger.proofs.keeping.Told.{stand_in_order, past_answered}
 use Rattle.tenant_ledger.proofs.ledger.Ledger.past.Goals as goal

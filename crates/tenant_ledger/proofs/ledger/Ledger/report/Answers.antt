@@ -1,5 +1,5 @@
 use Rattle.std.proofs.Common.{sym, subst}
-use Rattle.trace_types.specs.tenant.Tenant.{Tenant, Answers, Steps}
+use Rattle.tenant_ledger.proofs.Words.{Tenant, Answers, Steps}
 use Rattle.tenant_ledger.proofs.keeping.Refused.{query_steps}
 use Rattle.tenant_ledger.proofs.ledger.Ledger.report.Goals as goal
 
