@@ -10,3 +10,4 @@ pub mod Sharing
 pub mod Tasks
 pub mod TreeClock
 pub mod Upheld
+pub mod PrivatePoints

@@ -31,9 +31,13 @@ module _ {Id Tree : Type 0} {clock : Clock Id Tree} {Point : Type 0} {IsNormalId
   abbrev pub HolderIsAhead : Type 0
   HolderIsAhead = (task : Text) (point : Point) → holds task point ≡ true → (event : ℕ) → value_of event point ≤ value_of (last_event history task) point
 
-  -- at some point each event that knows as much as this one is reached by it
+  -- each event that knows as much of the point as this one is reached by it
+  abbrev pub IsPrivate : ℕ → Point → Type 0
+  IsPrivate event point = (other : ℕ) → value_of event point ≤ value_of other point → IsTrue (reaches history event other)
+
+  -- some point is private to the event
   abbrev pub HasPrivatePoint : ℕ → Type 0
-  HasPrivatePoint event = (point : Point) × ((other : ℕ) → value_of event point ≤ value_of other point → IsTrue (reaches history event other))
+  HasPrivatePoint event = (point : Point) × IsPrivate event point
 
   -- each event has a point of its own
   abbrev pub EventsHavePrivatePoints : Type 0

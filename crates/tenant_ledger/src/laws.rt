@@ -8,7 +8,8 @@ ghost use Rattle.trace_types.specs.clock.Stamps.{tree_of};
 ghost use Rattle.trace_types.specs.tenant.Tenant.{AreLegal};
 ghost use Rattle.trace_types.specs.declared.row.Row.{Row};
 ghost use Rattle.event_tree.specs.Comparison.{StandsAs};
-ghost use Rattle.tenant_ledger.specs.Laws.{IsAtMostItsNumber};
+ghost use Rattle.trace_types.specs.clock.Points.{Point};
+ghost use Rattle.tenant_ledger.specs.Laws.{DecidesReach, IsAtMostItsNumber, IsRaisedBy};
 
 /// For legal rows and any two events, comparing what the events know gives their order in the graph: the interval
 /// tree clock (Almeida, Baquero and Fonte 2008) tells happened-before (Lamport 1978).
@@ -21,4 +22,11 @@ pub fn clock()
 /// For legal rows no event knows a value above its own number, at any point. So no number of a stamp wraps.
 pub fn greatest_value()
     ensures { (limits : Limits) (rows : List Row) → AreLegal limits rows → (event : ℕ) → IsAtMostItsNumber (history_of rows) event }
+{}
+
+/// For legal rows, each point that an event raised decides which events it reaches: exactly those that know as much of
+/// that point as it does. So one value of one tree tells whether an event happened before another.
+pub fn private_point()
+    ensures { (limits : Limits) (rows : List Row) → AreLegal limits rows → (event : ℕ) (point : Point)
+        → IsRaisedBy (history_of rows) event point → DecidesReach (history_of rows) event point }
 {}

@@ -1,7 +1,7 @@
 -- One more row of any kind keeps the invariant, where its ids and its tree are in order.
 use Rattle.std.proofs.Common.{◌≡◌, ◌≢◌, ◌⊎◌, ℕ, ◌<◌, ◌≤◌, true, false, Bool, IsTrue, ◌∷◌, length, sym, ap, ◌∙◌, subst, inl, inr, arith}
 use Rattle.std.proofs.lemmas.Bool.{false≢true, cases_Bool, cases_eq}
-use Rattle.tenant_ledger.proofs.Words.{Text, History, last_event, is_event, reaches, Clock, id_of, tree_of, acting_id, Row, OwnsSome, Raises, ClockLaws, IsLive, holds, value_of, OneHolder, HolderIsAhead, HasPrivatePoint, EventsHavePrivatePoints, TreesRise, Invariant}
+use Rattle.tenant_ledger.proofs.Words.{Text, History, last_event, is_event, reaches, Clock, id_of, tree_of, acting_id, Row, OwnsSome, Raises, ClockLaws, IsLive, holds, value_of, OneHolder, HolderIsAhead, IsPrivate, HasPrivatePoint, EventsHavePrivatePoints, TreesRise, Invariant}
 use Rattle.trace_types.proofs.Reachability.{last_event-le, reaches_earlier}
 use Rattle.tenant_ledger.proofs.clock.Events.{known_before_new, new_tree, tree_of-new, tree_of-older, event_bounds, older_event}
 use Rattle.tenant_ledger.proofs.clock.Gathered.{Gathers, gathers}
@@ -123,34 +123,35 @@ module _ {Id Tree : Type 0} {clock : Clock Id Tree} {Point : Type 0} {IsNormalId
       | inr outside ↦ let from = gathered.from_followed point in (from.0, from.1, omega (arith, known, new_raises.outside point outside, from.2))
     ]
 
-    new_has_private_point : HasPrivatePoint laws (row ∷ earlier) (new_event earlier)
-    new_has_private_point =
-        let point = new_raises.rises.0 in (
-          point,
-          λ other known. elim (cases_eq other (new_event earlier)) [
-            | inl is ↦ subst (λ e. reaches (row ∷ earlier) (new_event earlier) e ≡ true) (sym is) (new_reaches_itself row earlier)
-            | inr older ↦ absurd (omega (arith, known, value_of-older other point older, all_below point raised_within other, new_raises.rises.1))
-          ],
-        )
+    -- each point of its id that the new event raises is private to it
+    pub raised_is_private : (point : Point) → is_within point ≡ true → base_value point < new_value point
+        → IsPrivate laws (row ∷ earlier) (new_event earlier) point
+    raised_is_private point within higher other known = elim (cases_eq other (new_event earlier)) [
+      | inl is ↦ subst (λ e. reaches (row ∷ earlier) (new_event earlier) e ≡ true) (sym is) (new_reaches_itself row earlier)
+      | inr older ↦ absurd (omega (arith, known, value_of-older other point older, all_below point within other, higher))
+    ]
 
-    keeps_private_point : (event : ℕ) → IsTrue (is_event earlier event) → HasPrivatePoint laws earlier event → HasPrivatePoint laws (row ∷ earlier) event
-    keeps_private_point event is_old (point, private) =
+    -- a point that is private to an event stays so
+    pub stays_private : (event : ℕ) → IsTrue (is_event earlier event) → (point : Point) → IsPrivate laws earlier event point
+        → IsPrivate laws (row ∷ earlier) event point
+    stays_private event is_old point private other known =
         let bounds = event_bounds earlier event is_old in
-        let same = value_of-older event point (λ is. omega (arith, bounds.1, is)) in (
-          point,
-          λ other known. elim (cases_eq other (new_event earlier)) [
-            | inl is ↦
-                let follows = followed_knows event point (omega (arith, known, same, value_of-new other point is)) in
-                subst (λ e. reaches (row ∷ earlier) event e ≡ true) (sym is)
-                (reaches_from_followed row earlier event (λ zero. omega (arith, zero, bounds.0)) (follows.0, follows.1, private follows.0 follows.2))
-            | inr older ↦ reaches_earlier row earlier event other older ∙ private other (omega (arith, known, same, value_of-older other point older))
-          ],
-        )
+        let same = value_of-older event point (λ is. omega (arith, bounds.1, is)) in
+        elim (cases_eq other (new_event earlier)) [
+          | inl is ↦
+              let follows = followed_knows event point (omega (arith, known, same, value_of-new other point is)) in
+              subst (λ e. reaches (row ∷ earlier) event e ≡ true) (sym is)
+              (reaches_from_followed row earlier event (λ zero. omega (arith, zero, bounds.0)) (follows.0, follows.1, private follows.0 follows.2))
+          | inr older ↦ reaches_earlier row earlier event other older ∙ private other (omega (arith, known, same, value_of-older other point older))
+        ]
 
     private_points : EventsHavePrivatePoints laws (row ∷ earlier)
     private_points event is_one = elim (cases_eq event (new_event earlier)) [
-      | inl is ↦ subst (HasPrivatePoint laws (row ∷ earlier)) (sym is) new_has_private_point
-      | inr older ↦ let is_old = older_event row earlier event older is_one in keeps_private_point event is_old (before.private_points event is_old)
+      | inl is ↦ subst (HasPrivatePoint laws (row ∷ earlier)) (sym is) (new_raises.rises.0, raised_is_private new_raises.rises.0 raised_within new_raises.rises.1)
+      | inr older ↦
+          let is_old = older_event row earlier event older is_one in
+          let private = before.private_points event is_old in
+          (private.0, stays_private event is_old private.0 private.1)
     ]
 
     trees_rise : TreesRise laws (row ∷ earlier)
