@@ -7,6 +7,7 @@ pub mod Joins
 pub mod Kept
 pub mod KeptFalls
 pub mod Laws
+pub mod Leaves
 pub mod Lifted
 pub mod Parts
 pub mod Raised

@@ -1,11 +1,12 @@
 //! The event tree, kept normal.
-ghost use Rattle.std.specs.Prelude.{◌≡◌, ◌≢◌, ◌+◌, ◌^◌, ◌<◌, ◌≤◌, ◌↔◌, max, IfOk, IsTrue};
-ghost use Rattle.trace_types.specs.clock.Id.{Zero};
+ghost use Rattle.std.specs.Prelude.{◌≡◌, ◌≢◌, ◌+◌, ◌^◌, ◌<◌, ◌≤◌, ◌↔◌, max, IfOk, IsOk, IsTrue};
+ghost use Rattle.trace_types.specs.clock.Id.{Zero, One};
 ghost use Rattle.trace_types.specs.clock.EventTree.{Leaf, IsNormal, minimum, maximum};
 ghost use Rattle.event_tree.specs.Comparison.{IsBelow, StandsAs};
 ghost use Rattle.trace_types.specs.clock.Norm.{norm, lowered};
 ghost use Rattle.trace_types.specs.clock.Join.{lifted, join};
 ghost use Rattle.trace_types.specs.clock.Event.{event};
+ghost use Rattle.event_tree.specs.Leaves.{IsLeafTree};
 ghost use Rattle.event_tree.specs.Parts.{tree_of_parts};
 
 use comparison::{compare, is_below};
@@ -97,7 +98,8 @@ impl EvTree {
     /// `Memory` where a request for memory was refused; both trees are then lost. A leaf takes none.
     pub fn fork(alloc: Global, n: u64, left: EvTree, right: EvTree) -> Result<EvTree, Memory>
         requires { n + max (maximum left) (maximum right) < 2 ^ 64 }
-        ensures { IfOk result (λ tree. tree ≡ norm n left right) }
+        ensures exact { IfOk result (λ tree. tree ≡ norm n left right) }
+        ensures leaf { IsLeafTree (norm n left right) → IsOk result }
     {
         if let (Node::Leaf(one), Node::Leaf(other)) = (&left.node, &right.node)
             && one == other
@@ -179,7 +181,8 @@ impl EvTree {
     ///
     /// It takes no memory, and constant time. `Memory` where one part would stand in more trees than can be counted.
     pub fn share(&self, _alloc: Global) -> Result<EvTree, Memory>
-        ensures { IfOk result (λ tree. tree ≡ self.now) }
+        ensures exact { IfOk result (λ tree. tree ≡ self.now) }
+        ensures leaf { IsLeafTree self.now → IsOk result }
     {
         match &self.node {
             Node::Leaf(n) => Ok(EvTree::leaf(*n)),
@@ -212,11 +215,13 @@ impl EvTree {
     /// The tree raised at points of the id, by filling where that changes it and else by growing (Almeida, Baquero and
     /// Fonte 2008).
     ///
-    /// It makes the path to what is raised, and shares the rest. `Memory` where a request for memory was refused.
+    /// It makes the path to what is raised, and shares the rest. `Memory` where a request for memory was refused; the id
+    /// that owns everything takes none.
     pub fn event(alloc: Global, id: &IdTree, tree: &EvTree) -> Result<EvTree, Memory>
         requires some { id.now ≢ Zero }
         requires fits { maximum tree.now + 1 < 2 ^ 64 }
-        ensures { IfOk result (λ after. after ≡ event id.now tree.now) }
+        ensures exact { IfOk result (λ after. after ≡ event id.now tree.now) }
+        ensures whole { id.now ≡ One → IsOk result }
     {
         tree.normal();
         id_tree::laws::each_tree_is_normal(id);

@@ -2,6 +2,7 @@
 use Rattle.std.proofs.Common.{◌≢◌, refl}
 use Rattle.trace_types.specs.clock.Id.{Id, Zero, One, Pair, AreApart, IsNormalId}
 use Rattle.trace_types.specs.clock.IdOperations.{norm_id}
+use Rattle.id_tree.specs.Leaves.{IsLeafId}
 
 -- halves are apart whichever is named first
 pub AreApart-sym : (a b : Id) → AreApart a b → AreApart b a
@@ -32,3 +33,13 @@ IsNormal-norm One (Pair l r) n m = (n, m, tt)
 IsNormal-norm (Pair l r) Zero n m = (n, m, tt)
 IsNormal-norm (Pair l r) One n m = (n, m, tt)
 IsNormal-norm (Pair l r) (Pair l' r') n m = (n, m, tt)
+
+-- halves whose normal form is nothing or everything are so themselves
+pub leaf_halves : (left right : Id) → IsLeafId (norm_id left right) → IsLeafId left × IsLeafId right
+leaf_halves Zero Zero leaf = (tt, tt)
+leaf_halves One One leaf = (tt, tt)
+leaf_halves Zero One leaf = absurd leaf
+leaf_halves Zero (Pair l r) leaf = absurd leaf
+leaf_halves One Zero leaf = absurd leaf
+leaf_halves One (Pair l r) leaf = absurd leaf
+leaf_halves (Pair l r) right leaf = absurd leaf

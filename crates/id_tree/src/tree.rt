@@ -1,7 +1,8 @@
 //! The tree of an id.
-ghost use Rattle.std.specs.Prelude.{◌≡◌, ◌≢◌, ◌↔◌, IfOk, IsTrue};
+ghost use Rattle.std.specs.Prelude.{◌≡◌, ◌≢◌, ◌↔◌, IfOk, IsOk, IsTrue};
 ghost use Rattle.trace_types.specs.clock.Id.{Zero, One, Pair, AreApart, AreDisjoint, IsNormalId};
 ghost use Rattle.trace_types.specs.clock.IdOperations.{norm_id, split, sum};
+ghost use Rattle.id_tree.specs.Leaves.{IsLeafId};
 ghost use Rattle.id_tree.specs.Parts.{id_of_parts};
 
 use std::alloc::Global;
@@ -111,9 +112,10 @@ impl IdTree {
 
     /// The id that owns in each half what the id for that half owns, in normal form.
     ///
-    /// Takes one block at most. Where it is refused, both ids are lost.
+    /// Takes one block at most, and none where the id is nothing or everything. Where it is refused, both ids are lost.
     pub fn fork(alloc: Global, left: IdTree, right: IdTree) -> Result<IdTree, Memory>
-        ensures { IfOk result (λ id. id ≡ norm_id left right) }
+        ensures exact { IfOk result (λ id. id ≡ norm_id left right) }
+        ensures leaf { IsLeafId (norm_id left right) → IsOk result }
     {
         if left.is_zero() && right.is_zero() {
             Ok(IdTree::zero())
@@ -126,10 +128,12 @@ impl IdTree {
 
     /// Two ids that share out the points of this one, by the published `split`. Both own some where this one does.
     ///
-    /// Takes a block for each pair on the way to where the id is divided, in each of the two.
+    /// Takes a block for each pair on the way to where the id is divided, in each of the two, so two of everything; of
+    /// nothing it takes none.
     #[tactic(auto, using(crate::proofs::Split::split_both))]
     pub fn split(&self, alloc: Global) -> Result<(IdTree, IdTree), Memory>
-        ensures { IfOk result (λ parts. parts ≡ split self.now) }
+        ensures exact { IfOk result (λ parts. parts ≡ split self.now) }
+        ensures nothing { self.now ≡ Zero → IsOk result }
     {
         match &self.node {
             Node::Zero => Ok((IdTree::zero(), IdTree::zero())),
@@ -152,10 +156,11 @@ impl IdTree {
 
     /// The id that owns what this one or the other owns, by the published `sum`.
     ///
-    /// Takes a block for each pair of which both ids own a part.
+    /// Takes a block for each pair of which both ids own a part, but none where the two own nothing or everything.
     pub fn sum(&self, alloc: Global, other: &IdTree) -> Result<IdTree, Memory>
         requires { AreDisjoint self.now other.now }
-        ensures { IfOk result (λ id. id ≡ sum self.now other.now) }
+        ensures exact { IfOk result (λ id. id ≡ sum self.now other.now) }
+        ensures leaf { IsLeafId (sum self.now other.now) → IsOk result }
     {
         match (&self.node, &other.node) {
             (Node::Zero, _) => other.share(alloc),
@@ -182,9 +187,11 @@ impl IdTree {
         }
     }
 
-    /// The same id, in one step and without memory, whatever the id.
+    /// The same id, in one step and without memory, whatever the id. `Memory` where a pair would stand in more ids than
+    /// can be counted.
     pub fn share(&self, _alloc: Global) -> Result<IdTree, Memory>
-        ensures { IfOk result (λ id. id ≡ self.now) }
+        ensures exact { IfOk result (λ id. id ≡ self.now) }
+        ensures leaf { IsLeafId self.now → IsOk result }
     {
         match &self.node {
             Node::Zero => Ok(IdTree::zero()),

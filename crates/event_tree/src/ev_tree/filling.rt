@@ -1,6 +1,6 @@
 //! Filling a tree below an id.
-ghost use Rattle.std.specs.Prelude.{◌≡◌, ◌+◌, ◌^◌, ◌<◌, max, IfOk};
-ghost use Rattle.trace_types.specs.clock.Id.{Pair};
+ghost use Rattle.std.specs.Prelude.{◌≡◌, ◌+◌, ◌^◌, ◌<◌, max, IfOk, IsOk};
+ghost use Rattle.trace_types.specs.clock.Id.{One, Pair};
 ghost use Rattle.trace_types.specs.clock.EventTree.{Leaf, Node as plain_Node, minimum, maximum, IsNormal};
 ghost use Rattle.trace_types.specs.clock.Norm.{norm};
 ghost use Rattle.trace_types.specs.clock.Fill.{fill};
@@ -82,7 +82,8 @@ impl EvTree {
     /// The filled tree, if it is another.
     #[cycle(filled)]
     pub(super) fn filled(&self, alloc: Global, id: &IdTree) -> Result<Option<EvTree>, Memory>
-        ensures { IfOk result (λ found. GivesFilled found self.now (fill id.now self.now)) }
+        ensures gives { IfOk result (λ found. GivesFilled found self.now (fill id.now self.now)) }
+        ensures whole { id.now ≡ One → IsOk result }
     {
         match (id.parts(), &self.node) {
             (IdParts::Zero, _) | (_, Node::Leaf(_)) => Ok(None),

@@ -1,6 +1,6 @@
 //! Growing a tree below an id at the least cost.
-ghost use Rattle.std.specs.Prelude.{◌≡◌, ◌+◌, ◌^◌, ◌<◌, ◌⊎◌, false, Some, IfOk, IfSome, IfNone};
-ghost use Rattle.trace_types.specs.clock.Id.{Pair};
+ghost use Rattle.std.specs.Prelude.{◌≡◌, ◌+◌, ◌^◌, ◌<◌, ◌⊎◌, false, Some, IfOk, IfSome, IfNone, IsOk};
+ghost use Rattle.trace_types.specs.clock.Id.{One, Pair};
 ghost use Rattle.trace_types.specs.clock.EventTree.{Leaf, maximum, IsNormal};
 ghost use Rattle.trace_types.specs.clock.Grow.{root_number, left_of, right_of, expansion, is_less, is_cheaper, cheaper, dearer, cost};
 ghost use Rattle.event_tree.specs.GrownFor.{grown_for};
@@ -117,7 +117,8 @@ impl EvTree {
     #[cycle(growth_cost)]
     pub(super) fn growth_cost(&self, id: &IdTree, zero: &EvTree) -> Result<Option<Cost>, Memory>
         requires { zero.now ≡ Leaf 0 }
-        ensures { IfOk result (λ price. price ≡ cost id.now self.now) }
+        ensures exact { IfOk result (λ price. price ≡ cost id.now self.now) }
+        ensures whole { id.now ≡ One → IsOk result }
     {
         match id.parts() {
             IdParts::Zero => Ok(None),
@@ -158,7 +159,8 @@ impl EvTree {
         requires least { is_cheaper (cost id.now self.now) (Some price) ≡ false }
         requires fits { maximum self.now + 1 < 2 ^ 64 }
         requires zero { zero.now ≡ Leaf 0 }
-        ensures { IfOk result (λ found. found ≡ grown_for price id.now self.now) }
+        ensures exact { IfOk result (λ found. found ≡ grown_for price id.now self.now) }
+        ensures whole { id.now ≡ One → IsOk result }
     {
         let (left_id, right_id) = match id.parts() {
             IdParts::Zero => return Ok(None),

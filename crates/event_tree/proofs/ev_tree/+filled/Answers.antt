@@ -8,14 +8,14 @@ use Rattle.event_tree.proofs.ev_tree.+filled.Goals as goal
 pub Children::filled_under-beside-requires-clause-fits : goal.Children::filled_under-beside-requires-clause-fits
 Children::filled_under-beside-requires-clause-fits t c =
     let left = ap maximum c.flattened.ensures.exact in
-    let right = ap maximum c.in_ok-filled.ensures.exact in
+    let right = ap maximum c.in_ok-filled.ensures.gives.exact in
     let least = rw (c.of-right.ensures.before, c.of-right.ensures.after) at c.min.ensures in
     rw (c.of-left.ensures.before, c.of-left.ensures.after, c.of-right.ensures.before, c.of-right.ensures.after)
     (omega (arith, c.requires.fits, left, right, least, maximum-fill-le c.args.right_id.now c.args.self.now.right c.requires.normal.1, minimum-le-maximum (filled_over c.in_ok-filled.field-0 c.args.self.now.right)))
 
 pub Children::filled_under-beside-requires-then-is_one-2-clause-fits : goal.Children::filled_under-beside-requires-then-is_one-2-clause-fits
 Children::filled_under-beside-requires-then-is_one-2-clause-fits t c =
-    let left = ap maximum c.in_ok-filled-2.ensures.exact in
+    let left = ap maximum c.in_ok-filled-2.ensures.gives.exact in
     let right = ap maximum c.flattened-then-is_one-2.ensures.exact in
     let least = rw (c.of-left-then-is_one-2.ensures.before, c.of-left-then-is_one-2.ensures.after) at c.min-then-is_one-2.ensures in
     rw (c.of-left-then-is_one-2.ensures.before, c.of-left-then-is_one-2.ensures.after, c.of-right-then-is_one-2.ensures.before, c.of-right-then-is_one-2.ensures.after)
@@ -23,12 +23,12 @@ Children::filled_under-beside-requires-then-is_one-2-clause-fits t c =
 
 pub Children::filled_under-beside-requires-else-is_one-2-clause-fits : goal.Children::filled_under-beside-requires-else-is_one-2-clause-fits
 Children::filled_under-beside-requires-else-is_one-2-clause-fits t c =
-    let left = ap maximum c.in_ok-filled-3.ensures.exact in
-    let right = ap maximum c.in_ok-filled-4.ensures.exact in
+    let left = ap maximum c.in_ok-filled-3.ensures.gives.exact in
+    let right = ap maximum c.in_ok-filled-4.ensures.gives.exact in
     rw (c.of-left-else-is_one-2.ensures.before, c.of-left-else-is_one-2.ensures.after, c.of-right-else-is_one-2.ensures.before, c.of-right-else-is_one-2.ensures.after)
     (omega (arith, c.requires.fits, left, right, maximum-fill-le c.args.left_id.now c.args.self.now.left c.requires.normal.0, maximum-fill-le c.args.right_id.now c.args.self.now.right c.requires.normal.1))
 
-pub EvTree::filled-returns-in-One-Fork : goal.EvTree::filled-returns-in-One-Fork
-EvTree::filled-returns-in-One-Fork t c =
+pub EvTree::filled-returns-in-One-Fork-clause-gives : goal.EvTree::filled-returns-in-One-Fork-clause-gives
+EvTree::filled-returns-in-One-Fork-clause-gives t c =
     let normal = rw c.in-One-Fork.is-1 at c.self.invariant.normal in
     rw (c.leaf.ensures, c.max.ensures, ← c.self.view_is, c.in-One-Fork.is-1, ← c.in-One-Fork.ensures.exact) (gives_number _ _ _ _ normal (omega arith))

@@ -35,4 +35,4 @@ pub returns-clause-exact : goal.returns-clause-exact
 returns-clause-exact t c =
     let known : InPair c.args.cursor.now.rest.now c.skip.new.self.rest.now c.args.cursor.now.place c.skip.new.self.place c.args.nested = record { not_zero = omega arith; not_one = omega arith; room = c.if-nested-eq-MOST_NESTED.false; inner_is = c.skip.ensures.rest; end = c.skip.ensures.end } in
     walks_pair _ _ _ _ _ _ _ _ _ _ _ _ c.in_ok-left.left c.in_ok-right.right _ _ _ _ _ _ _ _ _ known c.skip.ensures.uneven c.skip-2.ensures.uneven c.skip-3.ensures.uneven c.in_ok-left.ensures.exact c.skip-2.ensures.rest (omega (arith, c.in_ok-left.ensures.end)) c.in_ok-right.ensures.exact
-    (c.note.ensures.rest ∙ c.skip-3.ensures.rest) c.first-left_first.ensures c.first-right_first.ensures c.is_same_leaf.ensures c.note.ensures.uneven (λ none. c.in_ok-fork.ensures)
+    (c.note.ensures.rest ∙ c.skip-3.ensures.rest) c.first-left_first.ensures c.first-right_first.ensures c.is_same_leaf.ensures c.note.ensures.uneven (λ none. c.in_ok-fork.ensures.exact)

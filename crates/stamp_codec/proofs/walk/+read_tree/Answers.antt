@@ -39,4 +39,4 @@ pub returns-clause-exact : goal.returns-clause-exact
 returns-clause-exact t c =
     let known : InFork c.args.cursor.now.rest.now c.head-number.new.self.rest.now c.args.cursor.now.place c.head-number.new.self.place c.args.nested c.args.sum c.head-number.result = record { opens = omega arith; room = c.if-nested-eq-MOST_NESTED.false; within = omega arith; head = c.head-number.ensures.exact; end = c.head-number.ensures.end } in
     walks_fork _ _ _ _ _ _ _ _ _ _ _ _ _ _ c.in_ok-left.left c.in_ok-right.right _ _ _ _ _ _ _ _ _ known c.head-number.ensures.uneven c.skip.ensures.uneven c.skip-2.ensures.uneven c.in_ok-left.ensures.exact c.skip.ensures.rest (omega (arith, c.in_ok-left.ensures.end)) c.in_ok-right.ensures.exact
-    (c.note.ensures.rest ∙ c.skip-2.ensures.rest) c.first-left_first.ensures c.first-right_first.ensures c.is_uneven.ensures c.note.ensures.uneven c.in_ok-left.ensures.within.normal c.in_ok-right.ensures.within.normal (inr (none_known _ (sym c.is_some.ensures ∙ c.if-is_some.false)), (λ none. c.in_ok-fork.ensures))
+    (c.note.ensures.rest ∙ c.skip-2.ensures.rest) c.first-left_first.ensures c.first-right_first.ensures c.is_uneven.ensures c.note.ensures.uneven c.in_ok-left.ensures.within.normal c.in_ok-right.ensures.within.normal (inr (none_known _ (sym c.is_some.ensures ∙ c.if-is_some.false)), (λ none. c.in_ok-fork.ensures.exact))

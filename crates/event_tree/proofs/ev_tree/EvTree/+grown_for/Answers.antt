@@ -15,18 +15,18 @@ grown_for-requires t c =
 
 pub fork-requires : goal.fork-requires
 fork-requires t c =
-    let found = rw c.opened-opened.ensures.right at (sym c.in_ok-right.ensures ∙ c.in-Some-2.is) in
-    let left = ap maximum (c.in_ok-left.ensures ∙ c.opened-opened.ensures.left) in
+    let found = rw c.opened-opened.ensures.right at (sym c.in_ok-right.ensures.exact ∙ c.in-Some-2.is) in
+    let left = ap maximum (c.in_ok-left.ensures.exact ∙ c.opened-opened.ensures.left) in
     omega (arith, left, maximum-opened c.args.self.now, maximum-grown_for c.in-Some.price c.in-Pair.right_id.now _ c.in-Some-2.right found)
 
-pub returns-in-Some-2 : goal.returns-in-Some-2
-returns-in-Some-2 t c =
+pub returns-in-Some-2-clause-exact : goal.returns-in-Some-2-clause-exact
+returns-in-Some-2-clause-exact t c =
     let least = rw (← c.in-Pair.ensures.exact) at c.requires.least in
     let expansions = rw c.opened-opened.ensures.expansion at c.in-Some.ensures.left.0 in
-    let found = rw c.opened-opened.ensures.right at (sym c.in_ok-right.ensures ∙ c.in-Some-2.is) in
+    let found = rw c.opened-opened.ensures.right at (sym c.in_ok-right.ensures.exact ∙ c.in-Some-2.is) in
     let normal = normal_left_of c.args.self.now c.opened-opened.ensures.normal in
-    let left = c.in_ok-left.ensures ∙ c.opened-opened.ensures.left in
-    rw (← c.in-Pair.ensures.exact, c.in_ok-fork.ensures, c.opened-opened.ensures.root, left)
+    let left = c.in_ok-left.ensures.exact ∙ c.opened-opened.ensures.left in
+    rw (← c.in-Pair.ensures.exact, c.in_ok-fork.ensures.exact, c.opened-opened.ensures.root, left)
     (found_right c.in-Pair.left_id.now c.in-Pair.right_id.now c.args.self.now c.args.price c.in-Some.price expansions c.in-Some.ensures.left.1 least c.in-Some-2.right normal found)
 
 pub grown_for-requires-2 : goal.grown_for-requires-2
@@ -37,28 +37,28 @@ grown_for-requires-2 t c =
     let low = least_left c.in-Pair.left_id.now c.in-Pair.right_id.now c.args.self.now c.args.price c.in-Some.price expansions c.in-Some.ensures.left.1 least in
     (omega arith, (rw c.opened-opened.ensures.left low, (rw c.opened-opened.ensures.left (omega (arith, maximum-opened c.args.self.now)), c.requires.zero)))
 
-pub returns-in_default-3 : goal.returns-in_default-3
-returns-in_default-3 t c =
+pub returns-in_default-3-clause-exact : goal.returns-in_default-3-clause-exact
+returns-in_default-3-clause-exact t c =
     let least = rw (← c.in-Pair.ensures.exact) at c.requires.least in
     let expansions = rw c.opened-opened.ensures.expansion at c.in-Some.ensures.left.0 in
-    let not_right = rw c.opened-opened.ensures.right at (sym c.in_ok-right.ensures ∙ c.in_default-2.is) in
-    let not_left = rw c.opened-opened.ensures.left at (sym c.in_ok-left-2.ensures ∙ c.in_default-3.is) in
+    let not_right = rw c.opened-opened.ensures.right at (sym c.in_ok-right.ensures.exact ∙ c.in_default-2.is) in
+    let not_left = rw c.opened-opened.ensures.left at (sym c.in_ok-left-2.ensures.exact ∙ c.in_default-3.is) in
     rw (← c.in-Pair.ensures.exact)
     (found_none c.in-Pair.left_id.now c.in-Pair.right_id.now c.args.self.now c.args.price c.in-Some.price expansions c.in-Some.ensures.left.1 least not_right not_left)
 
 pub fork-requires-2 : goal.fork-requires-2
 fork-requires-2 t c =
-    let found = rw c.opened-opened.ensures.left at (sym c.in_ok-left-2.ensures ∙ c.in-Some-3.is) in
-    let right = ap maximum (c.in_ok-right-2.ensures ∙ c.opened-opened.ensures.right) in
+    let found = rw c.opened-opened.ensures.left at (sym c.in_ok-left-2.ensures.exact ∙ c.in-Some-3.is) in
+    let right = ap maximum (c.in_ok-right-2.ensures.exact ∙ c.opened-opened.ensures.right) in
     omega (arith, right, maximum-opened c.args.self.now, maximum-grown_for c.in-Some.price c.in-Pair.left_id.now _ c.in-Some-3.left found)
 
-pub returns : goal.returns
-returns t c =
+pub returns-clause-exact : goal.returns-clause-exact
+returns-clause-exact t c =
     let least = rw (← c.in-Pair.ensures.exact) at c.requires.least in
     let expansions = rw c.opened-opened.ensures.expansion at c.in-Some.ensures.left.0 in
-    let not_right = rw c.opened-opened.ensures.right at (sym c.in_ok-right.ensures ∙ c.in_default-2.is) in
-    let found = rw c.opened-opened.ensures.left at (sym c.in_ok-left-2.ensures ∙ c.in-Some-3.is) in
+    let not_right = rw c.opened-opened.ensures.right at (sym c.in_ok-right.ensures.exact ∙ c.in_default-2.is) in
+    let found = rw c.opened-opened.ensures.left at (sym c.in_ok-left-2.ensures.exact ∙ c.in-Some-3.is) in
     let normal = normal_right_of c.args.self.now c.opened-opened.ensures.normal in
-    let right = c.in_ok-right-2.ensures ∙ c.opened-opened.ensures.right in
-    rw (← c.in-Pair.ensures.exact, c.in_ok-fork-2.ensures, c.opened-opened.ensures.root, right)
+    let right = c.in_ok-right-2.ensures.exact ∙ c.opened-opened.ensures.right in
+    rw (← c.in-Pair.ensures.exact, c.in_ok-fork-2.ensures.exact, c.opened-opened.ensures.root, right)
     (found_left c.in-Pair.left_id.now c.in-Pair.right_id.now c.args.self.now c.args.price c.in-Some.price expansions c.in-Some.ensures.left.1 least c.in-Some-3.left normal not_right found)

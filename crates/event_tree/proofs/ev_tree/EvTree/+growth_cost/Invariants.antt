@@ -1,4 +1,4 @@
-use Rattle.std.proofs.Common.{◌+◌, ◌*◌}
+use Rattle.std.proofs.Common.{◌+◌}
 use Rattle.id_tree.specs.IdCode.{pair_count}
 use Rattle.event_tree.proofs.ev_tree.EvTree.+growth_cost.Given as goal
 

@@ -27,7 +27,7 @@ returns-in_ok-kept-in-Spawn g c =
     let report = c.args.report.now in
     let own = id_of tree_clock (history_in book) report.task in
     let named = of_named Zero (id_of tree_clock (history_in book)) report.name in
-    let parts = c.in_ok-kept-in-Spawn.ensures ∙ ap split (own_is book c.requires.book report c.requires.report c.id.result.now c.id.ensures) in
+    let parts = c.in_ok-kept-in-Spawn.ensures.exact ∙ ap split (own_is book c.requires.book report c.requires.report c.id.result.now c.id.ensures) in
     subst (λ kind. ids.Split c.in_ok-kept-in-Spawn.kept c.in_ok-kept-in-Spawn.given ≡ ids_made kind own named) (sym c.in-Spawn.is) (λ i. ids.Split (parts i).0 (parts i).1)
 
 pub returns-in_ok-sum-in-Some : goal.returns-in_ok-sum-in-Some
@@ -39,7 +39,7 @@ returns-in_ok-sum-in-Some g c =
     let acts = own_is book c.requires.book report c.requires.report c.id-own.result.now c.id-own.ensures in
     let taken = joined_is book c.requires.book report c.requires.report c.in-Join.is c.in-Some.joined c.in-Some.is c.id-in-Some.result.now c.id-in-Some.ensures in
     subst (λ kind. ids.Sum c.in_ok-sum-in-Some.field-0 ≡ ids_made kind own named) (sym c.in-Join.is)
-    (ap ids.Sum (c.in_ok-sum-in-Some.ensures ∙ (λ i. sum (acts i) (taken i))))
+    (ap ids.Sum (c.in_ok-sum-in-Some.ensures.exact ∙ (λ i. sum (acts i) (taken i))))
 
 pub returns-in-None : goal.returns-in-None
 returns-in-None g c =

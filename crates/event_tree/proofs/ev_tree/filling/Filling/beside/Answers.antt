@@ -1,4 +1,4 @@
-use Rattle.std.proofs.Common.{refl, sym, false, ◌≡◌, ◌&&◌, is_none, arith}
+use Rattle.std.proofs.Common.{refl, false, ◌≡◌, ◌&&◌, is_none, arith}
 use Rattle.std.proofs.lemmas.Grind.{common_steps}
 use Rattle.event_tree.proofs.Filled.{rises_beside}
 use Rattle.event_tree.proofs.ev_tree.filling.Filling.beside.Goals.{else-is_none-via-then-is_none+else-is_none-2, else-is_none-via-else-is_none}
