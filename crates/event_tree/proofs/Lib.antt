@@ -8,8 +8,10 @@ pub mod Grown
 pub mod Joined
 pub mod Lifts
 pub mod NormLemmas
+pub mod Points
 pub mod Pricing
 pub mod Raising
+pub mod Risen
 pub mod Standing
 pub mod Values
 pub mod Vectors

@@ -10,6 +10,8 @@ pub mod Laws
 pub mod Leaves
 pub mod Lifted
 pub mod Parts
+pub mod PointCode
 pub mod Raised
 pub mod Ranges
+pub mod Risen
 pub mod Tables

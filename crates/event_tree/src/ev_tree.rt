@@ -1,14 +1,17 @@
 //! The event tree, kept normal.
-ghost use Rattle.std.specs.Prelude.{◌≡◌, ◌≢◌, ◌+◌, ◌^◌, ◌<◌, ◌≤◌, ◌↔◌, max, IfOk, IsOk, IsTrue};
+ghost use Rattle.std.specs.Prelude.{◌≡◌, ◌≢◌, ◌+◌, ◌^◌, ◌<◌, ◌≤◌, ◌↔◌, max, IfOk, IfSome, IfNone, IsOk, IsTrue};
 ghost use Rattle.trace_types.specs.clock.Id.{Zero, One};
-ghost use Rattle.trace_types.specs.clock.EventTree.{Leaf, IsNormal, minimum, maximum};
+ghost use Rattle.trace_types.specs.clock.EventTree.{Leaf, IsNormal, value, minimum, maximum};
 ghost use Rattle.event_tree.specs.Comparison.{IsBelow, StandsAs};
 ghost use Rattle.trace_types.specs.clock.Norm.{norm, lowered};
 ghost use Rattle.trace_types.specs.clock.Join.{lifted, join};
 ghost use Rattle.trace_types.specs.clock.Event.{event};
+ghost use Rattle.event_tree.specs.Height.{height};
 ghost use Rattle.event_tree.specs.Leaves.{IsLeafTree};
+ghost use Rattle.event_tree.specs.Risen.{IsRaisedAt};
 ghost use Rattle.event_tree.specs.Parts.{tree_of_parts};
 
+use crate::Point;
 use comparison::{compare, is_below};
 use id_tree::IdTree;
 use joining::joined;
@@ -22,6 +25,7 @@ mod comparison;
 mod filling;
 mod growth;
 mod joining;
+mod risen;
 
 /// An event tree in normal form, whose greatest value is below 2^64.
 ///
@@ -238,6 +242,27 @@ impl EvTree {
         Ok(after)
     }
 
+    /// The tree after the event, as [`EvTree::event`] gives it, and a point of the id that the event raised. There is no
+    /// point where one of the two trees is higher than the 128 levels of a [`Point`], and none so near was found.
+    pub fn event_with_point(
+        alloc: Global,
+        id: &IdTree,
+        tree: &EvTree,
+    ) -> Result<(EvTree, Option<Point>), Memory>
+        requires some { id.now ≢ Zero }
+        requires fits { maximum tree.now + 1 < 2 ^ 64 }
+        ensures exact { IfOk result (λ found. found.0 ≡ event id.now tree.now) }
+        ensures raised { IfOk result (λ found. IfSome found.1 (λ point. IsRaisedAt id.now tree.now found.0 point)) }
+        ensures deep { IfOk result (λ found. IfNone found.1 (128 < max (height tree.now) (height found.0))) }
+        ensures whole { id.now ≡ One → IsOk result }
+    {
+        tree.normal();
+        id_tree::laws::each_tree_is_normal(id);
+        let after = EvTree::event(alloc, id, tree)?;
+        let point = tree.risen_point(id, &after);
+        Ok((after, point))
+    }
+
     /// The least value at any point.
     pub fn min(&self) -> u64
         ensures { result ≡ minimum self.now }
@@ -255,6 +280,30 @@ impl EvTree {
         match self.node {
             Node::Leaf(n) => n,
             Node::Fork { base, spread, .. } => base + spread,
+        }
+    }
+
+    /// The value at the point, along the one path to it. It takes no memory.
+    pub fn value_at(&self, point: &Point) -> u64
+        ensures { result ≡ value self.now point.now }
+    {
+        self.normal();
+        let mut tree = self;
+        let mut halves = point.halves();
+        let mut sum: u64 = 0;
+        loop {
+            match &tree.node {
+                Node::Leaf(n) => return sum + *n,
+                Node::Fork { base, children, .. } => {
+                    sum += *base;
+                    tree = if halves % 2 == 0 {
+                        &children.left
+                    } else {
+                        &children.right
+                    };
+                    halves /= 2;
+                }
+            }
         }
     }
 

@@ -9,5 +9,7 @@
 
 mod ev_tree;
 pub mod laws;
+mod point;
 
 pub use ev_tree::{EvTree, Parts};
+pub use point::Point;

@@ -81,15 +81,15 @@ impl Cost {
 
 /// A tree as a node: a number counts as a node over 0 and 0, and takes an expansion.
 #[derive(Clone, Copy)]
-struct Opened<'a> {
-    root: u64,
-    left: &'a EvTree,
-    right: &'a EvTree,
+pub(super) struct Opened<'a> {
+    pub(super) root: u64,
+    pub(super) left: &'a EvTree,
+    pub(super) right: &'a EvTree,
     expansion: u64,
 }
 
 impl EvTree {
-    fn opened<'a>(&'a self, zero: &'a EvTree) -> Opened<'a>
+    pub(super) fn opened<'a>(&'a self, zero: &'a EvTree) -> Opened<'a>
         requires { zero.now ≡ Leaf 0 }
         ensures root { result.root ≡ root_number self.now }
         ensures left { result.left.now ≡ left_of self.now }

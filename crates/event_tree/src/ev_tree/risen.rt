@@ -1,0 +1,85 @@
+//! A point that an event raised.
+ghost use Rattle.std.specs.Prelude.{◌≡◌, ◌+◌, ◌^◌, ◌<◌, ◌≤◌, ◌↔◌, IfSome, IfNone, IsTrue};
+ghost use Rattle.trace_types.specs.clock.Id.{Zero};
+ghost use Rattle.trace_types.specs.clock.EventTree.{Leaf, value, maximum};
+ghost use Rattle.event_tree.specs.Height.{height};
+ghost use Rattle.event_tree.specs.Risen.{left_id_of, right_id_of, IsRisenAt, RisesWithin, NoneRisen};
+
+use super::{EvTree, Node};
+use crate::Point;
+use id_tree::{IdTree, Parts as IdParts};
+
+/// How many levels a point has.
+const LEVELS: u32 = 128;
+
+impl EvTree {
+    /// A point at which `after` is above this tree. Parts of the trees that the id does not own are not looked at.
+    pub(super) fn risen_point(&self, id: &IdTree, after: &EvTree) -> Option<Point>
+        ensures risen { IfSome result (λ point. value self.now point < value after.now point) }
+        ensures none { RisesWithin id.now 0 self.now 0 after.now → IfNone result (NoneRisen 128 0 self.now 0 after.now) }
+    {
+        self.normal();
+        after.normal();
+        let zero = EvTree::leaf(0);
+        let halves = risen_halves(id, self, 0, after, 0, &zero, LEVELS)?;
+        Some(Point::of(halves))
+    }
+
+    fn is_leaf(&self) -> bool
+        ensures { IsTrue result ↔ (height self.now ≡ 0) }
+    {
+        matches!(self.node, Node::Leaf(_))
+    }
+}
+
+/// The halves of so many levels to a point at which `after`, lifted, is above `before`, lifted, as the bits of a number,
+/// the uppermost the lowest. Below a number stands `zero`.
+fn risen_halves(
+    id: &IdTree,
+    before: &EvTree,
+    before_lift: u64,
+    after: &EvTree,
+    after_lift: u64,
+    zero: &EvTree,
+    levels: u32,
+) -> Option<u128>
+    requires before_fits { before_lift + maximum before.now < 2 ^ 64 }
+    requires after_fits { after_lift + maximum after.now < 2 ^ 64 }
+    requires zero { zero.now ≡ Leaf 0 }
+    requires levels { levels ≤ 128 }
+    ensures risen { IfSome result (λ halves. IsRisenAt levels before_lift before.now after_lift after.now halves) }
+    ensures none { RisesWithin id.now before_lift before.now after_lift after.now
+        → IfNone result (NoneRisen levels before_lift before.now after_lift after.now) }
+{
+    let (left_id, right_id) = id_halves(id)?;
+    if after_lift + after.max() <= before_lift + before.min() {
+        return None;
+    }
+    if before.is_leaf() && after.is_leaf() {
+        return Some(0);
+    }
+    if levels == 0 {
+        return None;
+    }
+    let before = before.opened(zero);
+    let after = after.opened(zero);
+    let (low, high) = (before_lift + before.root, after_lift + after.root);
+    let below = levels - 1;
+    if let Some(halves) = risen_halves(left_id, before.left, low, after.left, high, zero, below) {
+        return Some(2 * halves);
+    }
+    let halves = risen_halves(right_id, before.right, low, after.right, high, zero, below)?;
+    Some(2 * halves + 1)
+}
+
+/// What the id owns of each half, if it owns anything.
+fn id_halves(id: &IdTree) -> Option<(&IdTree, &IdTree)>
+    ensures some { IfSome result (λ halves. (halves.0.now ≡ left_id_of id.now) × (halves.1.now ≡ right_id_of id.now)) }
+    ensures none { IfNone result (id.now ≡ Zero) }
+{
+    match id.parts() {
+        IdParts::Zero => None,
+        IdParts::One => Some((id, id)),
+        IdParts::Pair(left, right) => Some((left, right)),
+    }
+}
