@@ -1,7 +1,7 @@
 -- The answers of the queries, step by step.
-use Rattle.std.proofs.Common.{◌≡◌, ◌≢◌, ℕ, zero, suc, ◌+◌, ◌-◌, ◌<◌, ◌≤◌, ◌↔◌, Bool, true, false, ◌&&◌, cond, List, [], ◌∷◌, ◌++◌, length, get_or, take, map, IsTrue, Ok, Err, refl, sym, ap, subst, ◌∙◌, inl, inr, arith}
+use Rattle.std.proofs.Common.{◌≡◌, ◌≢◌, ℕ, zero, suc, ◌+◌, ◌-◌, ◌<◌, ◌≤◌, ◌↔◌, Bool, true, false, ◌&&◌, cond, List, [], ◌∷◌, ◌++◌, length, get_or, take, map, IsTrue, ltb, Ok, Err, refl, sym, ap, subst, ◌∙◌, inl, inr, arith}
 use Rattle.std.specs.List.{filter, range_with_len}
-use Rattle.std.proofs.lemmas.Bool.{false≢true, and_from, cases_Bool, cond-true, cond-false}
+use Rattle.std.proofs.lemmas.Bool.{false≢true, and_from, cases_Bool, cond-true, cond-false, lt-ltb}
 use Rattle.std.proofs.lemmas.List.{get_or-map, length-map, take_all, append-nil}
 use Rattle.std.proofs.lemmas.List.Elements.{filter_more}
 use Rattle.std.proofs.lemmas.List.FromFn.{length-range_with_len, get_or-range_with_len}
@@ -16,7 +16,7 @@ use Rattle.trace_query.specs.Compared.{tree_order, is_order}
 use Rattle.trace_query.specs.Queries.{has_tree, events_of, tree_at, order_between, is_other_standing, others_standing, order_due}
 use Rattle.trace_query.specs.declared.query_fault.QueryFault.TheVariants.{Unknown}
 use Rattle.trace_query.proofs.ComparedTrees.{stands_as_compared, is_order_iff}
-use Rattle.trace_query.proofs.Listed.{is_other_standing_iff}
+use Rattle.trace_query.proofs.Listed.{is_other_standing_iff, others_are_exact}
 
 -- the test for an order is that of the program
 is_order-test : (order : Order) → sameb the_type order Concurrent ≡ is_order Concurrent order
@@ -121,14 +121,25 @@ module _ {K : Type 0} (tree : K → EventTree) (wanted : Order) (kept : List K) 
   at : tree other ≡ tree_at (map tree kept) (place + 1)
   at = tree_in_place tree kept place other is_other within
 
+  there : StandsAs wanted (tree other) (tree one) → StandsAs wanted (tree_at (map tree kept) (place + 1)) (tree_at (map tree kept) event)
+  there stands = subst (StandsAs wanted (tree_at (map tree kept) (place + 1))) is_one (subst (λ (e : EventTree). StandsAs wanted e (tree one)) at stands)
+
   -- another event that stands so is listed
   pub listed_one : (place + 1 ≢ event) → StandsAs wanted (tree other) (tree one) → (next : List ℕ) → next ≡ events ++ (place + 1) ∷ []
       → next ≡ listed_to wanted (map tree kept) event (place + 1)
   listed_one differ stands next is_next =
-      let there : StandsAs wanted (tree_at (map tree kept) (place + 1)) (tree_at (map tree kept) event) =
-      subst (StandsAs wanted (tree_at (map tree kept) (place + 1))) is_one (subst (λ (e : EventTree). StandsAs wanted e (tree one)) at stands) in
       is_next
-      ∙ gathered_one (is_listed wanted (map tree kept) event) (length (map tree kept)) place events (many tree kept place other is_other within) so_far ((is_other_standing_iff wanted (map tree kept) (place + 1) event).1 (differ, there))
+      ∙ gathered_one (is_listed wanted (map tree kept) event) (length (map tree kept)) place events (many tree kept place other is_other within) so_far ((is_other_standing_iff wanted (map tree kept) (place + 1) event).1 (differ, there stands))
+
+  -- and then the list has an event
+  pub not_empty : (place + 1 ≢ event) → StandsAs wanted (tree other) (tree one) → ¬ (others_standing wanted (map tree kept) event ≡ [])
+  not_empty differ stands none =
+      let long : length (map tree kept) ≡ length kept = length-map kept tree in
+      let is_event : IsTrue (has_tree (map tree kept) (place + 1)) =
+      and_from (ltb 0 (place + 1)) (ltb (place + 1) (suc (length (map tree kept)))) (lt-ltb 0 (place + 1) (omega arith)) (lt-ltb (place + 1) (suc (length (map tree kept))) (omega arith)) in
+      let listed = (others_are_exact wanted (map tree kept) event (place + 1)).1 (is_event, differ, there stands) in
+      let nothing : length (others_standing wanted (map tree kept) event) ≡ 0 = ap (λ list. length list) none in
+      omega (arith, listed.1, nothing)
 
   -- any other one is passed over
   pub listed_none : (place + 1 ≢ event → ¬ StandsAs wanted (tree other) (tree one)) → events ≡ listed_to wanted (map tree kept) event (place + 1)

@@ -1,12 +1,14 @@
 -- Trees that stand in the order of their events need one look at each pair.
-use Rattle.std.proofs.Common.{◌≡◌, ◌≢◌, ◌↔◌, ℕ, zero, suc, ◌+◌, ◌-◌, ◌<◌, ◌≤◌, Bool, true, not, ◌&&◌, IsTrue, ltb, List, [], ◌∷◌, length, get_or, map, sym, subst, ◌∙◌, arith}
+use Rattle.std.proofs.Common.{◌≡◌, ◌≢◌, ◌↔◌, ℕ, zero, suc, ◌+◌, ◌-◌, ◌<◌, ◌≤◌, Bool, true, not, ◌&&◌, IsTrue, ltb, Option, List, [], ◌∷◌, length, get_or, map, sym, subst, ◌∙◌, arith}
 use Rattle.std.proofs.lemmas.Bool.{false≢true, and_parts, and_from, ltb-true, lt-ltb, not-true, not_from_false}
 use Rattle.std.proofs.lemmas.List.{length-map}
 use Rattle.trace_types.specs.declared.order.Order.TheVariants.{Before, Concurrent}
 use Rattle.trace_types.specs.clock.EventTree.{EventTree, Leaf}
 use Rattle.event_tree.specs.Comparison.{IsBelow, StandsAs}
 use Rattle.trace_query.specs.Compared.{is_below}
+use Rattle.trace_query.specs.Deciding.{IsDecidedBy, DecideInOrder, point_in}
 use Rattle.trace_query.specs.Queries.{has_tree, tree_at, StandInOrder, trees_before}
+use Rattle.trace_query.specs.declared.deciding.Deciding.{Deciding}
 use Rattle.trace_query.proofs.ComparedTrees.{is_below_iff}
 use Rattle.trace_query.proofs.Gathered.{refuted, refuted_by, listed_to, unlisted, listed_before, tree_in_place}
 
@@ -68,6 +70,23 @@ module _ {K : Type 0} (tree : K → EventTree) (kept : List K) (in_order : Stand
     λ apart. ((λ same. omega (arith, same, later)), (later_not_below later, refuted_by told (not-true below apart))),
     λ holds. not_from_false below (refuted below told.0 holds.1.1),
   )
+
+  module _ (points : List (Option Deciding)) (decided : DecideInOrder (map tree kept) points) where
+    -- the point of an earlier event decides whether its tree is below that of the event
+    pub decided_earlier : place + 1 < event → IsDecidedBy (point_in points place) (tree other) (tree one)
+    decided_earlier earlier =
+        let back : (place + 1) - 1 ≡ place = omega arith in
+        subst (λ (k : ℕ). IsDecidedBy (point_in points k) (tree other) (tree one)) back
+        (subst (λ (e : EventTree). IsDecidedBy (point_in points ((place + 1) - 1)) e (tree one)) (sym there)
+        (subst (λ (e : EventTree). IsDecidedBy (point_in points ((place + 1) - 1)) (tree_at (map tree kept) (place + 1)) e) (sym is_one)
+        (decided (place + 1) event here event_is earlier)))
+
+    -- and that of the event whether its tree is below that of a later one
+    pub decided_later : event < place + 1 → IsDecidedBy (point_in points (event - 1)) (tree one) (tree other)
+    decided_later later =
+        subst (λ (e : EventTree). IsDecidedBy (point_in points (event - 1)) e (tree other)) (sym is_one)
+        (subst (λ (e : EventTree). IsDecidedBy (point_in points (event - 1)) (tree_at (map tree kept) event) e) (sym there)
+        (decided event (place + 1) event_is here later))
 
 -- whether none of these trees is below the first, computed
 abbrev none_below : EventTree → List EventTree → Bool

@@ -1,3 +1,4 @@
 pub mod Compared
+pub mod Deciding
 pub mod Laws
 pub mod Queries

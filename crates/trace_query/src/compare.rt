@@ -1,8 +1,9 @@
 //! The comparison of kept trees.
 ghost use Rattle.std.specs.Prelude.{◌↔◌, IsTrue};
 ghost use Rattle.event_tree.specs.Comparison.{IsBelow, StandsAs};
+ghost use Rattle.trace_query.specs.Deciding.{IsDeciding};
 
-use crate::Meant;
+use crate::{Deciding, Meant};
 use trace_types::Order;
 
 /// A way to compare kept trees. It may hold what it needs for that, as a cache.
@@ -19,4 +20,12 @@ pub trait Compare {
     /// Whether no value of the tree of `first` is above that of `second` at the same point. It takes no memory.
     fn is_below(&self, first: &Self::Kept, second: &Self::Kept) -> bool
         ensures { IsTrue result ↔ IsBelow (Self.Kept.tree first.now) (Self.Kept.tree second.now) };
+
+    /// The same, where a point of `first` decides it. It takes no memory.
+    fn is_below_at(&self, first: &Self::Kept, deciding: &Deciding, second: &Self::Kept) -> bool
+        requires { IsDeciding deciding.now (Self.Kept.tree first.now) (Self.Kept.tree second.now) }
+        ensures { IsTrue result ↔ IsBelow (Self.Kept.tree first.now) (Self.Kept.tree second.now) }
+    {
+        self.is_below(first, second)
+    }
 }

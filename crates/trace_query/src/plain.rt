@@ -1,6 +1,6 @@
 //! The comparison of trees that are kept as they are.
 
-use crate::Compare;
+use crate::{Compare, Deciding};
 use event_tree::EvTree;
 use trace_types::Order;
 
@@ -17,5 +17,9 @@ impl Compare for Plain {
 
     fn is_below(&self, first: &EvTree, second: &EvTree) -> bool {
         first.leq(second)
+    }
+
+    fn is_below_at(&self, _first: &EvTree, deciding: &Deciding, second: &EvTree) -> bool {
+        deciding.value <= second.value_at(&deciding.point)
     }
 }

@@ -1,8 +1,10 @@
 //! Queries about the order of events. Event k has the k-th of the kept trees, from 1.
-ghost use Rattle.std.specs.Prelude.{◌≡◌, IfOk, IfErr, map, true, false};
+ghost use Rattle.std.specs.Prelude.{◌≡◌, ◌↔◌, IfOk, IfErr, IsTrue, map, [], true, false};
+ghost use Rattle.event_tree.specs.Comparison.{IsBelow};
+ghost use Rattle.trace_query.specs.Deciding.{IsDecidedBy, DecideInOrder, point_in};
 ghost use Rattle.trace_query.specs.Queries.{has_tree, tree_at, StandInOrder, trees_before, concurrent_of, order_due, fault_due};
 
-use crate::{Compare, Meant, QueryFault};
+use crate::{Compare, Deciding, Meant, QueryFault};
 use std::alloc::Global;
 use std::cmp::Ordering;
 use trace_types::{Memory, Order};
@@ -36,6 +38,8 @@ pub fn past<C: Compare>(
     ensures events { IfOk result
         (λ events. events.items ≡ trees_before (map C.Kept.tree kept.now) event) }
     ensures fault { IfErr result (λ fault. fault ≡ fault_due (map C.Kept.tree kept.now) event) }
+    ensures empty { trees_before (map C.Kept.tree kept.now) event ≡ []
+        → IfErr result (λ fault. fault ≡ QueryFault.Unknown) }
 {
     let tree = kept_of(kept, event)?;
     let mut events = Vec::new(alloc);
@@ -61,12 +65,35 @@ pub fn past_in_order<C: Compare>(
     ensures events { IfOk result
         (λ events. events.items ≡ trees_before (map C.Kept.tree kept.now) event) }
     ensures fault { IfErr result (λ fault. fault ≡ fault_due (map C.Kept.tree kept.now) event) }
+    ensures empty { trees_before (map C.Kept.tree kept.now) event ≡ []
+        → IfErr result (λ fault. fault ≡ QueryFault.Unknown) }
+{
+    past_by_points(compare, alloc, kept, &[], event)
+}
+
+/// As [`past_in_order`], where event k has the k-th of the points: where an event has one, it is compared there alone.
+/// Events behind the last point have none.
+pub fn past_by_points<C: Compare>(
+    compare: &C,
+    alloc: Global,
+    kept: &[C::Kept],
+    points: &[Option<Deciding>],
+    event: u64,
+) -> Result<Vec<u64>, QueryFault>
+    requires in_order { StandInOrder (map C.Kept.tree kept.now) }
+    requires decided { DecideInOrder (map C.Kept.tree kept.now) points.now }
+    ensures known { IfOk result (λ _. has_tree (map C.Kept.tree kept.now) event ≡ true) }
+    ensures events { IfOk result
+        (λ events. events.items ≡ trees_before (map C.Kept.tree kept.now) event) }
+    ensures fault { IfErr result (λ fault. fault ≡ fault_due (map C.Kept.tree kept.now) event) }
+    ensures empty { trees_before (map C.Kept.tree kept.now) event ≡ []
+        → IfErr result (λ fault. fault ≡ QueryFault.Unknown) }
 {
     let tree = kept_of(kept, event)?;
     let earlier = &kept[..event as usize - 1];
     let mut events = Vec::new(alloc);
     for (place, other) in earlier.iter().enumerate() {
-        if compare.is_below(other, tree) {
+        if is_below_later(compare, other, points, place, tree) {
             events.push(place as u64 + 1).map_err(Memory::from)?;
         }
     }
@@ -86,6 +113,8 @@ pub fn concurrent_with<C: Compare>(
     ensures events { IfOk result
         (λ events. events.items ≡ concurrent_of (map C.Kept.tree kept.now) event) }
     ensures fault { IfErr result (λ fault. fault ≡ fault_due (map C.Kept.tree kept.now) event) }
+    ensures empty { concurrent_of (map C.Kept.tree kept.now) event ≡ []
+        → IfErr result (λ fault. fault ≡ QueryFault.Unknown) }
 {
     let tree = kept_of(kept, event)?;
     let mut events = Vec::new(alloc);
@@ -111,21 +140,63 @@ pub fn concurrent_in_order<C: Compare>(
     ensures events { IfOk result
         (λ events. events.items ≡ concurrent_of (map C.Kept.tree kept.now) event) }
     ensures fault { IfErr result (λ fault. fault ≡ fault_due (map C.Kept.tree kept.now) event) }
+    ensures empty { concurrent_of (map C.Kept.tree kept.now) event ≡ []
+        → IfErr result (λ fault. fault ≡ QueryFault.Unknown) }
+{
+    concurrent_by_points(compare, alloc, kept, &[], event)
+}
+
+/// As [`concurrent_in_order`], where event k has the k-th of the points: of two events the earlier one's point, where it
+/// has one, is where they are compared. Events behind the last point have none.
+pub fn concurrent_by_points<C: Compare>(
+    compare: &C,
+    alloc: Global,
+    kept: &[C::Kept],
+    points: &[Option<Deciding>],
+    event: u64,
+) -> Result<Vec<u64>, QueryFault>
+    requires in_order { StandInOrder (map C.Kept.tree kept.now) }
+    requires decided { DecideInOrder (map C.Kept.tree kept.now) points.now }
+    ensures known { IfOk result (λ _. has_tree (map C.Kept.tree kept.now) event ≡ true) }
+    ensures events { IfOk result
+        (λ events. events.items ≡ concurrent_of (map C.Kept.tree kept.now) event) }
+    ensures fault { IfErr result (λ fault. fault ≡ fault_due (map C.Kept.tree kept.now) event) }
+    ensures empty { concurrent_of (map C.Kept.tree kept.now) event ≡ []
+        → IfErr result (λ fault. fault ≡ QueryFault.Unknown) }
 {
     let tree = kept_of(kept, event)?;
+    let own_place = event as usize - 1;
     let mut events = Vec::new(alloc);
     for (place, other) in kept.iter().enumerate() {
         let number = place as u64 + 1;
         let is_apart = match number.cmp(&event) {
-            Ordering::Less => !compare.is_below(other, tree),
+            Ordering::Less => !is_below_later(compare, other, points, place, tree),
             Ordering::Equal => false,
-            Ordering::Greater => !compare.is_below(tree, other),
+            Ordering::Greater => !is_below_later(compare, tree, points, own_place, other),
         };
         if is_apart {
             events.push(number).map_err(Memory::from)?;
         }
     }
     Ok(events)
+}
+
+/// Whether the tree of an event is below that of a later one. `place` is where the points have that of the earlier one.
+#[inline(always)]
+fn is_below_later<C: Compare>(
+    compare: &C,
+    earlier: &C::Kept,
+    points: &[Option<Deciding>],
+    place: usize,
+    later: &C::Kept,
+) -> bool
+    requires { IsDecidedBy (point_in points.now place) (C.Kept.tree earlier.now) (C.Kept.tree later.now) }
+    ensures { IsTrue result ↔ IsBelow (C.Kept.tree earlier.now) (C.Kept.tree later.now) }
+{
+    match points.get(place) {
+        Some(Some(deciding)) => compare.is_below_at(earlier, deciding, later),
+        _ => compare.is_below(earlier, later),
+    }
 }
 
 /// What is kept for the event.
