@@ -2,6 +2,7 @@ pub mod Steps
 pub mod Places
 pub mod Parts
 pub mod Firsts
+pub mod Flats
 pub mod WalkIds
 pub mod WalkTrees
 pub mod Outcomes

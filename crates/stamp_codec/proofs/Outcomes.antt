@@ -16,7 +16,7 @@ use Rattle.stamp_codec.proofs.WalkTrees.{WalksTree, large_in}
 use Rattle.stamp_codec.proofs.RoundTrip.{tree_text-written}
 
 -- where the parts of a stamp stand
-at_id : (text first : List ℕ) (start : ℕ) (id : Id) (tree : Written) → SpellsStamp text id tree → first ≡ drop 1 text → start + length first ≡ length text →
+pub at_id : (text first : List ℕ) (start : ℕ) (id : Id) (tree : Written) → SpellsStamp text id tree → first ≡ drop 1 text → start + length first ≡ length text →
     (first ≡ id_text id ++ (59 ∷ (written_text tree ++ (93 ∷ [])))) × (start ≡ 1)
 at_id text first start id tree spells first_is end =
     let is = first_is ∙ ap (λ t. drop 1 t) spells.whole in

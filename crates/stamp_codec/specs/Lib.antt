@@ -1,5 +1,6 @@
 pub mod Bounds
 pub mod Faults
+pub mod Flat
 pub mod Reading
 pub mod Scan
 pub mod Stamp

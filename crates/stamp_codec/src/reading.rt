@@ -1,12 +1,13 @@
 //! The stamp that a text spells.
-ghost use Rattle.std.specs.Prelude.{◌≡◌, ◌+◌, ◌^◌, ◌<◌, IfOk};
+ghost use Rattle.std.specs.Prelude.{◌≡◌, ◌+◌, ◌^◌, ◌<◌, IfOk, IfErr};
 ghost use Rattle.trace_types.specs.clock.Id.{Id};
 ghost use Rattle.trace_types.specs.clock.EventTree.{maximum};
 ghost use Rattle.stamp_codec.specs.StampText.{Written, SpellsStamp, written_tree, stamp_as_text};
 ghost use Rattle.stamp_codec.specs.Walks.{WalksStamp};
 ghost use Rattle.stamp_codec.specs.Bounds.{IsBounded};
 ghost use Rattle.stamp_codec.specs.declared.stamp.Stamp.{Stamp};
-ghost use Rattle.stamp_codec.specs.Reading.{ReadsStamp, SpellsNormal, GivesStamp};
+ghost use Rattle.stamp_codec.specs.Flat.{OpensNowhere};
+ghost use Rattle.stamp_codec.specs.Reading.{ReadsStamp, SpellsNormal, GivesStamp, IsNoMemory};
 
 use crate::cursor::Cursor;
 use crate::shape::shape_fault;
@@ -32,6 +33,8 @@ pub fn read_stamp(alloc: Global, text: &[u8]) -> Result<Stamp, StampFault>
     ensures again { (stamp : Stamp) → IsBounded stamp → text.now ≡ stamp_as_text stamp → GivesStamp result stamp.id stamp.tree }
     // What is read is the text that is written of the stamp.
     ensures found { IfOk result (λ stamp. text.now ≡ stamp_as_text stamp) }
+    // A text without parentheses takes no memory.
+    ensures flat { OpensNowhere text.now → IfErr result (λ fault. ¬ IsNoMemory fault) }
 {
     match shape_fault(alloc, text)? {
         Some(place) => Err(StampFault::Shape(place)),
@@ -43,6 +46,8 @@ pub fn read_stamp(alloc: Global, text: &[u8]) -> Result<Stamp, StampFault>
 fn walk(alloc: Global, text: &[u8]) -> Result<Stamp, StampFault>
     ensures small { IfOk result (λ stamp. maximum stamp.tree < 2 ^ 64) }
     ensures exact { (id : Id) (tree : Written) → SpellsStamp text.now id tree → WalksStamp result id tree }
+    ensures flat { OpensNowhere text.now → (id : Id) (tree : Written) → SpellsStamp text.now id tree
+        → IfErr result (λ fault. ¬ IsNoMemory fault) }
 {
     let mut cursor = Cursor::new(text);
     cursor.skip();

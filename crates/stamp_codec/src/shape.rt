@@ -1,5 +1,6 @@
 //! Whether a text has the shape of a stamp.
-ghost use Rattle.std.specs.Prelude.{◌≡◌, ◌↔◌, [], ◌∷◌, IfOk, IsTrue, MatchOption};
+ghost use Rattle.std.specs.Prelude.{◌≡◌, ◌≢◌, ◌↔◌, [], ◌∷◌, IfOk, IsOk, IsTrue, MatchOption};
+ghost use Rattle.stamp_codec.specs.Flat.{OpensNowhere};
 ghost use Rattle.stamp_codec.specs.StampText.{IsShaped};
 ghost use Rattle.stamp_codec.specs.Faults.{IsShapeFault};
 
@@ -46,6 +47,7 @@ struct Scan {
 
 impl Scan {
     ghost use Rattle.stamp_codec.specs.Scan.{awaiting, stepped, closed, id_begun, number_begun, tree_begun, number_ended, is_digit_byte};
+    ghost use Rattle.stamp_codec.specs.Flat.{IsFlat};
     ghost use Rattle.stamp_codec.specs.declared.shape.nesting.Side.TheVariants.{Left};
     ghost use Rattle.stamp_codec.specs.declared.shape.Awaited.TheVariants as awaits;
 
@@ -60,7 +62,8 @@ impl Scan {
 
     /// What is awaited after the byte, or nothing where no stamp goes on with it.
     fn step(self, byte: u8) -> Result<Option<Scan>, Memory>
-        ensures { IfOk result (λ next. next ≡ stepped self.awaited self.inside byte) }
+        ensures exact { IfOk result (λ next. next ≡ stepped self.awaited self.inside byte) }
+        ensures flat { IsFlat self → byte ≢ 40 → IsOk result }
     {
         match self.awaited {
             Awaited::Start if byte == b'[' => Ok(Some(self.then(Awaited::Node(Part::Id)))),
@@ -97,7 +100,8 @@ impl Scan {
     }
 
     fn begin_id(self, byte: u8) -> Result<Option<Scan>, Memory>
-        ensures { IfOk result (λ next. next ≡ id_begun self.inside byte) }
+        ensures exact { IfOk result (λ next. next ≡ id_begun self.inside byte) }
+        ensures flat { byte ≢ 40 → IsOk result }
     {
         if byte == b'(' {
             Ok(Some(self.opened(Part::Id)?))
@@ -109,7 +113,8 @@ impl Scan {
     }
 
     fn begin_tree(self, byte: u8) -> Result<Option<Scan>, Memory>
-        ensures { IfOk result (λ next. next ≡ tree_begun self.inside byte) }
+        ensures exact { IfOk result (λ next. next ≡ tree_begun self.inside byte) }
+        ensures done { IsOk result }
     {
         if byte == b'(' {
             Ok(Some(self.then(Awaited::Number)))
@@ -142,7 +147,8 @@ impl Scan {
     }
 
     fn close(self, part: Part, byte: u8) -> Result<Option<Scan>, Memory>
-        ensures { IfOk result (λ next. next ≡ closed part self.inside byte) }
+        ensures exact { IfOk result (λ next. next ≡ closed part self.inside byte) }
+        ensures flat { self.inside ≡ [] → IsOk result }
     {
         let mut inside = self.inside;
         let awaited = match (inside.pop(), part) {
@@ -169,7 +175,8 @@ impl Scan {
 ///
 /// Goes over the bytes once, with one mark in memory for each parenthesis that is open.
 pub fn shape_fault(alloc: Global, text: &[u8]) -> Result<Option<usize>, Memory>
-    ensures { IfOk result (λ fault. MatchOption fault (IsShaped text.now) (λ place. IsShapeFault text.now place)) }
+    ensures exact { IfOk result (λ fault. MatchOption fault (IsShaped text.now) (λ place. IsShapeFault text.now place)) }
+    ensures flat { OpensNowhere text.now → IsOk result }
 {
     let mut scan = Scan::start(alloc);
     for (place, byte) in text.iter().enumerate() {

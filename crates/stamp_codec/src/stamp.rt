@@ -1,7 +1,8 @@
 //! The stamp.
-ghost use Rattle.std.specs.Prelude.{◌≡◌, ◌≢◌, ◌+◌, ◌^◌, ◌<◌, IfOk};
-ghost use Rattle.trace_types.specs.clock.Id.{Zero, AreDisjoint};
+ghost use Rattle.std.specs.Prelude.{◌≡◌, ◌≢◌, ◌+◌, ◌^◌, ◌<◌, IfOk, IsOk};
+ghost use Rattle.trace_types.specs.clock.Id.{Zero, One, AreDisjoint};
 ghost use Rattle.trace_types.specs.clock.EventTree.{maximum};
+ghost use Rattle.event_tree.specs.Leaves.{IsLeafTree};
 
 use event_tree::EvTree;
 use id_tree::IdTree;
@@ -34,9 +35,11 @@ impl Stamp {
     /// Two stamps that share out the points of this one and know what it knows: the published fork. Both own some point
     /// where this one does.
     ///
-    /// `Memory`: there was none for the new ids or for the trees.
+    /// `Memory`: there was none for the new ids or for the trees. A stamp without points whose tree is one number takes
+    /// none.
     pub fn fork(&self, alloc: Global) -> Result<(Stamp, Stamp), Memory>
-        ensures { IfOk result (λ stamps. stamps ≡ fork self.now) }
+        ensures exact { IfOk result (λ stamps. stamps ≡ fork self.now) }
+        ensures nothing { self.now.id ≡ Zero → IsLeafTree self.now.tree → IsOk result }
     {
         let (first, second) = self.id.split(alloc)?;
         let first = Stamp {
@@ -53,11 +56,12 @@ impl Stamp {
     /// The stamp after an event of its own: the published event. It has to own a point, as any stamp does that comes from
     /// the seed by forks, joins and events, and no value of its tree may be `u64::MAX`.
     ///
-    /// `Memory`: there was none for the tree that is raised or for the id.
+    /// `Memory`: there was none for the tree that is raised or for the id. A stamp that owns every point takes none.
     pub fn event(&self, alloc: Global) -> Result<Stamp, Memory>
         requires some { self.now.id ≢ Zero }
         requires fits { maximum self.now.tree + 1 < 2 ^ 64 }
-        ensures { IfOk result (λ stamp. stamp ≡ stamp_event self.now) }
+        ensures exact { IfOk result (λ stamp. stamp ≡ stamp_event self.now) }
+        ensures whole { self.now.id ≡ One → IsOk result }
     {
         let id = self.id.share(alloc)?;
         let tree = EvTree::event(alloc, &self.id, &self.tree)?;
@@ -79,9 +83,10 @@ impl Stamp {
 
     /// A stamp without points that knows what this one knows, to be sent along: the published peek. It can have no event.
     ///
-    /// `Memory`: there was none for the tree.
+    /// `Memory`: there was none for the tree. A tree that is one number takes none.
     pub fn peek(&self, alloc: Global) -> Result<Stamp, Memory>
-        ensures { IfOk result (λ stamp. stamp ≡ peek self.now) }
+        ensures exact { IfOk result (λ stamp. stamp ≡ peek self.now) }
+        ensures leaf { IsLeafTree self.now.tree → IsOk result }
     {
         let tree = self.tree.share(alloc)?;
         Ok(Stamp {
