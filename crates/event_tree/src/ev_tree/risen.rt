@@ -33,7 +33,7 @@ impl EvTree {
 }
 
 /// The halves of so many levels to a point at which `after`, lifted, is above `before`, lifted, as the bits of a number,
-/// the uppermost the lowest. Below a number stands `zero`.
+/// the uppermost the lowest. Below a number stands `zero`. The right half is looked at first, since of equal sides it grows.
 fn risen_halves(
     id: &IdTree,
     before: &EvTree,
@@ -65,11 +65,19 @@ fn risen_halves(
     let after = after.opened(zero);
     let (low, high) = (before_lift + before.root, after_lift + after.root);
     let below = levels - 1;
-    if let Some(halves) = risen_halves(left_id, before.left, low, after.left, high, zero, below) {
-        return Some(2 * halves);
+    if let Some(halves) = risen_halves(
+        right_id,
+        before.right,
+        low,
+        after.right,
+        high,
+        zero,
+        below,
+    ) {
+        return Some(2 * halves + 1);
     }
-    let halves = risen_halves(right_id, before.right, low, after.right, high, zero, below)?;
-    Some(2 * halves + 1)
+    let halves = risen_halves(left_id, before.left, low, after.left, high, zero, below)?;
+    Some(2 * halves)
 }
 
 /// What the id owns of each half, if it owns anything.

@@ -21,9 +21,9 @@ pub risen_halves-requires : goal.risen_halves-requires
 risen_halves-requires t c = (
   omega (arith, c.if-levels-eq0.false),
   (
-    rw (c.opened-before.ensures.left, c.opened-before.ensures.root) (omega (arith, maximum-opened c.args.before.now)),
+    rw (c.opened-before.ensures.right, c.opened-before.ensures.root) (omega (arith, maximum-opened c.args.before.now)),
     (
-      rw (c.opened-after.ensures.left, c.opened-after.ensures.root) (omega (arith, maximum-opened c.args.after.now)),
+      rw (c.opened-after.ensures.right, c.opened-after.ensures.root) (omega (arith, maximum-opened c.args.after.now)),
       (c.requires.zero, omega arith),
     ),
   ),
@@ -32,18 +32,21 @@ risen_halves-requires t c = (
 pub overflow_mul-result : goal.overflow_mul-result
 overflow_mul-result t c = omega (arith, doubles c.args.levels c.in-Some.halves c.requires.levels c.if-levels-eq0.false c.in-Some.ensures.risen.small)
 
+pub overflow_add-result : goal.overflow_add-result
+overflow_add-result t c = omega (arith, doubles c.args.levels c.in-Some.halves c.requires.levels c.if-levels-eq0.false c.in-Some.ensures.risen.small)
+
 pub returns-in-Some-clause-risen : goal.returns-in-Some-clause-risen
 returns-in-Some-clause-risen t c =
-    risen_left c.args.before_lift c.args.after_lift c.args.before.now c.args.after.now c.args.levels c.if-levels-eq0.false c.in-Some.halves
-    (rw (c.opened-before.ensures.left, c.opened-before.ensures.root, c.opened-after.ensures.left, c.opened-after.ensures.root) at c.in-Some.ensures.risen)
+    risen_right c.args.before_lift c.args.after_lift c.args.before.now c.args.after.now c.args.levels c.if-levels-eq0.false c.in-Some.halves
+    (rw (c.opened-before.ensures.right, c.opened-before.ensures.root, c.opened-after.ensures.right, c.opened-after.ensures.root) at c.in-Some.ensures.risen)
 
 pub risen_halves-requires-2 : goal.risen_halves-requires-2
 risen_halves-requires-2 t c = (
   omega (arith, c.if-levels-eq0.false),
   (
-    rw (c.opened-before.ensures.right, c.opened-before.ensures.root) (omega (arith, maximum-opened c.args.before.now)),
+    rw (c.opened-before.ensures.left, c.opened-before.ensures.root) (omega (arith, maximum-opened c.args.before.now)),
     (
-      rw (c.opened-after.ensures.right, c.opened-after.ensures.root) (omega (arith, maximum-opened c.args.after.now)),
+      rw (c.opened-after.ensures.left, c.opened-after.ensures.root) (omega (arith, maximum-opened c.args.after.now)),
       (c.requires.zero, omega arith),
     ),
   ),
@@ -55,11 +58,11 @@ returns-in_err-halves-clause-none t c within =
     let high = c.args.after_lift in
     let before = c.args.before.now in
     let after = c.args.after.now in
-    let left =
-    rw (c.opened-before.ensures.left, c.opened-before.ensures.root, c.opened-after.ensures.left, c.opened-after.ensures.root, c.in_ok-left_id.ensures.some.0)
-    at c.in_default.ensures.none in
     let right =
     rw (c.opened-before.ensures.right, c.opened-before.ensures.root, c.opened-after.ensures.right, c.opened-after.ensures.root, c.in_ok-left_id.ensures.some.1)
+    at c.in_default.ensures.none in
+    let left =
+    rw (c.opened-before.ensures.left, c.opened-before.ensures.root, c.opened-after.ensures.left, c.opened-after.ensures.root, c.in_ok-left_id.ensures.some.0)
     at c.in_err-halves.ensures.none in
     rw c.from_residual-in_err-halves.ensures
     (none_risen low high before after c.args.levels c.if-levels-eq0.false
@@ -69,10 +72,7 @@ returns-in_err-halves-clause-none t c within =
 pub overflow_mul-result-2 : goal.overflow_mul-result-2
 overflow_mul-result-2 t c = omega (arith, doubles c.args.levels c.in_ok-halves.halves c.requires.levels c.if-levels-eq0.false c.in_ok-halves.ensures.risen.small)
 
-pub overflow_add-result : goal.overflow_add-result
-overflow_add-result t c = omega (arith, doubles c.args.levels c.in_ok-halves.halves c.requires.levels c.if-levels-eq0.false c.in_ok-halves.ensures.risen.small)
-
 pub returns-clause-risen : goal.returns-clause-risen
 returns-clause-risen t c =
-    risen_right c.args.before_lift c.args.after_lift c.args.before.now c.args.after.now c.args.levels c.if-levels-eq0.false c.in_ok-halves.halves
-    (rw (c.opened-before.ensures.right, c.opened-before.ensures.root, c.opened-after.ensures.right, c.opened-after.ensures.root) at c.in_ok-halves.ensures.risen)
+    risen_left c.args.before_lift c.args.after_lift c.args.before.now c.args.after.now c.args.levels c.if-levels-eq0.false c.in_ok-halves.halves
+    (rw (c.opened-before.ensures.left, c.opened-before.ensures.root, c.opened-after.ensures.left, c.opened-after.ensures.root) at c.in_ok-halves.ensures.risen)
