@@ -4,7 +4,7 @@ use Rattle.id_tree.specs.declared.tree.Node.{Node}
 use Rattle.id_tree.specs.declared.tree.Node.TheVariants.{Zero, One, Pair}
 
 -- the plain id
-abbrev pub id_of : Node → plain.Id
-id_of Zero = plain.Zero
-id_of One = plain.One
-id_of (Pair halves) = plain.Pair halves.value.left halves.value.right
+abbrev pub id_of_node : Node → plain.Id
+id_of_node Zero = plain.Zero
+id_of_node One = plain.One
+id_of_node (Pair halves) = plain.Pair halves.value.left halves.value.right

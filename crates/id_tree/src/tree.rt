@@ -56,11 +56,11 @@ impl Model for IdTree {
 
     ghost coded = { id_code };
 
-    ghost use Rattle.id_tree.specs.Node.{id_of};
+    ghost use Rattle.id_tree.specs.Node.{id_of_node};
 
-    ghost view = { λ tree. id_of tree.node };
+    ghost view = { λ tree. id_of_node tree.node };
 
-    ghost invariant = { λ tree. IsNormalId (id_of tree.node) };
+    ghost invariant = { λ tree. IsNormalId (id_of_node tree.node) };
 
     ghost size = { pair_count };
 

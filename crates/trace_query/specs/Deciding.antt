@@ -8,13 +8,13 @@ use Rattle.trace_query.specs.Queries.{has_tree, tree_at}
 use Rattle.trace_query.specs.declared.deciding.Deciding.{Deciding}
 
 -- the first tree is below the second where it is no greater at the point
-abbrev pub Decides : Point → EventTree → EventTree → Type 0
-Decides point e f = value e point ≤ value f point → IsBelow e f
+abbrev pub DecidesBelow : Point → EventTree → EventTree → Type 0
+DecidesBelow point e f = value e point ≤ value f point → IsBelow e f
 
 -- the value of the first tree at a point that decides whether it is below the second
 pub record IsDeciding (deciding : Deciding) (e f : EventTree) : Type 0 where
   pub own : deciding.value ≡ value e deciding.point
-  pub decides : Decides deciding.point e f
+  pub decides : DecidesBelow deciding.point e f
 
 -- a point, where there is one, decides whether the first tree is below the second
 abbrev pub IsDecidedBy : Option Deciding → EventTree → EventTree → Type 0
