@@ -16,7 +16,7 @@ pub use Rattle.trace_types.specs.clock.Stamps.{acting_id, id_at, id_given, id_ke
 pub use Rattle.trace_types.specs.declared.code.Code.{Code}
 pub use Rattle.trace_types.specs.declared.code.Code.TheVariants.{AlreadyReceived, NoEvent, NoMemory, NoMessage}
 pub use Rattle.trace_types.specs.declared.order.Order.{Order}
-pub use Rattle.trace_types.specs.declared.order.Order.TheVariants.{Before, Concurrent, Same}
+pub use Rattle.trace_types.specs.declared.order.Order.TheVariants.{After, Before, Concurrent, Same}
 pub use Rattle.trace_types.specs.declared.reply.Reply.{Reply}
 pub use Rattle.trace_types.specs.declared.request.Reported.{Reported}
 pub use Rattle.trace_types.specs.declared.request.Request.{Request}

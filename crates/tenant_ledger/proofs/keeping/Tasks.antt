@@ -45,12 +45,22 @@ module _ (book : Contents) (kept : IsKept book) (task : Text) (acting : Task) (f
   abbrev place : ℕ
   place = length book.ids
 
+  abbrev own : Id
+  own = id_of tree_clock history task
+
+  abbrev named : Option Text → Id
+  named name = of_named Zero (id_of tree_clock history) name
+
   -- the ids that the book has after the report
   abbrev ids_after : Kind → Option Text → List Id
-  ids_after kind name = book.ids ++ made_ids (ids_made kind (id_of tree_clock history task) (of_named Zero (id_of tree_clock history) name))
+  ids_after kind name = book.ids ++ made_ids (ids_made kind own (named name))
 
   abbrev row : Kind → Option Text → Row
   row kind name = row_after history task kind name
+
+  -- what is kept of a task is right after the report
+  abbrev IsRight : Kind → Option Text → Text → Option Task → Type 0
+  IsRight kind name other found = IsTask (ids_after kind name) (row kind name ∷ history) other found
 
   module _ (live : IsLive history task) where
     was_kept : IsTask book.ids history task (Some acting)
@@ -69,41 +79,32 @@ module _ (book : Contents) (kept : IsKept book) (task : Text) (acting : Task) (f
     state_after : (kind : Kind) (name : Option Text) → AllowsNamed history kind name → (acting_after kind event place acting).state ≡ state_of (row kind name ∷ history) task
     state_after End name allowed =
         sym (cond-false (is_joined history task) _ _ unjoined ∙ cond-true (is_ended (row End name ∷ history) task) _ _ (or_left (is_same task task) _ (is_same-itself task)))
-    state_after Join None allowed = absurd allowed
     state_after Join (Some child) allowed = rw (differ_back task child (live_is_not_ended history task child live allowed.1)) was_kept.1
     state_after kind name allowed = was_kept.1
 
+    acting_id : (kind : Kind) (name : Option Text) → id_kept tree_clock kind own (named name) ≡ id_of tree_clock (row kind name ∷ history) task
+    acting_id kind name = sym (cond-true (is_same task task) _ _ (is_same-itself task))
+
     -- with this id
-    id_after : (kind : Kind) (name : Option Text)
-        → slice_get (ids_after kind name) (acting_after kind event place acting).id ≡ Some (id_kept tree_clock kind (id_of tree_clock history task) (of_named Zero (id_of tree_clock history) name))
-    id_after Spawn name = slice_get-seam book.ids _ _
-    id_after Join name = slice_get-seam book.ids _ _
-    id_after kind name = slice_get-longer book.ids [] acting.id _ own_id
+    pub id_is_kept : (kind : Kind) (name : Option Text)
+        → slice_get (ids_after kind name) (acting_after kind event place acting).id ≡ Some (id_of tree_clock (row kind name ∷ history) task)
+    id_is_kept Spawn name = slice_get-seam book.ids _ _ ∙ ap Some (acting_id Spawn name)
+    id_is_kept Join name = slice_get-seam book.ids _ _ ∙ ap Some (acting_id Join name)
+    id_is_kept kind name = slice_get-longer book.ids [] acting.id _ own_id ∙ ap Some (acting_id kind name)
+
+    -- which is the first that the event makes, else the one that the task had
+    pub id_is_left : (kind : Kind) (name : Option Text)
+        → id_left book.ids (made_ids (ids_made kind own (named name))) (acting_after kind event place acting).id ≡ Some (id_of tree_clock (row kind name ∷ history) task)
+    id_is_left Spawn name = ap Some (acting_id Spawn name)
+    id_is_left Join name = ap Some (acting_id Join name)
+    id_is_left kind name = own_id ∙ ap Some (acting_id kind name)
 
     last_after : (kind : Kind) → (acting_after kind event place acting).last ≡ event
     last_after Local = refl
     last_after kind = refl
 
-    pub id_is_kept : (kind : Kind) (name : Option Text)
-        → slice_get (ids_after kind name) (acting_after kind event place acting).id ≡ Some (id_of tree_clock (row kind name ∷ history) task)
-    id_is_kept kind name = id_after kind name ∙ ap Some (sym (cond-true (is_same task task) _ _ (is_same-itself task)))
-
-    -- which is the first that the event makes, else the one that the task had
-    id_left_after : (kind : Kind) (name : Option Text)
-        → id_left book.ids (made_ids (ids_made kind (id_of tree_clock history task) (of_named Zero (id_of tree_clock history) name))) (acting_after kind event place acting).id
-        ≡ Some (id_kept tree_clock kind (id_of tree_clock history task) (of_named Zero (id_of tree_clock history) name))
-    id_left_after Spawn name = refl
-    id_left_after Join name = refl
-    id_left_after kind name = own_id
-
-    pub id_is_left : (kind : Kind) (name : Option Text)
-        → id_left book.ids (made_ids (ids_made kind (id_of tree_clock history task) (of_named Zero (id_of tree_clock history) name))) (acting_after kind event place acting).id
-        ≡ Some (id_of tree_clock (row kind name ∷ history) task)
-    id_is_left kind name = id_left_after kind name ∙ ap Some (sym (cond-true (is_same task task) _ _ (is_same-itself task)))
-
     -- so what is to be kept of it is right
-    acting_is_task : (kind : Kind) (name : Option Text) → AllowsNamed history kind name
-        → IsTask (ids_after kind name) (row kind name ∷ history) task (Some (acting_after kind event place acting))
+    acting_is_task : (kind : Kind) (name : Option Text) → AllowsNamed history kind name → IsRight kind name task (Some (acting_after kind event place acting))
     acting_is_task kind name allowed = (
       known_stays (row kind name) history task live.0,
       state_after kind name allowed,
@@ -111,25 +112,9 @@ module _ (book : Contents) (kept : IsKept book) (task : Text) (acting : Task) (f
       λ _. id_is_kept kind name,
     )
 
-    -- of a task that is not of the row and is not named by it
-    unnamed : (kind : Kind) (name : Option Text) (other : Text) → is_same task other ≡ false → names (row kind name) other ≡ false
-        → IsTask (ids_after kind name) (row kind name ∷ history) other (task_in book other)
-    unnamed kind name other differ not_named =
-        stands_by (row kind name) history book.ids _ other differ (and_right (starts_task kind) _ not_named) (and_right (joins_task kind) _ not_named)
-        (cond-false (is_same task other) _ _ differ ∙ cond-false (names (row kind name) other) _ _ not_named) (task_in book other) (kept.tasks_are other)
-
-    -- and of one that is named by a report that neither starts nor takes in a task
-    untouched : (kind : Kind) (name : Option Text) (other : Text) → is_same task other ≡ false → starts_task kind ≡ false → joins_task kind ≡ false
-        → ((own named : Id) → id_given tree_clock kind own named ≡ named) → IsTask (ids_after kind name) (row kind name ∷ history) other (task_in book other)
-    untouched kind name other differ starts_none joins_none gives_none =
-        stands_by (row kind name) history book.ids _ other differ (and_left (starts_task kind) _ starts_none) (and_left (joins_task kind) _ joins_none)
-        (cond-false (is_same task other) _ _ differ
-        ∙ cond_both (names (row kind name) other) _ _ (λ id. id ≡ id_of tree_clock history other) (λ _. gives_none _ _) (λ _. refl))
-        (task_in book other) (kept.tasks_are other)
-
     -- of a task that the report starts
     started_is_task : (child : Text) → is_known history child ≡ false
-        → IsTask (ids_after Spawn (Some child)) (row Spawn (Some child) ∷ history) child (Some (record { state = Live; last = event; id = suc place }))
+        → IsRight Spawn (Some child) child (Some (record { state = Live; last = event; id = suc place }))
     started_is_task child new =
         let legal = legal_history book kept in
         let differ = live_is_not_unknown history task child live new in
@@ -142,7 +127,7 @@ module _ (book : Contents) (kept : IsKept book) (task : Text) (acting : Task) (f
 
     -- of a task that it takes in
     joined_is_task : (child : Text) (joined : Task) → task_in book child ≡ Some joined → is_ended history child ≡ true
-        → IsTask (ids_after Join (Some child)) (row Join (Some child) ∷ history) child (Some (record joined { state = Joined }))
+        → IsRight Join (Some child) child (Some (record joined { state = Joined }))
     joined_is_task child joined child_found ended =
         let right = task_kept book kept child joined child_found in
         let differ = live_is_not_ended history task child live ended in (
@@ -153,35 +138,38 @@ module _ (book : Contents) (kept : IsKept book) (task : Text) (acting : Task) (f
         )
 
     -- the task that is named, once it is kept, and every other one
-    named_or_not : (kind : Kind) (child : Text) (kept_of : Task) → IsTask (ids_after kind (Some child)) (row kind (Some child) ∷ history) child (Some kept_of)
-        → (other : Text) → is_same task other ≡ false → IsTask (ids_after kind (Some child)) (row kind (Some child) ∷ history) other (task_with child kept_of (task_in book) other)
+    named_or_not : (kind : Kind) (child : Text) (kept_of : Task) → IsRight kind (Some child) child (Some kept_of)
+        → (other : Text) → is_same task other ≡ false → IsRight kind (Some child) other (task_with child kept_of (task_in book) other)
     named_or_not kind child kept_of right other differ =
-        cond_both (is_same child other) _ _ (IsTask (ids_after kind (Some child)) (row kind (Some child) ∷ history) other)
-        (λ same. subst (λ name. IsTask (ids_after kind (Some child)) (row kind (Some child) ∷ history) name (Some kept_of)) ((is_same_iff child other).0 same) right)
-        (λ not_named. unnamed kind (Some child) other differ not_named)
+        cond_both (is_same child other) _ _ (IsRight kind (Some child) other)
+        (λ same. subst (λ name. IsRight kind (Some child) name (Some kept_of)) ((is_same_iff child other).0 same) right)
+        (λ not. stands_by (row kind (Some child)) history book.ids _ other differ (and_right (starts_task kind) _ not) (and_right (joins_task kind) _ not)
+        (cond-false (is_same task other) _ _ differ ∙ cond-false (is_same child other) _ _ not) (task_in book other) (kept.tasks_are other))
 
     others_are_tasks : (kind : Kind) (name : Option Text) → AllowsNamed history kind name → (other : Text) → is_same task other ≡ false
-        → IsTask (ids_after kind name) (row kind name ∷ history) other (task_with_some (named_after kind event place (joined_by (task_in book) kind name)) name (task_in book) other)
+        → IsRight kind name other (task_with_some (named_after kind event place (joined_by (task_in book) kind name)) name (task_in book) other)
     others_are_tasks Spawn None allowed other differ = absurd allowed
     others_are_tasks Join None allowed other differ = absurd allowed
     others_are_tasks Spawn (Some child) allowed other differ = named_or_not Spawn child _ (started_is_task child allowed) other differ
     others_are_tasks Join (Some child) allowed other differ = by (task_in book child) refl
       where
         by : (had : Option Task) → task_in book child ≡ had
-            → IsTask (ids_after Join (Some child)) (row Join (Some child) ∷ history) other (task_with_some (named_after Join event place had) (Some child) (task_in book) other)
+            → IsRight Join (Some child) other (task_with_some (named_after Join event place had) (Some child) (task_in book) other)
         by None none = absurd (false≢true (ap is_some (sym none) ∙ has_known book kept child ∙ allowed.0))
         by (Some joined) had = named_or_not Join child _ (joined_is_task child joined had allowed.1) other differ
-    others_are_tasks kind name allowed other differ = untouched kind name other differ refl refl (λ own named. refl)
+    others_are_tasks kind name allowed other differ =
+        let same = cond_both (names (row kind name) other) _ _ (λ id. id ≡ id_of tree_clock history other) (λ _. refl) (λ _. refl) in
+        stands_by (row kind name) history book.ids _ other differ refl refl (cond-false (is_same task other) _ _ differ ∙ same) (task_in book other) (kept.tasks_are other)
 
     abbrev tasks_after : Kind → Option Text → Text → Option Task
     tasks_after kind name = task_with_some (named_after kind event place (joined_by (task_in book) kind name)) name (task_in book)
 
     -- so it is of each task
     pub tasks_are_kept : (kind : Kind) (name : Option Text) → AllowsNamed history kind name → (other : Text)
-        → IsTask (ids_after kind name) (row kind name ∷ history) other (task_with task (acting_after kind event place acting) (tasks_after kind name) other)
+        → IsRight kind name other (task_with task (acting_after kind event place acting) (tasks_after kind name) other)
     tasks_are_kept kind name allowed other =
-        cond_both (is_same task other) _ _ (IsTask (ids_after kind name) (row kind name ∷ history) other)
-        (λ same. subst (λ t. IsTask (ids_after kind name) (row kind name ∷ history) t (Some (acting_after kind event place acting))) ((is_same_iff task other).0 same) (acting_is_task kind name allowed))
+        cond_both (is_same task other) _ _ (IsRight kind name other)
+        (λ same. subst (λ t. IsRight kind name t (Some (acting_after kind event place acting))) ((is_same_iff task other).0 same) (acting_is_task kind name allowed))
         (others_are_tasks kind name allowed other)
 
     -- the acting task is among those that the book has, whatever is kept of the one that is named
@@ -201,7 +189,6 @@ module _ (book : Contents) (kept : IsKept book) (task : Text) (acting : Task) (f
         by : (kind : Kind) (name : Option Text) → AllowsNamed history kind name
             → count_with_some (named_after kind event place (joined_by (task_in book) kind name)) name (task_in book) (length book.tasks) ≡ task_count history + cond (starts_task kind) 1 0
         by Spawn None allowed = absurd allowed
-        by Join None allowed = absurd allowed
         by Spawn (Some child) allowed = rw (has_known book kept child ∙ allowed) (omega (arith, kept.counted))
         by Join (Some child) allowed = of_child (task_in book child) (has_known book kept child ∙ allowed.0)
           where

@@ -1,11 +1,11 @@
 -- The lists that are told by comparing the kept trees are those of the graph, and so is the row of an event.
-use Rattle.std.proofs.Common.{◌≡◌, ℕ, suc, ◌-◌, ◌<◌, ◌≤◌, true, false, not, ◌&&◌, IsTrue, eqb, ltb, List, [], ◌∷◌, ◌++◌, length, get_or, slice_get, reverse, Some, Result, Ok, Err, IfOk, IfErr, refl, sym, ap, ◌∙◌, subst, inl, inr, arith}
+use Rattle.std.proofs.Common.{◌≡◌, ℕ, suc, ◌-◌, ◌<◌, ◌≤◌, ◌≢◌, Bool, true, false, cond, not, ◌&&◌, IsTrue, eqb, ltb, List, [], ◌∷◌, ◌++◌, length, get_or, slice_get, reverse, map, option_map, Some, Result, Ok, Err, IfOk, IfErr, refl, sym, ap, ◌∙◌, subst, inl, inr, arith}
 use Rattle.std.specs.List.{filter, range_with_len}
-use Rattle.std.proofs.lemmas.Bool.{cases_Bool, cond_both, and_parts, cases_eq, eq-eqb, ne_eqb, eqb-true, or_left, cond-true, cond-false}
-use Rattle.std.proofs.lemmas.List.{length-reverse, reverse-append, reverse-reverse}
-use Rattle.std.proofs.lemmas.Option.{get_or_from_slice_get, slice_get-get_or, slice_get_read}
+use Rattle.std.proofs.lemmas.Bool.{cases_Bool, cond_both, cases_eq, eq-eqb, ne_eqb, eqb-true, or_left, cond-true, cond-false}
+use Rattle.std.proofs.lemmas.List.{length-reverse, map-append, reverse-append, reverse-reverse}
+use Rattle.std.proofs.lemmas.Option.{get_or_from_slice_get, same_Some, slice_get-map, slice_get_read}
 use Rattle.trace_query.specs.Compared.{is_order}
-use Rattle.tenant_ledger.proofs.Words.{tree_at, StandInOrder, order_between, others_standing, fault_due, History, history_of, is_event, row_of, events, reaches, order_of, past_of, concurrent_with, Id, EventTree, Leaf, tree_clock, tree_of, stamp_of, Order, Same, Before, Concurrent, Row, is_report, MayLackMemory, Answers, reply_to_view, NoEvent, Reply, Request, IsBelow, StandsAs, Contents, IsKept, tenant_of, history_in, code_of}
+use Rattle.tenant_ledger.proofs.Words.{of_each, tree_at, StandInOrder, order_between, others_standing, fault_due, History, history_of, is_event, row_of, events, reaches, order_of, past_of, concurrent_with, Id, EventTree, Leaf, tree_clock, tree_of, stamp_of, Order, Same, Before, After, Concurrent, Row, is_report, MayLackMemory, Answers, reply_to_view, NoEvent, Reply, Request, IsBelow, StandsAs, Contents, IsKept, tenant_of, history_in, code_of}
 use Rattle.trace_query.specs.Queries as query
 use Rattle.trace_query.specs.Laws.{Tells}
 use Rattle.trace_query.proofs.ComparedTrees.{tree_order_stands}
@@ -18,7 +18,7 @@ use Rattle.trace_query.specs.declared.query_fault.QueryFault.TheVariants.{Unknow
 use Rattle.event_tree.proofs.Standing.{stand_one_way}
 use Rattle.tenant_ledger.proofs.keeping.Kept.{one_tree, tree_at_event}
 use Rattle.tenant_ledger.proofs.clock.Events.{event_bounds}
-use Rattle.tenant_ledger.proofs.keeping.Lists.{slice_get-longer, slice_get-seam}
+use Rattle.tenant_ledger.proofs.keeping.Lists.{at_event}
 use Rattle.tenant_ledger.proofs.clock.Legality.{IsLegal_from_AreLegal}
 use Rattle.tenant_ledger.proofs.clock.Ordering.{below_iff_reaches, stands_as_ordered}
 use Rattle.tenant_ledger.proofs.clock.Reaching.{reaches_forward}
@@ -34,33 +34,18 @@ reaches_itself (row ∷ earlier) event = elim (cases_eq event (suc (length earli
 ]
 
 -- an event is in the past of another one where it is another one and reaches it
-in_past : (history : History) (event other : ℕ) → is_order Before (order_of history other event) ≡ (not (eqb other event) && reaches history other event)
-in_past history event other = elim (cases_Bool (eqb other event)) [
-  | inl same ↦ rw same refl
-  | inr differ ↦ elim (cases_Bool (reaches history other event)) [
-    | inl forth ↦ rw (differ, forth) refl
-    | inr not_forth ↦ elim (cases_Bool (reaches history event other)) [
-      | inl back ↦ rw (differ, not_forth, back) refl
-      | inr not_back ↦ rw (differ, not_forth, not_back) refl
-    ]
-  ]
-]
+before_by : (same forth back : Bool) → is_order Before (cond same Same (cond forth Before (cond back After Concurrent))) ≡ (not same && forth)
+before_by true forth back = refl
+before_by false true back = refl
+before_by false false true = refl
+before_by false false false = refl
 
 -- and concurrent with it where neither reaches the other
-is_concurrent : (history : History) (event other : ℕ)
-    → is_order Concurrent (order_of history other event) ≡ (not (reaches history other event) && not (reaches history event other))
-is_concurrent history event other = elim (cases_Bool (eqb other event)) [
-  | inl same ↦
-      let itself : reaches history other event ≡ true = ap (λ e. reaches history e event) (eqb-true other event same) ∙ reaches_itself history event in
-      rw (same, itself) refl
-  | inr differ ↦ elim (cases_Bool (reaches history other event)) [
-    | inl forth ↦ rw (differ, forth) refl
-    | inr not_forth ↦ elim (cases_Bool (reaches history event other)) [
-      | inl back ↦ rw (differ, not_forth, back) refl
-      | inr not_back ↦ rw (differ, not_forth, not_back) refl
-    ]
-  ]
-]
+concurrent_by : (same forth back : Bool) → (same ≡ true → forth ≡ true) → is_order Concurrent (cond same Same (cond forth Before (cond back After Concurrent))) ≡ (not forth && not back)
+concurrent_by true forth back itself = rw (itself refl) refl
+concurrent_by false true back itself = refl
+concurrent_by false false true itself = refl
+concurrent_by false false false itself = refl
 
 module _ (book : Contents) (is : IsKept book) where
   abbrev pub history : History
@@ -111,10 +96,15 @@ module _ (book : Contents) (is : IsKept book) where
 
   -- so the lists are those of the graph
   pub past_told : (event : ℕ) → IsTrue (query.has_tree trees event) → query.trees_before trees event ≡ past_of history event
-  past_told event event_is = told Before refl event event_is ∙ (λ i. filter (λ other. in_past history event other i) (events history))
+  past_told event event_is =
+      told Before refl event event_is
+      ∙ (λ i. filter (λ other. before_by (eqb other event) (reaches history other event) (reaches history event other) i) (events history))
 
   pub concurrent_told : (event : ℕ) → IsTrue (query.has_tree trees event) → query.concurrent_of trees event ≡ concurrent_with history event
-  concurrent_told event event_is = told Concurrent refl event event_is ∙ (λ i. filter (λ other. is_concurrent history event other i) (events history))
+  concurrent_told event event_is =
+      let itself = λ (other : ℕ) (same : eqb other event ≡ true). ap (λ e. reaches history e event) (eqb-true other event same) ∙ reaches_itself history event in
+      told Concurrent refl event event_is
+      ∙ (λ i. filter (λ other. concurrent_by (eqb other event) (reaches history other event) (reaches history event other) (itself other) i) (events history))
 
 module _ (book : Contents) (is : IsKept book) {V : Type 0} (items : V → List ℕ) (event : ℕ) (found : Result V QueryFault) (answer : Reply)
     (known : IfOk found (λ _. query.has_tree book.trees event ≡ true))
@@ -151,85 +141,49 @@ module _ (book : Contents) (is : IsKept book) {V : Type 0} (items : V → List �
       list_answered (request.Concurrent event) (concurrent_with (history_in book) event) (query.concurrent_of book.trees event) (concurrent_told book is event)
       (λ there. (rw there refl, refl, (refl, rw there refl))) (λ nowhere. rw nowhere refl)
 
--- the order in which two events' trees stand is the order to be answered
-pub ordered : (book : Contents) (first second : ℕ) (order : Order) → IsKept book → is_event (history_in book) first ≡ true
-    → is_event (history_in book) second ≡ true
-    → StandsAs order (tree_of tree_clock (history_in book) first) (tree_of tree_clock (history_in book) second)
-    → reply.Ordering order ≡ reply_to_view (tenant_of book) (request.Order first second)
-ordered book first second order is first_is second_is stands =
-    let history = history_in book in
-    let by_graph = stands_as_ordered history (IsLegal_from_AreLegal book.limits book.rows is.legal) first second first_is second_is in
-    rw (first_is, second_is) (ap reply.Ordering (stand_one_way _ _ order (order_of history first second) stands by_graph))
-
--- the order that was found
-abbrev order_found : Result Order QueryFault → Order
-order_found (Ok order) = order
-order_found (Err fault) = Same
+-- the reply that gives the order that was found
+abbrev pub order_reply : Result Order QueryFault → Reply
+order_reply (Ok order) = reply.Ordering order
+order_reply (Err fault) = reply.Refused (code_of fault)
 
 -- an order that is told by the trees is answered as it is due
-pub order_answered : (book : Contents) → IsKept book → (first second : ℕ) (order : Order) → Ok order ≡ query.order_due book.trees first second
-    → reply.Ordering order ≡ reply_to_view (tenant_of book) (request.Order first second)
-order_answered book is first second order told =
-    let trees = book.trees in
-    elim (cases_Bool (query.has_tree trees first && query.has_tree trees second)) [
-      | inl there ↦
-          let parts = and_parts (query.has_tree trees first) (query.has_tree trees second) there in
-          let first_is : is_event (history book is) first ≡ true = sym (same_events book is first) ∙ parts.0 in
-          let second_is : is_event (history book is) second ≡ true = sym (same_events book is second) ∙ parts.1 in
-          let compared : Ok order ≡ Ok (order_between trees first second) = told ∙ cond-true (query.has_tree trees first && query.has_tree trees second) _ _ there in
-          let is_compared : order ≡ order_between trees first second = ap order_found compared in
-          let stands : StandsAs (order_between trees first second) (tree_at trees first) (tree_at trees second) = tree_order_stands (tree_at trees first) (tree_at trees second) in
-          ordered book first second order is first_is second_is
-          (subst (λ o. StandsAs o (tree_of tree_clock (history book is) first) (tree_of tree_clock (history book is) second)) (sym is_compared)
-          (subst (λ tree. StandsAs (order_between trees first second) tree (tree_of tree_clock (history book is) second)) (tree_is_kept book is first first_is)
-          (subst (StandsAs (order_between trees first second) (tree_at trees first)) (tree_is_kept book is second second_is) stands)))
-      | inr nowhere ↦
-          let clash : Ok order ≡ Err Unknown = told ∙ cond-false (query.has_tree trees first && query.has_tree trees second) _ _ nowhere in cc
-    ]
-
--- and one that is not is refused as it is due
-pub order_refused : (book : Contents) → IsKept book → (first second : ℕ) (fault : QueryFault) → Err fault ≡ query.order_due book.trees first second
-    → reply.Refused (code_of fault) ≡ reply_to_view (tenant_of book) (request.Order first second)
-order_refused book is first second fault told =
-    let both = query.has_tree book.trees first && query.has_tree book.trees second in
-    let unknown : both ≡ false → fault ≡ Unknown = λ nowhere. (let refused : Err fault ≡ Err Unknown = told ∙ cond-false both _ _ nowhere in cc) in
-    elim (cases_Bool (query.has_tree book.trees first)) [
-      | inl one ↦ elim (cases_Bool (query.has_tree book.trees second)) [
-        | inl other ↦ let clash : Err fault ≡ Ok (order_between book.trees first second) = told ∙ cond-true both _ _ (rw (one, other) refl) in cc
-        | inr other ↦ rw (sym (same_events book is first) ∙ one, sym (same_events book is second) ∙ other) (ap (λ f. reply.Refused (code_of f)) (unknown (rw (one, other) refl)))
+pub order_answered : (book : Contents) → IsKept book → (first second : ℕ)
+    → order_reply (query.order_due book.trees first second) ≡ reply_to_view (tenant_of book) (request.Order first second)
+order_answered book is first second =
+    ap order_reply (λ i. cond (same_events book is first i && same_events book is second i) (Ok (order_between book.trees first second)) (Err Unknown))
+    ∙ by
+  where
+    by : order_reply (cond (is_event (history_in book) first && is_event (history_in book) second) (Ok (order_between book.trees first second)) (Err Unknown))
+        ≡ reply_to_view (tenant_of book) (request.Order first second)
+    by = elim (cases_Bool (is_event (history_in book) first)) [
+      | inl one ↦ elim (cases_Bool (is_event (history_in book) second)) [
+        | inl other ↦
+            let told = trees_tell book is first second (same_events book is first ∙ one) (same_events book is second ∙ other) in
+            let same = stand_one_way (tree_at book.trees first) (tree_at book.trees second) (order_between book.trees first second) (order_of (history_in book) first second)
+            (tree_order_stands (tree_at book.trees first) (tree_at book.trees second)) told in
+            rw (one, other) (ap reply.Ordering same)
+        | inr nowhere ↦ rw (one, nowhere) refl
       ]
-      | inr none ↦ rw (sym (same_events book is first) ∙ none) (ap (λ f. reply.Refused (code_of f)) (unknown (rw none refl)))
+      | inr nowhere ↦ rw nowhere refl
     ]
 
--- the row of an event stands in the list of rows
-row_of_place : (history : History) (event : ℕ) → 0 < event → event ≤ length history → row_of history event ≡ slice_get (reverse history) (event - 1)
-row_of_place [] event positive within = absurd (omega (arith, positive, within))
-row_of_place (row ∷ earlier) event positive within =
-    let turned : reverse (row ∷ earlier) ≡ reverse earlier ++ row ∷ [] = reverse-append (row ∷ []) earlier in
-    let is_newest = eqb event (suc (length earlier)) in
-    elim (cases_eq event (suc (length earlier))) [
-      | inl last ↦
-          let place : length (reverse earlier) ≡ event - 1 = omega (arith, last, length-reverse earlier) in
-          cond-true is_newest _ _ (eq-eqb event (suc (length earlier)) last)
-          ∙ sym (ap (λ rows. slice_get rows (event - 1)) turned ∙ ap (slice_get (reverse earlier ++ row ∷ [])) (sym place) ∙ slice_get-seam (reverse earlier) row [])
-      | inr older ↦
-          let before : event ≤ length earlier = omega (arith, within, older) in
-          let inside : event - 1 < length (reverse earlier) = omega (arith, positive, before, length-reverse earlier) in
-          let there = slice_get-get_or (reverse earlier) (event - 1) row inside in
-          cond-false is_newest _ _ (ne_eqb event (suc (length earlier)) older)
-          ∙ row_of_place earlier event positive before ∙ there
-          ∙ sym (ap (λ rows. slice_get rows (event - 1)) turned ∙ slice_get-longer (reverse earlier) (row ∷ []) (event - 1) _ there)
-    ]
+-- the rows stand in the order of the events
+rows_in_order : (history : History) → of_each row_of history ≡ map Some (reverse history)
+rows_in_order [] = refl
+rows_in_order (row ∷ earlier) =
+    let newest = cond-true (eqb (suc (length earlier)) (suc (length earlier))) (Some row) (row_of earlier (suc (length earlier))) (eq-eqb _ (suc (length earlier)) refl) in
+    (λ i. rows_in_order earlier i ++ newest i ∷ []) ∙ sym (map-append Some (reverse earlier) (row ∷ [])) ∙ ap (map Some) (sym (reverse-append (row ∷ []) earlier))
 
--- so the row that stands there is that of the event
+-- so the row that stands in the place of an event is that of the event
 pub row_is_kept : (rows : List Row) (event : ℕ) (row : Row) → is_event (history_of rows) event ≡ true → row ≡ get_or rows (event - 1) row
     → row_of (history_of rows) event ≡ Some row
 row_is_kept rows event row event_is row_is =
     let bounds = event_bounds (history_of rows) event event_is in
     let inside : event - 1 < length rows = omega (arith, bounds.0, bounds.1, length-reverse rows) in
-    row_of_place (history_of rows) event bounds.0 bounds.1
-    ∙ ap (λ found. slice_get found (event - 1)) (reverse-reverse rows)
-    ∙ slice_get_read rows (length rows) (event - 1) row refl inside row_is
+    let stays = λ (newest : Row) (earlier : History) (e : ℕ) (older : e ≢ suc (length earlier)). cond-false (eqb e (suc (length earlier))) (Some newest) (row_of earlier e) (ne_eqb e _ older) in
+    same_Some _ _ (sym (at_event row_of stays (history_of rows) event bounds.0 bounds.1)
+    ∙ ap (λ found. slice_get found (event - 1)) (rows_in_order (history_of rows) ∙ ap (map Some) (reverse-reverse rows))
+    ∙ slice_get-map Some rows (event - 1) ∙ ap (option_map Some) (slice_get_read rows (length rows) (event - 1) row refl inside row_is))
 
 -- the stamp of an event is its task's id and what it knows
 pub stamp_knows : (history : History) (event : ℕ) → (stamp_of tree_clock history event).1 ≡ tree_of tree_clock history event
