@@ -1,6 +1,7 @@
 -- Which events reach the new one and which the others, and that reaching goes forward.
 use Rattle.std.proofs.Common.{◌≡◌, ◌≢◌, ◌⊎◌, ℕ, suc, ◌<◌, ◌≤◌, Bool, true, false, eqb, ltb, List, [], ◌∷◌, length, refl, sym, ap, ◌∙◌, subst, inl, inr, arith}
 use Rattle.std.specs.List.{list_any}
+use Rattle.std.proofs.lemmas.Bool.Decides.{nat_tests}
 use Rattle.std.proofs.lemmas.Bool.{false≢true, eq-eqb, eqb-true, cases_eq, cond_both, or_cases, or_left, or_right}
 use Rattle.tenant_ledger.proofs.Words.{History, last_event, event_or_none, increasing, second_event, predecessors, reaches, Row}
 use Rattle.trace_types.proofs.Reachability.{last_event-le, second_event-le, reaches_newest, reaches_earlier}
@@ -25,58 +26,13 @@ pub followed-le : (row : Row) (earlier : History) (event : ℕ) → Follows row 
 followed-le row earlier event (inl first) = omega (arith, first, last_event-le earlier row.task)
 followed-le row earlier event (inr second) = omega (arith, second, second_event-le earlier row.kind row.name)
 
--- a test that holds of one event or none holds of that one
-of_event_or_none : (test : ℕ → Bool) (event : ℕ) → list_any test (event_or_none event) ≡ true → test event ≡ true
-of_event_or_none test event =
-    cond_both (eqb event 0) [] (event ∷ []) (λ events. list_any test events ≡ true → test event ≡ true) (λ _ never. absurd (false≢true never))
-    (λ _ any. elim (or_cases (test event) false any) [ inl holds ↦ holds | inr never ↦ absurd (false≢true never) ])
-
-of_pair : (test : ℕ → Bool) (a b : ℕ) → list_any test (a ∷ b ∷ []) ≡ true → (test a ≡ true) ⊎ (test b ≡ true)
-of_pair test a b any =
-    elim (or_cases (test a) (list_any test (b ∷ [])) any) [
-      | inl holds ↦ inl holds
-      | inr later ↦ inr (elim (or_cases (test b) false later) [ inl holds ↦ holds | inr never ↦ absurd (false≢true never) ])
-    ]
-
 -- a test that holds of some event among two numbers holds of one of the two
 of_increasing : (test : ℕ → Bool) (a b : ℕ) → list_any test (increasing a b) ≡ true → (test a ≡ true) ⊎ (test b ≡ true)
-of_increasing test a b =
-    let Splits = λ (events : List ℕ). list_any test events ≡ true → (test a ≡ true) ⊎ (test b ≡ true) in
-    cond_both (eqb a 0) _ _ Splits (λ _ any. inr (of_event_or_none test b any))
-    λ _. cond_both (eqb b 0) _ _ Splits (λ _ any. inl (of_event_or_none test a any))
-    λ _. cond_both (eqb a b) _ _ Splits (λ _ any. elim (or_cases (test a) false any) [ inl holds ↦ inl holds | inr never ↦ absurd (false≢true never) ])
-    λ _. cond_both (ltb a b) _ _ Splits (λ _ any. of_pair test a b any) (λ _ any. elim (of_pair test b a any) [ inl second ↦ inr second | inr first ↦ inl first ])
+of_increasing test a b any = grind (arith, nat_tests)
 
-any_of_event : (test : ℕ → Bool) (event : ℕ) → event ≢ 0 → test event ≡ true → list_any test (event_or_none event) ≡ true
-any_of_event test event some holds =
-    cond_both (eqb event 0) [] (event ∷ []) (λ events. list_any test events ≡ true) (λ zero. absurd (some (eqb-true event 0 zero)))
-    (λ _. or_left (test event) false holds)
-
--- where a test holds of the first number, an event, it holds of some event among the two
-any_by_first : (test : ℕ → Bool) (a b : ℕ) → a ≢ 0 → test a ≡ true → list_any test (increasing a b) ≡ true
-any_by_first test a b some holds =
-    let Holds = λ (events : List ℕ). list_any test events ≡ true in
-    cond_both (eqb a 0) _ _ Holds (λ zero. absurd (some (eqb-true a 0 zero)))
-    λ _. cond_both (eqb b 0) _ _ Holds (λ _. any_of_event test a some holds)
-    λ _. cond_both (eqb a b) _ _ Holds (λ _. or_left (test a) false holds)
-    λ _. cond_both (ltb a b) _ _ Holds (λ _. or_left (test a) _ holds) (λ _. or_right (test b) _ (or_left (test a) false holds))
-
--- and so it is with the second
-any_by_second : (test : ℕ → Bool) (a b : ℕ) → b ≢ 0 → test b ≡ true → list_any test (increasing a b) ≡ true
-any_by_second test a b some holds =
-    let Holds = λ (events : List ℕ). list_any test events ≡ true in
-    cond_both (eqb a 0) _ _ Holds (λ _. any_of_event test b some holds)
-    λ _. cond_both (eqb b 0) _ _ Holds (λ zero. absurd (some (eqb-true b 0 zero)))
-    λ _. cond_both (eqb a b) _ _ Holds (λ same. or_left (test a) false (ap test (eqb-true a b same) ∙ holds))
-    λ _. cond_both (ltb a b) _ _ Holds (λ _. or_right (test a) _ (or_left (test b) false holds)) (λ _. or_left (test b) _ holds)
-
--- where a test holds of an event that the row follows, it holds of some predecessor
-any_by_followed : (test : ℕ → Bool) (row : Row) (earlier : History) (event : ℕ) → event ≢ 0 → Follows row earlier event → test event ≡ true
-    → list_any test (predecessors earlier row.task row.kind row.name) ≡ true
-any_by_followed test row earlier event some (inl first) holds =
-    any_by_first test (first_of row earlier) (second_of row earlier) (λ zero. some (first ∙ zero)) (ap test (sym first) ∙ holds)
-any_by_followed test row earlier event some (inr second) holds =
-    any_by_second test (first_of row earlier) (second_of row earlier) (λ zero. some (second ∙ zero)) (ap test (sym second) ∙ holds)
+-- and where it holds of one of them, which is an event, it holds of some
+any_of_increasing : (test : ℕ → Bool) (a b event : ℕ) → event ≢ 0 → (event ≡ a) ⊎ (event ≡ b) → test event ≡ true → list_any test (increasing a b) ≡ true
+any_of_increasing test a b event some one holds = grind (arith, nat_tests)
 
 -- the row follows an event that this one reaches
 abbrev pub ReachesFollowed : Row → History → ℕ → Type 0
@@ -136,4 +92,4 @@ pub reaches_from_followed : (row : Row) (earlier : History) (a : ℕ) → a ≢ 
     → reaches (row ∷ earlier) a (new_event earlier) ≡ true
 reaches_from_followed row earlier a some (event, follows, reached) =
     reaches_newest row earlier a (new_event earlier) refl
-    ∙ or_right (eqb (new_event earlier) a) _ (any_by_followed (λ e. reaches earlier a e) row earlier event (reaches_nothing earlier a event some reached) follows reached)
+    ∙ or_right (eqb (new_event earlier) a) _ (any_of_increasing (λ e. reaches earlier a e) (first_of row earlier) (second_of row earlier) event (reaches_nothing earlier a event some reached) follows reached)
