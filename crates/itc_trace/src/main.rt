@@ -16,8 +16,6 @@ ghost use Rattle.itc_trace.specs.Runs.{Runs};
 
 mod fault;
 mod program;
-#[cfg(test)]
-mod tests;
 mod words;
 
 use fault::Fault;
