@@ -1,180 +1,77 @@
-//! One tenant's ledger, by its calls: reports in two steps, views, and how often it compares.
+//! One tenant's ledger, by its calls: what is prepared, and how often it compares.
 
-use crate::runs::{Amounts, DEFAULTS, FAMILY, OF_EVERY_SORT, RUNS, TALK};
 use event_tree::EvTree;
 use id_tree::IdTree;
-use line_protocol::read_addressed;
-use std::alloc::Global;
+use line_protocol::read_request;
+use stamp_codec::write_parts;
 use std::cell::Cell;
-use std::process::Abort;
 use std::test::Fail;
 use tenant_ledger::{Keep, Ledger, PlainShare, Share};
 use trace_query::Compare;
-use trace_types::{Code, Limits, Memory, Order, Reply, Request};
+use trace_types::{Limits, Memory, Order, Reply, Request};
 
-/// The requests of a run.
-fn requests_of(alloc: Global, run: &str) -> Result<Vec<Request>, Fail> {
-    let mut requests = Vec::new(alloc);
-    for both in run.lines() {
-        let (line, _) = both.split_once(" => ").ok_or("no reply")?;
-        if let Some((_, Some(request))) = read_addressed(line.as_bytes()) {
-            requests.push(request)?;
-        }
-    }
-    Ok(requests)
-}
+/// Tasks that start and join others.
+const FAMILY: &str = "spawn root a
+spawn a b
+local root
+end b
+end a
+join root b
+join root a";
 
-fn ledger_of(alloc: Global, (events, tasks, messages): Amounts) -> Result<Ledger, Fail> {
-    let limits = Limits::read(events, tasks, messages).ok_or("no limits")?;
-    Ok(Ledger::new(alloc, limits)?)
-}
+/// Tasks of which one sends the other a message.
+const TALK: &str = "local root
+spawn root a
+local a
+local root
+send a m
+recv root m";
 
-/// The ledger after the request was prepared, if it is a report, and abandoned.
-fn abandoned<R>(rt: &R, ledger: Ledger, request: &Request) -> Ledger {
-    if !request.is_report() {
-        return ledger;
-    }
-    match ledger.prepare(rt, &PlainShare, request) {
-        Ok(prepared) => prepared.abandon(),
-        Err((ledger, _)) => ledger,
-    }
-}
-
-/// What is answered to a query, which is asked again where it finds no memory.
-fn asked_again(ledger: &Ledger, query: &Request) -> Reply {
-    match ledger.ask(&PlainShare, query) {
-        Reply::Refused(Code::NoMemory) => ledger.ask(&PlainShare, query),
-        reply => reply,
-    }
-}
-
-/// What is answered to a report that is prepared, again where it finds no memory, and committed, or to a query.
-fn committed<R>(rt: &R, ledger: Ledger, request: &Request) -> (Ledger, Reply) {
-    if !request.is_report() {
-        let reply = asked_again(&ledger, request);
-        return (ledger, reply);
-    }
-    let ledger = match ledger.prepare(rt, &PlainShare, request) {
-        Ok(prepared) => return prepared.commit(),
-        Err((ledger, Reply::Refused(Code::NoMemory))) => ledger,
-        Err(refused) => return refused,
-    };
-    match ledger.prepare(rt, &PlainShare, request) {
-        Ok(prepared) => prepared.commit(),
-        Err(refused) => refused,
-    }
-}
-
-/// The reply to the request, which is made again where it finds no memory.
-fn report_again<R>(rt: &R, ledger: &mut Ledger, request: &Request) -> Reply {
-    match ledger.report(rt, &PlainShare, request) {
-        Reply::Refused(Code::NoMemory) => ledger.report(rt, &PlainShare, request),
-        reply => reply,
-    }
-}
-
-/// Each request is answered as where nothing is abandoned, though all are prepared and abandoned before it.
-fn answers_though_all_are_abandoned<R: Abort + AllocGlobal>(
-    rt: &R,
-    amounts: Amounts,
-    requests: &[Request],
-) -> Result<(), Fail> {
-    let mut plain = ledger_of(rt.alloc(), amounts)?;
-    let mut ledger = ledger_of(rt.alloc(), amounts)?;
-    for request in requests {
-        for other in requests {
-            ledger = abandoned(rt, ledger, other);
-        }
-        let (next, reply) = committed(rt, ledger, request);
-        ledger = next;
-        let want = report_again(rt, &mut plain, request);
-        assert_eq!(rt; reply, want, "{request:?}");
-    }
-    Ok(())
-}
-
-/// It passes also where an allocation fails once the ledgers are made.
-#[test]
-fn a_report_that_was_abandoned_leaves_no_trace(rt: HostRuntime) -> Result<(), Fail> {
-    for (amounts, run) in RUNS {
-        let requests = requests_of(rt.alloc(), run)?;
-        answers_though_all_are_abandoned(&rt, amounts, &requests)?;
-    }
-    Ok(())
-}
-
-/// The row, the id and the tree that are prepared for a report are those that the ledger has of its event.
-fn keeps_what_it_prepared<R: Abort + AllocGlobal>(
-    rt: &R,
-    ledger: Ledger,
-    report: &Request,
-) -> Result<Ledger, Fail> {
-    if !report.is_report() {
-        return Ok(ledger);
-    }
-    let prepared = match ledger.prepare(rt, &PlainShare, report) {
-        Ok(prepared) => prepared,
-        Err((ledger, _)) => return Ok(ledger),
-    };
-    let row = Reply::Event(prepared.row().share());
-    let text = format!(in rt.alloc(); "[{:?};{:?}]", prepared.id(), prepared.tree());
-    let (ledger, _) = prepared.commit();
+/// Whether the last event of the ledger has this row, and the stamp of this text.
+fn has_last(ledger: &Ledger, row: &Reply, stamp: &[u8]) -> bool {
     let event = ledger.rows().len() as u64;
-    assert_eq!(rt; ledger.ask(&PlainShare, &Request::Event(event)), row);
-    let stamp = ledger.ask(&PlainShare, &Request::Stamp(event));
-    assert!(rt; is_stamp(&stamp, text?.as_bytes()), "{report:?}");
-    Ok(ledger)
+    let kept = ledger.ask(&PlainShare, &Request::Stamp(event));
+    ledger.ask(&PlainShare, &Request::Event(event)) == *row
+        && matches!(&kept, Reply::Stamp(text) if text.as_bytes() == stamp)
 }
 
-/// Whether the reply is a stamp of this text.
-fn is_stamp(reply: &Reply, wanted: &[u8]) -> bool {
-    matches!(reply, Reply::Stamp(text) if text.as_bytes() == wanted)
+/// The ledger after the request, and whether it keeps the row, the id and the tree that were prepared for a report.
+fn kept_as_prepared<R: AllocGlobal>(rt: &R, ledger: Ledger, request: &Request) -> (Ledger, bool) {
+    if !request.is_report() {
+        return (ledger, true);
+    }
+    match ledger.prepare(rt, &PlainShare, request) {
+        Ok(prepared) => {
+            let row = Reply::Event(prepared.row().share());
+            let stamp = write_parts(rt.alloc(), prepared.id(), prepared.tree());
+            let (ledger, _) = prepared.commit();
+            let holds = has_last(&ledger, &row, stamp.as_deref().unwrap_or(&[]));
+            (ledger, holds)
+        }
+        Err((ledger, _)) => (ledger, false),
+    }
+}
+
+/// Whether each report of the run is accepted and kept as it was prepared.
+fn is_kept_as_prepared<R: AllocGlobal>(rt: &R, mut ledger: Ledger, run: &str) -> bool {
+    for line in run.lines() {
+        let Some(request) = read_request(line.as_bytes()) else {
+            return false;
+        };
+        let (next, holds) = kept_as_prepared(rt, ledger, &request);
+        if !holds {
+            return false;
+        }
+        ledger = next;
+    }
+    true
 }
 
 #[test]
 fn what_is_prepared_is_what_is_kept(rt: HostRuntime) -> Result<(), Fail> {
-    for run in [FAMILY, TALK, OF_EVERY_SORT] {
-        let mut ledger = ledger_of(rt.alloc(), DEFAULTS)?;
-        for report in requests_of(rt.alloc(), run)? {
-            ledger = keeps_what_it_prepared(&rt, ledger, &report)?;
-        }
-    }
-    Ok(())
-}
-
-/// A view answers what the ledger answers, and refuses each report.
-fn views_answer<R: Abort>(rt: &R, ledger: &mut Ledger, request: &Request) {
-    let view = ledger.ask(&PlainShare, request);
-    let reply = ledger.report(rt, &PlainShare, request);
-    let want = if request.is_report() {
-        Reply::Refused(Code::ViewOnly)
-    } else {
-        reply
-    };
-    assert_eq!(rt; view, want, "{request:?}");
-}
-
-#[test]
-fn a_view_answers_each_query_and_refuses_each_report(rt: HostRuntime) -> Result<(), Fail> {
-    for run in [FAMILY, TALK, OF_EVERY_SORT] {
-        let mut ledger = ledger_of(rt.alloc(), DEFAULTS)?;
-        for request in requests_of(rt.alloc(), run)? {
-            views_answer(&rt, &mut ledger, &request);
-        }
-    }
-    Ok(())
-}
-
-/// It passes also where an allocation fails once the ledgers are made.
-#[test]
-fn a_request_that_finds_no_memory_changes_nothing(rt: HostRuntime) -> Result<(), Fail> {
-    let requests = requests_of(rt.alloc(), OF_EVERY_SORT)?;
-    let mut ledger = ledger_of(rt.alloc(), DEFAULTS)?;
-    let mut other = ledger_of(rt.alloc(), DEFAULTS)?;
-    for request in &requests {
-        let reply = report_again(&rt, &mut ledger, request);
-        let want = report_again(&rt, &mut other, request);
-        assert_eq!(rt; reply, want, "{request:?}");
+    for run in [FAMILY, TALK] {
+        let ledger = Ledger::new(rt.alloc(), Limits::default())?;
+        assert!(rt; is_kept_as_prepared(&rt, ledger, run), "{run}");
     }
     Ok(())
 }
@@ -244,15 +141,17 @@ fn comparisons<R>(
     [of_ledger, share.compared.get()]
 }
 
-/// A ledger that counts, after these requests.
+/// A ledger that counts, after this run.
 fn counting_ledger<R: AllocGlobal>(
     rt: &R,
     share: &Counting,
-    requests: &[Request],
+    run: &str,
 ) -> Result<Ledger<Counting>, Memory> {
     let mut ledger = Ledger::new(rt.alloc(), Limits::default())?;
-    for request in requests {
-        let _ = ledger.report(rt, share, request);
+    for line in run.lines() {
+        if let Some(request) = read_request(line.as_bytes()) {
+            let _ = ledger.report(rt, share, &request);
+        }
     }
     Ok(ledger)
 }
@@ -262,8 +161,7 @@ fn comparisons_are_counted(rt: HostRuntime) -> Result<(), Fail> {
     let share = Counting {
         compared: Cell::new(0),
     };
-    let requests = requests_of(rt.alloc(), TALK)?;
-    let mut ledger = counting_ledger(&rt, &share, &requests)?;
+    let mut ledger = counting_ledger(&rt, &share, TALK)?;
     for (query, want) in [
         (Request::Order(3, 4), 1),
         (Request::Past(4), 3),

@@ -1,4 +1,4 @@
-//! Ids and event trees as they are made and shared; their operations are in the tables of `stamps`.
+//! Ids and event trees as they are made and shared; their operations are in the cases of `stamp_cases`.
 
 use event_tree::{EvTree, Parts};
 use id_tree::IdTree;
@@ -10,22 +10,29 @@ fn pair(alloc: Global, left: IdTree, right: IdTree) -> Result<IdTree, Memory> {
     IdTree::fork(alloc, left, right)
 }
 
-/// The ids that are to be `0`, `1` and `((1,0),0)`.
-fn forked_ids(alloc: Global) -> Result<[IdTree; 3], Memory> {
-    let none = pair(alloc, IdTree::zero(), IdTree::zero())?;
-    let whole = pair(alloc, IdTree::one(), IdTree::one())?;
-    let left = pair(alloc, IdTree::one(), IdTree::zero())?;
-    Ok([
-        none.share(alloc)?,
-        pair(alloc, whole, IdTree::one())?,
-        pair(alloc, left, none)?,
-    ])
+/// The text of what is shared of the id of these halves.
+fn text_of_pair(alloc: Global, left: IdTree, right: IdTree) -> Result<String, Memory> {
+    let id = pair(alloc, left, right)?.share(alloc)?;
+    Ok(format!(in alloc; "{id:?}")?)
+}
+
+fn half(is_owned: bool) -> IdTree {
+    if is_owned {
+        IdTree::one()
+    } else {
+        IdTree::zero()
+    }
 }
 
 #[test]
 fn fork_and_share_give_the_normal_form_of_ids(rt: HostRuntime) -> Result<(), Fail> {
-    for (id, want) in forked_ids(rt.alloc())?.iter().zip(["0", "1", "((1,0),0)"]) {
-        let text = format!(in rt.alloc(); "{:?}", id.share(rt.alloc())?)?;
+    for (left, right, want) in [
+        (false, false, "0"),
+        (true, true, "1"),
+        (true, false, "(1,0)"),
+        (false, true, "(0,1)"),
+    ] {
+        let text = text_of_pair(rt.alloc(), half(left), half(right))?;
         assert_eq!(rt; text.as_str(), want);
     }
     Ok(())
@@ -79,14 +86,20 @@ fn lent(tree: &EvTree) -> (u64, Option<(u64, u64)>) {
     }
 }
 
+/// How a tree stands to what is shared of it, and what that lends.
+fn shared(alloc: Global, tree: &EvTree) -> Result<(Order, (u64, Option<(u64, u64)>)), Memory> {
+    let other = tree.share(alloc)?;
+    Ok((tree.order(&other), lent(&other)))
+}
+
 #[test]
 fn a_shared_tree_is_lent_in_equal_parts(rt: HostRuntime) -> Result<(), Fail> {
     let right = EvTree::fork(rt.alloc(), 1, EvTree::leaf(0), EvTree::leaf(4))?;
     let tree = EvTree::fork(rt.alloc(), 2, EvTree::leaf(1), right)?;
-    let other = tree.share(rt.alloc())?;
-    assert_eq!(rt; tree.order(&other), Order::Same);
-    assert_eq!(rt; lent(&other), (3, Some((0, 4))));
-    assert_eq!(rt; (other.min(), other.max()), (3, 7));
+    assert_eq!(rt;
+        shared(rt.alloc(), &tree)?,
+        (Order::Same, (3, Some((0, 4))))
+    );
     assert_eq!(rt; lent(&EvTree::leaf(7)), (7, None));
     Ok(())
 }

@@ -1,15 +1,14 @@
-//! Lines, requests and replies as they come and go, over readers and writers that are slow, interrupted or fail.
-ghost use Rattle.std.specs.Prelude.{◌≤◌, length};
+//! Lines and replies as they come and go, over readers and writers that are slow, interrupted or fail.
 
 use line_protocol::{
-    Buffered, FromReader, IntoWriter, Line, LineReader, Source, WriteFault, flush, read_addressed,
-    read_request, write_answer, write_bytes, write_prefix, write_reply,
+    Buffered, FromReader, IntoWriter, Line, LineReader, Source, WriteFault, flush, write_bytes,
+    write_prefix, write_reply,
 };
 use std::alloc::Global;
 use std::io;
 use std::io::{Error, ErrorKind, Read, Write};
 use std::test::Fail;
-use trace_types::{Code, Kind, Name, Numbers, Order, Preds, Receipts, Reply, Request, Row};
+use trace_types::{Code, Order, Reply};
 
 /// A reader of some bytes, each second of whose reads is interrupted.
 #[derive(Drop)]
@@ -131,94 +130,6 @@ fn two_hundred_bytes_are_a_line(rt: HostRuntime) -> Result<(), Fail> {
     Ok(())
 }
 
-#[test]
-fn requests_are_spelled_exactly(rt: HostRuntime) {
-    assert_eq!(rt; read_request(b"count"), Some(Request::Count));
-    assert_eq!(rt;
-        read_request(b"order 0 999999999"),
-        Some(Request::Order(0, 999_999_999))
-    );
-    let local = read_request(b"local abcdefghijklmnopqrstuvwx");
-    assert!(rt; matches!(local, Some(Request::Local(_))));
-    let refused: [&[u8]; 16] = [
-        b"",
-        b" ",
-        b"count ",
-        b" count",
-        b"Count",
-        b"order 1",
-        b"order 1  2",
-        b"order 1 2 ",
-        b"order 01 2",
-        b"order 00 2",
-        b"order 1 1000000000",
-        b"order 1 -2",
-        b"local",
-        b"local a\0",
-        b"local \xff",
-        b"local abcdefghijklmnopqrstuvwxy",
-    ];
-    for line in refused {
-        assert_eq!(rt; read_request(line), None);
-    }
-}
-
-#[test]
-fn messages_and_lists_are_asked_for_by_their_own_words(rt: HostRuntime) {
-    let task = Name::root();
-    let message = Name::read(b"m_1").expect(&rt, "a name");
-    let table: [(&[u8], Request); 7] = [
-        (b"send root m_1", Request::Send(task, message)),
-        (b"send m_1 root", Request::Send(message, task)),
-        (b"recv root m_1", Request::Recv(task, message)),
-        (b"past 7", Request::Past(7)),
-        (b"concurrent 0", Request::Concurrent(0)),
-        (b"event 999999999", Request::Event(999_999_999)),
-        (b"message m_1", Request::Message(message)),
-    ];
-    for (line, want) in table {
-        assert_eq!(rt; read_request(line), Some(want));
-    }
-}
-
-#[test]
-fn wrong_words_ask_for_no_message_and_no_list(rt: HostRuntime) {
-    let refused: [&[u8]; 20] = [
-        b"send",
-        b"send a",
-        b"send a ",
-        b"send a m n",
-        b"send a -",
-        b"sends a m",
-        b"recv a",
-        b"recv a  m",
-        b"recv a m n",
-        b"RECV a m",
-        b"past",
-        b"past 01",
-        b"past 1000000000",
-        b"past a",
-        b"concurrent 1 2",
-        b"concurrent ",
-        b"event 1 2",
-        b"event -1",
-        b"message",
-        b"message m n",
-    ];
-    for line in refused {
-        assert_eq!(rt; read_request(line), None);
-    }
-}
-
-#[test]
-fn the_tenant_is_the_first_word(rt: HostRuntime) {
-    assert!(rt; matches!(read_addressed(b"x count"), Some((_, Some(Request::Count)))));
-    assert!(rt; matches!(read_addressed(b"x"), Some((_, None))));
-    assert!(rt; matches!(read_addressed(b"x "), Some((_, None))));
-    assert!(rt; read_addressed(b" count").is_none());
-    assert!(rt; read_addressed(b"").is_none());
-}
-
 /// A writer that takes one byte at a time, and is interrupted before each.
 #[derive(Drop)]
 struct Narrow<'a> {
@@ -271,115 +182,6 @@ fn replies_are_written_whole(rt: HostRuntime) {
         ),
         (Reply::Refused(Code::NoEvent), b"404 no event\n"),
         (Reply::Refused(Code::NoMemory), b"507 no memory\n"),
-    ];
-    for (reply, want) in table {
-        let (text, outcome) = written(rt.alloc(), &reply, 99);
-        assert!(rt; outcome.is_ok());
-        assert_eq!(rt; text.as_slice(), want);
-    }
-}
-
-#[test]
-fn an_answer_names_its_tenant_or_nobody(rt: HostRuntime) {
-    let table: [(&[u8], Reply, &[u8]); 2] = [
-        (b"tenant_7", Reply::Accepted(17), b"tenant_7 201 17\n"),
-        (b"", Reply::Refused(Code::Line), b"? 400 line\n"),
-    ];
-    for (name, reply, want) in table {
-        let mut taken = Vec::new(rt.alloc());
-        let outcome = write_answer(&mut IntoWriter::new(&mut taken), &Name::read(name), &reply);
-        assert!(rt; outcome.is_ok());
-        assert_eq!(rt; taken.as_slice(), want);
-    }
-}
-
-/// The reply that lists these events.
-fn list(alloc: Global, events: &[u64]) -> Result<Reply, Fail> {
-    Ok(Reply::List(Numbers::from(events.to_vec(alloc)?)))
-}
-
-#[test]
-fn a_list_begins_with_its_length(rt: HostRuntime) -> Result<(), Fail> {
-    let table: [(&[u64], &[u8]); 4] = [
-        (&[], b"200 0\n"),
-        (&[4], b"200 1 4\n"),
-        (&[1, 2, 10], b"200 3 1 2 10\n"),
-        (&[9, u64::MAX], b"200 2 9 18446744073709551615\n"),
-    ];
-    for (events, want) in table {
-        let (text, outcome) = written(rt.alloc(), &list(rt.alloc(), events)?, 99);
-        assert!(rt; outcome.is_ok());
-        assert_eq!(rt; text.as_slice(), want);
-    }
-    Ok(())
-}
-
-#[test]
-fn a_long_list_is_written_whole(rt: HostRuntime) -> Result<(), Fail> {
-    let reply = Reply::List(Numbers::from(vec![in rt.alloc(); 7; 16383]?));
-    let (text, outcome) = written(rt.alloc(), &reply, 65536);
-    assert!(rt; outcome.is_ok());
-    assert_eq!(rt; text.len(), 10 + 2 * 16383);
-    Ok(())
-}
-
-#[test]
-fn a_list_ends_where_the_writer_is_full(rt: HostRuntime) -> Result<(), Fail> {
-    let whole = b"200 3 10 11 12\n";
-    let reply = list(rt.alloc(), &[10, 11, 12])?;
-    for room in 0..whole.len() {
-        let (text, outcome) = written(rt.alloc(), &reply, room);
-        assert!(rt; outcome.is_err());
-        assert_eq!(rt; text.as_slice(), &whole[..room]);
-    }
-    let (_, outcome) = written(rt.alloc(), &reply, whole.len());
-    assert!(rt; outcome.is_ok());
-    Ok(())
-}
-
-/// The reply that tells of this report of the root.
-fn event(alloc: Global, kind: Kind, name: Option<Name>, preds: &[u64]) -> Reply
-    requires { length preds.now ≤ 2 }
-{
-    Reply::Event(Row {
-        task: Name::root(),
-        kind,
-        name,
-        preds: Preds::of(alloc, preds),
-    })
-}
-
-#[test]
-fn an_event_tells_its_row(rt: HostRuntime) {
-    let table: [(Kind, &[u8], &[u64], &[u8]); 6] = [
-        (Kind::Local, b"", &[], b"200 local root - 0\n"),
-        (Kind::Spawn, b"child", &[], b"200 spawn root child 0\n"),
-        (Kind::Send, b"m_1", &[4], b"200 send root m_1 1 4\n"),
-        (Kind::Recv, b"m_1", &[4, 5], b"200 recv root m_1 2 4 5\n"),
-        (Kind::End, b"", &[10], b"200 end root - 1 10\n"),
-        (
-            Kind::Join,
-            b"child",
-            &[1, 12],
-            b"200 join root child 2 1 12\n",
-        ),
-    ];
-    for (kind, name, preds, want) in table {
-        assert!(rt; preds.len() <= 2);
-        let reply = event(rt.alloc(), kind, Name::read(name), preds);
-        let (text, outcome) = written(rt.alloc(), &reply, 99);
-        assert!(rt; outcome.is_ok());
-        assert_eq!(rt; text.as_slice(), want);
-    }
-}
-
-#[test]
-fn a_message_tells_its_send_and_its_receipts(rt: HostRuntime) {
-    let mut received = Receipts::none(rt.alloc());
-    received.add(9);
-    let table: [(Reply, &[u8]); 2] = [
-        (Reply::Message(3, Receipts::none(rt.alloc())), b"200 3 0\n"),
-        (Reply::Message(3, received), b"200 3 1 9\n"),
     ];
     for (reply, want) in table {
         let (text, outcome) = written(rt.alloc(), &reply, 99);

@@ -1,14 +1,11 @@
-//! The words that all crates share: refusals, limits, names, rows, and the texts of faults.
+//! The words that all crates share: refusals, limits, names, and the texts of faults.
 
 use line_protocol::{ReadFault, WriteFault};
-use stamp_codec::StampFault;
 use std::fmt::Display;
 use std::process::Abort;
 use std::test::Fail;
 use trace_query::QueryFault;
-use trace_types::{
-    Code, Kind, Limits, Memory, Name, Numbers, Preds, Receipts, Row, Text, WorldFault,
-};
+use trace_types::{Code, Limits, Memory, Name, Numbers, Text, WorldFault};
 use trace_world::{ReplayFault, World};
 
 #[test]
@@ -125,41 +122,6 @@ fn lists_and_texts_lend_what_they_are_made_from(rt: HostRuntime) -> Result<(), F
     Ok(())
 }
 
-#[test]
-fn predecessors_and_what_shares_them_are_those_given(rt: HostRuntime) {
-    for events in [&[][..], &[4], &[4, 5]] {
-        assert!(rt; events.len() <= 2);
-        let preds = Preds::of(rt.alloc(), events);
-        assert_eq!(rt; preds.as_slice(), events);
-        assert_eq!(rt; preds.share().as_slice(), events);
-    }
-}
-
-#[test]
-fn receipts_and_what_shares_them_are_those_added(rt: HostRuntime) {
-    let mut receipts = Receipts::none(rt.alloc());
-    assert_eq!(rt; receipts.as_slice(), [].as_slice());
-    assert_eq!(rt; receipts.share().as_slice(), [].as_slice());
-    receipts.add(4);
-    assert_eq!(rt; receipts.as_slice(), [4].as_slice());
-    assert_eq!(rt; receipts.share().as_slice(), [4].as_slice());
-}
-
-#[test]
-fn a_shared_row_has_every_part_of_the_row(rt: HostRuntime) {
-    let row = Row {
-        task: Name::root(),
-        kind: Kind::Local,
-        name: Name::read(b"m"),
-        preds: Preds::of(rt.alloc(), &[4, 5]),
-    };
-    let shared = row.share();
-    assert_eq!(rt; shared.task, Name::root());
-    assert_eq!(rt; shared.kind, Kind::Local);
-    assert_eq!(rt; shared.name, Name::read(b"m"));
-    assert_eq!(rt; shared.preds.as_slice(), [4, 5].as_slice());
-}
-
 /// Looks that the fault tells itself so.
 fn assert_tells<R: Abort + AllocGlobal>(
     rt: &R,
@@ -168,23 +130,6 @@ fn assert_tells<R: Abort + AllocGlobal>(
 ) -> Result<(), Fail> {
     let text = format!(in rt.alloc(); "{fault}")?;
     assert_eq!(rt; text.as_str(), want);
-    Ok(())
-}
-
-#[test]
-fn faults_of_stamps_tell_their_place(rt: HostRuntime) -> Result<(), Fail> {
-    for (fault, want) in [
-        (StampFault::Shape(0), "no stamp from byte 0 on"),
-        (StampFault::TooLarge(3), "stamp too large at byte 3"),
-        (
-            StampFault::NotNormal(1234567),
-            "node not normal at byte 1234567",
-        ),
-        (StampFault::Memory, "no memory"),
-        (StampFault::from(Memory), "no memory"),
-    ] {
-        assert_tells(&rt, &fault, want)?;
-    }
     Ok(())
 }
 

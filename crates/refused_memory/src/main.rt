@@ -1,0 +1,72 @@
+//! Asks a ledger all that a run asks, and again what finds no memory: each reply has to be the one that is due.
+//!
+//! Before each line of the run all its reports are prepared and abandoned, which is to leave no trace either. The program
+//! prints `ok` where that holds. It is run once for each block of memory that it asks for, with that block refused.
+#![tactic(auto)]
+
+mod asking;
+mod run;
+mod wanted;
+
+use asking::{abandoned, answered};
+use line_protocol::read_request;
+use run::RUN;
+use std::alloc::Global;
+use std::io;
+use tenant_ledger::Ledger;
+use trace_types::{Limits, Memory};
+use wanted::is_written;
+
+fn main(rt: HostRuntime) -> io::Result<()> {
+    let holds = match new_ledger(rt.alloc()) {
+        Ok(ledger) => answers_the_run(&rt, ledger),
+        Err(Memory) => false,
+    };
+    println!(rt; "{}", if holds { "ok" } else { "wrong" })
+}
+
+/// The ledger of a tenant that has reported nothing, which is made again where it finds no memory.
+fn new_ledger(alloc: Global) -> Result<Ledger, Memory> {
+    match Ledger::new(alloc, Limits::default()) {
+        Err(Memory) => Ledger::new(alloc, Limits::default()),
+        made => made,
+    }
+}
+
+/// Whether each line of the run gets its reply.
+fn answers_the_run<R>(rt: &R, mut ledger: Ledger) -> bool {
+    for line in RUN.split_inclusive("\n") {
+        ledger = all_abandoned(rt, ledger);
+        let (next, holds) = answers(rt, ledger, line);
+        if !holds {
+            return false;
+        }
+        ledger = next;
+    }
+    true
+}
+
+/// The ledger after each report of the run was prepared and abandoned.
+fn all_abandoned<R>(rt: &R, mut ledger: Ledger) -> Ledger {
+    for line in RUN.split_inclusive("\n") {
+        if let Some(request) = read_request(line_and_reply(line).0.as_bytes()) {
+            ledger = abandoned(rt, ledger, &request);
+        }
+    }
+    ledger
+}
+
+/// The ledger after the line, and whether the line got its reply.
+fn answers<R>(rt: &R, ledger: Ledger, line: &str) -> (Ledger, bool) {
+    let (request, want) = line_and_reply(line);
+    let Some(request) = read_request(request.as_bytes()) else {
+        return (ledger, false);
+    };
+    let (ledger, reply) = answered(rt, ledger, &request);
+    (ledger, is_written(&reply, want))
+}
+
+/// A request, and the reply that it is to get.
+fn line_and_reply(line: &str) -> (&str, &str) {
+    line.split_once(" => ").unwrap_or((line, ""))
+}
