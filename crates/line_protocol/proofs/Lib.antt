@@ -6,3 +6,4 @@ pub mod LineReadingLemmas
 pub mod WordsLemmas
 pub mod WritingLemmas
 pub mod GatherLemmas
+pub mod NextLineLemmas

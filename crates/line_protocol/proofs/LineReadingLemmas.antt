@@ -1,15 +1,95 @@
--- The lines that a line reader finds, and for callers what they are together.
-use Rattle.std.proofs.Common.{◌≡◌, ◌≤◌, ◌+◌, ℕ, Bool, IsTrue, true, false, cond, List, [], ◌∷◌, ◌++◌, ◌⊎◌, inl, inr, length, take, drop, refl, sym, ap, ◌∙◌, append_assoc, arith, length-append, subst, ◌==◌, lt-ltb}
+-- The reads that a line reader makes, the lines that it finds, and for callers what they are together.
+use Rattle.std.proofs.Common.{Result, Ok, Err, IsErrAnd, ◌≡◌, ◌≤◌, ◌+◌, ℕ, Bool, IsTrue, true, false, cond, List, [], ◌∷◌, ◌++◌, ◌⊎◌, inl, inr, length, take, drop, refl, sym, ap, ◌∙◌, append_assoc, arith, length-append, subst, ◌==◌, lt-ltb}
 use Rattle.std.proofs.lemmas.List.{append-nil, append_cancel_left}
 use Rattle.std.proofs.Math.Seq.{take-append_seam}
+use Rattle.std.proofs.KnownBytes.{Keeps-refl, Keeps-trans}
 use Rattle.trace_types.specs.text.Name.{Text}
 use Rattle.trace_types.specs.text.Lines.{lines, without_return, is_too_long}
-use Rattle.line_protocol.specs.Held.{Held}
+use Rattle.line_protocol.specs.Held.{Held, fresh_held}
+use Rattle.line_protocol.specs.Source.{Given, HasToldEnd, StopsAtEnd, one_if}
 use Rattle.line_protocol.specs.declared.line.Line.TheVariants.{Whole, TooLong}
-use Rattle.line_protocol.specs.LineReading.{GivesLine, Finds, FindsNone, HasRead}
+use Rattle.line_protocol.specs.declared.read_fault.ReadFault.{ReadFault}
+use Rattle.line_protocol.specs.LineReading.{GivesLine, Finds, FindsNone, HasRead, Reads, ReadsUntil, AllWereMade, failed_reads_of}
 use Rattle.line_protocol.specs.Ends.{HasNoEnd, end_count, EndsAt, Comes, Skipped, Skips, kind_of, last_line}
 use Rattle.line_protocol.proofs.EndsLemmas.{lines-ended, lines-last, HasNoEnd-append, length-lines-ended}
 use Rattle.line_protocol.proofs.SkipLemmas.{EndsAt-after}
+
+-- no read was made yet
+pub Reads-none : (given : Given) (held : Held) → Reads given given held held 0
+Reads-none given held = record {
+  counted = refl;
+  failures = omega arith;
+  ends = refl;
+  ended = λ ended. inl ended;
+  whole = Keeps-refl given.whole;
+  work = omega arith;
+}
+
+-- more reads were made; none of them where the end was told before
+pub Reads-on : {before mid after : Given} {old held new : Held} {failed : ℕ} → Reads before mid old held 0 → (IsTrue held.is_ended → after ≡ mid)
+    → Reads mid after held new failed → Reads before after old new failed
+Reads-on {before = before} {mid = mid} {after = after} first at_end second = record {
+  counted = omega arith;
+  failures = omega arith;
+  ends = omega arith;
+  ended = λ ended. elim (second.ended ended) [
+    | inl was ↦ elim (first.ended was) [ inl old ↦ inl old | inr told ↦ inr (subst HasToldEnd (sym (at_end was)) told) ]
+    | inr told ↦ inr told
+  ];
+  whole = Keeps-trans before.whole mid.whole after.whole first.whole second.whole;
+  work = omega arith;
+}
+
+-- more reads were made where the end was not told
+pub Reads-more : {before mid after : Given} {old held new : Held} {failed : ℕ} → Reads before mid old held 0 → held.is_ended ≡ false → Reads mid after held new failed
+    → Reads before after old new failed
+Reads-more first goes_on second = Reads-on first (λ ended. absurd (cc)) second
+
+-- what is known of the end since nothing was held, the source told
+pub has_told_end : {before after : Given} {held : Held} {failed : ℕ} → Reads before after fresh_held held failed → IsTrue held.is_ended → HasToldEnd after
+has_told_end reads ended = elim (reads.ended ended) [ inl never ↦ absurd (cc) | inr told ↦ told ]
+
+-- the end was told once at most, and by the last read
+pub stops_at_end : {before after : Given} {held : Held} {failed : ℕ} → Reads before after fresh_held held failed → StopsAtEnd before after
+stops_at_end {before = before} {after = after} {held = held} reads = by held.is_ended reads.ends (has_told_end reads)
+  where
+    by : (b : Bool) → after.ends + 0 ≡ before.ends + one_if b → (IsTrue b → HasToldEnd after) → StopsAtEnd before after
+    by true ends told = inr (omega arith, (told refl).0)
+    by false ends told = inl (omega arith)
+
+-- bytes that are held were taken or thrown away
+pub Reads-fewer : {before after : Given} {old held new : Held} {failed : ℕ} → Reads before after old held failed
+    → new.reads ≡ held.reads → new.is_ended ≡ held.is_ended → length new.left ≤ length held.left → Reads before after old new failed
+Reads-fewer reads same_reads same_end fewer = record {
+  counted = omega arith;
+  failures = reads.failures;
+  ends = rw same_end reads.ends;
+  ended = rw same_end reads.ended;
+  whole = reads.whole;
+  work = omega arith;
+}
+
+-- more reads were made, until this result
+pub ReadsUntil-more : {A : Type 0} {before mid after : Given} {old held new : Held} {result : Result A ReadFault}
+    → Reads before mid old held 0 → held.is_ended ≡ false → ReadsUntil mid after held new result → ReadsUntil before after old new result
+ReadsUntil-more first goes_on second = record { reads = Reads-more first goes_on second.reads; most = second.most; too_long = second.too_long }
+
+-- other bytes are left, and no more
+pub Reads-dropped : {before after : Given} {old held new : Held} {failed : ℕ} {left : List ℕ} → Reads before after old held failed
+    → new ≡ record held { left = left } → length left ≤ length held.left → Reads before after old new failed
+Reads-dropped {before = before} {after = after} {old = old} {held = held} {failed = failed} {left = left} reads is fewer =
+    let dropped : Reads before after old (record held { left = left }) failed = Reads-fewer reads refl refl fewer in
+    subst (λ (h : Held). Reads before after old h failed) (sym is) dropped
+
+-- what was known at a fault is known where that fault is answered
+pub ReadsUntil-fault : {A B : Type 0} {before after : Given} {old new : Held} (result : Result B ReadFault) (fault : ReadFault) → IsErrAnd result (λ e. e ≡ fault)
+    → ReadsUntil {A = A} before after old new (Err fault) → ReadsUntil before after old new result
+ReadsUntil-fault (Ok value) fault is reads = absurd is
+ReadsUntil-fault {before = before} {after = after} {old = old} {new = new} (Err e) fault is reads = record {
+  reads = subst (λ f. Reads before after old new (failed_reads_of f)) (sym is) reads.reads;
+  most = reads.most;
+  too_long = subst (λ f. AllWereMade f new.reads) (sym is) reads.too_long;
+}
 
 -- the line before an end of line
 pub GivesLine-ended : {given given' left after : List ℕ} (gave before : List ℕ) (is_ended : Bool) → given' ≡ given ++ gave → left ++ gave ≡ before ++ 10 ∷ after → HasNoEnd before
@@ -154,12 +234,3 @@ HasRead-none {held = held} {found = found} read none =
     let last : length (lines (held.left ++ more)) ≡ 1 =
     ap (λ bytes. length (lines bytes)) (sym (append_assoc held.left none.gave (10 ∷ []))) ∙ ap length (lines-ended (held.left ++ none.gave) [] none.no_end) in
     omega (arith, all, ap length split, length-append found (lines (held.left ++ more)), last)
-
--- For callers: what a line reader knows of the end, its source has told.
-pub is_ended-next : {S : Type 0} (has_ended : S → Bool) (source source' : S) {old new : Bool} → (IsTrue old → IsTrue (has_ended source))
-    → (IsTrue new → IsTrue old ⊎ IsTrue (has_ended source')) → (IsTrue old → (source' ≡ source) × IsTrue new) → IsTrue new → IsTrue (has_ended source')
-is_ended-next {S = S} has_ended source source' before ended at_end now =
-    elim (ended now) [
-      | inl was ↦ let P : S → Type 0 = λ s. IsTrue (has_ended s) in subst P (sym (at_end was).0) (before was)
-      | inr told ↦ told
-    ]

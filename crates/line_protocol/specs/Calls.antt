@@ -1,5 +1,6 @@
 -- The calls that were made of a reader or a writer, the last first.
-use Rattle.std.specs.Prelude.{ℕ, ◌+◌, Bool, false, List, [], ◌∷◌, ◌++◌, slice_index, ◌==◌, if◌then◌else◌}
+use Rattle.std.specs.Prelude.{ℕ, ◌+◌, Bool, false, List, [], ◌∷◌, ◌++◌, slice_index, ◌==◌, if◌then◌else◌, Option}
+use Rattle.std.specs.Io.KnownBytes.{prepend_known}
 use Rattle.line_protocol.specs.Source.{Given}
 use Rattle.line_protocol.specs.Sink.{Taken}
 
@@ -36,10 +37,11 @@ abbrev pub call_count : List EdgeCall → ℕ
 call_count [] = 0
 call_count (call ∷ earlier) = call_count earlier + 1
 
--- what was seen of a reader
-abbrev pub given_by : List EdgeCall → Given
-given_by calls = record {
+-- what was seen of a reader, of which these bytes are left, where it can tell
+abbrev pub given_by : List EdgeCall → Option (List ℕ) → Given
+given_by calls left = record {
   bytes = bytes_moved calls;
+  whole = prepend_known (bytes_moved calls) left;
   has_ended = is_last_empty calls;
   ends = endings 1 calls;
   reads = call_count calls;

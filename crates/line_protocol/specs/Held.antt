@@ -1,5 +1,5 @@
 -- What a line reader holds.
-use Rattle.std.specs.Prelude.{ℕ, Bool, List}
+use Rattle.std.specs.Prelude.{ℕ, Bool, false, List, []}
 use Rattle.trace_types.specs.text.Name.{Text}
 
 pub record Held : Type 0 where
@@ -11,3 +11,7 @@ pub record Held : Type 0 where
   pub is_ended : Bool
   -- how many reads were made
   pub reads : ℕ
+
+-- what is held before anything was read
+abbrev pub fresh_held : Held
+fresh_held = record { line = []; left = []; is_ended = false; reads = 0 }

@@ -1,5 +1,6 @@
 -- What is seen of a source, and what one read adds.
-use Rattle.std.specs.Prelude.{◌≡◌, ℕ, ◌+◌, Result, Bool, IsTrue, ◌⊎◌, true, false, ◌&&◌, List, [], ◌++◌, length, take, Ok, Err, ◌==◌, nat_lt}
+use Rattle.std.specs.Prelude.{◌≡◌, ℕ, ◌+◌, Result, Option, IfSome, Bool, IsTrue, ◌⊎◌, true, false, ◌&&◌, List, [], ◌++◌, length, take, Ok, Err, ◌==◌, nat_lt}
+use Rattle.std.specs.Io.KnownBytes.{Keeps}
 use Rattle.line_protocol.specs.declared.stop.Stop.{Stop}
 use Rattle.line_protocol.specs.declared.stop.Stop.TheVariants.{Interrupted, Failed}
 
@@ -7,6 +8,8 @@ use Rattle.line_protocol.specs.declared.stop.Stop.TheVariants.{Interrupted, Fail
 pub record Given : Type 0 where
   -- all bytes that it gave
   pub bytes : List ℕ
+  -- all bytes that it gave and will give, where it can tell
+  pub whole : Option (List ℕ)
   -- whether its last read told the end of its input
   pub has_ended : Bool
   -- how many reads told the end
@@ -60,14 +63,32 @@ abbrev pub interruption_count : {A : Type 0} → Result A Stop → ℕ
 interruption_count (Ok value) = 0
 interruption_count (Err stop) = interruption_count_of stop
 
+-- It gave all its bytes, where it can tell them.
+abbrev pub GaveAll : Given → Type 0
+GaveAll given = IfSome given.whole (λ whole. given.bytes ≡ whole)
+
 -- One read was made into the buffer.
 pub record ReadsOnce (before after : Given) (result : Result ℕ Stop) (buffer : List ℕ) : Type 0 where
   pub bytes : after.bytes ≡ before.bytes ++ bytes_given result buffer
+  pub whole : Keeps before.whole after.whole
+  pub all : IsTrue after.has_ended → GaveAll after
   pub has_ended : after.has_ended ≡ tells_end result buffer
   pub ends : after.ends ≡ before.ends + one_if (tells_end result buffer)
   pub reads : after.reads ≡ before.reads + 1
   pub failures : after.failures ≡ before.failures + failure_count result
   pub interruptions : after.interruptions ≡ before.interruptions + interruption_count result
+
+-- It told the end, and had given all its bytes.
+abbrev pub HasToldEnd : Given → Type 0
+HasToldEnd given = IsTrue given.has_ended × GaveAll given
+
+-- One read was made, which failed so many times and told the end or not, whatever bytes it gave.
+pub record CountsRead (before after : Given) (failed : ℕ) (tells : Bool) : Type 0 where
+  pub reads : after.reads ≡ before.reads + 1
+  pub failures : after.failures ≡ before.failures + failed
+  pub ends : after.ends ≡ before.ends + one_if tells
+  pub whole : Keeps before.whole after.whole
+  pub ended : IsTrue tells → HasToldEnd after
 
 -- Nothing was read after a read that told the end.
 abbrev pub StopsAtEnd : Given → Given → Type 0

@@ -1,9 +1,10 @@
 //! The bytes that a line reader has read.
-ghost use Rattle.std.specs.Prelude.{◌≡◌, ◌↔◌, ◌+◌, ◌-◌, ◌≤◌, ◌<◌, ◌^◌, IsTrue, [], ◌⊎◌, false, IfOk, OnOk, OnErr, IfNone, length, take, drop, slice_range, position, ◌==◌};
+ghost use Rattle.std.specs.Prelude.{◌≡◌, ◌↔◌, ◌+◌, ◌-◌, ◌≤◌, ◌<◌, ◌^◌, IsTrue, [], false, IfOk, OnOk, OnErr, length, take, drop, slice_range, position, ◌==◌};
 ghost use Rattle.trace_types.specs.text.Lines.{without_return};
-ghost use Rattle.line_protocol.specs.LineReading.{Extends, Finds, FindsNone, LeavesLess, NeedsRead, Reads, work_left, failed_reads, IfTooLong};
-ghost use Rattle.line_protocol.specs.Ends.{IsEnd, HasNoEnd, Comes, Skipped, Skips, kind_of, kind_of_length, last_line};
-ghost use Rattle.line_protocol.specs.Source.{failure_count, bytes_read, gives_none, one_if};
+ghost use Rattle.line_protocol.specs.Held.{fresh_held};
+ghost use Rattle.line_protocol.specs.LineReading.{FindsNext, FindsEnd, SkipsLine, FillsOnce, NeedsRead, ReadsUntil, work_left};
+ghost use Rattle.line_protocol.specs.Ends.{IsEnd, Comes, kind_of, kind_of_length, last_line};
+ghost use Rattle.line_protocol.specs.Source.{CountsRead, failure_count, bytes_read, gives_none};
 
 use crate::{Line, ReadFault, Source, Stop};
 use std::alloc::Global;
@@ -62,7 +63,7 @@ impl Buffer {
 
     /// Nothing that was read yet.
     pub fn new(alloc: Global) -> Result<Buffer, Memory>
-        ensures { IfOk result (λ buffer. buffer ≡ record { line = []; left = []; is_ended = false; reads = 0 }) }
+        ensures { IfOk result (λ buffer. buffer ≡ fresh_held) }
     {
         let bytes = vec![in alloc; 0; Buffer::ROOM]?;
         Ok(Buffer {
@@ -95,14 +96,7 @@ impl Buffer {
     ///
     /// `Read` comes where a read failed, `TooLong` where 2^30 reads were made into this buffer.
     pub fn next_line<R: Source>(&mut self, source: &mut R) -> Result<Line, ReadFault>
-        ensures ok { IfOk result (λ line. Finds (R.seen source.old).bytes (R.seen source.new).bytes self.old self.new line) }
-        ensures err { OnErr result (FindsNone (R.seen source.old).bytes (R.seen source.new).bytes self.old) }
-        ensures work { IfOk result (λ line. LeavesLess self.old self.new line) }
-        ensures given { Extends (R.seen source.old).bytes (R.seen source.new).bytes }
-        ensures reads { Reads (R.seen source.old) (R.seen source.new) self.old self.new (failed_reads result) }
-        ensures too_long { IfTooLong result self.new.reads }
-        ensures most { self.new.reads ≤ 2 ^ 30 }
-        ensures ended { IsTrue self.new.is_ended → IsTrue self.old.is_ended ⊎ IsTrue (R.seen source.new).has_ended }
+        ensures finds { FindsNext (R.seen source.old) (R.seen source.new) self.old self.new result }
         ensures at_end { IsTrue self.old.is_ended → (source.new ≡ source.old) × IsTrue self.new.is_ended }
     {
         match self.find_end(source)? {
@@ -118,14 +112,8 @@ impl Buffer {
     /// Reads until the line has its end, or is seen to be too long or to be the last.
     fn find_end<R: Source>(&mut self, source: &mut R) -> Result<Option<usize>, ReadFault>
         ensures comes { Comes (R.seen source.old).bytes (R.seen source.new).bytes self.old.left self.new.left }
-        ensures found { IfOk result (λ end. IsEnd self.new.left end) }
-        ensures err { OnErr result (HasNoEnd self.new.left × (self.old.is_ended ≡ false)) }
-        ensures none { IfOk result (λ end. IfNone end (IsTrue self.new.is_ended ⊎ (202 ≤ length self.new.left))) }
-        ensures work { work_left self.new ≤ work_left self.old }
-        ensures reads { Reads (R.seen source.old) (R.seen source.new) self.old self.new (failed_reads result) }
-        ensures too_long { IfTooLong result self.new.reads }
-        ensures most { self.new.reads ≤ 2 ^ 30 }
-        ensures ended { IsTrue self.new.is_ended → IsTrue self.old.is_ended ⊎ IsTrue (R.seen source.new).has_ended }
+        ensures found { FindsEnd self.old self.new result }
+        ensures reads { ReadsUntil (R.seen source.old) (R.seen source.new) self.old self.new result }
         ensures at_end { IsTrue self.old.is_ended → (source.new ≡ source.old) × (self.new ≡ self.old) }
     {
         loop {
@@ -179,14 +167,9 @@ impl Buffer {
     /// Reads on until the line that is left has its end, and keeps nothing of it.
     fn skip_line<R: Source>(&mut self, source: &mut R) -> Result<(), ReadFault>
         requires { self.old.is_ended ≡ false }
-        ensures given { Extends (R.seen source.old).bytes (R.seen source.new).bytes }
-        ensures ok { OnOk result (Skips (R.seen source.old).bytes (R.seen source.new).bytes self.new.left self.new.is_ended) }
-        ensures err { OnErr result (Skipped (R.seen source.old).bytes (R.seen source.new).bytes) }
-        ensures work { work_left self.new + length self.old.left ≤ work_left self.old }
-        ensures reads { Reads (R.seen source.old) (R.seen source.new) self.old self.new (failed_reads result) }
-        ensures too_long { IfTooLong result self.new.reads }
-        ensures most { self.new.reads ≤ 2 ^ 30 }
-        ensures ended { IsTrue self.new.is_ended → IsTrue (R.seen source.new).has_ended }
+        ensures skips { SkipsLine (R.seen source.old).bytes (R.seen source.new).bytes self.new result }
+        ensures less { work_left self.new + length self.old.left ≤ work_left self.old }
+        ensures reads { ReadsUntil (R.seen source.old) (R.seen source.new) self.old self.new result }
     {
         while !self.is_ended {
             self.drop_left();
@@ -231,11 +214,7 @@ impl Buffer {
         ensures comes { Comes (R.seen source.old).bytes (R.seen source.new).bytes self.old.left self.new.left }
         ensures same { OnErr result (self.new.left ≡ self.old.left) }
         ensures progress { OnOk result (self.old.reads < self.new.reads) }
-        ensures work { work_left self.new ≤ work_left self.old }
-        ensures reads { Reads (R.seen source.old) (R.seen source.new) self.old self.new (failed_reads result) }
-        ensures too_long { IfTooLong result self.new.reads }
-        ensures most { self.new.reads ≤ 2 ^ 30 }
-        ensures ended { IsTrue self.new.is_ended → IsTrue (R.seen source.new).has_ended }
+        ensures reads { ReadsUntil (R.seen source.old) (R.seen source.new) self.old self.new result }
     {
         while self.reads < Buffer::MOST_READS {
             match self.fill(source) {
@@ -253,14 +232,8 @@ impl Buffer {
         requires open { self.old.is_ended ≡ false }
         requires reads { self.old.reads < 2 ^ 30 }
         ensures comes { Comes (R.seen source.old).bytes (R.seen source.new).bytes self.old.left self.new.left }
-        ensures reads { self.new.reads ≡ self.old.reads + 1 }
-        ensures counted { (R.seen source.new).reads ≡ (R.seen source.old).reads + 1 }
-        ensures ends { (R.seen source.new).ends ≡ (R.seen source.old).ends + one_if self.new.is_ended }
-        ensures length { length self.new.left ≤ length self.old.left + 65536 }
-        ensures room { OnErr result (self.new.left ≡ self.old.left) }
-        ensures failures { (R.seen source.new).failures ≡ (R.seen source.old).failures + failure_count result }
-        ensures open { OnErr result (self.new.is_ended ≡ false) }
-        ensures ended { IsTrue self.new.is_ended → IsTrue (R.seen source.new).has_ended }
+        ensures read { CountsRead (R.seen source.old) (R.seen source.new) (failure_count result) self.new.is_ended }
+        ensures held { FillsOnce self.old self.new result }
     {
         let kept = self.end - self.start;
         let count = refill(&mut self.bytes, self.start, self.end, source);
@@ -291,10 +264,7 @@ fn refill<R: Source>(
     ensures bound { IfOk result (λ n. end - start + n ≤ length bytes.old) }
     ensures comes { Comes (R.seen source.old).bytes (R.seen source.new).bytes (slice_range bytes.old start end)
         (take (end - start + bytes_read result) bytes.new) }
-    ensures counted { (R.seen source.new).reads ≡ (R.seen source.old).reads + 1 }
-    ensures ends { (R.seen source.new).ends ≡ (R.seen source.old).ends + one_if (gives_none result) }
-    ensures failures { (R.seen source.new).failures ≡ (R.seen source.old).failures + failure_count result }
-    ensures ended { IfOk result (λ n. n ≡ 0 → IsTrue (R.seen source.new).has_ended) }
+    ensures read { CountsRead (R.seen source.old) (R.seen source.new) (failure_count result) (gives_none result) }
 {
     bytes.copy_within(start..end, 0);
     source.read_some(&mut bytes[end - start..])

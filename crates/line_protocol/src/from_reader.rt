@@ -20,7 +20,7 @@ impl<R: Read + Drop> FromReader<R> {
     /// The reader, of which no call was made yet.
     pub fn new(reader: R) -> FromReader<R>
         ensures seen { ⟦<FromReader<R> as Source>⟧.seen result
-            ≡ record { bytes = []; has_ended = false; ends = 0; reads = 0; failures = 0; interruptions = 0 } }
+            ≡ record { bytes = []; whole = R.remaining reader; has_ended = false; ends = 0; reads = 0; failures = 0; interruptions = 0 } }
         ensures reader { result.reader ≡ reader }
     {
         FromReader {
@@ -31,11 +31,12 @@ impl<R: Read + Drop> FromReader<R> {
 }
 
 impl<R: Read + Drop> Source for FromReader<R> {
-    ghost seen = { λ s. given_by s.log.calls };
+    ghost seen = { λ s. given_by s.log.calls (R.remaining s.reader) };
 
     fn read_some(&mut self, buffer: &mut [u8]) -> Result<usize, Stop>
         ensures bound { IfOk result (λ n. n ≤ length buffer.new) }
-        ensures reads { ReadsOnce (given_by self.old.log.calls) (given_by self.new.log.calls) result buffer.new }
+        ensures reads { ReadsOnce (given_by self.old.log.calls (R.remaining self.old.reader))
+            (given_by self.new.log.calls (R.remaining self.new.reader)) result buffer.new }
         // The reader's own bytes are those that were given.
         ensures bytes { ReadConsumes (R.remaining self.old.reader) (R.remaining self.new.reader) result buffer.new }
     {

@@ -1,5 +1,5 @@
 -- Replays that a fault cuts short.
-use Rattle.std.proofs.Common.{◌≡◌, ◌≢◌, ℕ, zero, suc, ◌-◌, ◌≤◌, Bool, true, false, IsTrue, List, [], ◌∷◌, ◌++◌, length, take, refl, sym, ap, ◌∙◌, subst, append_assoc, arith, codes, None, ◌+◌, Result, Ok, Err, IsErrAnd, inl, inr}
+use Rattle.std.proofs.Common.{◌≡◌, ◌≢◌, ℕ, zero, suc, ◌-◌, ◌≤◌, Bool, true, false, IsTrue, List, [], ◌∷◌, ◌++◌, length, take, refl, sym, ap, ◌∙◌, subst, append_assoc, arith, codes, None, Result, Ok, Err, IsErrAnd}
 use Rattle.std.proofs.lemmas.List.{append-nil, length-append}
 use Rattle.std.proofs.Math.Seq.{take-append_seam}
 use Rattle.trace_types.specs.text.Name.{Text}
@@ -14,7 +14,7 @@ use Rattle.trace_types.specs.declared.reply.Reply.{Reply}
 use Rattle.trace_types.specs.declared.reply.Reply.TheVariants.{Refused}
 use Rattle.line_protocol.specs.Held.{Held}
 use Rattle.line_protocol.specs.Ends.{end_count}
-use Rattle.line_protocol.specs.Source.{Given, StopsAtEnd, one_if}
+use Rattle.line_protocol.specs.Source.{Given, one_if}
 use Rattle.line_protocol.specs.Sink.{Taken}
 use Rattle.line_protocol.specs.LineReading.{HasRead, GivesLine, Finds, FindsNone}
 use Rattle.line_protocol.specs.declared.line.Line.{Line}
@@ -199,11 +199,6 @@ HandsOn-flushed (Err Memory) taken flushed = tt
 pub HandsOn-fault : {A : Type 0} (result : Result A ReplayFault) (fault : ReplayFault) (taken : Taken) → IsErrAnd result (λ e. e ≡ fault) → HandsOn {A = A} (Err fault) taken → HandsOn result taken
 HandsOn-fault (Ok counts) fault taken is holds = absurd is
 HandsOn-fault {A = A} (Err e) fault taken is holds = subst (λ one. HandsOn {A = A} (Err one) taken) (sym is) holds
-
--- the end was told once at most, and by the last read
-pub stops_at_end : (before after : Given) (is_ended : Bool) → after.ends ≡ before.ends + one_if is_ended → (IsTrue is_ended → IsTrue after.has_ended) → StopsAtEnd before after
-stops_at_end before after true ends told = inr (ends, told refl)
-stops_at_end before after false ends told = inl (omega arith)
 
 -- the answer to a line that was found, as the loop knows it
 pub answered_where_too_long : (given given' : List ℕ) (held held' : Held) (world world' : World) (found : Line) (answer result : Answer)

@@ -1,23 +1,27 @@
-use Rattle.std.proofs.Common.{ℕ, List, ◌≡◌, ◌<◌, IsTrue, true, false, [], refl, sym, ap, ◌∙◌, subst, arith}
+use Rattle.std.proofs.Common.{ℕ, List, ◌≡◌, ◌<◌, IsTrue, [], refl, sym, ap, subst, arith}
 use Rattle.std.proofs.lemmas.List.{append-nil}
 use Rattle.line_protocol.proofs.EndsLemmas.{HasNoEnd-front}
-use Rattle.line_protocol.proofs.LineReadingLemmas.{HasRead-start, is_ended-next}
-use Rattle.line_protocol.specs.Held.{Held}
-use Rattle.line_protocol.specs.LineReading.{Finds, FindsNone, LeavesLess, NeedsRead, Reads, work_left}
-use Rattle.line_protocol.specs.Source.{StopsAtEnd}
+use Rattle.line_protocol.proofs.LineReadingLemmas.{HasRead-start, Reads-none, Reads-on, has_told_end, stops_at_end}
+use Rattle.line_protocol.specs.Held.{Held, fresh_held}
+use Rattle.line_protocol.specs.LineReading.{Finds, FindsNone, LeavesLess, NeedsRead, Reads, failed_reads, work_left}
+use Rattle.line_protocol.specs.Source.{HasToldEnd}
 use Rattle.line_protocol.specs.declared.line.Line.TheVariants.{End}
 use Rattle.trace_types.specs.world.Replay.{is_accepted, is_answered, is_refused}
 use Rattle.line_protocol.specs.Answer.{addressee_text}
 use Rattle.trace_world.proofs.Fronts.{IfErr-always, IfErr-equal}
 use Rattle.trace_world.proofs.Following.{Follows, LeadsTo-none, Follows-line}
-use Rattle.trace_world.proofs.Parts.{in_part_none, in_part_read, in_part_held_back, in_part_unflushed, in_part_last, replays_all, HandsOn-flushed, HandsOn-fault, stops_at_end, Answered, answered_where_too_long, answered_where_whole, Follows-flushed, one_if-le}
+use Rattle.trace_world.proofs.Parts.{in_part_none, in_part_read, in_part_held_back, in_part_unflushed, in_part_last, replays_all, HandsOn-flushed, HandsOn-fault, Answered, answered_where_too_long, answered_where_whole, Follows-flushed, one_if-le}
 use Rattle.trace_world.proofs.replaying.replay.Goals as goal
 use Rattle.trace_world.proofs.replaying.replay.Given.{Over}
 use Rattle.trace_world.proofs.replaying.replay.Goals.{After-next_line, After-write, After-flush, in-TooLong, in-Whole}
 
+-- all reads that were made
+all_reads : (g : Over) (c : After-next_line g) → Reads (g.R.Source.seen c.args.reader.now) (g.R.Source.seen c.next_line.new.source) fresh_held c.next_line.new.self (failed_reads c.next_line.result)
+all_reads g c = Reads-on c.loop-lines.invariant.reads (λ ended. ap g.R.Source.seen (c.next_line.ensures.at_end ended).0) c.next_line.ensures.finds.reads.reads
+
 -- what the buffer knows of the end, the reader told
-told : (g : Over) (c : After-next_line g) → IsTrue c.next_line.new.self.is_ended → IsTrue (g.R.Source.seen c.next_line.new.source).has_ended
-told g c = is_ended-next (λ source. (g.R.Source.seen source).has_ended) c.loop-lines.reader c.next_line.new.source c.loop-lines.invariant.ended c.next_line.ensures.ended c.next_line.ensures.at_end
+told : (g : Over) (c : After-next_line g) → IsTrue c.next_line.new.self.is_ended → HasToldEnd (g.R.Source.seen c.next_line.new.source)
+told g c = has_told_end (all_reads g c)
 
 -- once it told the end, the reader gives nothing more
 gives_no_more : (g : Over) (c : After-next_line g) → IsTrue c.loop-lines.lines.is_ended
@@ -31,15 +35,15 @@ answered : (g : Over) (c : After-write g)
 answered g c =
     elim c.match-branch-4.branch [
       | in-TooLong w ↦ answered_where_too_long _ _ c.loop-lines.lines c.next_line.new.self c.loop-lines.world c.match-branch-4.world c.in_ok-next_line.field-0 c.match-branch-4.answer w.to_nobody-answer.result
-          w.in-TooLong.is c.in_ok-next_line.ensures.ok w.answer-is w.to_nobody-answer.ensures w.world-is
+          w.in-TooLong.is c.in_ok-next_line.ensures.finds.line w.answer-is w.to_nobody-answer.ensures w.world-is
       | in-Whole w ↦ answered_where_whole _ _ c.loop-lines.lines c.next_line.new.self c.loop-lines.world w.to_line-answer.new.world c.match-branch-4.world c.in_ok-next_line.field-0 c.match-branch-4.answer w.to_line-answer.result w.line.result.now
-          w.in-Whole.is c.in_ok-next_line.ensures.ok w.answer-is w.line.ensures w.world-is w.to_line-answer.ensures
+          w.in-Whole.is c.in_ok-next_line.ensures.finds.line w.answer-is w.line.ensures w.world-is w.to_line-answer.ensures
     ]
 
 -- no line was found any more
 finds_end : (g : Over) (c : After-flush g) → Finds (g.R.Source.seen c.loop-lines.reader).bytes (g.R.Source.seen c.next_line.new.source).bytes c.loop-lines.lines c.next_line.new.self End
 finds_end g c =
-    subst (Finds (g.R.Source.seen c.loop-lines.reader).bytes (g.R.Source.seen c.next_line.new.source).bytes c.loop-lines.lines c.next_line.new.self) c.in-End.is c.in_ok-next_line.ensures.ok
+    subst (Finds (g.R.Source.seen c.loop-lines.reader).bytes (g.R.Source.seen c.next_line.new.source).bytes c.loop-lines.lines c.next_line.new.self) c.in-End.is c.in_ok-next_line.ensures.finds.line
 
 -- what was replayed so far, once it was handed on
 follows : (g : Over) (c : After-next_line g)
@@ -49,13 +53,6 @@ follows g c = Follows-flushed c.in_ok-hand_on.ensures.taken c.loop-lines.invaria
 
 needs_read : {given given' : List ℕ} {held : Held} → FindsNone given given' held → NeedsRead held
 needs_read {held = held} none = (HasNoEnd-front held.left none.gave none.no_end, none.goes_on)
-
--- how often the end was told
-ends : (g : Over) (c : After-next_line g) → (failed : ℕ) → Reads (g.R.Source.seen c.loop-lines.reader) (g.R.Source.seen c.next_line.new.source) c.loop-lines.lines c.next_line.new.self failed
-    → StopsAtEnd (g.R.Source.seen c.args.reader.now) (g.R.Source.seen c.next_line.new.source)
-ends g c failed reads =
-    stops_at_end (g.R.Source.seen c.args.reader.now) (g.R.Source.seen c.next_line.new.source) c.next_line.new.self.is_ended
-    (omega (arith, reads, c.loop-lines.invariant.ends)) (told g c)
 
 pub returns-in_err-lines-clause-fault : goal.returns-in_err-lines-clause-fault
 returns-in_err-lines-clause-fault g c = IfErr-always _ (in_part_none (g.R.Source.seen c.args.reader.now) (g.W.Sink.seen c.args.writer.now) c.args.world.now)
@@ -67,11 +64,11 @@ pub returns-in_err-hand_on-clause-fault : goal.returns-in_err-hand_on-clause-fau
 returns-in_err-hand_on-clause-fault g c =
     IfErr-equal _ _ _ c.from_residual-in_err-hand_on.ensures.1
     (in_part_held_back (g.R.Source.seen c.args.reader.now) (g.R.Source.seen c.loop-lines.reader) (g.W.Sink.seen c.args.writer.now) (g.W.Sink.seen c.hand_on.new.writer)
-    (Follows-flushed c.in_err-hand_on.ensures.taken c.loop-lines.invariant.follows) c.loop-lines.invariant.ended)
+    (Follows-flushed c.in_err-hand_on.ensures.taken c.loop-lines.invariant.follows) (λ ended. (has_told_end c.loop-lines.invariant.reads ended).0))
 
 pub returns-in_err-hand_on-clause-ends : goal.returns-in_err-hand_on-clause-ends
 returns-in_err-hand_on-clause-ends g c =
-    stops_at_end (g.R.Source.seen c.args.reader.now) (g.R.Source.seen c.loop-lines.reader) c.loop-lines.lines.is_ended c.loop-lines.invariant.ends c.loop-lines.invariant.ended
+    stops_at_end c.loop-lines.invariant.reads
 
 pub loop-lines-init : goal.loop-lines-init
 loop-lines-init g c =
@@ -86,10 +83,7 @@ loop-lines-init g c =
         writes = sym (append-nil _);
         leads = rw none (LeadsTo-none c.args.world.now);
       };
-      ended = λ e. let bad : true ≡ false = sym e ∙ ap (λ (h : Held). h.is_ended) held in absurd (cc);
-      ends = rw held (omega arith);
-      failures = refl;
-      reads = rw held (omega arith);
+      reads = rw held (Reads-none _ _);
       most = rw held (omega arith);
       write_failures = refl;
       interruptions = omega arith;
@@ -103,43 +97,40 @@ pub returns-in_err-next_line-clause-fault : goal.returns-in_err-next_line-clause
 returns-in_err-next_line-clause-fault g c =
     let at = goal.at.returns-in_err-next_line-clause-fault g c in
     IfErr-always _ (in_part_read (g.R.Source.seen c.args.reader.now) (g.R.Source.seen c.next_line.new.source) (g.W.Sink.seen c.args.writer.now) (g.W.Sink.seen c.hand_on.new.writer)
-    (follows g at.After-next_line) c.in_err-next_line.ensures.err)
+    (follows g at.After-next_line) c.in_err-next_line.ensures.finds.none)
 
 pub returns-in_err-next_line-clause-flushed : goal.returns-in_err-next_line-clause-flushed
-returns-in_err-next_line-clause-flushed g c = HandsOn-flushed _ _ (c.in_ok-hand_on.ensures.flushed (needs_read c.in_err-next_line.ensures.err))
+returns-in_err-next_line-clause-flushed g c = HandsOn-flushed _ _ (c.in_ok-hand_on.ensures.flushed (needs_read c.in_err-next_line.ensures.finds.none))
 
 pub returns-in_err-next_line-clause-ends : goal.returns-in_err-next_line-clause-ends
-returns-in_err-next_line-clause-ends g c = ends g (goal.at.returns-in_err-next_line-clause-ends g c).After-next_line _ c.in_err-next_line.ensures.reads
+returns-in_err-next_line-clause-ends g c = stops_at_end (all_reads g (goal.at.returns-in_err-next_line-clause-ends g c).After-next_line)
 
 pub returns-in_err-write-clause-fault : goal.returns-in_err-write-clause-fault
 returns-in_err-write-clause-fault g c =
     let at = goal.at.returns-in_err-write-clause-fault g c in
     IfErr-equal _ _ _ c.from_residual-in_err-write.ensures.1
     (in_part_last (g.R.Source.seen c.args.reader.now) (g.R.Source.seen c.next_line.new.source) (g.W.Sink.seen c.args.writer.now) (g.W.Sink.seen c.write.new.writer)
-    (follows g at.After-next_line) (answered g at.After-write) (gives_no_more g at.After-next_line) (told g at.After-next_line) c.in_err-write.ensures.written)
+    (follows g at.After-next_line) (answered g at.After-write) (gives_no_more g at.After-next_line) (λ ended. (told g at.After-next_line ended).0) c.in_err-write.ensures.written)
 
 pub returns-in_err-write-clause-ends : goal.returns-in_err-write-clause-ends
-returns-in_err-write-clause-ends g c = ends g (goal.at.returns-in_err-write-clause-ends g c).After-next_line _ c.in_ok-next_line.ensures.reads
+returns-in_err-write-clause-ends g c = stops_at_end (all_reads g (goal.at.returns-in_err-write-clause-ends g c).After-next_line)
 
 pub loop-lines-preserved : goal.loop-lines-preserved
 loop-lines-preserved g c =
     let at = goal.at.loop-lines-preserved g c in
     let answered = answered g at.After-write in
     let before = c.loop-lines.invariant in
-    let step = c.in_ok-next_line.ensures in
+    let step = c.in_ok-next_line.ensures.finds in
     let wrote = c.in_ok-write.ensures in
     let less : work_left c.next_line.new.self < work_left c.loop-lines.lines =
     elim c.match-branch-4.branch [
-      | in-TooLong w ↦ subst (LeavesLess c.loop-lines.lines c.next_line.new.self) w.in-TooLong.is step.work
-      | in-Whole w ↦ subst (LeavesLess c.loop-lines.lines c.next_line.new.self) w.in-Whole.is step.work
+      | in-TooLong w ↦ subst (LeavesLess c.loop-lines.lines c.next_line.new.self) w.in-TooLong.is step.less
+      | in-Whole w ↦ subst (LeavesLess c.loop-lines.lines c.next_line.new.self) w.in-Whole.is step.less
     ] in
     record {
       follows = rw c.count.ensures (Follows-line answered.line _ _ (follows g at.After-next_line) answered.gives (gives_no_more g at.After-next_line) answered.answers wrote.written);
-      ended = told g at.After-next_line;
-      ends = omega (arith, step.reads, before.ends);
-      failures = omega (arith, step.reads, before.failures);
-      reads = omega (arith, before.reads, step.reads);
-      most = step.most;
+      reads = Reads-on {failed = 0} before.reads (λ ended. ap g.R.Source.seen (c.next_line.ensures.at_end ended).0) step.reads.reads;
+      most = step.reads.most;
       write_failures = omega (arith, before.write_failures, c.in_ok-hand_on.ensures.well, wrote.no_failure);
       interruptions = omega (arith, before.interruptions, c.in_ok-hand_on.ensures.well, wrote.interruptions);
       room = rw c.count.ensures (omega (arith, before.room, less));
@@ -154,20 +145,20 @@ returns-in_err-flush-clause-fault g c =
     let finds = finds_end g at.After-flush in
     IfErr-equal _ _ _ c.from_residual-in_err-flush.ensures.1
     (in_part_unflushed (g.R.Source.seen c.args.reader.now) (g.R.Source.seen c.next_line.new.source) (g.W.Sink.seen c.args.writer.now) (g.W.Sink.seen c.flush.new.writer)
-    c.next_line.new.self (Follows-flushed c.in_err-flush.ensures.0 (follows g at.After-next_line)) finds (told g at.After-next_line finds.3))
+    c.next_line.new.self (Follows-flushed c.in_err-flush.ensures.0 (follows g at.After-next_line)) finds (told g at.After-next_line finds.3).0)
 
 pub returns-in_err-flush-clause-ends : goal.returns-in_err-flush-clause-ends
-returns-in_err-flush-clause-ends g c = ends g (goal.at.returns-in_err-flush-clause-ends g c).After-next_line _ c.in_ok-next_line.ensures.reads
+returns-in_err-flush-clause-ends g c = stops_at_end (all_reads g (goal.at.returns-in_err-flush-clause-ends g c).After-next_line)
 
 pub returns-clause-ok : goal.returns-clause-ok
 returns-clause-ok g c =
     let at = goal.at.returns-clause-ok g c in
     let finds = finds_end g at.After-flush in
     replays_all (g.R.Source.seen c.args.reader.now) (g.R.Source.seen c.next_line.new.source) (g.W.Sink.seen c.args.writer.now) (g.W.Sink.seen c.flush.new.writer)
-    c.next_line.new.self (Follows-flushed c.in_ok-flush.ensures.0 (follows g at.After-next_line)) finds (told g at.After-next_line finds.3)
+    c.next_line.new.self (Follows-flushed c.in_ok-flush.ensures.0 (follows g at.After-next_line)) finds (told g at.After-next_line finds.3).0
 
 pub returns-clause-ends : goal.returns-clause-ends
-returns-clause-ends g c = ends g (goal.at.returns-clause-ends g c).After-next_line _ c.in_ok-next_line.ensures.reads
+returns-clause-ends g c = stops_at_end (all_reads g (goal.at.returns-clause-ends g c).After-next_line)
 
 pub returns-in_err-hand_on-clause-flushed : goal.returns-in_err-hand_on-clause-flushed
 returns-in_err-hand_on-clause-flushed g c = HandsOn-fault _ _ _ c.from_residual-in_err-hand_on.ensures.1 tt

@@ -1,14 +1,12 @@
-use Rattle.std.proofs.Common.{◌≡◌, ◌-◌, ◌^◌, ◌≤◌, ◌⊎◌, IsTrue}
-use Rattle.line_protocol.specs.LineReading.{Reads, work_left}
+use Rattle.std.proofs.Common.{◌≡◌, ◌-◌, ◌^◌, IsTrue}
+use Rattle.line_protocol.specs.LineReading.{Reads}
 use Rattle.line_protocol.specs.Ends.{Comes}
 use Rattle.line_protocol.proofs.buffer.Buffer.find_end.Given as goal
 
 abbrev pub invariant-loop-self : goal.invariant-loop-self
 invariant-loop-self g l = record {
   comes : Comes (g.R.Source.seen l.fn.source).bytes (g.R.Source.seen l.source).bytes l.fn.self.left l.self.left;
-  work : work_left l.self ≤ work_left l.fn.self;
   reads : Reads (g.R.Source.seen l.fn.source) (g.R.Source.seen l.source) l.fn.self l.self 0;
-  ended : IsTrue l.self.is_ended → IsTrue l.fn.self.is_ended ⊎ IsTrue (g.R.Source.seen l.source).has_ended;
   at_end : IsTrue l.fn.self.is_ended → (l.source ≡ l.fn.source) × (l.self ≡ l.fn.self);
 }
 

@@ -1,4 +1,4 @@
-use Rattle.std.proofs.Common.{◌-◌, ◌^◌, ◌≤◌, IsTrue}
+use Rattle.std.proofs.Common.{◌-◌, ◌^◌, ◌≤◌}
 use Rattle.line_protocol.specs.LineReading.{Reads}
 use Rattle.line_protocol.specs.Ends.{Skipped}
 use Rattle.line_protocol.proofs.buffer.Buffer.skip_line.Given as goal
@@ -8,7 +8,6 @@ invariant-loop-self g l = record {
   skipped : Skipped (g.R.Source.seen l.fn.source).bytes (g.R.Source.seen l.source).bytes;
   more : l.fn.self.reads ≤ l.self.reads;
   reads : Reads (g.R.Source.seen l.fn.source) (g.R.Source.seen l.source) l.fn.self l.self 0;
-  ended : IsTrue l.self.is_ended → IsTrue (g.R.Source.seen l.source).has_ended;
 }
 
 abbrev pub decreases-loop-self : goal.decreases-loop-self
