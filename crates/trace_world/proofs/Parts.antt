@@ -1,7 +1,9 @@
 -- Replays that a fault cuts short.
-use Rattle.std.proofs.Common.{◌≡◌, ◌≢◌, ℕ, zero, suc, ◌-◌, ◌≤◌, Bool, true, false, IsTrue, List, [], ◌∷◌, ◌++◌, length, take, refl, sym, ap, ◌∙◌, subst, append_assoc, arith, codes, None, Result, Ok, Err, IsErrAnd}
+use Rattle.std.proofs.Common.{◌≡◌, ◌≢◌, ℕ, zero, suc, ◌-◌, ◌≤◌, Bool, true, false, IsTrue, List, [], ◌∷◌, ◌++◌, length, take, refl, sym, ap, ◌∙◌, subst, append_assoc, arith, codes, Option, Some, None, IfSome, Result, Ok, Err, IsErrAnd}
 use Rattle.std.proofs.lemmas.List.{append-nil, length-append}
 use Rattle.std.proofs.Math.Seq.{take-append_seam}
+use Rattle.std.specs.Io.KnownBytes.{Keeps}
+use Rattle.std.proofs.KnownBytes.{Keeps-refl}
 use Rattle.trace_types.specs.text.Name.{Text}
 use Rattle.trace_types.specs.tenant.Limits.{Limits}
 use Rattle.trace_types.specs.text.Lines.{lines}
@@ -12,17 +14,17 @@ use Rattle.trace_types.specs.world.World.{World}
 use Rattle.trace_types.specs.declared.code.Code.TheVariants as code
 use Rattle.trace_types.specs.declared.reply.Reply.{Reply}
 use Rattle.trace_types.specs.declared.reply.Reply.TheVariants.{Refused}
-use Rattle.line_protocol.specs.Held.{Held}
+use Rattle.line_protocol.specs.Held.{Held, fresh_held}
 use Rattle.line_protocol.specs.Ends.{end_count}
 use Rattle.line_protocol.specs.Source.{Given, one_if}
 use Rattle.line_protocol.specs.Sink.{Taken}
-use Rattle.line_protocol.specs.LineReading.{HasRead, GivesLine, Finds, FindsNone}
+use Rattle.line_protocol.specs.LineReading.{HasRead, GivesLine, Finds, FindsNone, Reads}
 use Rattle.line_protocol.specs.declared.line.Line.{Line}
 use Rattle.line_protocol.specs.declared.line.Line.TheVariants.{Whole, TooLong, End}
 use Rattle.trace_world.specs.declared.answer.Answer.{Answer}
 use Rattle.line_protocol.specs.Answer.{addressee_text}
 use Rattle.line_protocol.specs.Writing.{WritesFront}
-use Rattle.line_protocol.proofs.LineReadingLemmas.{HasRead-line, HasRead-end, HasRead-none}
+use Rattle.line_protocol.proofs.LineReadingLemmas.{HasRead-line, HasRead-end, HasRead-none, has_told_end}
 use Rattle.trace_world.specs.declared.counts.Counts.{Counts}
 use Rattle.trace_world.specs.declared.replay_fault.ReplayFault.{ReplayFault}
 use Rattle.trace_world.specs.declared.replay_fault.ReplayFault.TheVariants.{Read, Write, TooLong, Memory}
@@ -87,10 +89,10 @@ output-take-le names limits before (line ∷ found) (mark ∷ marks) (suc n) =
 -- all that was found was written
 pub in_part_whole : (before after : Given) (taken taken' : Taken) {given : List ℕ} {old new : World} {held : Held} {counts : Counts} (gave : List ℕ)
     → (follows : Follows before.bytes given taken.bytes taken'.bytes old held counts new)
-    → after.bytes ≡ given ++ gave → (IsTrue held.is_ended → (gave ≡ []) × IsTrue after.has_ended) → (fault : ReplayFault)
+    → after.bytes ≡ given ++ gave → (IsTrue held.is_ended → (gave ≡ []) × IsTrue after.has_ended) → Keeps before.whole after.whole → (fault : ReplayFault)
     → (fault ≢ Write → length follows.found ≡ end_count (follows.read.came ++ gave)) → ReplaysInPart fault before after taken taken' old new
 unfolding AreFirstLines-from
-in_part_whole before after taken taken' {old = old} {counts = counts} gave follows grows at_end fault all_found = record {
+in_part_whole before after taken taken' {old = old} {counts = counts} gave follows grows at_end kept fault all_found = record {
   found = follows.found;
   marks = follows.marks;
   text = follows.text;
@@ -98,6 +100,7 @@ in_part_whole before after taken taken' {old = old} {counts = counts} gave follo
   written = follows.text;
   unwritten = [];
   first = AreFirstLines-from after.has_ended gave follows.read grows at_end;
+  kept = kept;
   none_lost = all_found;
   writes = follows.writes;
   front = sym (append-nil follows.text);
@@ -111,30 +114,33 @@ in_part_whole before after taken taken' {old = old} {counts = counts} gave follo
 
 -- a read failed
 pub in_part_read : (before after : Given) (taken taken' : Taken) {given : List ℕ} {old new : World} {held : Held} {counts : Counts}
-    → Follows before.bytes given taken.bytes taken'.bytes old held counts new → FindsNone given after.bytes held
+    → Follows before.bytes given taken.bytes taken'.bytes old held counts new → FindsNone given after.bytes held → Keeps before.whole after.whole
     → (fault : ReplayFault) → ReplaysInPart fault before after taken taken' old new
-in_part_read before after taken taken' follows none fault =
-    in_part_whole before after taken taken' none.gave follows none.grows (λ ended. absurd (cc)) fault (λ not_write. HasRead-none follows.read none)
+in_part_read before after taken taken' follows none kept fault =
+    in_part_whole before after taken taken' none.gave follows none.grows (λ ended. absurd (cc)) kept fault (λ not_write. HasRead-none follows.read none)
 
 -- what was answered was not flushed
 pub in_part_held_back : (before after : Given) (taken taken' : Taken) {old new : World} {held : Held} {counts : Counts}
-    → Follows before.bytes after.bytes taken.bytes taken'.bytes old held counts new → (IsTrue held.is_ended → IsTrue after.has_ended) → ReplaysInPart Write before after taken taken' old new
-in_part_held_back before after taken taken' follows ended =
-    in_part_whole before after taken taken' [] follows (sym (append-nil after.bytes)) (λ e. (refl, ended e)) Write (λ not_write. absurd (not_write refl))
+    → Follows before.bytes after.bytes taken.bytes taken'.bytes old held counts new → Reads before after fresh_held held 0 → ReplaysInPart Write before after taken taken' old new
+in_part_held_back before after taken taken' follows reads =
+    in_part_whole before after taken taken' [] follows (sym (append-nil after.bytes)) (λ ended. (refl, (has_told_end reads ended).0)) reads.whole Write
+    (λ not_write. absurd (not_write refl))
 
 -- all was replayed, and it was not flushed
 pub in_part_unflushed : (before after : Given) (taken taken' : Taken) {given : List ℕ} {old new : World} {held : Held} {counts : Counts} (held' : Held)
-    → Follows before.bytes given taken.bytes taken'.bytes old held counts new → Finds given after.bytes held held' End → IsTrue after.has_ended → ReplaysInPart Write before after taken taken' old new
-in_part_unflushed before after taken taken' held' follows finds ended =
-    in_part_whole before after taken taken' [] follows (finds.0 ∙ sym (append-nil _)) (λ _. (refl, ended)) Write (λ not_write. absurd (not_write refl))
+    → Follows before.bytes given taken.bytes taken'.bytes old held counts new → Finds given after.bytes held held' End → (failed : ℕ) → Reads before after fresh_held held' failed
+    → ReplaysInPart Write before after taken taken' old new
+in_part_unflushed before after taken taken' held' follows finds failed reads =
+    in_part_whole before after taken taken' [] follows (finds.0 ∙ sym (append-nil _)) (λ _. (refl, (has_told_end reads finds.3).0)) reads.whole Write
+    (λ not_write. absurd (not_write refl))
 
 -- the last line was written in part
 pub in_part_last : (before after : Given) (taken taken'' : Taken) {given taken' : List ℕ} {old mid new : World} {held held' : Held} {counts : Counts} {to : Text} {reply : Reply}
     → Follows before.bytes given taken.bytes taken' old held counts mid
     → Answered given after.bytes held held' mid to reply new
-    → (IsTrue held.is_ended → (after.bytes ≡ given) × IsTrue held'.is_ended) → (IsTrue held'.is_ended → IsTrue after.has_ended)
+    → (IsTrue held.is_ended → (after.bytes ≡ given) × IsTrue held'.is_ended) → (failed : ℕ) → Reads before after fresh_held held' failed
     → WritesFront taken' taken''.bytes (to ++ codes " " ++ reply_text reply ++ 10 ∷ []) → ReplaysInPart Write before after taken taken'' old new
-in_part_last before after taken taken'' {old = old} {mid = mid} {new = new} {held' = held'} {counts = counts} {to = to} {reply = reply} follows answered at_end ended front =
+in_part_last before after taken taken'' {old = old} {mid = mid} {new = new} {held' = held'} {counts = counts} {to = to} {reply = reply} follows answered at_end failed reads front =
     let read : HasRead before.bytes after.bytes held' (follows.found ++ answered.line ∷ []) = HasRead-line follows.read answered.gives at_end in
     record {
       found = follows.found ++ answered.line ∷ [];
@@ -143,7 +149,8 @@ in_part_last before after taken taken'' {old = old} {mid = mid} {new = new} {hel
       counts = counted_with counts reply;
       written = follows.text ++ front.written;
       unwritten = front.rest;
-      first = AreFirstLines-from after.has_ended [] read (sym (append-nil after.bytes)) (λ e. (refl, ended e));
+      first = AreFirstLines-from after.has_ended [] read (sym (append-nil after.bytes)) (λ ended. (refl, (has_told_end reads ended).0));
+      kept = reads.whole;
       writes = front.grows ∙ ap (λ bytes. bytes ++ front.written) follows.writes ∙ append_assoc taken.bytes follows.text front.written;
       front = ap (λ bytes. follows.text ++ bytes) front.front ∙ sym (append_assoc follows.text front.written front.rest);
       none_lost = λ not_write. absurd (not_write refl);
@@ -166,6 +173,7 @@ in_part_none before taken world fault = record {
   written = [];
   unwritten = [];
   first = record { came = []; left = []; reads = sym (append-nil before.bytes); first = λ rest none. refl };
+  kept = Keeps-refl before.whole;
   none_lost = λ not_write. refl;
   writes = sym (append-nil taken.bytes);
   front = refl;
@@ -174,15 +182,23 @@ in_part_none before taken world fault = record {
   whole = λ calls after. omega arith;
 }
 
+-- what was given until all was given is all that was known
+gave_known : (known known' : Option (List ℕ)) (given came : List ℕ) → Keeps known known' → IfSome known' (λ whole. given ≡ whole) → given ≡ came → IfSome known (λ whole. whole ≡ came)
+gave_known None known' given came kept gave is = tt
+gave_known (Some whole) None given came kept gave is = absurd kept
+gave_known (Some whole) (Some whole') given came kept gave is = sym kept ∙ (sym gave ∙ is)
+
 -- all was replayed
 pub replays_all : (before after : Given) (taken taken' : Taken) {given : List ℕ} {old new : World} {held : Held} {counts : Counts} (held' : Held)
-    → Follows before.bytes given taken.bytes taken'.bytes old held counts new → Finds given after.bytes held held' End → IsTrue after.has_ended → Replays before after taken taken' old counts new
-replays_all before after taken taken' {old = old} {new = new} {counts = counts} held' follows finds ended = record {
+    → Follows before.bytes given taken.bytes taken'.bytes old held counts new → Finds given after.bytes held held' End → (failed : ℕ) → Reads before after fresh_held held' failed
+    → Replays before after taken taken' old counts new
+replays_all before after taken taken' {old = old} {new = new} {counts = counts} held' follows finds failed reads = record {
   came = follows.read.came;
   marks = follows.marks;
   text = follows.text;
   reads = finds.0 ∙ follows.read.grows;
-  ends = ended;
+  ends = (has_told_end reads finds.3).0;
+  all = gave_known before.whole after.whole after.bytes (before.bytes ++ follows.read.came) reads.whole (has_told_end reads finds.3).1 (finds.0 ∙ follows.read.grows);
   writes = follows.writes;
   leads = rw (HasRead-end follows.read finds.1) follows.leads;
 }

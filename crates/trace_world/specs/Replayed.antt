@@ -1,5 +1,6 @@
 -- What a replay did.
-use Rattle.std.specs.Prelude.{◌≡◌, ◌≢◌, ℕ, ◌-◌, ◌≤◌, Bool, IsTrue, Result, Ok, Err, List, [], ◌++◌, length, take, count_by}
+use Rattle.std.specs.Prelude.{◌≡◌, ◌≢◌, ℕ, ◌-◌, ◌≤◌, Bool, IsTrue, Result, Ok, Err, List, [], ◌++◌, length, take, count_by, IfSome}
+use Rattle.std.specs.Io.KnownBytes.{Keeps}
 use Rattle.trace_types.specs.text.Name.{Text}
 use Rattle.trace_types.specs.text.Lines.{lines}
 use Rattle.trace_types.specs.world.Interleaving.{Call}
@@ -34,14 +35,15 @@ pub record LeadsTo (old : World) (found : List Text) (marks : List Bool) (text :
   pub counted : (calls : List Call) → IsAfter old calls → counts ≡ counts_of (replies_to old.limits calls (entries old.names found marks))
   pub leads : (calls : List Call) → IsAfter old calls → IsAfter new (calls ++ calls_by (entries old.names found marks))
 
--- All that the reader gave until it told the end was replayed: for some marks that may stand, what was written is
--- the output for all the lines, and the counts are those of its replies.
+-- All that the reader had was replayed, where it can tell its bytes, else all that it gave until it told the end: for
+-- some marks that may stand, what was written is the output for all the lines, and the counts are those of its replies.
 pub record Replays (before after : Given) (taken taken' : Taken) (old : World) (counts : Counts) (new : World) : Type 0 where
   pub came : List ℕ
   pub marks : List Bool
   pub text : Text
   pub reads : after.bytes ≡ before.bytes ++ came
   pub ends : IsTrue after.has_ended
+  pub all : IfSome before.whole (λ whole. whole ≡ before.bytes ++ came)
   pub writes : taken'.bytes ≡ taken.bytes ++ text
   pub leads : LeadsTo old (lines came) marks text counts new
 
@@ -64,6 +66,8 @@ pub record ReplaysInPart (fault : ReplayFault) (before after : Given) (taken tak
   pub written : List ℕ
   pub unwritten : List ℕ
   pub first : AreFirstLines before.bytes after.bytes after.has_ended found
+  -- What the reader can tell of its bytes stays so.
+  pub kept : Keeps before.whole after.whole
   pub none_lost : fault ≢ Write → length found ≡ end_count first.came
   pub writes : taken'.bytes ≡ taken.bytes ++ written
   pub front : text ≡ written ++ unwritten

@@ -1,13 +1,13 @@
 //! The replay of lines of many tenants.
 ghost use Rattle.std.specs.Prelude.{◌≡◌, ◌↔◌, ◌+◌, ◌<◌, ◌≤◌, ◌^◌, IfOk, IfErr, IsErrOf, IsTrue, OnOk, OnErr};
-ghost use Rattle.line_protocol.specs.LineReading.{NeedsRead};
+ghost use Rattle.line_protocol.specs.LineReading.{FindsNext, NeedsRead};
 ghost use Rattle.line_protocol.specs.Source.{StopsAtEnd};
 ghost use Rattle.line_protocol.specs.Writing.{EndsInFault, GoesWell, GoesWrong};
 ghost use Rattle.trace_world.specs.Replayed.{HandsOn, Replays, ReplaysInPart};
 
 use crate::answer::Answer;
 use crate::{Counts, ReplayFault, World};
-use line_protocol::{Buffer, Line, Sink, Source, WriteFault, flush};
+use line_protocol::{Buffer, Line, ReadFault, Sink, Source, WriteFault, flush};
 use std::alloc::Global;
 use trace_types::Code;
 
@@ -47,7 +47,7 @@ pub fn replay<T, R: Source, W: Sink>(
     let mut counts = Counts::none();
     loop {
         hand_on(&lines, writer)?;
-        let answer = match lines.next_line(reader)? {
+        let answer = match next_line(&mut lines, reader, writer)? {
             Line::End => break,
             Line::TooLong => Answer::to_nobody(Code::Line),
             Line::Whole => Answer::to_line(rt, world, lines.line()),
@@ -73,4 +73,18 @@ fn hand_on<W: Sink>(lines: &Buffer, writer: &mut W) -> Result<(), WriteFault>
     } else {
         Ok(())
     }
+}
+
+/// Finds the next line. No read is made while the writer holds an answer back.
+#[inline(always)]
+fn next_line<R: Source, W: Sink>(
+    lines: &mut Buffer,
+    reader: &mut R,
+    _writer: &W,
+) -> Result<Line, ReadFault>
+    requires flushed { NeedsRead lines.old → IsTrue (W.seen _writer.now).is_flushed }
+    ensures finds { FindsNext (R.seen reader.old) (R.seen reader.new) lines.old lines.new result }
+    ensures at_end { IsTrue lines.old.is_ended → (reader.new ≡ reader.old) × IsTrue lines.new.is_ended }
+{
+    lines.next_line(reader)
 }

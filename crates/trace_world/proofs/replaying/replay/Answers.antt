@@ -1,10 +1,9 @@
 use Rattle.std.proofs.Common.{ℕ, List, ◌≡◌, ◌<◌, IsTrue, [], refl, sym, ap, subst, arith}
 use Rattle.std.proofs.lemmas.List.{append-nil}
 use Rattle.line_protocol.proofs.EndsLemmas.{HasNoEnd-front}
-use Rattle.line_protocol.proofs.LineReadingLemmas.{HasRead-start, Reads-none, Reads-on, has_told_end, stops_at_end}
+use Rattle.line_protocol.proofs.LineReadingLemmas.{HasRead-start, Reads-none, Reads-on, stops_at_end}
 use Rattle.line_protocol.specs.Held.{Held, fresh_held}
 use Rattle.line_protocol.specs.LineReading.{Finds, FindsNone, LeavesLess, NeedsRead, Reads, failed_reads, work_left}
-use Rattle.line_protocol.specs.Source.{HasToldEnd}
 use Rattle.line_protocol.specs.declared.line.Line.TheVariants.{End}
 use Rattle.trace_types.specs.world.Replay.{is_accepted, is_answered, is_refused}
 use Rattle.line_protocol.specs.Answer.{addressee_text}
@@ -16,34 +15,30 @@ use Rattle.trace_world.proofs.replaying.replay.Given.{Over}
 use Rattle.trace_world.proofs.replaying.replay.Goals.{After-next_line, After-write, After-flush, in-TooLong, in-Whole}
 
 -- all reads that were made
-all_reads : (g : Over) (c : After-next_line g) → Reads (g.R.Source.seen c.args.reader.now) (g.R.Source.seen c.next_line.new.source) fresh_held c.next_line.new.self (failed_reads c.next_line.result)
+all_reads : (g : Over) (c : After-next_line g) → Reads (g.R.Source.seen c.args.reader.now) (g.R.Source.seen c.next_line.new.reader) fresh_held c.next_line.new.lines (failed_reads c.next_line.result)
 all_reads g c = Reads-on c.loop-lines.invariant.reads (λ ended. ap g.R.Source.seen (c.next_line.ensures.at_end ended).0) c.next_line.ensures.finds.reads.reads
-
--- what the buffer knows of the end, the reader told
-told : (g : Over) (c : After-next_line g) → IsTrue c.next_line.new.self.is_ended → HasToldEnd (g.R.Source.seen c.next_line.new.source)
-told g c = has_told_end (all_reads g c)
 
 -- once it told the end, the reader gives nothing more
 gives_no_more : (g : Over) (c : After-next_line g) → IsTrue c.loop-lines.lines.is_ended
-    → ((g.R.Source.seen c.next_line.new.source).bytes ≡ (g.R.Source.seen c.loop-lines.reader).bytes) × IsTrue c.next_line.new.self.is_ended
+    → ((g.R.Source.seen c.next_line.new.reader).bytes ≡ (g.R.Source.seen c.loop-lines.reader).bytes) × IsTrue c.next_line.new.lines.is_ended
 gives_no_more g c ended = let at_end = c.next_line.ensures.at_end ended in (ap (λ source. (g.R.Source.seen source).bytes) at_end.0, at_end.1)
 
 -- the answer to the line that was found
 answered : (g : Over) (c : After-write g)
-    → Answered (g.R.Source.seen c.loop-lines.reader).bytes (g.R.Source.seen c.next_line.new.source).bytes c.loop-lines.lines c.next_line.new.self c.loop-lines.world
+    → Answered (g.R.Source.seen c.loop-lines.reader).bytes (g.R.Source.seen c.next_line.new.reader).bytes c.loop-lines.lines c.next_line.new.lines c.loop-lines.world
     (addressee_text c.match-branch-4.answer.tenant) c.match-branch-4.answer.reply c.match-branch-4.world
 answered g c =
     elim c.match-branch-4.branch [
-      | in-TooLong w ↦ answered_where_too_long _ _ c.loop-lines.lines c.next_line.new.self c.loop-lines.world c.match-branch-4.world c.in_ok-next_line.field-0 c.match-branch-4.answer w.to_nobody-answer.result
+      | in-TooLong w ↦ answered_where_too_long _ _ c.loop-lines.lines c.next_line.new.lines c.loop-lines.world c.match-branch-4.world c.in_ok-next_line.field-0 c.match-branch-4.answer w.to_nobody-answer.result
           w.in-TooLong.is c.in_ok-next_line.ensures.finds.line w.answer-is w.to_nobody-answer.ensures w.world-is
-      | in-Whole w ↦ answered_where_whole _ _ c.loop-lines.lines c.next_line.new.self c.loop-lines.world w.to_line-answer.new.world c.match-branch-4.world c.in_ok-next_line.field-0 c.match-branch-4.answer w.to_line-answer.result w.line.result.now
+      | in-Whole w ↦ answered_where_whole _ _ c.loop-lines.lines c.next_line.new.lines c.loop-lines.world w.to_line-answer.new.world c.match-branch-4.world c.in_ok-next_line.field-0 c.match-branch-4.answer w.to_line-answer.result w.line.result.now
           w.in-Whole.is c.in_ok-next_line.ensures.finds.line w.answer-is w.line.ensures w.world-is w.to_line-answer.ensures
     ]
 
 -- no line was found any more
-finds_end : (g : Over) (c : After-flush g) → Finds (g.R.Source.seen c.loop-lines.reader).bytes (g.R.Source.seen c.next_line.new.source).bytes c.loop-lines.lines c.next_line.new.self End
+finds_end : (g : Over) (c : After-flush g) → Finds (g.R.Source.seen c.loop-lines.reader).bytes (g.R.Source.seen c.next_line.new.reader).bytes c.loop-lines.lines c.next_line.new.lines End
 finds_end g c =
-    subst (Finds (g.R.Source.seen c.loop-lines.reader).bytes (g.R.Source.seen c.next_line.new.source).bytes c.loop-lines.lines c.next_line.new.self) c.in-End.is c.in_ok-next_line.ensures.finds.line
+    subst (Finds (g.R.Source.seen c.loop-lines.reader).bytes (g.R.Source.seen c.next_line.new.reader).bytes c.loop-lines.lines c.next_line.new.lines) c.in-End.is c.in_ok-next_line.ensures.finds.line
 
 -- what was replayed so far, once it was handed on
 follows : (g : Over) (c : After-next_line g)
@@ -64,7 +59,7 @@ pub returns-in_err-hand_on-clause-fault : goal.returns-in_err-hand_on-clause-fau
 returns-in_err-hand_on-clause-fault g c =
     IfErr-equal _ _ _ c.from_residual-in_err-hand_on.ensures.1
     (in_part_held_back (g.R.Source.seen c.args.reader.now) (g.R.Source.seen c.loop-lines.reader) (g.W.Sink.seen c.args.writer.now) (g.W.Sink.seen c.hand_on.new.writer)
-    (Follows-flushed c.in_err-hand_on.ensures.taken c.loop-lines.invariant.follows) (λ ended. (has_told_end c.loop-lines.invariant.reads ended).0))
+    (Follows-flushed c.in_err-hand_on.ensures.taken c.loop-lines.invariant.follows) c.loop-lines.invariant.reads)
 
 pub returns-in_err-hand_on-clause-ends : goal.returns-in_err-hand_on-clause-ends
 returns-in_err-hand_on-clause-ends g c =
@@ -96,8 +91,8 @@ loop-lines-init g c =
 pub returns-in_err-next_line-clause-fault : goal.returns-in_err-next_line-clause-fault
 returns-in_err-next_line-clause-fault g c =
     let at = goal.at.returns-in_err-next_line-clause-fault g c in
-    IfErr-always _ (in_part_read (g.R.Source.seen c.args.reader.now) (g.R.Source.seen c.next_line.new.source) (g.W.Sink.seen c.args.writer.now) (g.W.Sink.seen c.hand_on.new.writer)
-    (follows g at.After-next_line) c.in_err-next_line.ensures.finds.none)
+    IfErr-always _ (in_part_read (g.R.Source.seen c.args.reader.now) (g.R.Source.seen c.next_line.new.reader) (g.W.Sink.seen c.args.writer.now) (g.W.Sink.seen c.hand_on.new.writer)
+    (follows g at.After-next_line) c.in_err-next_line.ensures.finds.none (all_reads g at.After-next_line).whole)
 
 pub returns-in_err-next_line-clause-flushed : goal.returns-in_err-next_line-clause-flushed
 returns-in_err-next_line-clause-flushed g c = HandsOn-flushed _ _ (c.in_ok-hand_on.ensures.flushed (needs_read c.in_err-next_line.ensures.finds.none))
@@ -109,8 +104,8 @@ pub returns-in_err-write-clause-fault : goal.returns-in_err-write-clause-fault
 returns-in_err-write-clause-fault g c =
     let at = goal.at.returns-in_err-write-clause-fault g c in
     IfErr-equal _ _ _ c.from_residual-in_err-write.ensures.1
-    (in_part_last (g.R.Source.seen c.args.reader.now) (g.R.Source.seen c.next_line.new.source) (g.W.Sink.seen c.args.writer.now) (g.W.Sink.seen c.write.new.writer)
-    (follows g at.After-next_line) (answered g at.After-write) (gives_no_more g at.After-next_line) (λ ended. (told g at.After-next_line ended).0) c.in_err-write.ensures.written)
+    (in_part_last (g.R.Source.seen c.args.reader.now) (g.R.Source.seen c.next_line.new.reader) (g.W.Sink.seen c.args.writer.now) (g.W.Sink.seen c.write.new.writer)
+    (follows g at.After-next_line) (answered g at.After-write) (gives_no_more g at.After-next_line) _ (all_reads g at.After-next_line) c.in_err-write.ensures.written)
 
 pub returns-in_err-write-clause-ends : goal.returns-in_err-write-clause-ends
 returns-in_err-write-clause-ends g c = stops_at_end (all_reads g (goal.at.returns-in_err-write-clause-ends g c).After-next_line)
@@ -122,10 +117,10 @@ loop-lines-preserved g c =
     let before = c.loop-lines.invariant in
     let step = c.in_ok-next_line.ensures.finds in
     let wrote = c.in_ok-write.ensures in
-    let less : work_left c.next_line.new.self < work_left c.loop-lines.lines =
+    let less : work_left c.next_line.new.lines < work_left c.loop-lines.lines =
     elim c.match-branch-4.branch [
-      | in-TooLong w ↦ subst (LeavesLess c.loop-lines.lines c.next_line.new.self) w.in-TooLong.is step.less
-      | in-Whole w ↦ subst (LeavesLess c.loop-lines.lines c.next_line.new.self) w.in-Whole.is step.less
+      | in-TooLong w ↦ subst (LeavesLess c.loop-lines.lines c.next_line.new.lines) w.in-TooLong.is step.less
+      | in-Whole w ↦ subst (LeavesLess c.loop-lines.lines c.next_line.new.lines) w.in-Whole.is step.less
     ] in
     record {
       follows = rw c.count.ensures (Follows-line answered.line _ _ (follows g at.After-next_line) answered.gives (gives_no_more g at.After-next_line) answered.answers wrote.written);
@@ -144,8 +139,8 @@ returns-in_err-flush-clause-fault g c =
     let at = goal.at.returns-in_err-flush-clause-fault g c in
     let finds = finds_end g at.After-flush in
     IfErr-equal _ _ _ c.from_residual-in_err-flush.ensures.1
-    (in_part_unflushed (g.R.Source.seen c.args.reader.now) (g.R.Source.seen c.next_line.new.source) (g.W.Sink.seen c.args.writer.now) (g.W.Sink.seen c.flush.new.writer)
-    c.next_line.new.self (Follows-flushed c.in_err-flush.ensures.0 (follows g at.After-next_line)) finds (told g at.After-next_line finds.3).0)
+    (in_part_unflushed (g.R.Source.seen c.args.reader.now) (g.R.Source.seen c.next_line.new.reader) (g.W.Sink.seen c.args.writer.now) (g.W.Sink.seen c.flush.new.writer)
+    c.next_line.new.lines (Follows-flushed c.in_err-flush.ensures.0 (follows g at.After-next_line)) finds _ (all_reads g at.After-next_line))
 
 pub returns-in_err-flush-clause-ends : goal.returns-in_err-flush-clause-ends
 returns-in_err-flush-clause-ends g c = stops_at_end (all_reads g (goal.at.returns-in_err-flush-clause-ends g c).After-next_line)
@@ -154,8 +149,8 @@ pub returns-clause-ok : goal.returns-clause-ok
 returns-clause-ok g c =
     let at = goal.at.returns-clause-ok g c in
     let finds = finds_end g at.After-flush in
-    replays_all (g.R.Source.seen c.args.reader.now) (g.R.Source.seen c.next_line.new.source) (g.W.Sink.seen c.args.writer.now) (g.W.Sink.seen c.flush.new.writer)
-    c.next_line.new.self (Follows-flushed c.in_ok-flush.ensures.0 (follows g at.After-next_line)) finds (told g at.After-next_line finds.3).0
+    replays_all (g.R.Source.seen c.args.reader.now) (g.R.Source.seen c.next_line.new.reader) (g.W.Sink.seen c.args.writer.now) (g.W.Sink.seen c.flush.new.writer)
+    c.next_line.new.lines (Follows-flushed c.in_ok-flush.ensures.0 (follows g at.After-next_line)) finds _ (all_reads g at.After-next_line)
 
 pub returns-clause-ends : goal.returns-clause-ends
 returns-clause-ends g c = stops_at_end (all_reads g (goal.at.returns-clause-ends g c).After-next_line)
