@@ -6,7 +6,7 @@ use Rattle.trace_types.specs.tenant.Tenant.{fresh}
 use Rattle.trace_types.specs.world.World.{World}
 use Rattle.line_protocol.specs.Source.{Given}
 use Rattle.line_protocol.specs.Sink.{Taken}
-use Rattle.line_protocol.specs.Writing.{WritesFront, EndsInFault}
+use Rattle.line_protocol.specs.Writing.{EndsInFault}
 use Rattle.trace_world.specs.Replayed.{Replays, ReplaysInPart}
 use Rattle.trace_world.specs.declared.counts.Counts.{Counts}
 use Rattle.trace_world.specs.declared.replay_fault.ReplayFault.{ReplayFault}
@@ -64,11 +64,18 @@ IsFailure before after taken taken' fault = ⊥
 abbrev pub ShowsAll : Taken → Taken → Text → Type 0
 ShowsAll before after text = (after.bytes ≡ before.bytes ++ text) × IsTrue after.is_flushed × (after.failures ≡ before.failures)
 
+-- Of the text a front was written, perhaps all of it.
+pub record ShowsFront (old new text : List ℕ) : Type 0 where
+  pub written : List ℕ
+  pub rest : List ℕ
+  pub grows : new ≡ old ++ written
+  pub front : text ≡ written ++ rest
+
 -- The text was written and handed on; or a call failed, and a front of it was written, perhaps all of it.
 abbrev pub Shows : Taken → Taken → Text → Type 0
 Shows before after text =
     ShowsAll before after text
-    ⊎ (WritesFront before.bytes after.bytes text × EndsInFault before after)
+    ⊎ (ShowsFront before.bytes after.bytes text × EndsInFault before after)
 
 -- The line of a fault was shown.
 abbrev pub TellsFault : Taken → Taken → Fault → Type 0

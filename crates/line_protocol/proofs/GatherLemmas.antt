@@ -1,5 +1,5 @@
 -- Texts that are gathered and written in chunks.
-use Rattle.std.proofs.Common.{◌≡◌, ℕ, suc, ◌+◌, ◌<◌, List, [], ◌++◌, length, take, drop, get_or, refl, sym, ap, ◌∙◌, append_assoc, decimal, codes, Result, Ok, Err}
+use Rattle.std.proofs.Common.{◌≡◌, ℕ, suc, ◌+◌, ◌<◌, List, [], ◌++◌, length, take, drop, get_or, refl, sym, ap, ◌∙◌, append_assoc, decimal, codes, arith, length-append, Result, Ok, Err}
 use Rattle.std.proofs.lemmas.List.{append-nil}
 use Rattle.trace_types.specs.text.Text.{numbers_text, reply_text}
 use Rattle.trace_types.specs.declared.reply.Reply.{Reply}
@@ -40,6 +40,7 @@ Gathers-front {old = old} {held = held} first second before front = record {
       ∙ append_assoc before.written _ second
       ∙ ap (λ bytes. before.written ++ bytes) front.front
       ∙ sym (append_assoc before.written front.written front.rest);
+  some_left = front.some_left;
 }
 
 -- a front of what is held and the first text is a front of both
@@ -49,6 +50,7 @@ WritesFront-held held first second front = record {
   rest = front.rest ++ second;
   grows = front.grows;
   front = sym (append_assoc held first second) ∙ ap (λ bytes. bytes ++ second) front.front ∙ append_assoc front.written front.rest second;
+  some_left = omega (arith, front.some_left, length-append front.rest second);
 }
 
 -- of numbers that were gathered as far as one, with that one they are gathered one further

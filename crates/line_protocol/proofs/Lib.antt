@@ -6,4 +6,7 @@ pub mod LineReadingLemmas
 pub mod WordsLemmas
 pub mod WritingLemmas
 pub mod GatherLemmas
+pub mod PatienceLemmas
+mod CallLemmas
+mod PatientTexts
 pub mod NextLineLemmas

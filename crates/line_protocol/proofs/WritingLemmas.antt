@@ -1,6 +1,6 @@
 -- Texts that are written piece by piece.
-use Rattle.std.proofs.Common.{◌≡◌, ℕ, suc, ◌+◌, ◌<◌, List, [], ◌∷◌, ◌++◌, length, take, drop, get_or, refl, sym, ap, ◌∙◌, append_assoc, add-one, drop-cons, decimal, codes}
-use Rattle.std.proofs.lemmas.List.{append-nil, take-append-drop}
+use Rattle.std.proofs.Common.{◌≡◌, ◌==◌, false, ℕ, zero, suc, ◌+◌, ◌-◌, ◌<◌, List, [], ◌∷◌, ◌++◌, length, take, drop, get_or, refl, sym, ap, ◌∙◌, append_assoc, add-one, drop-cons, decimal, codes, arith, length-append}
+use Rattle.std.proofs.lemmas.List.{append-nil, take-append-drop, take_rest}
 use Rattle.std.proofs.Math.Seq.{take-suc}
 use Rattle.trace_types.specs.text.Text.{numbers_text}
 use Rattle.line_protocol.specs.Writing.{WritesFront}
@@ -22,12 +22,18 @@ Wrote-more {old = old} {new' = new'} {text = text} {rest = rest} n wrote more = 
       wrote.front ∙ ap (λ bytes. wrote.written ++ bytes) (sym (take-append-drop n rest)) ∙ sym (append_assoc wrote.written (take n rest) (drop n rest));
 }
 
-pub Wrote-front : {old new text rest : List ℕ} → Wrote old new text rest → WritesFront old new text
-Wrote-front {rest = rest} wrote = record { written = wrote.written; rest = rest; grows = wrote.grows; front = wrote.front }
+pub Wrote-front : {old new text rest : List ℕ} → Wrote old new text rest → 0 < length rest → WritesFront old new text
+Wrote-front {rest = rest} wrote some_left = record { written = wrote.written; rest = rest; grows = wrote.grows; front = wrote.front; some_left = some_left }
 
 pub Wrote-all : {old new text rest : List ℕ} → Wrote old new text rest → rest ≡ [] → new ≡ old ++ text
 Wrote-all {old = old} wrote none =
     wrote.grows ∙ ap (λ bytes. old ++ bytes) (sym (wrote.front ∙ ap (λ bytes. wrote.written ++ bytes) none ∙ append-nil wrote.written))
+
+-- what leaves nothing of some bytes took some
+pub some_taken : (n : ℕ) (rest : List ℕ) → false ≡ (length rest == 0) → length (take (length rest - n) (drop n rest)) ≡ 0 → 0 < n
+some_taken n [] some none = absurd (cc)
+some_taken zero (x ∷ rest) some none = absurd (omega (arith, none, ap length (take_rest (x ∷ rest) 0)))
+some_taken (suc n) (x ∷ rest) some none = omega arith
 
 -- a front of the first text is a front of both
 pub WritesFront-first : {old new first : List ℕ} (second : List ℕ) → WritesFront old new first → WritesFront old new (first ++ second)
@@ -36,6 +42,7 @@ WritesFront-first second front = record {
   rest = front.rest ++ second;
   grows = front.grows;
   front = ap (λ bytes. bytes ++ second) front.front ∙ append_assoc front.written front.rest second;
+  some_left = omega (arith, front.some_left, length-append front.rest second);
 }
 
 -- behind a first text that was written, a front of the second is a front of both
@@ -45,6 +52,7 @@ WritesFront-later {old = old} first came front = record {
   rest = front.rest;
   grows = front.grows ∙ ap (λ bytes. bytes ++ front.written) came ∙ append_assoc old first front.written;
   front = ap (λ bytes. first ++ bytes) front.front ∙ sym (append_assoc first front.written front.rest);
+  some_left = front.some_left;
 }
 
 -- the numbers of two lists

@@ -1,10 +1,13 @@
 -- The calls that were made of a reader or a writer, the last first.
-use Rattle.std.specs.Prelude.{ℕ, ◌+◌, Bool, false, List, [], ◌∷◌, ◌++◌, slice_index, ◌==◌, if◌then◌else◌, Option}
+use Rattle.std.specs.Prelude.{ℕ, ◌+◌, Bool, false, List, [], ◌∷◌, ◌++◌, slice_index, ◌==◌, if◌then◌else◌, ◌-◌, Option, Some, None, length, take, drop}
+use Rattle.trace_types.specs.text.Name.{is_same}
 use Rattle.std.specs.Io.KnownBytes.{prepend_known}
 use Rattle.line_protocol.specs.Source.{Given}
 use Rattle.line_protocol.specs.Sink.{Taken}
+use Rattle.line_protocol.specs.Patience.{SinkCall, Took, WriteInterrupted, FlushInterrupted, FlushDone, CallFailed}
 
--- how a call ended: 0 it moved bytes, 1 it moved none of some, 2 it failed, 3 it was interrupted, 4 it flushed
+-- how a call ended: 0 it moved bytes, 1 it moved none of some, 2 it failed, 3 it was interrupted, 4 it flushed,
+-- 5 it flushed and was interrupted
 pub record EdgeCall : Type 0 where
   pub ending : ℕ
   pub bytes : List ℕ
@@ -49,11 +52,32 @@ given_by calls left = record {
   interruptions = endings 3 calls;
 }
 
--- what was seen of a writer
-abbrev pub taken_by : List EdgeCall → Taken
-taken_by calls = record {
+-- what a writer held before it took these bytes, if it can tell what it holds and that ends with them
+abbrev pub held_before : List ℕ → Option (List ℕ) → Option (List ℕ)
+held_before bytes None = None
+held_before bytes (Some contents) =
+    if is_same (drop (length contents - length bytes) contents) bytes then Some (take (length contents - length bytes) contents) else None
+
+-- the call of a writer, as a sink's
+abbrev pub sink_call : EdgeCall → SinkCall
+sink_call call =
+    if call.ending == 0 then Took (length call.bytes)
+    else if call.ending == 3 then WriteInterrupted
+    else if call.ending == 4 then FlushDone
+    else if call.ending == 5 then FlushInterrupted
+    else CallFailed
+
+abbrev pub sink_calls : List EdgeCall → List SinkCall
+sink_calls [] = []
+sink_calls (call ∷ earlier) = sink_call call ∷ sink_calls earlier
+
+-- what was seen of a writer, by what it holds and its calls
+abbrev pub taken_by : Option (List ℕ) → List EdgeCall → Taken
+taken_by contents calls = record {
   bytes = bytes_moved calls;
+  began = held_before (bytes_moved calls) contents;
   is_flushed = is_last_flush calls;
   failures = endings 1 calls + endings 2 calls;
-  interruptions = endings 3 calls;
+  interruptions = endings 3 calls + endings 5 calls;
+  calls = sink_calls calls;
 }

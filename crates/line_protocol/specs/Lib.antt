@@ -2,6 +2,7 @@ pub mod Calls
 pub mod Endings
 pub mod Stopped
 pub mod Source
+pub mod Patience
 pub mod Sink
 pub mod Buffered
 pub mod Held

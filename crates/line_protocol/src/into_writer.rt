@@ -1,5 +1,5 @@
 //! Any writer, as a sink.
-ghost use Rattle.std.specs.Prelude.{◌≡◌, ◌≤◌, [], false, length, IfOk};
+ghost use Rattle.std.specs.Prelude.{◌≡◌, ◌≤◌, [], ◌++◌, false, length, IfOk, IfSome, Some};
 ghost use Rattle.std.specs.Io.KnownBytes.{Keeps, WriteAppends};
 ghost use Rattle.line_protocol.specs.Calls.{taken_by};
 ghost use Rattle.line_protocol.specs.Sink.{WritesOnce, FlushesOnce};
@@ -20,7 +20,7 @@ impl<W: Write + Drop> IntoWriter<W> {
     /// The writer, of which no call was made yet.
     pub fn new(writer: W) -> IntoWriter<W>
         ensures seen { ⟦<IntoWriter<W> as Sink>⟧.seen result
-            ≡ record { bytes = []; is_flushed = false; failures = 0; interruptions = 0 } }
+            ≡ record { bytes = []; began = W.contents writer; is_flushed = false; failures = 0; interruptions = 0; calls = [] } }
         ensures writer { result.writer ≡ writer }
     {
         IntoWriter {
@@ -28,14 +28,22 @@ impl<W: Write + Drop> IntoWriter<W> {
             log: Log::new(),
         }
     }
+
+    /// The writer, which holds what it held at first and all that was taken since.
+    pub fn into_inner(self) -> W
+        ensures holds { IfSome (⟦<IntoWriter<W> as Sink>⟧.seen self).began
+            (λ first. W.contents result ≡ Some (first ++ (⟦<IntoWriter<W> as Sink>⟧.seen self).bytes)) }
+    {
+        self.writer
+    }
 }
 
 impl<W: Write + Drop> Sink for IntoWriter<W> {
-    ghost seen = { λ s. taken_by s.log.calls };
+    ghost seen = { λ s. taken_by (W.contents s.writer) s.log.calls };
 
     fn write_some(&mut self, bytes: &[u8]) -> Result<usize, Stop>
         ensures bound { IfOk result (λ n. n ≤ length bytes.now) }
-        ensures writes { WritesOnce (taken_by self.old.log.calls) (taken_by self.new.log.calls) result bytes.now }
+        ensures writes { WritesOnce (taken_by (W.contents self.old.writer) self.old.log.calls) (taken_by (W.contents self.new.writer) self.new.log.calls) result bytes.now }
         // What was taken is what the writer's own bytes grew by.
         ensures bytes { WriteAppends (W.contents self.old.writer) (W.contents self.new.writer) result bytes.now }
     {
@@ -47,7 +55,7 @@ impl<W: Write + Drop> Sink for IntoWriter<W> {
     }
 
     fn flush(&mut self) -> Result<(), Stop>
-        ensures flushes { FlushesOnce (taken_by self.old.log.calls) (taken_by self.new.log.calls) result }
+        ensures flushes { FlushesOnce (taken_by (W.contents self.old.writer) self.old.log.calls) (taken_by (W.contents self.new.writer) self.new.log.calls) result }
         ensures bytes { Keeps (W.contents self.old.writer) (W.contents self.new.writer) }
     {
         let outcome = stopped(self.writer.flush());

@@ -29,12 +29,14 @@ impl Log {
     }
 
     /// Notes a call: one number that says how it ended, and the bytes that it moved.
+    #[inline(always)]
     pub(crate) fn note(&mut self, _ending: &[u64], _bytes: &[u8])
         ensures { self.new.calls ≡ edge_call_of _ending.now _bytes.now ∷ self.old.calls }
     {}
 }
 
 /// How a call that moves bytes ended, as a log notes it.
+#[inline(always)]
 pub(crate) fn count_ending(outcome: Result<usize, Stop>, room: usize) -> u64
     ensures { result ≡ count_ending outcome room }
 {
@@ -47,12 +49,13 @@ pub(crate) fn count_ending(outcome: Result<usize, Stop>, room: usize) -> u64
 }
 
 /// How a flush ended, as a log notes it.
+#[inline(always)]
 pub(crate) fn flush_ending(outcome: Result<(), Stop>) -> u64
     ensures { result ≡ flush_ending outcome }
 {
     match outcome {
         Ok(()) => 4,
         Err(Stop::Failed) => 2,
-        Err(Stop::Interrupted) => 3,
+        Err(Stop::Interrupted) => 5,
     }
 }

@@ -1,9 +1,10 @@
 //! Replies, written without memory.
-ghost use Rattle.std.specs.Prelude.{◌≡◌, ◌+◌, ◌<◌, ◌≤◌, [], ◌++◌, OnOk, decimal, codes, length};
+ghost use Rattle.std.specs.Prelude.{◌≡◌, ◌+◌, ◌<◌, ◌≤◌, [], ◌++◌, IsTrue, OnErr, OnOk, decimal, codes, length};
 ghost use Rattle.trace_types.specs.text.Text.{reply_text, order_text, state_text, kind_text, name_text};
 ghost use Rattle.trace_types.specs.tenant.Code.{code_text};
-ghost use Rattle.line_protocol.specs.Answer.{addressee_text, answer_text, reply_head, reply_tail};
-ghost use Rattle.line_protocol.specs.Writing.{Writes, Flushes, WritesText, GathersText, Spends};
+ghost use Rattle.line_protocol.specs.Answer.{addressee_text, reply_head, reply_tail};
+ghost use Rattle.line_protocol.specs.Patience.{is_last_failed, waits_since_bytes};
+ghost use Rattle.line_protocol.specs.Writing.{Writes, WritesBoth, Flushes, OnlyWrites, WritesText, GathersText, Spends};
 
 use crate::gather::{gather_bytes, gather_numbers};
 use crate::pieces::{write_piece, write_pieces};
@@ -15,6 +16,7 @@ use trace_types::{Code, Kind, Name, Order, Reply, Row, TaskState};
 const MOST_INTERRUPTIONS: u64 = 1048576;
 
 /// Writes these bytes.
+#[inline(always)]
 pub fn write_bytes<W: Sink>(writer: &mut W, bytes: &[u8]) -> Result<(), WriteFault>
     ensures { Writes (W.seen writer.old) (W.seen writer.new) result bytes.now }
 {
@@ -35,23 +37,52 @@ pub fn write_prefix<W: Sink>(writer: &mut W, addressee: &[u8]) -> Result<(), Wri
 pub fn write_reply<W: Sink>(writer: &mut W, reply: &Reply) -> Result<(), WriteFault>
     ensures { Writes (W.seen writer.old) (W.seen writer.new) result (reply_text reply.now ++ codes "\n") }
 {
-    let mut patience = MOST_INTERRUPTIONS;
-    write_behind(writer, &mut patience, &mut ReplyText::new(), reply)
+    write_reply_in(writer, &mut ReplyText::new(), reply)
 }
 
-/// Writes the answer to a line: the tenant or `?`, a blank, the reply and the end of line.
+/// Writes the answer to a line: the tenant or `?` and a blank, and then the reply and the end of line.
 #[inline(never)]
 pub fn write_answer<W: Sink>(
     writer: &mut W,
     tenant: &Option<Name>,
     reply: &Reply,
 ) -> Result<(), WriteFault>
-    ensures { Writes (W.seen writer.old) (W.seen writer.new) result (answer_text tenant.now reply.now) }
+    ensures { WritesBoth (W.seen writer.old) (W.seen writer.new) result (addressee_text tenant.now ++ codes " ") (reply_text reply.now ++ codes "\n") }
+{
+    let mut text = ReplyText::new();
+    write_addressee(writer, &mut text, tenant)?;
+    write_reply_in(writer, &mut text, reply)
+}
+
+/// Writes whom an answer names, and the blank after it, by way of an empty text.
+#[inline(always)]
+fn write_addressee<W: Sink>(
+    writer: &mut W,
+    text: &mut ReplyText,
+    tenant: &Option<Name>,
+) -> Result<(), WriteFault>
+    requires { text.old ≡ [] }
+    ensures written { Writes (W.seen writer.old) (W.seen writer.new) result (addressee_text tenant.now ++ codes " ") }
+    ensures none { text.new ≡ [] }
+{
+    push_addressee(text, tenant);
+    let outcome = write_bytes(writer, text.as_bytes());
+    text.clear();
+    outcome
+}
+
+/// Writes the reply, with its end of line, by way of an empty text.
+#[inline(always)]
+fn write_reply_in<W: Sink>(
+    writer: &mut W,
+    text: &mut ReplyText,
+    reply: &Reply,
+) -> Result<(), WriteFault>
+    requires { text.old ≡ [] }
+    ensures { Writes (W.seen writer.old) (W.seen writer.new) result (reply_text reply.now ++ codes "\n") }
 {
     let mut patience = MOST_INTERRUPTIONS;
-    let mut text = ReplyText::new();
-    push_addressee(&mut text, tenant);
-    write_behind(writer, &mut patience, &mut text, reply)
+    write_behind(writer, &mut patience, text, reply)
 }
 
 /// Writes a text, and the reply with its end of line after it.
@@ -66,6 +97,9 @@ fn write_behind<W: Sink>(
     requires patience { 0 < patience.old }
     ensures written { WritesText (W.seen writer.old) (W.seen writer.new) result (text.old ++ (reply_text reply.now ++ codes "\n")) }
     ensures spent { Spends (W.seen writer.old) (W.seen writer.new) patience.old patience.new result }
+    ensures only { OnlyWrites (W.seen writer.old) (W.seen writer.new) }
+    ensures failed { OnErr result (0 < patience.new → IsTrue (is_last_failed (W.seen writer.new).calls)) }
+    ensures no_wait { OnOk result (waits_since_bytes (W.seen writer.new).calls ≡ 0) }
 {
     push_head(text, reply);
     gather_tail(writer, patience, text, reply)?;
@@ -85,6 +119,8 @@ fn gather_tail<W: Sink>(
     ensures gathered { GathersText (W.seen writer.old) (W.seen writer.new) text.old text.new result (reply_tail reply.now) }
     ensures room { OnOk result (length text.new ≤ 127) }
     ensures spent { Spends (W.seen writer.old) (W.seen writer.new) patience.old patience.new result }
+    ensures only { OnlyWrites (W.seen writer.old) (W.seen writer.new) }
+    ensures failed { OnErr result (0 < patience.new → IsTrue (is_last_failed (W.seen writer.new).calls)) }
 {
     match reply {
         Reply::List(events) => gather_numbers(writer, patience, text, events.as_slice()),

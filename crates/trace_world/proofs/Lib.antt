@@ -4,6 +4,7 @@ mod Isolation
 mod Leading
 mod Places
 mod Fronts
+mod Patience
 mod Answering
 mod Following
 mod Parts

@@ -1,5 +1,5 @@
 -- Replays that a fault cuts short.
-use Rattle.std.proofs.Common.{◌≡◌, ◌≢◌, ℕ, zero, suc, ◌-◌, ◌≤◌, Bool, true, false, IsTrue, List, [], ◌∷◌, ◌++◌, length, take, refl, sym, ap, ◌∙◌, subst, append_assoc, arith, codes, Option, Some, None, IfSome, Result, Ok, Err, IsErrAnd}
+use Rattle.std.proofs.Common.{◌≡◌, ◌≢◌, ℕ, zero, suc, ◌-◌, ◌≤◌, Bool, true, false, IsTrue, List, [], ◌∷◌, ◌++◌, length, take, refl, sym, ap, ◌∙◌, subst, append_assoc, arith, codes, Option, Some, None, IfSome, Result, Ok, Err, IsErrAnd, inl, inr}
 use Rattle.std.proofs.lemmas.List.{append-nil, length-append}
 use Rattle.std.proofs.Math.Seq.{take-append_seam}
 use Rattle.std.specs.Io.KnownBytes.{Keeps}
@@ -23,7 +23,14 @@ use Rattle.line_protocol.specs.declared.line.Line.{Line}
 use Rattle.line_protocol.specs.declared.line.Line.TheVariants.{Whole, TooLong, End}
 use Rattle.trace_world.specs.declared.answer.Answer.{Answer}
 use Rattle.line_protocol.specs.Answer.{addressee_text}
-use Rattle.line_protocol.specs.Writing.{WritesFront}
+use Rattle.std.specs.List.{concat}
+use Rattle.line_protocol.specs.Writing.{WritesFront, WritesBoth}
+use Rattle.line_protocol.specs.Patience.{SinkCall, FlushesPatiently, GivesUpFlushing}
+use Rattle.line_protocol.specs.declared.read_fault.ReadFault.{ReadFault}
+use Rattle.line_protocol.specs.declared.read_fault.ReadFault.TheVariants as read
+use Rattle.trace_world.specs.Faults.{replay_fault_of}
+use Rattle.trace_world.specs.Texts.{AreTexts, WritesInPart}
+use Rattle.trace_world.proofs.Patience.{WroteTexts, WroteTexts-flush, BreaksTexts-text, BreaksTexts-flush}
 use Rattle.line_protocol.proofs.LineReadingLemmas.{HasRead-line, HasRead-end, HasRead-none, has_told_end}
 use Rattle.trace_world.specs.declared.counts.Counts.{Counts}
 use Rattle.trace_world.specs.declared.replay_fault.ReplayFault.{ReplayFault}
@@ -31,7 +38,7 @@ use Rattle.trace_world.specs.declared.replay_fault.ReplayFault.TheVariants.{Read
 use Rattle.trace_world.specs.Counted.{counted_with}
 use Rattle.trace_world.specs.Replayed.{DoesLine, AreFirstLines, HandsOn, ReplaysInPart, Replays}
 use Rattle.trace_world.proofs.Answering.{answers_nobody}
-use Rattle.trace_world.proofs.Following.{Follows, no_counts, LeadsTo-none, LeadsTo-line}
+use Rattle.trace_world.proofs.Following.{Follows, no_counts, LeadsTo-none, LeadsTo-line, AreTexts-line, WroteTexts-to, joined_push}
 
 -- a line was found, and this is its answer
 pub record Answered (given given' : List ℕ) (held held' : Held) (old : World) (to : Text) (reply : Reply) (new : World) : Type 0 where
@@ -87,12 +94,13 @@ output-take-le names limits before (line ∷ found) (mark ∷ marks) (suc n) =
     append-le _ _ _ (output-take-le names limits (before ++ call_of (asked names line) mark) found marks n)
 
 -- all that was found was written
-pub in_part_whole : (before after : Given) (taken taken' : Taken) {given : List ℕ} {old new : World} {held : Held} {counts : Counts} (gave : List ℕ)
-    → (follows : Follows before.bytes given taken.bytes taken'.bytes old held counts new)
+pub in_part_whole : (before after : Given) (taken taken' : Taken) {given : List ℕ} {calls' : List SinkCall} {old new : World} {held : Held} {counts : Counts} (gave : List ℕ)
+    → (follows : Follows before.bytes given taken.bytes taken'.bytes taken.calls calls' old held counts new)
     → after.bytes ≡ given ++ gave → (IsTrue held.is_ended → (gave ≡ []) × IsTrue after.has_ended) → Keeps before.whole after.whole → (fault : ReplayFault)
-    → (fault ≢ Write → length follows.found ≡ end_count (follows.read.came ++ gave)) → ReplaysInPart fault before after taken taken' old new
+    → (fault ≢ Write → length follows.found ≡ end_count (follows.read.came ++ gave))
+    → WritesInPart fault old follows.found follows.marks follows.text taken.calls taken'.calls → Keeps taken.began taken'.began → ReplaysInPart fault before after taken taken' old new
 unfolding AreFirstLines-from
-in_part_whole before after taken taken' {old = old} {counts = counts} gave follows grows at_end kept fault all_found = record {
+in_part_whole before after taken taken' {old = old} {counts = counts} gave follows grows at_end kept fault all_found in_part began = record {
   found = follows.found;
   marks = follows.marks;
   text = follows.text;
@@ -103,6 +111,7 @@ in_part_whole before after taken taken' {old = old} {counts = counts} gave follo
   kept = kept;
   none_lost = all_found;
   writes = follows.writes;
+  began = began;
   front = sym (append-nil follows.text);
   replied = λ not_write. refl;
   leads = follows.leads;
@@ -110,38 +119,125 @@ in_part_whole before after taken taken' {old = old} {counts = counts} gave follo
       let less = output-take-le old.names old.limits calls follows.found follows.marks (length follows.found - 1) in
       let all = ap length (follows.leads.text_is calls after) in
       omega (arith, less, all);
+  texts = in_part;
 }
+
+-- all texts were written
+all_texts : {start given bytes bytes' : List ℕ} {calls calls' : List SinkCall} {old new : World} {held : Held} {counts : Counts} (fault : ReplayFault) → fault ≢ Write
+    → (follows : Follows start given bytes bytes' calls calls' old held counts new) → WritesInPart fault old follows.found follows.marks follows.text calls calls'
+all_texts {old = old} fault not_write follows = record {
+  whole = follows.texts;
+  left = [];
+  begun = [];
+  texts_are = subst (AreTexts old follows.found follows.marks) (sym (append-nil follows.texts)) follows.texts_are;
+  parts = follows.joined ∙ sym (append-nil (concat follows.texts));
+  begins = refl;
+  patient = record { more = follows.wrote.more; calls = follows.wrote.calls; each = follows.wrote.each };
+  broken_off = λ is_write. absurd (not_write is_write);
+}
+
+-- all texts were written, and a flush gave up
+texts_unflushed : {start given bytes bytes' : List ℕ} {calls calls' calls'' : List SinkCall} {old new : World} {held : Held} {counts : Counts}
+    → (follows : Follows start given bytes bytes' calls calls' old held counts new) → GivesUpFlushing calls' calls'' → WritesInPart Write old follows.found follows.marks follows.text calls calls''
+texts_unflushed {old = old} follows stops =
+    let breaks = BreaksTexts-flush follows.texts follows.wrote stops in
+    record {
+      whole = follows.texts;
+      left = [];
+      begun = [];
+      texts_are = subst (AreTexts old follows.found follows.marks) (sym (append-nil follows.texts)) follows.texts_are;
+      parts = follows.joined ∙ sym (append-nil (concat follows.texts));
+      begins = refl;
+      patient = record { more = breaks.more; calls = breaks.calls; each = breaks.each };
+      broken_off = λ is_write. breaks.broken;
+    }
+
+-- the texts of the last line were written in part
+record LastTexts (old : World) (found : List Text) (marks : List Bool) (text to reply : Text) (bytes bytes' : List ℕ) (calls calls' : List SinkCall) : Type 0 where
+  front : WritesFront bytes bytes' (to ++ codes " " ++ reply ++ 10 ∷ [])
+  in_part : WritesInPart Write old found marks (text ++ front.written) calls calls'
+
+last_texts : {old : World} {found : List Text} {marks : List Bool} {calls : List SinkCall} (text : Text) (texts : List Text) (to reply : Text) (middle after : Taken)
+    → WroteTexts calls middle.calls texts → text ≡ concat texts → AreTexts old found marks ((texts ++ (to ++ codes " ") ∷ []) ++ (reply ++ 10 ∷ []) ∷ [])
+    → WritesBoth {A = Unit {0}} {E = Unit {0}} middle after (Err tt) (to ++ codes " ") (reply ++ codes "\n") → LastTexts old found marks text to reply middle.bytes after.bytes calls after.calls
+last_texts {old = old} {found = found} {marks = marks} text texts to reply middle after wrote joined are (inl part) =
+    let breaks = BreaksTexts-text texts (to ++ codes " ") ((reply ++ 10 ∷ []) ∷ []) wrote part.2 in
+    record {
+      front = record {
+        written = part.0.written;
+        rest = part.0.rest ++ (reply ++ 10 ∷ []);
+        grows = part.0.grows;
+        front = append_assoc (to ++ codes " ") reply (10 ∷ []) ∙ ap (λ bytes. bytes ++ (reply ++ 10 ∷ [])) part.0.front ∙ append_assoc part.0.written part.0.rest (reply ++ 10 ∷ []);
+        some_left = omega (arith, part.0.some_left, length-append part.0.rest (reply ++ 10 ∷ []));
+      };
+      in_part = record {
+        whole = texts;
+        left = (to ++ codes " ") ∷ (reply ++ 10 ∷ []) ∷ [];
+        begun = part.0.written;
+        texts_are = subst (AreTexts old found marks) (append_assoc texts ((to ++ codes " ") ∷ []) ((reply ++ 10 ∷ []) ∷ [])) are;
+        parts = ap (λ bytes. bytes ++ part.0.written) joined;
+        begins = (part.0.rest, part.0.front, part.0.some_left);
+        patient = record { more = breaks.more; calls = breaks.calls; each = breaks.each };
+        broken_off = λ is_write. breaks.broken;
+      };
+    }
+last_texts {old = old} {found = found} {marks = marks} text texts to reply middle after wrote joined are (inr (between, one, part)) =
+    let breaks = BreaksTexts-text (texts ++ (to ++ codes " ") ∷ []) (reply ++ 10 ∷ []) [] (WroteTexts-to texts to wrote one.2) part.2 in
+    record {
+      front = record {
+        written = (to ++ codes " ") ++ part.0.written;
+        rest = part.0.rest;
+        grows = part.0.grows ∙ ap (λ bytes. bytes ++ part.0.written) one.0 ∙ append_assoc middle.bytes (to ++ codes " ") part.0.written;
+        front = append_assoc (to ++ codes " ") reply (10 ∷ []) ∙ ap (λ bytes. (to ++ codes " ") ++ bytes) part.0.front ∙ sym (append_assoc (to ++ codes " ") part.0.written part.0.rest);
+        some_left = part.0.some_left;
+      };
+      in_part = record {
+        whole = texts ++ (to ++ codes " ") ∷ [];
+        left = (reply ++ 10 ∷ []) ∷ [];
+        begun = part.0.written;
+        texts_are = are;
+        parts = sym (append_assoc text (to ++ codes " ") part.0.written) ∙ ap (λ bytes. bytes ++ part.0.written) (joined_push texts (to ++ codes " ") text joined);
+        begins = (part.0.rest, part.0.front, part.0.some_left);
+        patient = record { more = breaks.more; calls = breaks.calls; each = breaks.each };
+        broken_off = λ is_write. breaks.broken;
+      };
+    }
 
 -- a read failed
 pub in_part_read : (before after : Given) (taken taken' : Taken) {given : List ℕ} {old new : World} {held : Held} {counts : Counts}
-    → Follows before.bytes given taken.bytes taken'.bytes old held counts new → FindsNone given after.bytes held → Keeps before.whole after.whole
-    → (fault : ReplayFault) → ReplaysInPart fault before after taken taken' old new
-in_part_read before after taken taken' follows none kept fault =
-    in_part_whole before after taken taken' none.gave follows none.grows (λ ended. absurd (cc)) kept fault (λ not_write. HasRead-none follows.read none)
+    → Follows before.bytes given taken.bytes taken'.bytes taken.calls taken'.calls old held counts new → FindsNone given after.bytes held → Keeps before.whole after.whole
+    → Keeps taken.began taken'.began → (fault : ReplayFault) → fault ≢ Write → ReplaysInPart fault before after taken taken' old new
+in_part_read before after taken taken' follows none kept began fault not_write =
+    in_part_whole before after taken taken' none.gave follows none.grows (λ ended. absurd (cc)) kept fault (λ _. HasRead-none follows.read none) (all_texts fault not_write follows) began
 
 -- what was answered was not flushed
-pub in_part_held_back : (before after : Given) (taken taken' : Taken) {old new : World} {held : Held} {counts : Counts}
-    → Follows before.bytes after.bytes taken.bytes taken'.bytes old held counts new → Reads before after fresh_held held 0 → ReplaysInPart Write before after taken taken' old new
-in_part_held_back before after taken taken' follows reads =
+pub in_part_held_back : (before after : Given) (taken taken' : Taken) {calls' : List SinkCall} {old new : World} {held : Held} {counts : Counts}
+    → Follows before.bytes after.bytes taken.bytes taken'.bytes taken.calls calls' old held counts new → GivesUpFlushing calls' taken'.calls → Keeps taken.began taken'.began → Reads before after fresh_held held 0
+    → ReplaysInPart Write before after taken taken' old new
+in_part_held_back before after taken taken' follows stops began reads =
     in_part_whole before after taken taken' [] follows (sym (append-nil after.bytes)) (λ ended. (refl, (has_told_end reads ended).0)) reads.whole Write
-    (λ not_write. absurd (not_write refl))
+    (λ not_write. absurd (not_write refl)) (texts_unflushed follows stops) began
 
 -- all was replayed, and it was not flushed
-pub in_part_unflushed : (before after : Given) (taken taken' : Taken) {given : List ℕ} {old new : World} {held : Held} {counts : Counts} (held' : Held)
-    → Follows before.bytes given taken.bytes taken'.bytes old held counts new → Finds given after.bytes held held' End → (failed : ℕ) → Reads before after fresh_held held' failed
-    → ReplaysInPart Write before after taken taken' old new
-in_part_unflushed before after taken taken' held' follows finds failed reads =
+pub in_part_unflushed : (before after : Given) (taken taken' : Taken) {given : List ℕ} {calls' : List SinkCall} {old new : World} {held : Held} {counts : Counts} (held' : Held)
+    → Follows before.bytes given taken.bytes taken'.bytes taken.calls calls' old held counts new → GivesUpFlushing calls' taken'.calls → Keeps taken.began taken'.began → Finds given after.bytes held held' End
+    → (failed : ℕ) → Reads before after fresh_held held' failed → ReplaysInPart Write before after taken taken' old new
+in_part_unflushed before after taken taken' held' follows stops began finds failed reads =
     in_part_whole before after taken taken' [] follows (finds.0 ∙ sym (append-nil _)) (λ _. (refl, (has_told_end reads finds.3).0)) reads.whole Write
-    (λ not_write. absurd (not_write refl))
+    (λ not_write. absurd (not_write refl)) (texts_unflushed follows stops) began
 
 -- the last line was written in part
-pub in_part_last : (before after : Given) (taken taken'' : Taken) {given taken' : List ℕ} {old mid new : World} {held held' : Held} {counts : Counts} {to : Text} {reply : Reply}
-    → Follows before.bytes given taken.bytes taken' old held counts mid
+pub in_part_last : (before after : Given) (taken taken' taken'' : Taken) {given : List ℕ} {old mid new : World} {held held' : Held} {counts : Counts} {to : Text} {reply : Reply}
+    → Follows before.bytes given taken.bytes taken'.bytes taken.calls taken'.calls old held counts mid
     → Answered given after.bytes held held' mid to reply new
     → (IsTrue held.is_ended → (after.bytes ≡ given) × IsTrue held'.is_ended) → (failed : ℕ) → Reads before after fresh_held held' failed
-    → WritesFront taken' taken''.bytes (to ++ codes " " ++ reply_text reply ++ 10 ∷ []) → ReplaysInPart Write before after taken taken'' old new
-in_part_last before after taken taken'' {old = old} {mid = mid} {new = new} {held' = held'} {counts = counts} {to = to} {reply = reply} follows answered at_end failed reads front =
+    → WritesBoth {A = Unit {0}} {E = Unit {0}} taken' taken'' (Err tt) (to ++ codes " ") (reply_text reply ++ codes "\n") → Keeps taken.began taken''.began → ReplaysInPart Write before after taken taken'' old new
+in_part_last before after taken taken' taken'' {old = old} {mid = mid} {new = new} {held' = held'} {counts = counts} {to = to} {reply = reply} follows answered at_end failed reads writes began =
     let read : HasRead before.bytes after.bytes held' (follows.found ++ answered.line ∷ []) = HasRead-line follows.read answered.gives at_end in
+    let last : LastTexts old (follows.found ++ answered.line ∷ []) (follows.marks ++ answered.answers.mark ∷ []) follows.text to (reply_text reply) taken'.bytes taken''.bytes taken.calls taken''.calls =
+    last_texts follows.text follows.texts to (reply_text reply) taken' taken'' follows.wrote follows.joined
+    (AreTexts-line old mid new follows.found follows.marks follows.text counts follows.texts answered.line to reply follows.leads follows.texts_are answered.answers) writes in
+    let front = last.front in
     record {
       found = follows.found ++ answered.line ∷ [];
       marks = follows.marks ++ answered.answers.mark ∷ [];
@@ -151,6 +247,7 @@ in_part_last before after taken taken'' {old = old} {mid = mid} {new = new} {hel
       unwritten = front.rest;
       first = AreFirstLines-from after.has_ended [] read (sym (append-nil after.bytes)) (λ ended. (refl, (has_told_end reads ended).0));
       kept = reads.whole;
+      began = began;
       writes = front.grows ∙ ap (λ bytes. bytes ++ front.written) follows.writes ∙ append_assoc taken.bytes follows.text front.written;
       front = ap (λ bytes. follows.text ++ bytes) front.front ∙ sym (append_assoc follows.text front.written front.rest);
       none_lost = λ not_write. absurd (not_write refl);
@@ -161,11 +258,12 @@ in_part_last before after taken taken'' {old = old} {mid = mid} {new = new} {hel
           let all = ap length (follows.leads.text_is calls after) in
           rw (count, take-push (length follows.found) follows.found answered.line refl, take-push (length follows.found) follows.marks answered.answers.mark (sym follows.leads.one_each))
           (omega (arith, all, length-append follows.text front.written));
+      texts = last.in_part;
     }
 
 -- nothing was read or written
-pub in_part_none : (before : Given) (taken : Taken) (world : World) (fault : ReplayFault) → ReplaysInPart fault before before taken taken world world
-in_part_none before taken world fault = record {
+pub in_part_none : (before : Given) (taken : Taken) (world : World) → ReplaysInPart Memory before before taken taken world world
+in_part_none before taken world = record {
   found = [];
   marks = [];
   text = [];
@@ -176,10 +274,21 @@ in_part_none before taken world fault = record {
   kept = Keeps-refl before.whole;
   none_lost = λ not_write. refl;
   writes = sym (append-nil taken.bytes);
+  began = Keeps-refl taken.began;
   front = refl;
   replied = λ not_write. refl;
   leads = LeadsTo-none world;
   whole = λ calls after. omega arith;
+  texts = record {
+    whole = [];
+    left = [];
+    begun = [];
+    texts_are = λ calls after. refl;
+    parts = refl;
+    begins = refl;
+    patient = record { more = []; calls = refl; each = tt };
+    broken_off = λ is_write. absurd (cc);
+  };
 }
 
 -- what was given until all was given is all that was known
@@ -190,9 +299,9 @@ gave_known (Some whole) (Some whole') given came kept gave is = sym kept ∙ (sy
 
 -- all was replayed
 pub replays_all : (before after : Given) (taken taken' : Taken) {given : List ℕ} {old new : World} {held : Held} {counts : Counts} (held' : Held)
-    → Follows before.bytes given taken.bytes taken'.bytes old held counts new → Finds given after.bytes held held' End → (failed : ℕ) → Reads before after fresh_held held' failed
-    → Replays before after taken taken' old counts new
-replays_all before after taken taken' {old = old} {new = new} {counts = counts} held' follows finds failed reads = record {
+    → Follows before.bytes given taken.bytes taken'.bytes taken.calls taken'.calls old held counts new → Finds given after.bytes held held' End → (failed : ℕ) → Reads before after fresh_held held' failed
+    → Keeps taken.began taken'.began → Replays before after taken taken' old counts new
+replays_all before after taken taken' {old = old} {new = new} {counts = counts} held' follows finds failed reads began = record {
   came = follows.read.came;
   marks = follows.marks;
   text = follows.text;
@@ -200,7 +309,11 @@ replays_all before after taken taken' {old = old} {new = new} {counts = counts} 
   ends = (has_told_end reads finds.3).0;
   all = gave_known before.whole after.whole after.bytes (before.bytes ++ follows.read.came) reads.whole (has_told_end reads finds.3).1 (finds.0 ∙ follows.read.grows);
   writes = follows.writes;
+  began = began;
   leads = rw (HasRead-end follows.read finds.1) follows.leads;
+  texts = follows.texts;
+  texts_are = rw (HasRead-end follows.read finds.1) follows.texts_are;
+  patient = record { more = follows.wrote.more; calls = follows.wrote.calls; each = follows.wrote.each };
 }
 
 -- what was flushed is told so
@@ -231,15 +344,40 @@ answered_where_whole given given' held held' old new world' found answer result 
     (subst (λ (l : Text). DoesLine old l (addressee_text result.tenant) result.reply new) line_is answers))
 
 -- what is flushed is as it was
-pub Follows-flushed : {start given taken taken' taken'' : List ℕ} {old new : World} {held : Held} {counts : Counts} → taken'' ≡ taken' → Follows start given taken taken' old held counts new → Follows start given taken taken'' old held counts new
-Follows-flushed same follows = record {
+pub Follows-as : {start given taken taken' taken'' : List ℕ} {calls calls' : List SinkCall} {old new : World} {held : Held} {counts : Counts} → taken'' ≡ taken'
+    → Follows start given taken taken' calls calls' old held counts new → Follows start given taken taken'' calls calls' old held counts new
+Follows-as same follows = record {
   found = follows.found;
   marks = follows.marks;
   text = follows.text;
   read = follows.read;
   writes = same ∙ follows.writes;
   leads = follows.leads;
+  texts = follows.texts;
+  texts_are = follows.texts_are;
+  joined = follows.joined;
+  wrote = follows.wrote;
 }
+
+pub Follows-flushed : {start given taken taken' taken'' : List ℕ} {calls calls' calls'' : List SinkCall} {old new : World} {held : Held} {counts : Counts} → taken'' ≡ taken' → FlushesPatiently calls' calls''
+    → Follows start given taken taken' calls calls' old held counts new → Follows start given taken taken'' calls calls'' old held counts new
+Follows-flushed same flushes follows = record {
+  found = follows.found;
+  marks = follows.marks;
+  text = follows.text;
+  read = follows.read;
+  writes = same ∙ follows.writes;
+  leads = follows.leads;
+  texts = follows.texts;
+  texts_are = follows.texts_are;
+  joined = follows.joined;
+  wrote = WroteTexts-flush follows.wrote flushes;
+}
+
+-- no fault of reading is one of writing
+pub is_no_write_fault : (fault : ReadFault) → replay_fault_of fault ≢ Write
+is_no_write_fault read.Read is = absurd (cc)
+is_no_write_fault read.TooLong is = absurd (cc)
 
 -- a reply counts once at most
 pub one_if-le : (b : Bool) → one_if b ≤ 1

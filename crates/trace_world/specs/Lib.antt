@@ -1,3 +1,4 @@
+pub mod Texts
 pub mod Replayed
 pub mod Faults
 pub mod Counted

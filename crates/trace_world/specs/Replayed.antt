@@ -10,6 +10,7 @@ use Rattle.trace_types.specs.declared.reply.Reply.{Reply}
 use Rattle.line_protocol.specs.Ends.{end_count}
 use Rattle.line_protocol.specs.Source.{Given}
 use Rattle.line_protocol.specs.Sink.{Taken}
+use Rattle.trace_world.specs.Texts.{AreTexts, WritesTexts, WritesInPart}
 use Rattle.trace_world.specs.declared.counts.Counts.{Counts}
 use Rattle.trace_world.specs.declared.replay_fault.ReplayFault.{ReplayFault}
 use Rattle.trace_world.specs.declared.replay_fault.ReplayFault.TheVariants.{Read, Write, TooLong, Memory}
@@ -45,7 +46,12 @@ pub record Replays (before after : Given) (taken taken' : Taken) (old : World) (
   pub ends : IsTrue after.has_ended
   pub all : IfSome before.whole (λ whole. whole ≡ before.bytes ++ came)
   pub writes : taken'.bytes ≡ taken.bytes ++ text
+  -- What the writer can tell that it held before stays so.
+  pub began : Keeps taken.began taken'.began
   pub leads : LeadsTo old (lines came) marks text counts new
+  pub texts : List Text
+  pub texts_are : AreTexts old (lines came) marks texts
+  pub patient : WritesTexts taken.calls taken'.calls texts
 
 -- These are the first lines of what the reader gave, however its input goes on; it does not go on once the reader told
 -- the end.
@@ -57,7 +63,7 @@ pub record AreFirstLines (given given' : List ℕ) (has_ended : Bool) (found : L
 
 -- A fault came in between: the first lines were replayed, a front of their output was written, and at most the last
 -- of them lacks its whole reply. Unless the fault is one of writing, none of them does, and as many lines were replayed
--- as ends of line came.
+-- as ends of line came. Of the texts of these lines some were written whole, each patiently, and of the next a front.
 pub record ReplaysInPart (fault : ReplayFault) (before after : Given) (taken taken' : Taken) (old new : World) : Type 0 where
   pub found : List Text
   pub marks : List Bool
@@ -70,11 +76,19 @@ pub record ReplaysInPart (fault : ReplayFault) (before after : Given) (taken tak
   pub kept : Keeps before.whole after.whole
   pub none_lost : fault ≢ Write → length found ≡ end_count first.came
   pub writes : taken'.bytes ≡ taken.bytes ++ written
+  pub began : Keeps taken.began taken'.began
   pub front : text ≡ written ++ unwritten
   pub replied : fault ≢ Write → unwritten ≡ []
   pub leads : LeadsTo old found marks text counts new
   pub whole : (calls : List Call) → IsAfter old calls →
       length (output old.names old.limits calls (entries old.names (take (length found - 1) found) (take (length found - 1) marks))) ≤ length written
+  pub texts : WritesInPart fault old found marks written taken.calls taken'.calls
+
+-- All lines of the bytes lead from the old world to the new one, for some marks that may stand, and this is their output.
+pub record AnswersAll (old : World) (bytes written : List ℕ) (new : World) : Type 0 where
+  pub marks : List Bool
+  pub counts : Counts
+  pub leads : LeadsTo old (lines bytes) marks written counts new
 
 -- All that was answered was handed on, unless a write failed or nothing was read.
 abbrev pub HandsOn : {A : Type 0} → Result A ReplayFault → Taken → Type 0

@@ -1,7 +1,8 @@
 //! The answer to one line.
-ghost use Rattle.std.specs.Prelude.{◌≡◌, ◌≤◌, false, None, OnOk, OnErr};
+ghost use Rattle.std.specs.Prelude.{◌≡◌, ◌≤◌, ◌++◌, codes, false, None, OnOk, OnErr};
 ghost use Rattle.trace_types.specs.text.Lines.{is_too_long};
-ghost use Rattle.line_protocol.specs.Writing.{WritesText, EndsInFault};
+ghost use Rattle.trace_types.specs.text.Text.{reply_text};
+ghost use Rattle.line_protocol.specs.Writing.{WritesText, WritesBoth, EndsInFault};
 ghost use Rattle.trace_world.specs.Replayed.{DoesLine};
 ghost use Rattle.line_protocol.specs.Answer.{addressee_text, answer_text};
 
@@ -60,6 +61,9 @@ impl Answer {
         ensures no_failure { OnOk result ((W.seen writer.new).failures ≡ (W.seen writer.old).failures) }
         ensures fault { OnErr result (EndsInFault (W.seen writer.old) (W.seen writer.new)) }
         ensures interruptions { (W.seen writer.old).interruptions ≤ (W.seen writer.new).interruptions }
+        // Whom it names and the reply, each with patience of its own.
+        ensures both { WritesBoth (W.seen writer.old) (W.seen writer.new) result
+            (addressee_text self.now.tenant ++ codes " ") (reply_text self.now.reply ++ codes "\n") }
     {
         write_answer(writer, &self.tenant, &self.reply)
     }

@@ -10,9 +10,11 @@ mod counts;
 pub mod laws;
 mod replay_fault;
 mod replaying;
+mod replaying_bytes;
 mod world;
 
 pub use counts::Counts;
 pub use replay_fault::ReplayFault;
 pub use replaying::replay;
+pub use replaying_bytes::replay_bytes;
 pub use world::World;

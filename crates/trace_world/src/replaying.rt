@@ -1,6 +1,7 @@
 //! The replay of lines of many tenants.
 ghost use Rattle.std.specs.Prelude.{◌≡◌, ◌↔◌, ◌+◌, ◌<◌, ◌≤◌, ◌^◌, IfOk, IfErr, IsErrOf, IsTrue, OnOk, OnErr};
 ghost use Rattle.line_protocol.specs.LineReading.{FindsNext, NeedsRead};
+ghost use Rattle.line_protocol.specs.Patience.{FlushesPatiently, GivesUpFlushing};
 ghost use Rattle.line_protocol.specs.Source.{StopsAtEnd};
 ghost use Rattle.line_protocol.specs.Writing.{EndsInFault, GoesWell, GoesWrong};
 ghost use Rattle.trace_world.specs.Replayed.{HandsOn, Replays, ReplaysInPart};
@@ -67,6 +68,8 @@ fn hand_on<W: Sink>(lines: &Buffer, writer: &mut W) -> Result<(), WriteFault>
     ensures taken { (W.seen writer.new).bytes ≡ (W.seen writer.old).bytes }
     ensures well { OnOk result (GoesWell (W.seen writer.old) (W.seen writer.new)) }
     ensures fault { OnErr result (GoesWrong (W.seen writer.old) (W.seen writer.new)) }
+    ensures patient { OnOk result (FlushesPatiently (W.seen writer.old).calls (W.seen writer.new).calls) }
+    ensures stopped { OnErr result (GivesUpFlushing (W.seen writer.old).calls (W.seen writer.new).calls) }
 {
     if lines.needs_read() {
         flush(writer)

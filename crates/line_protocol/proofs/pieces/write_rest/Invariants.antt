@@ -1,4 +1,6 @@
 use Rattle.std.proofs.Common.{◌≡◌, ◌+◌, ◌<◌, ◌≤◌, length}
+use Rattle.line_protocol.specs.Patience.{waits_since_bytes}
+use Rattle.line_protocol.specs.Writing.{OnlyWrites}
 use Rattle.line_protocol.proofs.WritingLemmas.{Wrote}
 use Rattle.line_protocol.proofs.pieces.write_rest.Given as goal
 
@@ -9,6 +11,8 @@ invariant-loop-rest g l = record {
   interruptions : (g.W.Sink.seen l.writer).interruptions + l.patience ≡ (g.W.Sink.seen l.fn.writer).interruptions + l.fn.patience;
   more : (g.W.Sink.seen l.fn.writer).interruptions ≤ (g.W.Sink.seen l.writer).interruptions;
   patient : 0 < l.patience;
+  only : OnlyWrites (g.W.Sink.seen l.fn.writer) (g.W.Sink.seen l.writer);
+  no_wait : length l.rest ≡ 0 → 0 < length l.fn.piece → waits_since_bytes (g.W.Sink.seen l.writer).calls ≡ 0;
 }
 
 abbrev pub decreases-loop-rest : goal.decreases-loop-rest

@@ -7,9 +7,12 @@ use Rattle.line_protocol.specs.LineReading.{Finds, FindsNone, LeavesLess, NeedsR
 use Rattle.line_protocol.specs.declared.line.Line.TheVariants.{End}
 use Rattle.trace_types.specs.world.Replay.{is_accepted, is_answered, is_refused}
 use Rattle.line_protocol.specs.Answer.{addressee_text}
-use Rattle.trace_world.proofs.Fronts.{IfErr-always, IfErr-equal}
-use Rattle.trace_world.proofs.Following.{Follows, LeadsTo-none, Follows-line}
-use Rattle.trace_world.proofs.Parts.{in_part_none, in_part_read, in_part_held_back, in_part_unflushed, in_part_last, replays_all, HandsOn-flushed, HandsOn-fault, Answered, answered_where_too_long, answered_where_whole, Follows-flushed, one_if-le}
+use Rattle.std.specs.Io.KnownBytes.{Keeps}
+use Rattle.std.proofs.KnownBytes.{Keeps-refl, Keeps-trans}
+use Rattle.trace_world.proofs.Fronts.{IfErr-equal, WritesBoth-began}
+use Rattle.trace_world.proofs.Following.{Follows, LeadsTo-none, Follows-line, WroteTexts-line}
+use Rattle.trace_world.proofs.Parts.{in_part_none, in_part_read, in_part_held_back, in_part_unflushed, in_part_last, replays_all, HandsOn-flushed, HandsOn-fault, Answered, answered_where_too_long, answered_where_whole, Follows-as, Follows-flushed, is_no_write_fault, one_if-le}
+use Rattle.trace_world.proofs.Patience.{WroteTexts-none}
 use Rattle.trace_world.proofs.replaying.replay.Goals as goal
 use Rattle.trace_world.proofs.replaying.replay.Given.{Over}
 use Rattle.trace_world.proofs.replaying.replay.Goals.{After-next_line, After-write, After-flush, in-TooLong, in-Whole}
@@ -43,14 +46,21 @@ finds_end g c =
 -- what was replayed so far, once it was handed on
 follows : (g : Over) (c : After-next_line g)
     → Follows (g.R.Source.seen c.args.reader.now).bytes (g.R.Source.seen c.loop-lines.reader).bytes (g.W.Sink.seen c.args.writer.now).bytes (g.W.Sink.seen c.hand_on.new.writer).bytes
-    c.args.world.now c.loop-lines.lines c.loop-lines.counts c.loop-lines.world
-follows g c = Follows-flushed c.in_ok-hand_on.ensures.taken c.loop-lines.invariant.follows
+    (g.W.Sink.seen c.args.writer.now).calls (g.W.Sink.seen c.hand_on.new.writer).calls c.args.world.now c.loop-lines.lines c.loop-lines.counts c.loop-lines.world
+follows g c = Follows-flushed c.in_ok-hand_on.ensures.taken c.in_ok-hand_on.ensures.patient c.loop-lines.invariant.follows
+
+-- what the writer held first, it can still tell
+begun : (g : Over) (c : After-next_line g) → Keeps (g.W.Sink.seen c.args.writer.now).began (g.W.Sink.seen c.hand_on.new.writer).began
+begun g c = Keeps-trans _ _ _ c.loop-lines.invariant.began c.in_ok-hand_on.ensures.well.began
+
+begun_answer : (g : Over) (c : After-write g) → Keeps (g.W.Sink.seen c.args.writer.now).began (g.W.Sink.seen c.write.new.writer).began
+begun_answer g c = Keeps-trans _ _ _ (Keeps-trans _ _ _ c.loop-lines.invariant.began c.in_ok-hand_on.ensures.well.began) (WritesBoth-began _ _ c.write.result _ _ c.write.ensures.both)
 
 needs_read : {given given' : List ℕ} {held : Held} → FindsNone given given' held → NeedsRead held
 needs_read {held = held} none = (HasNoEnd-front held.left none.gave none.no_end, none.goes_on)
 
 pub returns-in_err-lines-clause-fault : goal.returns-in_err-lines-clause-fault
-returns-in_err-lines-clause-fault g c = IfErr-always _ (in_part_none (g.R.Source.seen c.args.reader.now) (g.W.Sink.seen c.args.writer.now) c.args.world.now)
+returns-in_err-lines-clause-fault g c = IfErr-equal _ _ _ c.from_residual.ensures.1 (in_part_none (g.R.Source.seen c.args.reader.now) (g.W.Sink.seen c.args.writer.now) c.args.world.now)
 
 pub returns-in_err-lines-clause-flushed : goal.returns-in_err-lines-clause-flushed
 returns-in_err-lines-clause-flushed g c = HandsOn-fault _ _ _ c.from_residual.ensures.1 tt
@@ -59,7 +69,7 @@ pub returns-in_err-hand_on-clause-fault : goal.returns-in_err-hand_on-clause-fau
 returns-in_err-hand_on-clause-fault g c =
     IfErr-equal _ _ _ c.from_residual-in_err-hand_on.ensures.1
     (in_part_held_back (g.R.Source.seen c.args.reader.now) (g.R.Source.seen c.loop-lines.reader) (g.W.Sink.seen c.args.writer.now) (g.W.Sink.seen c.hand_on.new.writer)
-    (Follows-flushed c.in_err-hand_on.ensures.taken c.loop-lines.invariant.follows) c.loop-lines.invariant.reads)
+    (Follows-as c.in_err-hand_on.ensures.taken c.loop-lines.invariant.follows) c.in_err-hand_on.ensures.stopped (Keeps-trans _ _ _ c.loop-lines.invariant.began c.in_err-hand_on.ensures.fault.began) c.loop-lines.invariant.reads)
 
 pub returns-in_err-hand_on-clause-ends : goal.returns-in_err-hand_on-clause-ends
 returns-in_err-hand_on-clause-ends g c =
@@ -77,10 +87,15 @@ loop-lines-init g c =
         read = HasRead-start _ _ (ap (λ (h : Held). h.left) held);
         writes = sym (append-nil _);
         leads = rw none (LeadsTo-none c.args.world.now);
+        texts = [];
+        texts_are = λ calls after. refl;
+        joined = refl;
+        wrote = WroteTexts-none _;
       };
       reads = rw held (Reads-none _ _);
       most = rw held (omega arith);
       write_failures = refl;
+      began = Keeps-refl _;
       interruptions = omega arith;
       room = rw (none, held) (omega arith);
       accepted = rw none (omega arith);
@@ -91,8 +106,8 @@ loop-lines-init g c =
 pub returns-in_err-next_line-clause-fault : goal.returns-in_err-next_line-clause-fault
 returns-in_err-next_line-clause-fault g c =
     let at = goal.at.returns-in_err-next_line-clause-fault g c in
-    IfErr-always _ (in_part_read (g.R.Source.seen c.args.reader.now) (g.R.Source.seen c.next_line.new.reader) (g.W.Sink.seen c.args.writer.now) (g.W.Sink.seen c.hand_on.new.writer)
-    (follows g at.After-next_line) c.in_err-next_line.ensures.finds.none (all_reads g at.After-next_line).whole)
+    IfErr-equal _ _ _ c.from_residual-in_err-next_line.ensures.1 (in_part_read (g.R.Source.seen c.args.reader.now) (g.R.Source.seen c.next_line.new.reader) (g.W.Sink.seen c.args.writer.now) (g.W.Sink.seen c.hand_on.new.writer)
+    (follows g at.After-next_line) c.in_err-next_line.ensures.finds.none (all_reads g at.After-next_line).whole (begun g at.After-next_line) _ (is_no_write_fault _))
 
 pub returns-in_err-next_line-clause-flushed : goal.returns-in_err-next_line-clause-flushed
 returns-in_err-next_line-clause-flushed g c = HandsOn-flushed _ _ (c.in_ok-hand_on.ensures.flushed (needs_read c.in_err-next_line.ensures.finds.none))
@@ -104,8 +119,8 @@ pub returns-in_err-write-clause-fault : goal.returns-in_err-write-clause-fault
 returns-in_err-write-clause-fault g c =
     let at = goal.at.returns-in_err-write-clause-fault g c in
     IfErr-equal _ _ _ c.from_residual-in_err-write.ensures.1
-    (in_part_last (g.R.Source.seen c.args.reader.now) (g.R.Source.seen c.next_line.new.reader) (g.W.Sink.seen c.args.writer.now) (g.W.Sink.seen c.write.new.writer)
-    (follows g at.After-next_line) (answered g at.After-write) (gives_no_more g at.After-next_line) _ (all_reads g at.After-next_line) c.in_err-write.ensures.written)
+    (in_part_last (g.R.Source.seen c.args.reader.now) (g.R.Source.seen c.next_line.new.reader) (g.W.Sink.seen c.args.writer.now) (g.W.Sink.seen c.hand_on.new.writer) (g.W.Sink.seen c.write.new.writer)
+    (follows g at.After-next_line) (answered g at.After-write) (gives_no_more g at.After-next_line) _ (all_reads g at.After-next_line) c.in_err-write.ensures.both (begun_answer g at.After-write))
 
 pub returns-in_err-write-clause-ends : goal.returns-in_err-write-clause-ends
 returns-in_err-write-clause-ends g c = stops_at_end (all_reads g (goal.at.returns-in_err-write-clause-ends g c).After-next_line)
@@ -123,9 +138,11 @@ loop-lines-preserved g c =
       | in-Whole w ↦ subst (LeavesLess c.loop-lines.lines c.next_line.new.lines) w.in-Whole.is step.less
     ] in
     record {
-      follows = rw c.count.ensures (Follows-line answered.line _ _ (follows g at.After-next_line) answered.gives (gives_no_more g at.After-next_line) answered.answers wrote.written);
+      follows = rw c.count.ensures (Follows-line answered.line _ _ (follows g at.After-next_line) answered.gives (gives_no_more g at.After-next_line) answered.answers wrote.written
+          (WroteTexts-line _ _ (follows g at.After-next_line).texts _ _ (follows g at.After-next_line).wrote wrote.both));
       reads = Reads-on {failed = 0} before.reads (λ ended. ap g.R.Source.seen (c.next_line.ensures.at_end ended).0) step.reads.reads;
       most = step.reads.most;
+      began = begun_answer g at.After-write;
       write_failures = omega (arith, before.write_failures, c.in_ok-hand_on.ensures.well, wrote.no_failure);
       interruptions = omega (arith, before.interruptions, c.in_ok-hand_on.ensures.well, wrote.interruptions);
       room = rw c.count.ensures (omega (arith, before.room, less));
@@ -140,7 +157,7 @@ returns-in_err-flush-clause-fault g c =
     let finds = finds_end g at.After-flush in
     IfErr-equal _ _ _ c.from_residual-in_err-flush.ensures.1
     (in_part_unflushed (g.R.Source.seen c.args.reader.now) (g.R.Source.seen c.next_line.new.reader) (g.W.Sink.seen c.args.writer.now) (g.W.Sink.seen c.flush.new.writer)
-    c.next_line.new.lines (Follows-flushed c.in_err-flush.ensures.0 (follows g at.After-next_line)) finds _ (all_reads g at.After-next_line))
+    c.next_line.new.lines (Follows-as c.in_err-flush.ensures.0 (follows g at.After-next_line)) c.in_err-flush.ensures.2 (Keeps-trans _ _ _ (begun g at.After-next_line) c.in_err-flush.ensures.1.began) finds _ (all_reads g at.After-next_line))
 
 pub returns-in_err-flush-clause-ends : goal.returns-in_err-flush-clause-ends
 returns-in_err-flush-clause-ends g c = stops_at_end (all_reads g (goal.at.returns-in_err-flush-clause-ends g c).After-next_line)
@@ -150,7 +167,8 @@ returns-clause-ok g c =
     let at = goal.at.returns-clause-ok g c in
     let finds = finds_end g at.After-flush in
     replays_all (g.R.Source.seen c.args.reader.now) (g.R.Source.seen c.next_line.new.reader) (g.W.Sink.seen c.args.writer.now) (g.W.Sink.seen c.flush.new.writer)
-    c.next_line.new.lines (Follows-flushed c.in_ok-flush.ensures.0 (follows g at.After-next_line)) finds _ (all_reads g at.After-next_line)
+    c.next_line.new.lines (Follows-flushed c.in_ok-flush.ensures.0 c.in_ok-flush.ensures.3 (follows g at.After-next_line)) finds _ (all_reads g at.After-next_line)
+    (Keeps-trans _ _ _ (begun g at.After-next_line) c.in_ok-flush.ensures.2.began)
 
 pub returns-clause-ends : goal.returns-clause-ends
 returns-clause-ends g c = stops_at_end (all_reads g (goal.at.returns-clause-ends g c).After-next_line)

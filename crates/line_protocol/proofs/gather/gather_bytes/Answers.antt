@@ -1,0 +1,12 @@
+use Rattle.line_protocol.proofs.PatienceLemmas.{OnlyWrites-then}
+use Rattle.line_protocol.proofs.PatientTexts.{GathersText-written}
+use Rattle.line_protocol.proofs.gather.gather_bytes.Goals as goal
+
+pub returns-clause-gathered : goal.returns-clause-gathered
+returns-clause-gathered g c =
+    GathersText-written (g.W.Sink.seen c.args.writer.now) (g.W.Sink.seen c.write_gathered.new.writer) (g.W.Sink.seen c.write_piece.new.writer)
+    c.args.text.now c.write_gathered.new.text c.args.bytes.now c.write_piece.result
+    c.in_ok-write_gathered.ensures.gathered c.in_ok-write_gathered.ensures.none c.write_piece.ensures.written
+
+pub returns-clause-only : goal.returns-clause-only
+returns-clause-only g c = OnlyWrites-then c.write_gathered.ensures.only c.write_piece.ensures.only
