@@ -1,7 +1,7 @@
 //! A point that an event raised.
 ghost use Rattle.std.specs.Prelude.{◌≡◌, ◌+◌, ◌^◌, ◌<◌, ◌≤◌, ◌↔◌, IfSome, IfNone, IsTrue};
 ghost use Rattle.trace_types.specs.clock.Id.{Zero};
-ghost use Rattle.trace_types.specs.clock.EventTree.{Leaf, value, maximum};
+ghost use Rattle.trace_types.specs.clock.EventTree.{Leaf, value, minimum, maximum};
 ghost use Rattle.event_tree.specs.Height.{height};
 ghost use Rattle.event_tree.specs.Risen.{left_id_of, right_id_of, IsRisenAt, RisesWithin, NoneRisen};
 
@@ -33,7 +33,9 @@ impl EvTree {
 }
 
 /// The halves of so many levels to a point at which `after`, lifted, is above `before`, lifted, as the bits of a number,
-/// the uppermost the lowest. Below a number stands `zero`. The right half is looked at first, since of equal sides it grows.
+/// the uppermost the lowest. Below a number stands `zero`.
+#[cycle(risen_halves)]
+#[inline(always)]
 fn risen_halves(
     id: &IdTree,
     before: &EvTree,
@@ -51,29 +53,47 @@ fn risen_halves(
     ensures none { RisesWithin id.now before_lift before.now after_lift after.now
         → IfNone result (NoneRisen levels before_lift before.now after_lift after.now) }
 {
-    let (left_id, right_id) = id_halves(id)?;
-    if after_lift + after.max() <= before_lift + before.min() {
+    if id.is_zero() || after_lift + after.max() <= before_lift + before.min() {
         return None;
     }
+    risen_below(id, before, before_lift, after, after_lift, zero, levels)
+}
+
+/// Those halves, where the ranges of the two trees allow such a point. The right half is looked at first, since of equal
+/// sides it grows.
+#[cycle(risen_halves)]
+#[inline(never)]
+fn risen_below(
+    id: &IdTree,
+    before: &EvTree,
+    before_lift: u64,
+    after: &EvTree,
+    after_lift: u64,
+    zero: &EvTree,
+    levels: u32,
+) -> Option<u128>
+    requires before_fits { before_lift + maximum before.now < 2 ^ 64 }
+    requires after_fits { after_lift + maximum after.now < 2 ^ 64 }
+    requires above { before_lift + minimum before.now < after_lift + maximum after.now }
+    requires zero { zero.now ≡ Leaf 0 }
+    requires levels { levels ≤ 128 }
+    ensures risen { IfSome result (λ halves. IsRisenAt levels before_lift before.now after_lift after.now halves) }
+    ensures none { RisesWithin id.now before_lift before.now after_lift after.now
+        → IfNone result (NoneRisen levels before_lift before.now after_lift after.now) }
+{
     if before.is_leaf() && after.is_leaf() {
         return Some(0);
     }
     if levels == 0 {
         return None;
     }
+    let (left_id, right_id) = id_halves(id)?;
     let before = before.opened(zero);
     let after = after.opened(zero);
     let (low, high) = (before_lift + before.root, after_lift + after.root);
     let below = levels - 1;
-    if let Some(halves) = risen_halves(
-        right_id,
-        before.right,
-        low,
-        after.right,
-        high,
-        zero,
-        below,
-    ) {
+    let right = risen_halves(right_id, before.right, low, after.right, high, zero, below);
+    if let Some(halves) = right {
         return Some(2 * halves + 1);
     }
     let halves = risen_halves(left_id, before.left, low, after.left, high, zero, below)?;

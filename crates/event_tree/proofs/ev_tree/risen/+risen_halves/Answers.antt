@@ -1,24 +1,32 @@
-use Rattle.std.proofs.Common.{inl, arith}
+use Rattle.std.proofs.Common.{◌≡◌, inl, refl, arith}
+use Rattle.trace_types.specs.clock.Id.{Zero}
 use Rattle.event_tree.proofs.Bounds.{minimum-le-maximum}
 use Rattle.event_tree.proofs.Grown.{maximum-opened}
 use Rattle.event_tree.proofs.Risen.{risen_flat, risen_left, risen_right, within_left, within_right, none_risen, doubles}
 use Rattle.event_tree.proofs.Walk.{below_from_ranges}
+use Rattle.event_tree.proofs.ev_tree.risen.+risen_halves.Goals.{risen_halves-then-is_zero-via-then-is_zero, risen_halves-then-is_zero-via-else-is_zero+then-after_lift-max}
 use Rattle.event_tree.proofs.ev_tree.risen.+risen_halves.Goals as goal
 
-pub overflow_add-before_lift : goal.overflow_add-before_lift
-overflow_add-before_lift t c = omega (arith, minimum-le-maximum c.args.before.now)
+pub risen_halves-overflow_add-before_lift : goal.risen_halves-overflow_add-before_lift
+risen_halves-overflow_add-before_lift t c = omega (arith, minimum-le-maximum c.args.before.now)
 
-pub returns-then-after_lift-max-clause-none : goal.returns-then-after_lift-max-clause-none
-returns-then-after_lift-max-clause-none t c within =
-    inl (below_from_ranges c.args.after_lift c.args.before_lift c.args.after.now c.args.before.now (omega (arith, c.if-after_lift-max.true)))
+pub risen_halves-returns-then-is_zero-clause-none : goal.risen_halves-returns-then-is_zero-clause-none
+risen_halves-returns-then-is_zero-clause-none t c within =
+    elim c.then-is_zero.branch [
+      | risen_halves-then-is_zero-via-then-is_zero w ↦
+          let nothing : c.args.id.now ≡ Zero = c.is_zero.ensures.0 w.if-is_zero.true in
+          inl (λ point. within point (rw nothing refl))
+      | risen_halves-then-is_zero-via-else-is_zero+then-after_lift-max w ↦
+          inl (below_from_ranges c.args.after_lift c.args.before_lift c.args.after.now c.args.before.now (omega (arith, w.if-after_lift-max.true)))
+    ]
 
-pub returns-then-is_leaf-2-clause-risen : goal.returns-then-is_leaf-2-clause-risen
-returns-then-is_leaf-2-clause-risen t c =
+pub risen_below-returns-then-is_leaf-2-clause-risen : goal.risen_below-returns-then-is_leaf-2-clause-risen
+risen_below-returns-then-is_leaf-2-clause-risen t c =
     risen_flat c.args.before_lift c.args.after_lift c.args.before.now c.args.after.now c.args.levels
-    (c.is_leaf.ensures.0 c.if-is_leaf.true) (c.is_leaf-then-is_leaf.ensures.0 c.if-is_leaf-2.true) (omega (arith, c.if-after_lift-max.false))
+    (c.is_leaf.ensures.0 c.if-is_leaf.true) (c.is_leaf-then-is_leaf.ensures.0 c.if-is_leaf-2.true) c.requires.above
 
-pub risen_halves-requires : goal.risen_halves-requires
-risen_halves-requires t c = (
+pub risen_below-risen_halves-right-requires : goal.risen_below-risen_halves-right-requires
+risen_below-risen_halves-right-requires t c = (
   omega (arith, c.if-levels-eq0.false),
   (
     rw (c.opened-before.ensures.right, c.opened-before.ensures.root) (omega (arith, maximum-opened c.args.before.now)),
@@ -29,19 +37,19 @@ risen_halves-requires t c = (
   ),
 )
 
-pub overflow_mul-result : goal.overflow_mul-result
-overflow_mul-result t c = omega (arith, doubles c.args.levels c.in-Some.halves c.requires.levels c.if-levels-eq0.false c.in-Some.ensures.risen.small)
+pub risen_below-overflow_mul-result : goal.risen_below-overflow_mul-result
+risen_below-overflow_mul-result t c = omega (arith, doubles c.args.levels c.in-Some.halves c.requires.levels c.if-levels-eq0.false c.in-Some.ensures.risen.small)
 
-pub overflow_add-result : goal.overflow_add-result
-overflow_add-result t c = omega (arith, doubles c.args.levels c.in-Some.halves c.requires.levels c.if-levels-eq0.false c.in-Some.ensures.risen.small)
+pub risen_below-overflow_add-result : goal.risen_below-overflow_add-result
+risen_below-overflow_add-result t c = omega (arith, doubles c.args.levels c.in-Some.halves c.requires.levels c.if-levels-eq0.false c.in-Some.ensures.risen.small)
 
-pub returns-in-Some-clause-risen : goal.returns-in-Some-clause-risen
-returns-in-Some-clause-risen t c =
+pub risen_below-returns-in-Some-clause-risen : goal.risen_below-returns-in-Some-clause-risen
+risen_below-returns-in-Some-clause-risen t c =
     risen_right c.args.before_lift c.args.after_lift c.args.before.now c.args.after.now c.args.levels c.if-levels-eq0.false c.in-Some.halves
     (rw (c.opened-before.ensures.right, c.opened-before.ensures.root, c.opened-after.ensures.right, c.opened-after.ensures.root) at c.in-Some.ensures.risen)
 
-pub risen_halves-requires-2 : goal.risen_halves-requires-2
-risen_halves-requires-2 t c = (
+pub risen_below-risen_halves-requires : goal.risen_below-risen_halves-requires
+risen_below-risen_halves-requires t c = (
   omega (arith, c.if-levels-eq0.false),
   (
     rw (c.opened-before.ensures.left, c.opened-before.ensures.root) (omega (arith, maximum-opened c.args.before.now)),
@@ -52,8 +60,8 @@ risen_halves-requires-2 t c = (
   ),
 )
 
-pub returns-in_err-halves-clause-none : goal.returns-in_err-halves-clause-none
-returns-in_err-halves-clause-none t c within =
+pub risen_below-returns-in_err-halves-clause-none : goal.risen_below-returns-in_err-halves-clause-none
+risen_below-returns-in_err-halves-clause-none t c within =
     let low = c.args.before_lift in
     let high = c.args.after_lift in
     let before = c.args.before.now in
@@ -69,10 +77,10 @@ returns-in_err-halves-clause-none t c within =
     (left (within_left low high before after c.args.id.now within))
     (right (within_right low high before after c.args.id.now within)))
 
-pub overflow_mul-result-2 : goal.overflow_mul-result-2
-overflow_mul-result-2 t c = omega (arith, doubles c.args.levels c.in_ok-halves.halves c.requires.levels c.if-levels-eq0.false c.in_ok-halves.ensures.risen.small)
+pub risen_below-overflow_mul-result-2 : goal.risen_below-overflow_mul-result-2
+risen_below-overflow_mul-result-2 t c = omega (arith, doubles c.args.levels c.in_ok-halves.halves c.requires.levels c.if-levels-eq0.false c.in_ok-halves.ensures.risen.small)
 
-pub returns-clause-risen : goal.returns-clause-risen
-returns-clause-risen t c =
+pub risen_below-returns-clause-risen : goal.risen_below-returns-clause-risen
+risen_below-returns-clause-risen t c =
     risen_left c.args.before_lift c.args.after_lift c.args.before.now c.args.after.now c.args.levels c.if-levels-eq0.false c.in_ok-halves.halves
     (rw (c.opened-before.ensures.left, c.opened-before.ensures.root, c.opened-after.ensures.left, c.opened-after.ensures.root) at c.in_ok-halves.ensures.risen)
