@@ -4,7 +4,6 @@ pub mod Gathered
 pub mod Legality
 pub mod Normal
 pub mod OneMore
-pub mod Ordering
 pub mod Reaching
 pub mod Sharing
 pub mod Tasks

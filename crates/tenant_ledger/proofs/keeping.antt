@@ -3,7 +3,6 @@ pub mod Known
 pub mod Tasks
 pub mod Messages
 pub mod Kept
-pub mod Legal
 pub mod Report
 pub mod Refused
 pub mod Told

@@ -1,25 +1,20 @@
 -- The numbers of events, and what is known at them after one row more.
+use Rattle.std.proofs.lemmas.Bool.Decides.{nat_tests}
 use Rattle.std.proofs.Common.{◌≡◌, ◌≢◌, ℕ, suc, ◌<◌, ◌≤◌, IsTrue, eqb, ltb, [], ◌∷◌, length, refl, ◌∙◌, arith}
 use Rattle.std.proofs.lemmas.Bool.{eq-eqb, ne_eqb, ltb-true, lt-ltb, and_parts, and_from, cond-true, cond-false}
 use Rattle.tenant_ledger.proofs.Words.{History, is_event, Clock, tree_of, acting_id, known_before, Row}
 use Rattle.tenant_ledger.proofs.clock.Reaching.{new_event, first_of, second_of}
 
 pub event_bounds : (history : History) (event : ℕ) → IsTrue (is_event history event) → (0 < event) × (event ≤ length history)
-event_bounds history event is =
-    let parts = and_parts (ltb 0 event) (ltb event (suc (length history))) is in
-    let below : event < suc (length history) = ltb-true event (suc (length history)) parts.1 in
-    (ltb-true 0 event parts.0, omega (arith, below))
+event_bounds history event is = grind (arith, nat_tests)
 
 pub event_from_bounds : (history : History) (event : ℕ) → 0 < event → event ≤ length history → IsTrue (is_event history event)
-event_from_bounds history event positive within =
-    and_from (ltb 0 event) (ltb event (suc (length history))) (lt-ltb 0 event positive) (lt-ltb event (suc (length history)) (omega (arith, within)))
+event_from_bounds history event positive within = grind (arith, nat_tests)
 
 -- an event that is not the newest one was one before
 pub older_event : (row : Row) (earlier : History) (event : ℕ) → event ≢ new_event earlier → IsTrue (is_event (row ∷ earlier) event)
     → IsTrue (is_event earlier event)
-older_event row earlier event older is =
-    let bounds = event_bounds (row ∷ earlier) event is in
-    event_from_bounds earlier event bounds.0 (omega (arith, bounds.1, older))
+older_event row earlier event older is = grind (arith, nat_tests)
 
 -- what is no event knows nothing
 pub tree_of-nothing : {Id Tree : Type 0} (clock : Clock Id Tree) (history : History) → tree_of clock history 0 ≡ clock.start

@@ -176,10 +176,4 @@ module _ {Id Tree : Type 0} {clock : Clock Id Tree} {Point : Type 0} {IsNormalId
 
     -- one more row that is in order keeps the invariant
     pub keeps_invariant : Invariant laws (row ∷ earlier)
-    keeps_invariant = record {
-      normal = record { trees = trees_normal; some = new.live_some };
-      one_holder = one_holder;
-      holder_is_ahead = holder_is_ahead;
-      private_points = private_points;
-      trees_rise = trees_rise;
-    }
+    keeps_invariant = search (trees_normal, one_holder, holder_is_ahead, private_points, trees_rise)

@@ -40,27 +40,15 @@ ReachesFollowed row earlier a = (event : ℕ) × Follows row earlier event × (r
 
 reaches_followed : (row : Row) (earlier : History) (a : ℕ)
     → list_any (λ event. reaches earlier a event) (predecessors earlier row.task row.kind row.name) ≡ true → ReachesFollowed row earlier a
-reaches_followed row earlier a any =
-    elim (of_increasing (λ event. reaches earlier a event) (first_of row earlier) (second_of row earlier) any) [
-      | inl first ↦ (first_of row earlier, inl refl, first)
-      | inr second ↦ (second_of row earlier, inr refl, second)
-    ]
+reaches_followed row earlier a any = grind (arith, nat_tests)
 
 pub new_reaches_itself : (row : Row) (earlier : History) → reaches (row ∷ earlier) (new_event earlier) (new_event earlier) ≡ true
-new_reaches_itself row earlier =
-    let new = new_event earlier in
-    reaches_newest row earlier new new refl ∙ or_left (eqb new new) _ (eq-eqb new new refl)
+new_reaches_itself row earlier = grind (arith, nat_tests)
 
 -- what reaches an event after one row more is that event, or reaches one that the row follows, or did so before
 pub reached_from : (row : Row) (earlier : History) (a b : ℕ) → reaches (row ∷ earlier) a b ≡ true
     → (a ≡ b) ⊎ (((b ≡ new_event earlier) × ReachesFollowed row earlier a) ⊎ ((b ≢ new_event earlier) × (reaches earlier a b ≡ true)))
-reached_from row earlier a b reached = elim (cases_eq b (new_event earlier)) [
-  | inl last ↦ elim (or_cases (eqb b a) _ (sym (reaches_newest row earlier a b last) ∙ reached)) [
-    | inl same ↦ inl (sym (eqb-true b a same))
-    | inr any ↦ inr (inl (last, reaches_followed row earlier a any))
-  ]
-  | inr older ↦ inr (inr (older, sym (reaches_earlier row earlier a b older) ∙ reached))
-]
+reached_from row earlier a b reached = grind (arith, nat_tests)
 
 -- an event that reaches another one comes before it
 pub reaches_forward : (history : History) (a b : ℕ) → reaches history a b ≡ true → (a ≡ b) ⊎ ((a < b) × (b ≤ length history))

@@ -1,4 +1,5 @@
 -- What one row more makes of the tasks: which are known and ended, and their last events.
+use Rattle.std.proofs.lemmas.Bool.Decides.{nat_tests}
 use Rattle.std.proofs.Common.{◌≡◌, ◌≢◌, suc, true, false, [], ◌∷◌, length, refl, sym, ◌∙◌, subst, inl, inr, arith}
 use Rattle.std.specs.List.{list_any}
 use Rattle.std.proofs.lemmas.Bool.{false≢true, cases_Bool, ne_eqb, or_parts, false_from_ne_true}
@@ -19,31 +20,20 @@ pub last_event-bystander : (row : Row) (earlier : History) (task : Text) → is_
     → last_event (row ∷ earlier) task ≡ last_event earlier task
 last_event-bystander row earlier task other not_started = rw (other, not_started) refl
 
--- a task that the row does not start was known if it is
-pub was_known : (row : Row) (earlier : History) (task : Text) → starts task row ≡ false → is_known (row ∷ earlier) task ≡ true → is_known earlier task ≡ true
-was_known row earlier task not_started known = rw not_started at known
-
--- and a task that has not ended had not
-pub had_not_ended : (row : Row) (earlier : History) (task : Text) → is_ended (row ∷ earlier) task ≡ false → is_ended earlier task ≡ false
-had_not_ended row earlier task not_ended = (or_parts (ends task row) (list_any (ends task) earlier) not_ended).1
-
--- so a live task that the row does not start was live
+-- a live task that the row does not start was live
 pub was_live : (row : Row) (earlier : History) (task : Text) → starts task row ≡ false → IsLive (row ∷ earlier) task → IsLive earlier task
-was_live row earlier task not_started live = (was_known row earlier task not_started live.0, had_not_ended row earlier task live.1)
+was_live row earlier task not_started live =
+    let known : is_known earlier task ≡ true = rw not_started at live.0 in (known, (or_parts (ends task row) (list_any (ends task) earlier) live.1).1)
 
 -- a task that is not known after a row was not known before it
 pub unwas_known : (row : Row) (earlier : History) (task : Text) → is_known (row ∷ earlier) task ≡ false → is_known earlier task ≡ false
-unwas_known row earlier task unknown =
-    let parts = or_parts (is_same task root) (list_any (starts task) (row ∷ earlier)) unknown in
-    rw (parts.0, (or_parts (starts task row) (list_any (starts task) earlier) parts.1).1) refl
+unwas_known row earlier task unknown = grind (arith, nat_tests)
 
 -- what is live is no task that is not known
-live_differs : (history : History) (task other : Text) → IsLive history task → is_known history other ≡ false → task ≢ other
-live_differs history task other live unknown same = false≢true (sym unknown ∙ subst (λ name. is_known history name ≡ true) same live.0)
-
 pub live_is_not_unknown : (history : History) (task other : Text) → IsLive history task → is_known history other ≡ false → is_same task other ≡ false
 live_is_not_unknown history task other live unknown =
-    false_from_ne_true (is_same task other) (λ same. live_differs history task other live unknown ((is_same_iff task other).0 same))
+    false_from_ne_true (is_same task other)
+    (λ same. false≢true (sym unknown ∙ subst (λ name. is_known history name ≡ true) ((is_same_iff task other).0 same) live.0))
 
 -- nor one that has ended
 pub live_is_not_ended : (history : History) (task other : Text) → IsLive history task → is_ended history other ≡ true → is_same task other ≡ false

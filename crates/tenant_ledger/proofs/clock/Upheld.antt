@@ -1,4 +1,5 @@
 -- Each legal history keeps the invariant.
+use Rattle.std.proofs.lemmas.Bool.Decides.{nat_tests}
 use Rattle.std.proofs.Common.{◌≡◌, ℕ, true, false, [], ◌∷◌, sym, ap, ◌∙◌, subst, inl, inr, arith}
 use Rattle.std.proofs.lemmas.Bool.{false≢true, cases_Bool, cond-true, cond-false, or_cases}
 use Rattle.tenant_ledger.proofs.Words.{Text, is_same, root, History, Clock, id_of, Row, ClockLaws, OwnsSome, IsLive, IsLegal, holds, Invariant}
@@ -16,10 +17,7 @@ module _ {Id Tree : Type 0} {clock : Clock Id Tree} {Point : Type 0} {IsNormalId
   ]
 
   root_owns_some : (task : Text) → IsLive [] task → OwnsSome laws.owns (id_of clock [] task)
-  root_owns_some task live = elim (or_cases (is_same task root) false live.0) [
-    | inl is ↦ subst (OwnsSome laws.owns) (sym (cond-true (is_same task root) clock.whole clock.nobody is)) laws.whole_some
-    | inr never ↦ absurd (false≢true never)
-  ]
+  root_owns_some task live = grind (arith, nat_tests)
 
   -- before any row
   first_invariant : Invariant laws []

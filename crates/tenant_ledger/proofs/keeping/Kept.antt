@@ -1,4 +1,5 @@
 -- A book is kept with the event of a report that is not refused.
+use Rattle.std.proofs.lemmas.Bool.Decides.{nat_tests}
 use Rattle.std.proofs.Common.{◌≡◌, ◌≢◌, ℕ, suc, ◌-◌, ◌<◌, ◌≤◌, eqb, List, [], ◌∷◌, ◌++◌, length, map, slice_get, option_map, Some, refl, sym, ap, ◌∙◌, subst, arith}
 use Rattle.std.proofs.lemmas.Bool.{eq-eqb, ne_eqb, cond-true, cond-false}
 use Rattle.std.proofs.lemmas.List.{length-append, length-map, length-reverse, reverse-append, map-append}
@@ -19,12 +20,10 @@ longer rows row = reverse-append rows (row ∷ [])
 
 -- the id of the newest event's task
 id_after-new : (row : Row) (earlier : History) → id_after (row ∷ earlier) (suc (length earlier)) ≡ id_of tree_clock (row ∷ earlier) row.task
-id_after-new row earlier =
-    ap (λ (stamp : Id × EventTree). stamp.0) (cond-true (eqb (suc (length earlier)) (suc (length earlier))) _ _ (eq-eqb (suc (length earlier)) (suc (length earlier)) refl))
+id_after-new row earlier = grind (arith, nat_tests)
 
 id_after-older : (row : Row) (earlier : History) (event : ℕ) → event ≢ suc (length earlier) → id_after (row ∷ earlier) event ≡ id_after earlier event
-id_after-older row earlier event older =
-    ap (λ (stamp : Id × EventTree). stamp.0) (cond-false (eqb event (suc (length earlier))) _ _ (ne_eqb event (suc (length earlier)) older))
+id_after-older row earlier event older = grind (arith, nat_tests)
 
 module _ (book : Contents) (kept : IsKept book) where
   within_rows : (event : ℕ) → event ≤ length book.rows → event ≤ length (history_in book)
@@ -55,26 +54,11 @@ module _ (book : Contents) (kept : IsKept book) where
 
   -- how many ids are kept, and for how many more there is room, does not matter
   pub kept_with_room : (new : Contents) → new ≡ record book { kept_ids = new.kept_ids; room = new.room } → book.kept_ids ≤ new.kept_ids → IsKept new
-  kept_with_room new same more = subst IsKept (sym same) (record {
-    legal = kept.legal;
-    small = kept.small;
-    trees = kept.trees;
-    places = kept.places;
-    tasks_are = kept.tasks_are;
-    counted = kept.counted;
-    messages = kept.messages;
-    seeded = λ some. omega (arith, kept.seeded some, more);
-  })
+  kept_with_room new same more =
+      let seeded : 0 < length book.rows → 0 < new.kept_ids = λ some. omega (arith, kept.seeded some, more) in subst IsKept (sym same) search
 
   pub report_with_room : (new : Contents) → new ≡ record book { kept_ids = new.kept_ids; room = new.room } → (report : Report) → IsReport book report → IsReport new report
-  report_with_room new same report is = subst (λ b. IsReport b report) (sym same) (record {
-    legal = is.legal;
-    few = is.few;
-    acting = is.acting;
-    second = is.second;
-    joined = is.joined;
-    may = is.may;
-  })
+  report_with_room new same report is = subst (λ b. IsReport b report) (sym same) search
 
 module _ (book : Contents) (kept : IsKept book) (report : Report) (is : IsReport book report) where
   abbrev history : History
@@ -129,7 +113,7 @@ module _ (book : Contents) (kept : IsKept book) (report : Report) (is : IsReport
     was = kept;
     notes = notes;
     next = keeps_report after notes room.seeded;
-    room = record { rows = room.rows; trees = room.trees; places = room.places; ids = room.ids; tasks = room.tasks; seeded = room.seeded };
+    room = search;
     id = id_is_left book kept report.task report.acting is.acting live report.kind report.name;
   }
 
@@ -142,13 +126,6 @@ added_is_kept book event ready new limits messages rows trees places ids some ta
     let next : IsKeptWith (record (with_event event book) { limits = new.limits; messages = new.messages; rows = new.rows; trees = new.trees; places = new.places; ids = new.ids }) (tasks_with event book) (task_count_with event book) =
     transport (λ i. IsKeptWith (record (with_event event book) { limits = sym limits i; messages = sym messages i; rows = sym rows i; trees = sym trees i; places = sym places i; ids = sym ids i })
     (tasks_with event book) (task_count_with event book)) ready.next in
-    record {
-      legal = next.legal;
-      small = next.small;
-      trees = next.trees;
-      places = next.places;
-      messages = next.messages;
-      tasks_are = λ name. subst (IsTask new.ids (history_in new) name) (sym (tasks name)) (next.tasks_are name);
-      counted = count ∙ next.counted;
-      seeded = λ _. some;
-    }
+    let tasks_are : (name : Text) → IsTask new.ids (history_in new) name (task_in new name) = λ name. subst (IsTask new.ids (history_in new) name) (sym (tasks name)) (next.tasks_are name) in
+    let counted : length new.tasks ≡ task_count (history_in new) = count ∙ next.counted in
+    let seeded : 0 < length new.rows → 0 < new.kept_ids = λ _. some in search

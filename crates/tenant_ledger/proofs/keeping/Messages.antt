@@ -157,21 +157,15 @@ is_received_by_receipts (row ∷ earlier) name = elim (cases_Bool (receives name
 ]
 
 module _ (limits : Limits) (history : History) (messages : message_book.Book) (are : AreMessages limits history messages) (name : Text) where
-  -- the book has the messages that were sent
-  pub has_sent : is_some (entry_of messages.messages name) ≡ is_sent history name
-  has_sent = by (entry_of messages.messages name) (are.entries name)
+  -- the book has the messages that were sent, and knows which were received
+  pub has_them : IsLegal history → (is_some (entry_of messages.messages name) ≡ is_sent history name) × (has_receipt (entry_of messages.messages name) ≡ is_received history name)
+  has_them legal = by (entry_of messages.messages name) (are.entries name)
     where
-      by : (found : Option Entry) → IsMessage history name found → is_some found ≡ is_sent history name
-      by None unsent = sym unsent
-      by (Some entry) right = sym right.0
-
-  -- and knows which were received
-  pub has_received : IsLegal history → has_receipt (entry_of messages.messages name) ≡ is_received history name
-  has_received legal = by (entry_of messages.messages name) (are.entries name)
-    where
-      by : (found : Option Entry) → IsMessage history name found → has_receipt found ≡ is_received history name
-      by None unsent = sym (is_received_by_receipts history name ∙ ap (λ (events : List ℕ). nat_lt 0 (length events)) (unsent_has_no_receipts history name legal unsent))
-      by (Some entry) right = ap (λ (events : List ℕ). nat_lt 0 (length events)) right.2 ∙ sym (is_received_by_receipts history name)
+      by : (found : Option Entry) → IsMessage history name found → (is_some found ≡ is_sent history name) × (has_receipt found ≡ is_received history name)
+      by None unsent =
+          let none = ap (λ (events : List ℕ). nat_lt 0 (length events)) (unsent_has_no_receipts history name legal unsent) in
+          (sym unsent, sym (is_received_by_receipts history name ∙ none))
+      by (Some entry) right = (sym right.0, ap (λ (events : List ℕ). nat_lt 0 (length events)) right.2 ∙ sym (is_received_by_receipts history name))
 
 -- What a report that is allowed makes of the messages is right.
 pub noted_are_messages : (limits : Limits) (history : History) (task : Text) (kind : Kind) (name : Option Text) (preds : List ℕ) (before after : message_book.Book)

@@ -1,28 +1,28 @@
 -- Which refusal is due, and what a request that is not refused steps to.
 use Rattle.std.proofs.Common.{◌≡◌, suc, Bool, true, false, cond, List, [], ◌∷◌, ◌++◌, length, Option, Some, None, Result, Ok, Err, IsTrue, refl, sym, ap, ◌∙◌, subst, inl, inr}
+use Rattle.std.specs.List.{AllByRecursion}
 use Rattle.std.specs.Result.{result_err, IsErrAnd}
-use Rattle.std.proofs.lemmas.Bool.{false≢true, cond-false}
+use Rattle.std.proofs.lemmas.Bool.{false≢true, cases_Bool, cond-false}
 use Rattle.std.proofs.lemmas.List.{length-reverse}
-use Rattle.tenant_ledger.proofs.Words.{Limits, History, history_of, first_code, refusals, refusal_of, reported, Steps, step_unless, answer_to, accepted, row_after, with_row, may_lack_memory, Tenant, Answers, is_report, step, Text, Code, NoMemory, Reply, Reported, Request, Row, Kind, Contents, Event, IsKept, Decides, Prepares, refusals_of_report, history_in, tenant_of}
+use Rattle.tenant_ledger.proofs.Words.{Limits, History, history_of, first_code, refusals, refusal_of, reported, Steps, step_unless, answer_to, accepted, row_after, with_row, may_lack_memory, Tenant, Answers, is_report, step, Text, Code, NoMemory, Reply, Reported, Request, Row, Kind, Contents, Event, IsKept, Decides, Prepares, refusals_of_report, history_in, tenant_of, fresh, after, AreLegal}
 use Rattle.trace_types.specs.declared.reply.Reply.TheVariants as reply
 use Rattle.trace_types.specs.declared.request.Request.TheVariants as request
+use Rattle.trace_types.specs.text.Text.{CanBeWritten}
+use Rattle.trace_types.proofs.Interleaving.{after-push, limits-after}
 
--- the first code that applies decides, whatever else may apply
+-- the first code that applies, or else the first of what comes after
+abbrev or_later : Option Code → Option Code → Option Code
+or_later None later = later
+or_later (Some code) later = Some code
+
+first_code-append : (refusals others : List (Bool × Code)) → first_code (refusals ++ others) ≡ or_later (first_code refusals) (first_code others)
+first_code-append [] others = refl
+first_code-append (refusal ∷ rest) others = elim (cases_Bool refusal.0) [ inl is ↦ rw is refl | inr is ↦ rw is (first_code-append rest others) ]
+
+-- so it decides, whatever else may apply
 pub decides_by_first : {A : Type 0} (refusals : List (Bool × Code)) (outcome : Result A Code) → result_err outcome ≡ first_code refusals → Decides refusals outcome
-decides_by_first [] (Ok value) is = λ others. refl
-decides_by_first [] (Err code) is = λ others. cc
-decides_by_first {A = A} (refusal ∷ rest) (Ok value) is = λ others. by others refusal.0 is (λ found. decides_by_first {A = A} rest (Ok value) found others)
-  where
-    by : (others : List (Bool × Code)) (holds : Bool) → None ≡ cond holds (Some refusal.1) (first_code rest) → (None ≡ first_code rest → first_code (rest ++ others) ≡ first_code others)
-        → cond holds (Some refusal.1) (first_code (rest ++ others)) ≡ first_code others
-    by others true found later = cc
-    by others false found later = later found
-decides_by_first {A = A} (refusal ∷ rest) (Err code) is = λ others. by others refusal.0 is (λ found. decides_by_first {A = A} rest (Err code) found others)
-  where
-    by : (others : List (Bool × Code)) (holds : Bool) → Some code ≡ cond holds (Some refusal.1) (first_code rest) → (Some code ≡ first_code rest → first_code (rest ++ others) ≡ Some code)
-        → cond holds (Some refusal.1) (first_code (rest ++ others)) ≡ Some code
-    by others true found later = sym found
-    by others false found later = later found
+decides_by_first refusals (Ok value) is = λ others. first_code-append refusals others ∙ ap (λ code. or_later code (first_code others)) (sym is)
+decides_by_first refusals (Err code) is = λ others. first_code-append refusals others ∙ ap (λ code. or_later code (first_code others)) (sym is)
 
 -- a request by what it reports: the answer and the refusals of a report are those of its kind
 abbrev IsRequestOf : Limits → History → Request → Option Reported → Type 0
@@ -36,6 +36,10 @@ is_request_of limits history request = search
 
 pub by_report : (limits : Limits) (history : History) (request : Request) (report : Option Reported) → report ≡ reported request → IsRequestOf limits history request report
 by_report limits history request report is = subst (IsRequestOf limits history request) (sym is) (is_request_of limits history request)
+
+pub refused_for : (book : Contents) (request : Request) {report : Reported} → Some report ≡ reported request
+    → refusals book.limits (history_in book) request ≡ refusals_of_report book.limits (history_in book) report
+refused_for book request {report} is = (by_report book.limits (history_in book) request (Some report) is).1
 
 -- a report may lack memory
 report_may_lack : (request : Request) → is_report request ≡ true → IsTrue (may_lack_memory request)
@@ -72,3 +76,29 @@ query_steps tenant request answer query (inl answered) =
     by : (refusal : Option Code) → (step_unless refusal tenant request).1 ≡ tenant
     by None = ap (with_row tenant) (query_leaves tenant request query)
     by (Some code) = refl
+
+-- ---- legal rows stay legal with the row of a report that is not refused
+
+all_with_one_more : (requests : List Request) (request : Request) → AllByRecursion CanBeWritten requests → CanBeWritten request
+    → AllByRecursion CanBeWritten (requests ++ request ∷ [])
+all_with_one_more [] request all one = (one, tt)
+all_with_one_more (first ∷ requests) request all one = (all.0, all_with_one_more requests request all.1 one)
+
+-- a tenant is its limits and its rows
+same_tenant : (tenant : Tenant) (limits : Limits) (rows : List Row) → tenant.limits ≡ limits → tenant.rows ≡ rows → tenant ≡ record { limits = limits; rows = rows }
+same_tenant tenant limits rows limits_are rows_are = λ i. record { limits = limits_are i; rows = rows_are i }
+
+pub AreLegal-push : (limits : Limits) (rows : List Row) (request : Request) (row : Row) → CanBeWritten request
+    → refusal_of limits (history_of rows) request ≡ None → (answer_to (history_of rows) request).1 ≡ Some row
+    → AreLegal limits rows → AreLegal limits (rows ++ row ∷ [])
+AreLegal-push limits rows request row written unrefused answered legal =
+    let tenant : Tenant = record { limits = limits; rows = rows } in
+    let same : after (fresh limits) legal.0 ≡ tenant = same_tenant (after (fresh limits) legal.0) limits rows (limits-after (fresh limits) legal.0) legal.2 in (
+      legal.0 ++ request ∷ [],
+      all_with_one_more legal.0 request legal.1 written,
+      ap (λ (t : Tenant). t.rows) (
+          after-push (fresh limits) legal.0 request
+          ∙ (ap (λ t. (step t request).1) same
+          ∙ (ap (λ refusal. (step_unless refusal tenant request).1) unrefused ∙ ap (with_row tenant) answered))
+          ),
+    )

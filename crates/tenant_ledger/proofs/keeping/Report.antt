@@ -1,4 +1,5 @@
 -- What a report that is not refused says of the ids and of the trees that its event is made of.
+use Rattle.std.proofs.lemmas.Bool.Decides.{nat_tests}
 use Rattle.std.proofs.Common.{◌≡◌, ◌≢◌, suc, ◌+◌, ◌<◌, ◌≤◌, true, false, ◌∷◌, length, slice_get, Option, Some, None, is_some, refl, sym, ap, ◌∙◌, subst, inl, inr, arith}
 use Rattle.std.proofs.lemmas.Bool.{false≢true, cond-true, cond-false}
 use Rattle.std.proofs.lemmas.List.{length-reverse}
@@ -32,7 +33,7 @@ joined_is_there book kept task (Some child) joined allowed is = by (task_in book
     by None none = absurd (false≢true (ap is_some (sym none) ∙ has_known book kept child ∙ allowed.0))
     by (Some had) found = (child, had, refl, is ∙ found, found, allowed.1, allowed.2)
 
-module _ (book : Contents) (kept : IsKept book) (report : Report) (is : IsReport book report) where
+module _ {book : Contents} {report : Report} (kept : IsKept book) (is : IsReport book report) where
   abbrev history : History
   history = history_in book
 
@@ -45,8 +46,8 @@ module _ (book : Contents) (kept : IsKept book) (report : Report) (is : IsReport
   pub own_place : report.acting.id < length book.ids
   own_place = slice_get_within book.ids report.acting.id _ own_id_kept
 
-  pub own_is : (id : Id) → slice_get book.ids report.acting.id ≡ Some id → id ≡ id_of tree_clock history report.task
-  own_is id there = same_Some id _ (sym there ∙ own_id_kept)
+  pub own_is : {id : Id} → slice_get book.ids report.acting.id ≡ Some id → id ≡ id_of tree_clock history report.task
+  own_is {id} there = same_Some id _ (sym there ∙ own_id_kept)
 
   -- the events that it follows
   pub acting_last : report.acting.last ≡ last_event history report.task
@@ -59,23 +60,21 @@ module _ (book : Contents) (kept : IsKept book) (report : Report) (is : IsReport
   second-le = omega (arith, is.second, followed-le row history (second_event history report.kind report.name) (inr refl), length-reverse book.rows)
 
   -- an event may be made of what is known before it
-  pub id_some : (id : Id) → id ≡ acting_id tree_clock history row → id ≢ Zero
-  id_some id id_is zero = acting_id_is_not_Zero row history (legal_with_row book kept report is) (sym id_is ∙ zero)
+  pub id_some : {id : Id} → id ≡ acting_id tree_clock history row → id ≢ Zero
+  id_some id_is zero = acting_id_is_not_Zero row history (legal_with_row book kept report is) (sym id_is ∙ zero)
 
-  pub fits : (known : EventTree) → known ≡ known_before_new tree_clock row history → maximum known + 1 < 18446744073709551616
-  fits known known_is =
+  pub fits : {known : EventTree} → known ≡ known_before_new tree_clock row history → maximum known + 1 < 18446744073709551616
+  fits {known} known_is =
       let bounded : maximum known ≤ length history = omega (arith, ap maximum known_is, known_before_maximum-le row history (legal_history book kept)) in
       omega (arith, bounded, length-reverse book.rows, kept.small)
 
   -- that is what its task knew, joined with what the second event knew where it takes that in
-  pub knows_both : takes_in report.kind ≡ true → (own second : EventTree) → own ≡ tree_of tree_clock history report.acting.last
+  pub knows_both : takes_in report.kind ≡ true → {own second : EventTree} → own ≡ tree_of tree_clock history report.acting.last
       → second ≡ tree_of tree_clock history report.second → tree_clock.join own second ≡ known_before_new tree_clock row history
-  knows_both takes own second own_is second_is =
-      (λ i. tree_clock.join ((own_is ∙ ap (tree_of tree_clock history) acting_last) i) ((second_is ∙ ap (tree_of tree_clock history) is.second) i))
-      ∙ sym (cond-true (takes_in report.kind) _ _ takes)
+  knows_both takes own_is second_is = grind (arith, nat_tests)
 
-  pub knows_own : takes_in report.kind ≡ false → (own : EventTree) → own ≡ tree_of tree_clock history report.acting.last → own ≡ known_before_new tree_clock row history
-  knows_own takes own own_is = own_is ∙ ap (tree_of tree_clock history) acting_last ∙ sym (cond-false (takes_in report.kind) _ _ takes)
+  pub knows_own : takes_in report.kind ≡ false → {own : EventTree} → own ≡ tree_of tree_clock history report.acting.last → own ≡ known_before_new tree_clock row history
+  knows_own takes own_is = own_is ∙ ap (tree_of tree_clock history) acting_last ∙ sym (cond-false (takes_in report.kind) _ _ takes)
 
   module _ (kind_is : report.kind ≡ Join) where
     pub joins : IsJoined book report.task report.name report.joined
@@ -83,7 +82,7 @@ module _ (book : Contents) (kept : IsKept book) (report : Report) (is : IsReport
         (subst (λ kind. AllowsNamed history kind report.name) kind_is (legal_with_row book kept report is).0.1)
         (subst (λ kind. report.joined ≡ joined_by (task_in book) kind report.name) kind_is is.joined)
 
-    module _ (had : Task) (had_is : report.joined ≡ Some had) where
+    module _ {had : Task} (had_is : report.joined ≡ Some had) where
       joined_id_kept : slice_get book.ids had.id ≡ Some (id_of tree_clock history joins.0)
       joined_id_kept =
           let same : joins.1 ≡ had = same_Some joins.1 had (sym joins.3 ∙ had_is) in
@@ -94,11 +93,11 @@ module _ (book : Contents) (kept : IsKept book) (report : Report) (is : IsReport
       pub joined_place : had.id < length book.ids
       joined_place = slice_get_within book.ids had.id _ joined_id_kept
 
-      pub joined_is : (id : Id) → slice_get book.ids had.id ≡ Some id → id ≡ of_named Zero (id_of tree_clock history) report.name
-      joined_is id there = same_Some id _ (sym there ∙ joined_id_kept) ∙ ap (of_named Zero (id_of tree_clock history)) (sym joins.2)
+      pub joined_is : {id : Id} → slice_get book.ids had.id ≡ Some id → id ≡ of_named Zero (id_of tree_clock history) report.name
+      joined_is {id} there = same_Some id _ (sym there ∙ joined_id_kept) ∙ ap (of_named Zero (id_of tree_clock history)) (sym joins.2)
 
-      pub disjoint : (own other : Id) → own ≡ id_of tree_clock history report.task → other ≡ of_named Zero (id_of tree_clock history) report.name → AreDisjoint own other
-      disjoint own other acts is_named point held other_held =
+      pub disjoint : {own other : Id} → own ≡ id_of tree_clock history report.task → other ≡ of_named Zero (id_of tree_clock history) report.name → AreDisjoint own other
+      disjoint acts is_named point held other_held =
           let differ = live_is_not_ended history report.task joins.0 (live book kept report is) joins.5 in
           ids_are_disjoint history (legal_history book kept) report.task joins.0 (differ_by_test report.task joins.0 differ) point
           (ap (λ id. owns id point) (sym acts) ∙ held)

@@ -1,4 +1,5 @@
 -- What is to be kept of each task after a report is right.
+use Rattle.std.proofs.lemmas.Bool.Decides.{nat_tests}
 use Rattle.std.proofs.Common.{◌≡◌, ℕ, suc, ◌+◌, true, false, cond, List, [], ◌∷◌, ◌++◌, length, slice_get, Option, Some, None, is_some, refl, sym, ap, ◌∙◌, subst, inl, inr, arith}
 use Rattle.std.specs.List.{list_any}
 use Rattle.std.proofs.lemmas.Bool.{false≢true, cond-true, cond-false, cond_both, or_cases, or_left, or_right, and_left, and_right}
@@ -13,10 +14,7 @@ use Rattle.tenant_ledger.proofs.keeping.Lists.{slice_get-longer, slice_get-seam,
 module _ (row : Row) (earlier : History) where
   -- a known task stays known
   known_stays : (task : Text) → is_known earlier task ≡ true → is_known (row ∷ earlier) task ≡ true
-  known_stays task known = elim (or_cases (is_same task root) (list_any (starts task) earlier) known) [
-    | inl is_root ↦ or_left (is_same task root) _ is_root
-    | inr started ↦ or_right (is_same task root) _ (or_right (starts task row) _ started)
-  ]
+  known_stays task known = grind (arith, nat_tests)
 
   -- one task more, if the row starts one
   task_count-more : task_count (row ∷ earlier) ≡ task_count earlier + cond (starts_task row.kind) 1 0

@@ -20,7 +20,7 @@ use Rattle.tenant_ledger.proofs.keeping.Kept.{one_tree, tree_at_event}
 use Rattle.tenant_ledger.proofs.clock.Events.{event_bounds}
 use Rattle.tenant_ledger.proofs.keeping.Lists.{at_event}
 use Rattle.tenant_ledger.proofs.clock.Legality.{IsLegal_from_AreLegal}
-use Rattle.tenant_ledger.proofs.clock.Ordering.{below_iff_reaches, stands_as_ordered}
+use Rattle.tenant_ledger.proofs.clock.Consequences.{below_iff_reaches, stands_as_ordered}
 use Rattle.tenant_ledger.proofs.clock.Reaching.{reaches_forward}
 use Rattle.tenant_ledger.proofs.clock.TreeClock.{tree_clock_laws}
 use Rattle.tenant_ledger.proofs.clock.Upheld.{invariant_upheld}

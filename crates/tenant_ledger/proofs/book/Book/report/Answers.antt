@@ -1,7 +1,6 @@
 use Rattle.std.proofs.Common.{◌≡◌, [], ◌++◌, Some, None, sym, ap, ◌∙◌, rules}
 use Rattle.tenant_ledger.proofs.Words.{first_code, refusal_of, history_in, refusals_of_named, refusals_of_room}
-use Rattle.tenant_ledger.proofs.keeping.Legal.{AreLegal-push}
-use Rattle.tenant_ledger.proofs.keeping.Refused.{by_report}
+use Rattle.tenant_ledger.proofs.keeping.Refused.{by_report, refused_for, AreLegal-push}
 use Rattle.tenant_ledger.proofs.book.Book.report.Goals.{In_ok-check_room}
 use Rattle.tenant_ledger.proofs.book.Book.report.Given.{Over}
 use Rattle.tenant_ledger.proofs.book.Book.report.Goals as goal
@@ -11,24 +10,21 @@ not_refused g c =
     let limits = c.args.self.now.limits in
     let history = history_in c.args.self.now in
     let report = c.in-Some.reported in
-    let of_report = by_report limits history c.args.request.now (Some report) (sym c.in-Some.is ∙ c.reported.ensures.reported) in
-    ap first_code of_report.1 ∙ c.in_ok-acting.ensures.decides (refusals_of_named limits history report.kind report.name ++ refusals_of_room limits history)
+    ap first_code (refused_for c.args.self.now c.args.request.now (sym c.in-Some.is ∙ c.reported.ensures.reported))
+    ∙ c.in_ok-acting.ensures.decides (refusals_of_named limits history report.kind report.name ++ refusals_of_room limits history)
     ∙ c.in_ok-second.ensures.decides (refusals_of_room limits history) ∙ c.in_ok-check_room.ensures.decides []
 
 pub returns-in_err-acting-clause-refused : goal.returns-in_err-acting-clause-refused
 returns-in_err-acting-clause-refused g c =
-    let of_report = by_report c.args.self.now.limits (history_in c.args.self.now) c.args.request.now (Some c.in-Some.reported) (sym c.in-Some.is ∙ c.reported.ensures.reported) in
-    rw of_report.1 (search rules)
+    rw (refused_for c.args.self.now c.args.request.now (sym c.in-Some.is ∙ c.reported.ensures.reported)) (search rules)
 
 pub returns-in_err-second-clause-refused : goal.returns-in_err-second-clause-refused
 returns-in_err-second-clause-refused g c =
-    let of_report = by_report c.args.self.now.limits (history_in c.args.self.now) c.args.request.now (Some c.in-Some.reported) (sym c.in-Some.is ∙ c.reported.ensures.reported) in
-    rw of_report.1 (search rules)
+    rw (refused_for c.args.self.now c.args.request.now (sym c.in-Some.is ∙ c.reported.ensures.reported)) (search rules)
 
 pub returns-in_err-check_room-clause-refused : goal.returns-in_err-check_room-clause-refused
 returns-in_err-check_room-clause-refused g c =
-    let of_report = by_report c.args.self.now.limits (history_in c.args.self.now) c.args.request.now (Some c.in-Some.reported) (sym c.in-Some.is ∙ c.reported.ensures.reported) in
-    rw of_report.1 (search rules)
+    rw (refused_for c.args.self.now c.args.request.now (sym c.in-Some.is ∙ c.reported.ensures.reported)) (search rules)
 
 pub returns-clause-refused : goal.returns-clause-refused
 returns-clause-refused g c = sym (not_refused g (goal.at.returns-clause-refused g c).In_ok-check_room)

@@ -1,7 +1,7 @@
 use Rattle.std.proofs.Common.{◌≡◌, Some, ◌∷◌, [], not, ap, ◌∙◌}
 use Rattle.tenant_ledger.proofs.Words.{refusal_of_receive, first_code, NoMessage, AlreadyReceived, Recv, Contents, history_in, refusals_of_named}
 use Rattle.tenant_ledger.proofs.keeping.Known.{legal_history}
-use Rattle.tenant_ledger.proofs.keeping.Messages.{has_sent, has_received}
+use Rattle.tenant_ledger.proofs.keeping.Messages.{has_them}
 use Rattle.tenant_ledger.proofs.keeping.Refused.{decides_by_first}
 use Rattle.tenant_ledger.proofs.book.Book.sent_message.Goals as goal
 
@@ -9,8 +9,7 @@ pub returns-clause-decides : goal.returns-clause-decides
 returns-clause-decides g c =
     let book = c.args.self.now in
     let name = c.args.name.now in
-    let sent = has_sent book.limits (history_in book) book.messages c.requires.messages name in
-    let received = has_received book.limits (history_in book) book.messages c.requires.messages name (legal_history book c.requires) in
+    let has = has_them book.limits (history_in book) book.messages c.requires.messages name (legal_history book c.requires) in
     let same : refusal_of_receive book.messages name ≡ first_code (refusals_of_named book.limits (history_in book) Recv (Some name)) =
-    λ i. first_code ((not (sent i), NoMessage) ∷ (received i, AlreadyReceived) ∷ []) in
+    λ i. first_code ((not (has.0 i), NoMessage) ∷ (has.1 i, AlreadyReceived) ∷ []) in
     decides_by_first (refusals_of_named book.limits (history_in book) Recv (Some name)) c.check_receive.result (c.check_receive.ensures.code ∙ ap (λ (b : Contents). refusal_of_receive b.messages name) c.self.view_is ∙ same)

@@ -15,21 +15,18 @@ within book event event_is =
 
 pub place-requires : goal.place-requires
 place-requires g c =
-    let book = c.args.self.now in
-    let inside = within book c.args.event (sym c.is_event.ensures ∙ c.if-not-is_event.false) in
-    (inside.0, omega (arith, inside.1, one_place book c.requires))
+    let inside = within c.args.self.now c.args.event (sym c.is_event.ensures ∙ c.if-not-is_event.false) in
+    (inside.0, omega (arith, inside.1, one_place c.args.self.now c.requires))
 
 pub id-id-requires-clause-place : goal.id-id-requires-clause-place
 id-id-requires-clause-place g c =
-    let book = c.args.self.now in
-    let inside = within book c.args.event (sym c.is_event.ensures ∙ c.if-not-is_event.false) in
-    slice_get_within book.ids c.place.result _ (id_at_event book c.requires c.args.event c.place.result inside.0 inside.1 c.place.ensures)
+    let inside = within c.args.self.now c.args.event (sym c.is_event.ensures ∙ c.if-not-is_event.false) in
+    slice_get_within _ c.place.result _ (id_at_event c.args.self.now c.requires c.args.event c.place.result inside.0 inside.1 c.place.ensures)
 
 pub tree-requires : goal.tree-requires
 tree-requires g c =
-    let book = c.args.self.now in
-    let inside = within book c.args.event (sym c.is_event.ensures ∙ c.if-not-is_event.false) in
-    (inside.0, omega (arith, inside.1, one_tree book c.requires))
+    let inside = within c.args.self.now c.args.event (sym c.is_event.ensures ∙ c.if-not-is_event.false) in
+    (inside.0, omega (arith, inside.1, one_tree c.args.self.now c.requires))
 
 pub returns-clause-text : goal.returns-clause-text
 returns-clause-text g c =
