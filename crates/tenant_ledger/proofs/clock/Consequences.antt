@@ -20,10 +20,7 @@ below_iff_reaches laws history holds a b is =
 
 -- two events that reach each other are the same
 reaches_antisymmetric : (history : History) (a b : ℕ) → IsTrue (reaches history a b) → IsTrue (reaches history b a) → a ≡ b
-reaches_antisymmetric history a b forth back = elim (reaches_forward history a b forth) [
-  | inl same ↦ same
-  | inr before ↦ elim (reaches_forward history b a back) [ inl same ↦ sym same | inr after ↦ absurd (omega (arith, before.0, after.0)) ]
-]
+reaches_antisymmetric history a b forth back = grind (arith, reaches_forward history a b forth, reaches_forward history b a back)
 
 equal_stand_as_same : (e f : EventTree) → e ≡ f → StandsAs Same e f
 equal_stand_as_same e f equal = ((λ point. omega (arith, ap (λ tree. value tree point) equal)), (λ point. omega (arith, ap (λ tree. value tree point) equal)))

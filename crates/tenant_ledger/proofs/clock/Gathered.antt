@@ -28,25 +28,15 @@ module _ {Id Tree : Type 0} {clock : Clock Id Tree} {Point : Type 0} {IsNormalId
     alone : takes_in row.kind ≡ false → Gathers first
     alone takes = record {
       normal = normal (first_of row earlier);
-      followed_below = λ event follows point. elim follows [
-        | inl is ↦ omega (arith, ap (λ e. value_of laws earlier e point) is)
-        | inr is ↦ omega (
-          arith,
-          ap (λ e. value_of laws earlier e point) (is ∙ second_event-nothing earlier row.kind row.name takes),
-          ap (λ tree. laws.value tree point) (tree_of-nothing clock earlier),
-          laws.start_value point,
-        )
-      ];
+      followed_below = λ event follows point.
+          grind (arith, second_event-nothing earlier row.kind row.name takes, tree_of-nothing clock earlier, laws.start_value point);
       from_followed = λ point. (first_of row earlier, inl refl, omega arith);
     }
 
     joined : Gathers (clock.join first second)
     joined = record {
       normal = laws.join_normal first second (normal (first_of row earlier)) (normal (second_of row earlier));
-      followed_below = λ event follows point. elim follows [
-        | inl is ↦ omega (arith, ap (λ e. value_of laws earlier e point) is, laws.join_value first second point)
-        | inr is ↦ omega (arith, ap (λ e. value_of laws earlier e point) is, laws.join_value first second point)
-      ];
+      followed_below = λ event follows point. grind (arith, laws.join_value first second point);
       from_followed = λ point. elim (cases_lt (laws.value first point) (laws.value second point)) [
         | inl less ↦ (second_of row earlier, inr refl, omega (arith, laws.join_value first second point, less))
         | inr other ↦ (first_of row earlier, inl refl, omega (arith, laws.join_value first second point, other))

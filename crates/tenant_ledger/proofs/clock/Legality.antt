@@ -1,6 +1,7 @@
 -- Rows that some requests leave are a legal history.
-use Rattle.std.proofs.Common.{◌≡◌, Bool, false, List, [], ◌∷◌, ◌++◌, Option, Some, None, option_map, refl, sym, ◌∙◌, subst, inl, inr}
-use Rattle.std.proofs.lemmas.Bool.{cases_Bool, not-false, cond-true, cond-false}
+use Rattle.std.proofs.Common.{◌≡◌, Bool, false, List, [], ◌∷◌, ◌++◌, Option, Some, None, option_map, refl, sym, subst, arith}
+use Rattle.std.proofs.lemmas.Bool.{not-false}
+use Rattle.std.proofs.lemmas.Bool.Decides.{nat_tests}
 use Rattle.std.proofs.lemmas.List.{reverse-append}
 use Rattle.tenant_ledger.proofs.Words.{Limits, History, history_of, first_code, refusals, refusal_of, reported, Tenant, fresh, row_after, with_row, answer_to, step_unless, step, after, AreLegal, Code, Row, Reported, Request, Allows, IsLegal}
 use Rattle.trace_types.specs.declared.request.Request.TheVariants.{Local, Spawn, Send, Recv, End, Join, Count}
@@ -13,10 +14,7 @@ NoneHolds (refusal ∷ others) = (refusal.0 ≡ false) × NoneHolds others
 -- where no code is found no test holds
 none_holds : (tests : List (Bool × Code)) → first_code tests ≡ None → NoneHolds tests
 none_holds [] none = tt
-none_holds (refusal ∷ others) none = elim (cases_Bool refusal.0) [
-  | inl refused ↦ let clash : Some refusal.1 ≡ None = sym (cond-true refusal.0 (Some refusal.1) (first_code others) refused) ∙ none in cc
-  | inr passes ↦ (passes, none_holds others (sym (cond-false refusal.0 (Some refusal.1) (first_code others) passes) ∙ none))
-]
+none_holds (refusal ∷ others) none = (grind (arith, nat_tests), none_holds others (grind (arith, nat_tests)))
 
 -- so a report that is not refused is allowed
 abbrev AllowsReport : History → Option Reported → Type 0

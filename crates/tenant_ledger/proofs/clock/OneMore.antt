@@ -1,5 +1,6 @@
 -- One more row of any kind keeps the invariant, where its ids and its tree are in order.
 use Rattle.std.proofs.Common.{◌≡◌, ◌≢◌, ◌⊎◌, ℕ, ◌<◌, ◌≤◌, true, false, Bool, IsTrue, ◌∷◌, length, sym, ap, ◌∙◌, subst, inl, inr, arith}
+use Rattle.std.proofs.lemmas.Bool.Decides.{nat_tests}
 use Rattle.std.proofs.lemmas.Bool.{false≢true, cases_Bool, cases_eq}
 use Rattle.tenant_ledger.proofs.Words.{Text, History, last_event, is_event, reaches, Clock, id_of, tree_of, acting_id, Row, OwnsSome, Raises, ClockLaws, IsLive, holds, value_of, OneHolder, HolderIsAhead, IsPrivate, HasPrivatePoint, EventsHavePrivatePoints, TreesRise, Invariant}
 use Rattle.trace_types.proofs.Reachability.{last_event-le, reaches_earlier}
@@ -88,20 +89,16 @@ module _ {Id Tree : Type 0} {clock : Clock Id Tree} {Point : Type 0} {IsNormalId
         omega (arith, ahead, gathered.followed_below (last_event earlier was.task) was.followed point)
 
     new_is_ahead : (point : Point) → is_within point ≡ true → (event : ℕ) → value_of laws (row ∷ earlier) event point ≤ new_value point
-    new_is_ahead point within event = elim (cases_eq event (new_event earlier)) [
-      | inl is ↦ omega (arith, value_of-new event point is)
-      | inr older ↦ omega (arith, value_of-older event point older, all_below point within event, new_raises.above point)
-    ]
+    new_is_ahead point within event =
+        grind (arith, nat_tests, value_of-new event point, value_of-older event point, all_below point within event, new_raises.above point)
 
     -- a holder stays ahead of all events at a point that the new event does not raise
     stays_ahead : (task : Text) (point : Point) → holds laws earlier task point ≡ true → is_within point ≡ false → (event : ℕ)
         → value_of laws (row ∷ earlier) event point ≤ value_of laws earlier (last_event earlier task) point
-    stays_ahead task point held outside event = elim (cases_eq event (new_event earlier)) [
-      | inl is ↦
-          let from = gathered.from_followed point in
-          omega (arith, value_of-new event point is, new_raises.outside point outside, from.2, before.holder_is_ahead task point held from.0)
-      | inr older ↦ omega (arith, value_of-older event point older, before.holder_is_ahead task point held event)
-    ]
+    stays_ahead task point held outside event =
+        let from = gathered.from_followed point in
+        let ahead = before.holder_is_ahead task point held in
+        grind (arith, nat_tests, value_of-new event point, value_of-older event point, new_raises.outside point outside, from.2, ahead from.0, ahead event)
 
     holder_is_ahead : HolderIsAhead laws (row ∷ earlier)
     holder_is_ahead task point held event =

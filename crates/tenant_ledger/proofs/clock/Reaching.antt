@@ -56,24 +56,18 @@ reaches_forward [] a b reached = inl (sym (eqb-true b a reached))
 reaches_forward (row ∷ earlier) a b reached = elim (reached_from row earlier a b reached) [
   | inl same ↦ inl same
   | inr before ↦ elim before [
-    | inl (last, (event, follows, known)) ↦
-        let within = followed-le row earlier event follows in
-        elim (reaches_forward earlier a event known) [
-          | inl same ↦ inr (omega (arith, last, same, within), omega (arith, last))
-          | inr later ↦ inr (omega (arith, last, later.0, within), omega (arith, last))
-        ]
-    | inr (older, known) ↦ elim (reaches_forward earlier a b known) [ inl same ↦ inl same | inr later ↦ inr (later.0, omega (arith, later.1)) ]
+    | inl (last, (event, follows, known)) ↦ grind (arith, followed-le row earlier event follows, reaches_forward earlier a event known)
+    | inr (older, known) ↦ grind (arith, reaches_forward earlier a b known)
   ]
 ]
 
 -- so the new event reaches none before it
 pub reached_from_older : (earlier : History) (a b : ℕ) → b ≢ new_event earlier → reaches earlier a b ≡ true → a ≢ new_event earlier
-reached_from_older earlier a b older reached is =
-    elim (reaches_forward earlier a b reached) [ inl same ↦ older (sym same ∙ is) | inr later ↦ omega (arith, later.0, later.1, is) ]
+reached_from_older earlier a b older reached is = grind (arith, reaches_forward earlier a b reached)
 
 -- and no event reaches 0
 reaches_nothing : (history : History) (a b : ℕ) → a ≢ 0 → reaches history a b ≡ true → b ≢ 0
-reaches_nothing history a b some reached zero = elim (reaches_forward history a b reached) [ inl same ↦ some (same ∙ zero) | inr later ↦ omega (arith, later.0, zero) ]
+reaches_nothing history a b some reached zero = grind (arith, reaches_forward history a b reached)
 
 -- an event that reaches one that the row follows reaches the new one
 pub reaches_from_followed : (row : Row) (earlier : History) (a : ℕ) → a ≢ 0 → ReachesFollowed row earlier a

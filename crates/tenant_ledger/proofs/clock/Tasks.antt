@@ -45,5 +45,4 @@ live_is_not_ended history task other live ended =
 pub unknown_has_no_event : (history : History) (task : Text) → IsLegal history → is_known history task ≡ false → newest (is_of task) history ≡ 0
 unknown_has_no_event [] task legal unknown = refl
 unknown_has_no_event (row ∷ earlier) task legal unknown =
-    let not_before : is_known earlier task ≡ false = unwas_known row earlier task unknown in
-    rw (live_is_not_unknown earlier row.task task legal.0.0 not_before) (unknown_has_no_event earlier task legal.1 not_before)
+    grind (arith, nat_tests, unwas_known row earlier task unknown, live_is_not_unknown earlier row.task task legal.0.0, unknown_has_no_event earlier task legal.1)

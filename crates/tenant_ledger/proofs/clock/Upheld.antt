@@ -11,10 +11,8 @@ use Rattle.tenant_ledger.proofs.clock.Sharing.{allowed_is_in_order}
 module _ {Id Tree : Type 0} {clock : Clock Id Tree} {Point : Type 0} {IsNormalId : Id → Type 0} {IsNormalTree : Tree → Type 0}
     (laws : ClockLaws clock Point IsNormalId IsNormalTree) where
   holder_is_root : (task : Text) (point : Point) → holds laws [] task point ≡ true → task ≡ root
-  holder_is_root task point held = elim (cases_Bool (is_same task root)) [
-    | inl is ↦ (is_same_iff task root).0 is
-    | inr other ↦ absurd (false≢true (sym (laws.nobody_owns point) ∙ ap (λ id. laws.owns id point) (sym (cond-false (is_same task root) _ _ other)) ∙ held))
-  ]
+  holder_is_root task point held =
+      let same : is_same task root ≡ true = grind (arith, nat_tests, laws.nobody_owns point) in (is_same_iff task root).0 same
 
   root_owns_some : (task : Text) → IsLive [] task → OwnsSome laws.owns (id_of clock [] task)
   root_owns_some task live = grind (arith, nat_tests)

@@ -1,8 +1,9 @@
 -- What is known of a task that the book has, or has not.
-use Rattle.std.proofs.Common.{◌≡◌, true, false, List, ℕ, [], ◌∷◌, Option, Some, None, refl, sym, ◌∙◌, subst, inl, inr}
+use Rattle.std.proofs.Common.{◌≡◌, true, false, List, ℕ, [], ◌∷◌, Option, Some, None, refl, sym, ◌∙◌, subst, inl, inr, arith}
 use Rattle.std.specs.List.{list_any}
 use Rattle.std.specs.Prelude.{is_some}
 use Rattle.std.proofs.Math.Bool.{or-true}
+use Rattle.std.proofs.lemmas.Bool.Decides.{nat_tests}
 use Rattle.std.proofs.lemmas.Bool.{false≢true, or_cases, cond_both, and_right, false_from_ne_true}
 use Rattle.tenant_ledger.proofs.Words.{Text, is_same, History, joins, ends, ends_task, is_known, is_ended, is_joined, state_of, Row, Kind, Join, Task, AllowsNamed, IsLegal, Contents, IsKept, IsTask, history_in, task_in}
 use Rattle.trace_types.specs.declared.task_state.TaskState.{TaskState}
@@ -29,19 +30,13 @@ joined_was earlier row task allowed = by row.kind row.name allowed
 pub joined_has_ended : (history : History) (task : Text) → IsLegal history → is_joined history task ≡ true → is_ended history task ≡ true
 joined_has_ended [] task legal joined = absurd (false≢true joined)
 joined_has_ended (row ∷ earlier) task legal joined =
-    let ended : is_ended earlier task ≡ true = elim (or_cases (joins task row) (list_any (joins task) earlier) joined) [
-      | inl now ↦ joined_was earlier row task legal.0.1 now
-      | inr before ↦ joined_has_ended earlier task legal.1 before
-    ] in
-    rw ended (or-true (ends task row))
+    grind (arith, nat_tests, joined_was earlier row task legal.0.1, joined_has_ended earlier task legal.1)
 
 -- and a task that is not known has not ended
 pub unknown_has_not_ended : (history : History) (task : Text) → IsLegal history → is_known history task ≡ false → is_ended history task ≡ false
 unknown_has_not_ended [] task legal unknown = refl
 unknown_has_not_ended (row ∷ earlier) task legal unknown =
-    let not_before : is_known earlier task ≡ false = unwas_known row earlier task unknown in
-    let not_by_row : ends task row ≡ false = and_right (ends_task row.kind) (is_same row.task task) (live_is_not_unknown earlier row.task task legal.0.0 not_before) in
-    rw not_by_row (unknown_has_not_ended earlier task legal.1 not_before)
+    grind (arith, nat_tests, unwas_known row earlier task unknown, live_is_not_unknown earlier row.task task legal.0.0, unknown_has_not_ended earlier task legal.1)
 
 -- so neither was joined
 pub unended_is_not_joined : (history : History) (task : Text) → IsLegal history → is_ended history task ≡ false → is_joined history task ≡ false
@@ -55,9 +50,7 @@ IsAt history task state.Ended = (is_ended history task ≡ true) × (is_joined h
 IsAt history task state.Joined = (is_ended history task ≡ true) × (is_joined history task ≡ true)
 
 pub state_is_at : (history : History) (task : Text) → IsLegal history → IsAt history task (state_of history task)
-state_is_at history task legal =
-    cond_both (is_joined history task) _ _ (IsAt history task) (λ joined. (joined_has_ended history task legal joined, joined))
-    λ not_joined. cond_both (is_ended history task) _ _ (IsAt history task) (λ ended. (ended, not_joined)) (λ not_ended. (not_ended, not_joined))
+state_is_at history task legal = grind (arith, nat_tests, joined_has_ended history task legal)
 
 module _ (book : Contents) (kept : IsKept book) where
   pub legal_history : IsLegal (history_in book)

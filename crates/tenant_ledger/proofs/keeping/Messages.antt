@@ -16,12 +16,7 @@ use Rattle.tenant_ledger.proofs.keeping.Known.{differ_back}
 
 entry_of-new : (messages : Messages) (message : Text) (entry : Entry) → entry_of messages message ≡ None → entry_of (messages ++ (message, entry) ∷ []) message ≡ Some entry
 entry_of-new [] message entry none = cond-true (is_same message message) _ _ (is_same-itself message)
-entry_of-new (first ∷ later) message entry none = by (is_same message first.0) none (entry_of-new later message entry)
-  where
-    by : (same : Bool) → cond same (Some first.1) (entry_of later message) ≡ None → (entry_of later message ≡ None → entry_of (later ++ (message, entry) ∷ []) message ≡ Some entry)
-        → cond same (Some first.1) (entry_of (later ++ (message, entry) ∷ []) message) ≡ Some entry
-    by true found rest = cc
-    by false none rest = rest none
+entry_of-new (first ∷ later) message entry none = grind (arith, nat_tests, entry_of-new later message entry)
 
 -- any other message is as it was
 other_than-new : (messages : Messages) (message name : Text) (entry : Entry) → is_same name message ≡ false
@@ -32,17 +27,13 @@ other_than-new (first ∷ later) message name entry differ = ap (cond (is_same n
 other_than-changed : (change : Entry → Entry) (messages : Messages) (message name : Text) → is_same name message ≡ false
     → entry_of (with_changed change message messages) name ≡ entry_of messages name
 other_than-changed change [] message name differ = refl
-other_than-changed change (first ∷ later) message name differ = elim (cases_Bool (is_same message first.0)) [
-  | inl is ↦
-      let other : is_same name first.0 ≡ false = subst (λ m. is_same name m ≡ false) ((is_same_iff message first.0).0 is) differ in
-      rw (is, other) refl
-  | inr not ↦ rw not (ap (cond (is_same name first.0) (Some first.1)) (other_than-changed change later message name differ))
-]
+other_than-changed change (first ∷ later) message name differ =
+    let other : is_same message first.0 ≡ true → is_same name first.0 ≡ false = λ is. subst (λ m. is_same name m ≡ false) ((is_same_iff message first.0).0 is) differ in
+    grind (arith, nat_tests, other_than-changed change later message name differ)
 
 length-changed : (change : Entry → Entry) (messages : Messages) (message : Text) → length (with_changed change message messages) ≡ length messages
 length-changed change [] message = refl
-length-changed change (first ∷ later) message =
-    cond_both (is_same message first.0) _ _ (λ (found : Messages). length found ≡ suc (length later)) (λ _. refl) (λ _. ap suc (length-changed change later message))
+length-changed change (first ∷ later) message = grind (arith, nat_tests, length-changed change later message)
 
 -- ---- what the rows say of a message after one more row
 
@@ -148,13 +139,8 @@ module _ (limits : Limits) (task message : Text) (preds : List ℕ) (earlier : H
 -- a message was received where it has a receipt
 is_received_by_receipts : (history : History) (name : Text) → is_received history name ≡ nat_lt 0 (length (receipts history name))
 is_received_by_receipts [] name = refl
-is_received_by_receipts (row ∷ earlier) name = elim (cases_Bool (receives name row)) [
-  | inl now ↦
-      let some : nat_lt 0 (length (receipts earlier name ++ suc (length earlier) ∷ [])) ≡ true =
-      grind (arith, nat_tests, length-append (receipts earlier name) (suc (length earlier) ∷ [])) in
-      rw now (sym some)
-  | inr not_now ↦ rw not_now (is_received_by_receipts earlier name)
-]
+is_received_by_receipts (row ∷ earlier) name =
+    grind (arith, nat_tests, length-append (receipts earlier name) (suc (length earlier) ∷ []), is_received_by_receipts earlier name)
 
 module _ (limits : Limits) (history : History) (messages : message_book.Book) (are : AreMessages limits history messages) (name : Text) where
   -- the book has the messages that were sent, and knows which were received

@@ -1,6 +1,7 @@
 -- The lists that are told by comparing the kept trees are those of the graph, and so is the row of an event.
 use Rattle.std.proofs.Common.{◌≡◌, ℕ, suc, ◌-◌, ◌<◌, ◌≤◌, ◌≢◌, Bool, true, false, cond, not, ◌&&◌, IsTrue, eqb, ltb, List, [], ◌∷◌, ◌++◌, length, get_or, slice_get, reverse, map, option_map, Some, Result, Ok, Err, IfOk, IfErr, refl, sym, ap, ◌∙◌, subst, inl, inr, arith}
 use Rattle.std.specs.List.{filter, range_with_len}
+use Rattle.std.proofs.lemmas.Bool.Decides.{nat_tests}
 use Rattle.std.proofs.lemmas.Bool.{cases_Bool, cond_both, cases_eq, eq-eqb, ne_eqb, eqb-true, or_left, cond-true, cond-false}
 use Rattle.std.proofs.lemmas.List.{length-reverse, map-append, reverse-append, reverse-reverse}
 use Rattle.std.proofs.lemmas.Option.{get_or_from_slice_get, same_Some, slice_get-map, slice_get_read}
@@ -28,10 +29,8 @@ use Rattle.tenant_ledger.proofs.clock.Upheld.{invariant_upheld}
 -- each event reaches itself
 reaches_itself : (history : History) (event : ℕ) → reaches history event event ≡ true
 reaches_itself [] event = eq-eqb event event refl
-reaches_itself (row ∷ earlier) event = elim (cases_eq event (suc (length earlier))) [
-  | inl last ↦ reaches_newest row earlier event event last ∙ or_left (eqb event event) _ (eq-eqb event event refl)
-  | inr older ↦ reaches_earlier row earlier event event older ∙ reaches_itself earlier event
-]
+reaches_itself (row ∷ earlier) event =
+    grind (arith, nat_tests, reaches_newest row earlier event event, reaches_earlier row earlier event event, reaches_itself earlier event)
 
 -- an event is in the past of another one where it is another one and reaches it
 before_by : (same forth back : Bool) → is_order Before (cond same Same (cond forth Before (cond back After Concurrent))) ≡ (not same && forth)
