@@ -1,15 +1,14 @@
 -- What a ledger keeps beside the rows.
-use Rattle.std.specs.Prelude.{◌≡◌, ℕ, not, IsTrue, suc, ◌+◌, ◌≤◌, ◌<◌, false, true, Bool, if◌then◌else◌, List, [], ◌∷◌, ◌++◌, length, map, Option, Some, None, is_some, Result, Ok, Err, slice_get}
+use Rattle.std.specs.Prelude.{◌≡◌, ℕ, not, suc, ◌+◌, ◌≤◌, ◌<◌, false, true, Bool, if◌then◌else◌, List, [], ◌∷◌, ◌++◌, length, map, Option, Some, None, is_some, Result, Ok, Err, slice_get}
 use Rattle.std.specs.Map.{lookup}
-use Rattle.trace_types.specs.text.Name.{Text, is_name, is_same}
+use Rattle.trace_types.specs.text.Name.{Text, is_same}
 use Rattle.trace_types.specs.tenant.Limits.{Limits}
 use Rattle.trace_types.specs.tenant.Rows.{History, history_of, is_known, is_ended, is_joined, state_of, last_event, is_sent, is_received, send_event, receipts, task_count, message_count}
 use Rattle.trace_types.specs.tenant.Reachability.{second_event}
 use Rattle.trace_types.specs.tenant.Refusal.{first_code, refusals, has_all_events, has_all_tasks, has_all_messages}
 use Rattle.trace_types.specs.clock.Clock.{tree_clock}
 use Rattle.trace_types.specs.clock.Stamps.{id_of, tree_of, stamp_of, of_named}
-use Rattle.trace_types.specs.tenant.Tenant.{Tenant, AreLegal, row_after, with_row, step, Steps, answer_to, accepted}
-use Rattle.trace_types.specs.text.Text.{CanBeWritten}
+use Rattle.trace_types.specs.tenant.Tenant.{Tenant, AreLegal, row_after, with_row, step, Steps}
 use Rattle.trace_types.specs.clock.Id.{Id, Zero, One}
 use Rattle.trace_types.specs.clock.IdOperations.{split, sum}
 use Rattle.trace_types.specs.clock.EventTree.{EventTree}
@@ -17,7 +16,7 @@ use Rattle.trace_types.specs.declared.row.Row.{Row}
 use Rattle.trace_types.specs.declared.code.Code.{Code}
 use Rattle.trace_types.specs.declared.task_state.TaskState.TheVariants as state
 use Rattle.trace_types.specs.declared.row.Kind.{Kind}
-use Rattle.trace_types.specs.declared.row.Kind.TheVariants.{Local, Spawn, Send, Recv, End, Join}
+use Rattle.trace_types.specs.declared.row.Kind.TheVariants.{Spawn, Send, Recv, End, Join}
 use Rattle.trace_types.specs.declared.reply.Reply.TheVariants as reply
 use Rattle.trace_types.specs.declared.request.Reported.{Reported}
 use Rattle.trace_types.specs.declared.request.Request.{Request}

@@ -1,7 +1,7 @@
 -- What events know tells how they stand in the graph; and what the interval tree clock asks of ids and trees holds of those of a legal history.
 use Rattle.std.proofs.Common.{◌≢◌, ℕ, ◌≤◌, [], ◌∷◌, length, refl, ap, ◌∙◌, inl, inr, arith, ◌≡◌, ◌↔◌, IsTrue, eqb, sym}
 use Rattle.std.proofs.lemmas.Bool.{cases_eq, cond_both, false≢true, eqb-true, eqb-false}
-use Rattle.tenant_ledger.proofs.Words.{Text, History, Zero, AreDisjoint, maximum, tree_clock, id_of, tree_of, acting_id, takes_in, Row, IsLive, IsLegal, is_event, reaches, order_of, EventTree, value, Clock, Order, Same, StandsAs, ClockLaws, value_of, Invariant}
+use Rattle.tenant_ledger.proofs.Words.{Text, History, Zero, AreDisjoint, maximum, tree_clock, id_of, tree_of, acting_id, takes_in, Row, IsLegal, is_event, reaches, order_of, EventTree, value, Clock, Order, Same, StandsAs, ClockLaws, value_of, Invariant}
 use Rattle.event_tree.proofs.Joined.{maximum-joined-le}
 use Rattle.tenant_ledger.proofs.clock.Events.{known_before_new, tree_of-new, tree_of-older}
 use Rattle.tenant_ledger.proofs.clock.Gathered.{gathers}

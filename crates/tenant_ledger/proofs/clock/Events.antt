@@ -1,7 +1,7 @@
 -- The numbers of events, and what is known at them after one row more.
 use Rattle.std.proofs.lemmas.Bool.Decides.{nat_tests}
-use Rattle.std.proofs.Common.{◌≡◌, ◌≢◌, ℕ, suc, ◌<◌, ◌≤◌, IsTrue, eqb, ltb, [], ◌∷◌, length, refl, ◌∙◌, arith}
-use Rattle.std.proofs.lemmas.Bool.{eq-eqb, ne_eqb, ltb-true, lt-ltb, and_parts, and_from, cond-true, cond-false}
+use Rattle.std.proofs.Common.{◌≡◌, ◌≢◌, ℕ, ◌<◌, ◌≤◌, IsTrue, eqb, [], ◌∷◌, length, refl, ◌∙◌, arith}
+use Rattle.std.proofs.lemmas.Bool.{eq-eqb, ne_eqb, cond-true, cond-false}
 use Rattle.tenant_ledger.proofs.Words.{History, is_event, Clock, tree_of, acting_id, known_before, Row}
 use Rattle.tenant_ledger.proofs.clock.Reaching.{new_event, first_of, second_of}
 

@@ -1,5 +1,5 @@
 -- What is known before the new event: what its task knew, or the join of that with what its second event knew.
-use Rattle.std.proofs.Common.{◌≡◌, ℕ, ◌≤◌, false, Option, refl, ap, ◌∙◌, inl, inr, arith}
+use Rattle.std.proofs.Common.{◌≡◌, ℕ, ◌≤◌, false, Option, refl, inl, inr, arith}
 use Rattle.std.proofs.lemmas.Bool.{cond_both, cases_lt}
 use Rattle.tenant_ledger.proofs.Words.{Text, History, second_event, Clock, tree_of, takes_in, Row, Kind, Local, ClockLaws, value_of}
 use Rattle.tenant_ledger.proofs.clock.Events.{known_before_new, tree_of-nothing}

@@ -1,5 +1,5 @@
 -- Ids are normal, whatever the rows.
-use Rattle.std.proofs.Common.{List, [], ◌∷◌, Option, Some, None}
+use Rattle.std.proofs.Common.{[], ◌∷◌, Option, Some, None}
 use Rattle.std.proofs.lemmas.Bool.{cond_both}
 use Rattle.tenant_ledger.proofs.Words.{Text, is_same, root, History, names, Clock, id_of, id_at, id_kept, id_given, of_named, acting_id, Row, Kind, Spawn, Join, ClockLaws}
 

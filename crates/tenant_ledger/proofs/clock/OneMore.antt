@@ -1,10 +1,10 @@
 -- One more row of any kind keeps the invariant, where its ids and its tree are in order.
-use Rattle.std.proofs.Common.{◌≡◌, ◌≢◌, ◌⊎◌, ℕ, ◌<◌, ◌≤◌, true, false, Bool, IsTrue, ◌∷◌, length, sym, ap, ◌∙◌, subst, inl, inr, arith}
+use Rattle.std.proofs.Common.{◌≡◌, ◌≢◌, ◌⊎◌, ℕ, ◌≤◌, true, false, Bool, IsTrue, ◌∷◌, sym, ap, ◌∙◌, subst, inl, inr, arith}
 use Rattle.std.proofs.lemmas.Bool.Decides.{nat_tests}
 use Rattle.std.proofs.lemmas.Bool.{false≢true, cases_Bool, cases_eq}
 use Rattle.tenant_ledger.proofs.Words.{Text, History, last_event, is_event, reaches, Clock, id_of, tree_of, acting_id, Row, OwnsSome, Raises, ClockLaws, IsLive, holds, value_of, OneHolder, HolderIsAhead, IsPrivate, HasPrivatePoint, EventsHavePrivatePoints, TreesRise, Invariant}
 use Rattle.trace_types.proofs.Reachability.{last_event-le, reaches_earlier}
-use Rattle.tenant_ledger.proofs.clock.Events.{known_before_new, new_tree, tree_of-new, tree_of-older, event_bounds, older_event}
+use Rattle.tenant_ledger.proofs.clock.Events.{known_before_new, tree_of-new, tree_of-older, event_bounds, older_event}
 use Rattle.tenant_ledger.proofs.clock.Gathered.{Gathers, gathers}
 use Rattle.tenant_ledger.proofs.clock.Normal.{acting_id_normal}
 use Rattle.tenant_ledger.proofs.clock.Reaching.{new_event, Follows, new_reaches_itself, followed-le, reached_from, reached_from_older, reaches_from_followed}

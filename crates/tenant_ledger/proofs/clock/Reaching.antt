@@ -1,10 +1,10 @@
 -- Which events reach the new one and which the others, and that reaching goes forward.
-use Rattle.std.proofs.Common.{◌≡◌, ◌≢◌, ◌⊎◌, ℕ, suc, ◌<◌, ◌≤◌, Bool, true, false, eqb, ltb, List, [], ◌∷◌, length, refl, sym, ap, ◌∙◌, subst, inl, inr, arith}
+use Rattle.std.proofs.Common.{◌≡◌, ◌≢◌, ◌⊎◌, ℕ, suc, ◌<◌, ◌≤◌, Bool, true, eqb, [], ◌∷◌, length, refl, sym, ◌∙◌, inl, inr, arith}
 use Rattle.std.specs.List.{list_any}
 use Rattle.std.proofs.lemmas.Bool.Decides.{nat_tests}
-use Rattle.std.proofs.lemmas.Bool.{false≢true, eq-eqb, eqb-true, cases_eq, cond_both, or_cases, or_left, or_right}
-use Rattle.tenant_ledger.proofs.Words.{History, last_event, event_or_none, increasing, second_event, predecessors, reaches, Row}
-use Rattle.trace_types.proofs.Reachability.{last_event-le, second_event-le, reaches_newest, reaches_earlier}
+use Rattle.std.proofs.lemmas.Bool.{eqb-true, or_right}
+use Rattle.tenant_ledger.proofs.Words.{History, last_event, increasing, second_event, predecessors, reaches, Row}
+use Rattle.trace_types.proofs.Reachability.{last_event-le, second_event-le, reaches_newest}
 
 -- the event that a row adds
 abbrev pub new_event : History → ℕ

@@ -1,11 +1,11 @@
 -- What each report does with the ids: it leaves one holder to each point, and a live task some.
 use Rattle.std.proofs.Common.{◌≡◌, ◌⊎◌, ℕ, true, false, IsTrue, List, ◌∷◌, Option, Some, None, refl, sym, ap, ◌∙◌, subst, inl, inr}
 use Rattle.std.proofs.lemmas.Bool.{false≢true, cases_Bool, cond-true, cond-false, cond_both, and_right, and_from, or_left, or_right, or_cases, false_from_ne_true}
-use Rattle.tenant_ledger.proofs.Words.{Text, is_same, History, names, starts, starts_task, last_event, is_known, is_ended, Clock, id_of, id_kept, id_given, acting_id, of_named, Row, Kind, Local, Spawn, Join, ClockLaws, OwnsSome, IsLive, AllowsNamed, IsLegal, holds, Invariant}
+use Rattle.tenant_ledger.proofs.Words.{Text, is_same, History, names, starts, starts_task, is_known, is_ended, Clock, id_of, id_kept, id_given, acting_id, of_named, Row, Kind, Spawn, Join, ClockLaws, OwnsSome, IsLive, AllowsNamed, IsLegal, holds, Invariant}
 use Rattle.trace_types.proofs.Names.{is_same_iff, is_same-itself, differ_by_test}
 use Rattle.tenant_ledger.proofs.clock.Normal.{id_of_normal}
 use Rattle.tenant_ledger.proofs.clock.OneMore.{is_within, WasHeld, TookPart, StoodBy, IsInOrder}
-use Rattle.tenant_ledger.proofs.clock.Tasks.{last_event-acting, last_event-started, last_event-bystander, was_live, live_is_not_unknown, live_is_not_ended, unknown_has_no_event}
+use Rattle.tenant_ledger.proofs.clock.Tasks.{last_event-acting, last_event-started, last_event-bystander, was_live, unknown_has_no_event}
 
 module _ {Id Tree : Type 0} {clock : Clock Id Tree} {Point : Type 0} {IsNormalId : Id → Type 0} {IsNormalTree : Tree → Type 0}
     (laws : ClockLaws clock Point IsNormalId IsNormalTree) (row : Row) (earlier : History) where

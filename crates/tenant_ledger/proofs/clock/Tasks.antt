@@ -1,9 +1,9 @@
 -- What one row more makes of the tasks: which are known and ended, and their last events.
 use Rattle.std.proofs.lemmas.Bool.Decides.{nat_tests}
-use Rattle.std.proofs.Common.{◌≡◌, ◌≢◌, suc, true, false, [], ◌∷◌, length, refl, sym, ◌∙◌, subst, inl, inr, arith}
+use Rattle.std.proofs.Common.{◌≡◌, suc, true, false, [], ◌∷◌, length, refl, sym, ◌∙◌, subst, arith}
 use Rattle.std.specs.List.{list_any}
-use Rattle.std.proofs.lemmas.Bool.{false≢true, cases_Bool, ne_eqb, or_parts, false_from_ne_true}
-use Rattle.tenant_ledger.proofs.Words.{Text, is_same, root, History, newest, is_of, starts, ends, last_event, is_known, is_ended, Row, IsLive, IsLegal}
+use Rattle.std.proofs.lemmas.Bool.{false≢true, ne_eqb, or_parts, false_from_ne_true}
+use Rattle.tenant_ledger.proofs.Words.{Text, is_same, History, newest, is_of, starts, ends, last_event, is_known, is_ended, Row, IsLive, IsLegal}
 use Rattle.trace_types.proofs.Names.{is_same_iff}
 
 -- the acting task's last event is the new one

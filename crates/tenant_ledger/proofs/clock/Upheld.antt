@@ -1,7 +1,6 @@
 -- Each legal history keeps the invariant.
 use Rattle.std.proofs.lemmas.Bool.Decides.{nat_tests}
-use Rattle.std.proofs.Common.{◌≡◌, ℕ, true, false, [], ◌∷◌, sym, ap, ◌∙◌, subst, inl, inr, arith}
-use Rattle.std.proofs.lemmas.Bool.{false≢true, cases_Bool, cond-true, cond-false, or_cases}
+use Rattle.std.proofs.Common.{◌≡◌, true, [], ◌∷◌, sym, ◌∙◌, arith}
 use Rattle.tenant_ledger.proofs.Words.{Text, is_same, root, History, Clock, id_of, Row, ClockLaws, OwnsSome, IsLive, IsLegal, holds, Invariant}
 use Rattle.trace_types.proofs.Names.{is_same_iff}
 use Rattle.tenant_ledger.proofs.clock.Events.{event_bounds}

@@ -1,11 +1,9 @@
 -- What is known of a task that the book has, or has not.
-use Rattle.std.proofs.Common.{◌≡◌, true, false, List, ℕ, [], ◌∷◌, Option, Some, None, refl, sym, ◌∙◌, subst, inl, inr, arith}
-use Rattle.std.specs.List.{list_any}
+use Rattle.std.proofs.Common.{◌≡◌, true, false, [], ◌∷◌, Option, Some, None, refl, sym, ◌∙◌, subst, arith}
 use Rattle.std.specs.Prelude.{is_some}
-use Rattle.std.proofs.Math.Bool.{or-true}
 use Rattle.std.proofs.lemmas.Bool.Decides.{nat_tests}
-use Rattle.std.proofs.lemmas.Bool.{false≢true, or_cases, cond_both, and_right, false_from_ne_true}
-use Rattle.tenant_ledger.proofs.Words.{Text, is_same, History, joins, ends, ends_task, is_known, is_ended, is_joined, state_of, Row, Kind, Join, Task, AllowsNamed, IsLegal, Contents, IsKept, IsTask, history_in, task_in}
+use Rattle.std.proofs.lemmas.Bool.{false≢true, false_from_ne_true}
+use Rattle.tenant_ledger.proofs.Words.{Text, is_same, History, joins, is_known, is_ended, is_joined, state_of, Row, Kind, Join, Task, AllowsNamed, IsLegal, Contents, IsKept, IsTask, history_in, task_in}
 use Rattle.trace_types.specs.declared.task_state.TaskState.{TaskState}
 use Rattle.trace_types.specs.declared.task_state.TaskState.TheVariants as state
 use Rattle.trace_types.proofs.Names.{is_same_iff}

@@ -1,5 +1,5 @@
 use Rattle.std.proofs.Common.{◌∙◌}
-use Rattle.tenant_ledger.proofs.Words.{tree_clock, Zero, id_of, of_named, history_in, id_for}
+use Rattle.tenant_ledger.proofs.Words.{id_for}
 use Rattle.tenant_ledger.proofs.keeping.Report.{acting_of_made, own_place, own_is}
 use Rattle.tenant_ledger.proofs.book.Book.draft.Goals as goal
 
