@@ -4,18 +4,17 @@
 //! prints `ok` where that holds. It is run once for each block of memory that it asks for, with that block refused.
 #![tactic(auto)]
 
-mod asking;
-mod run;
-mod wanted;
+ghost use Rattle.std.specs.Prelude.{◌≡◌};
 
-use asking::{abandoned, answered};
-use line_protocol::read_request;
+mod run;
+
+use line_protocol::{IntoWriter, read_request, write_reply};
 use run::RUN;
 use std::alloc::Global;
 use std::io;
-use tenant_ledger::Ledger;
-use trace_types::{Limits, Memory};
-use wanted::is_written;
+use std::io::Write;
+use tenant_ledger::{Ledger, PlainShare};
+use trace_types::{Code, Limits, Memory, Reply, Request};
 
 fn main(rt: HostRuntime) -> io::Result<()> {
     let holds = match new_ledger(rt.alloc()) {
@@ -69,4 +68,67 @@ fn answers<R>(rt: &R, ledger: Ledger, line: &str) -> (Ledger, bool) {
 /// A request, and the reply that it is to get.
 fn line_and_reply(line: &str) -> (&str, &str) {
     line.split_once(" => ").unwrap_or((line, ""))
+}
+
+/// The ledger after the request was prepared, if it is a report, and abandoned.
+fn abandoned<R>(rt: &R, ledger: Ledger, request: &Request) -> Ledger
+    ensures { result ≡ ledger }
+{
+    if !request.is_report() {
+        return ledger;
+    }
+    match ledger.prepare(rt, &PlainShare, request) {
+        Ok(prepared) => prepared.abandon(),
+        Err((ledger, _)) => ledger,
+    }
+}
+
+/// What is answered to a report that is prepared and committed, or to a query.
+fn answered<R>(rt: &R, ledger: Ledger, request: &Request) -> (Ledger, Reply) {
+    match answered_once(rt, ledger, request) {
+        (ledger, Reply::Refused(Code::NoMemory)) => answered_once(rt, ledger, request),
+        answered => answered,
+    }
+}
+
+fn answered_once<R>(rt: &R, ledger: Ledger, request: &Request) -> (Ledger, Reply) {
+    if !request.is_report() {
+        let reply = ledger.ask(&PlainShare, request);
+        return (ledger, reply);
+    }
+    match ledger.prepare(rt, &PlainShare, request) {
+        Ok(prepared) => prepared.commit(),
+        Err(refused) => refused,
+    }
+}
+
+/// A writer that looks whether it is given this text.
+#[derive(Drop)]
+struct Wanted<'a> {
+    rest: &'a [u8],
+    holds: bool,
+}
+
+impl Write for Wanted<'_> {
+    fn write(&mut self, bytes: &[u8]) -> io::Result<usize> {
+        match self.rest.strip_prefix(bytes) {
+            Some(rest) => self.rest = rest,
+            None => self.holds = false,
+        }
+        Ok(bytes.len())
+    }
+
+    fn flush(&mut self) -> io::Result<()> {
+        Ok(())
+    }
+}
+
+/// Whether the reply is written as this line.
+fn is_written(reply: &Reply, line: &str) -> bool {
+    let mut wanted = Wanted {
+        rest: line.as_bytes(),
+        holds: true,
+    };
+    let written = write_reply(&mut IntoWriter::new(&mut wanted), reply);
+    written.is_ok() && wanted.holds && wanted.rest.is_empty()
 }
