@@ -98,3 +98,7 @@ behind-parts held reply end =
     ap (λ text. held ++ (text ++ end)) (reply_text-parts reply)
     ∙ ap (λ text. held ++ text) (append_assoc (reply_head reply) (reply_tail reply) end)
     ∙ sym (append_assoc held (reply_head reply) (reply_tail reply ++ end))
+
+-- of a reply without tail the head is all
+pub short-parts : (held : List ℕ) (reply : Reply) (end : List ℕ) → reply_tail reply ≡ [] → (held ++ reply_head reply) ++ end ≡ held ++ (reply_text reply ++ end)
+short-parts held reply end none = sym (behind-parts held reply end ∙ ap (λ tail. (held ++ reply_head reply) ++ (tail ++ end)) none)

@@ -1,12 +1,13 @@
 -- A text that is written, and a flush, with patience of their own.
 use Rattle.std.proofs.Common.{◌≡◌, ℕ, zero, suc, ◌+◌, ◌<◌, ◌≤◌, ◌⊎◌, inl, inr, IsTrue, List, [], ◌∷◌, ◌++◌, length, take, drop, Result, Ok, Err, OnOk, OnErr, refl, sym, ap, ◌∙◌, append_assoc, append-nil, arith, length-append, subst}
 use Rattle.std.proofs.lemmas.List.{take-append-drop}
+use Rattle.std.proofs.Math.Seq.{take-append_seam, drop-append_seam}
 use Rattle.std.specs.Io.KnownBytes.{Keeps}
 use Rattle.trace_types.specs.text.Name.{Text}
 use Rattle.line_protocol.specs.declared.stop.Stop.TheVariants as stop
-use Rattle.line_protocol.specs.Sink.{Taken, FlushesOnce}
+use Rattle.line_protocol.specs.Sink.{Taken, TakesBoth, FlushesOnce}
 use Rattle.line_protocol.specs.Writing.{OnlyWrites, WritesText, WritesFront, Writes, WritesWhole, WritesBoth, Spends, GathersText, Gathers, GoesWrong}
-use Rattle.line_protocol.specs.Patience.{SinkCall, Took, WriteInterrupted, FlushInterrupted, FlushDone, CallFailed, bytes_taken_by, failed_calls, write_waits, flush_waits, last_flush_waits, waits_since_bytes, is_last_failed, HasFailed, FlushesPatiently, GivesUpFlushing}
+use Rattle.line_protocol.specs.Patience.{SinkCall, Took, WriteInterrupted, FlushInterrupted, FlushDone, CallFailed, bytes_taken_by, failed_calls, write_waits, flush_waits, last_flush_waits, waits_since_bytes, is_last_failed, HasFailed, FlushesPatiently, GivesUpFlushing, WritesPatiently}
 use Rattle.line_protocol.proofs.WritingLemmas.{WritesFront-later}
 use Rattle.line_protocol.proofs.GatherLemmas.{Gathers-front}
 use Rattle.std.proofs.KnownBytes.{Keeps-refl, Keeps-trans}
@@ -103,6 +104,54 @@ Writes-patiently before after patience' text (Err fault) front spent only last n
 pub WritesBoth-second : {A E : Type 0} (before between after : Taken) (first second : Text) (result : Result A E) → WritesWhole before between first → Writes between after result second → WritesBoth before after result first second
 WritesBoth-second before between after first second (Ok done) wrote writes = (between, wrote, writes)
 WritesBoth-second before between after first second (Err fault) wrote writes = inr (between, wrote, writes)
+
+-- what was seen between two texts that were taken at once
+abbrev pub between_of : Taken → Taken → ℕ → Text → Taken
+between_of before after n text = record {
+  bytes = before.bytes ++ take n text;
+  began = after.began;
+  is_flushed = before.is_flushed;
+  failures = before.failures;
+  interruptions = before.interruptions;
+  calls = Took (length (take n text)) ∷ before.calls;
+}
+
+-- both were taken at once
+took_all : (before after : List SinkCall) (text : Text) → after ≡ Took (length text) ∷ before → WritesPatiently before after (length text)
+took_all before after text calls = record {
+  more = Took (length text) ∷ [];
+  calls = calls;
+  taken = omega arith;
+  none_failed = refl;
+  few = omega arith;
+  none_idle = took_some_at (length text);
+  no_flush = refl;
+}
+  where
+    took_some_at : (count : ℕ) → 0 < count → waits_since_bytes (Took count ∷ []) ≡ 0
+    took_some_at zero some = refl
+    took_some_at (suc count) some = refl
+
+pub WritesBoth-at_once : (before after : Taken) (n : ℕ) (text : Text) → TakesBoth before after n text → WritesWhole before (between_of before after n text) (take n text) × WritesWhole (between_of before after n text) after (drop n text)
+WritesBoth-at_once before after n text both = (
+  (
+    refl,
+    record { failures = refl; more = omega arith; few = omega arith; began = both.began },
+    took_all before.calls (between_of before after n text).calls (take n text) refl,
+  ),
+  (
+    both.taken ∙ ap (λ bytes. before.bytes ++ bytes) (sym (take-append-drop n text)) ∙ sym (append_assoc before.bytes (take n text) (drop n text)),
+    record { failures = both.failures; more = omega (arith, both.interruptions); few = omega (arith, both.interruptions); began = Keeps-refl after.began },
+    took_all (between_of before after n text).calls after.calls (drop n text) both.calls,
+  ),
+)
+
+-- two texts that stand in one
+pub WritesBoth-split : {A E : Type 0} (before after : Taken) (first second text : Text) (n : ℕ) (result : Result A E) → text ≡ first ++ second → n ≡ length first → WritesBoth before after result (take n text) (drop n text) → WritesBoth before after result first second
+WritesBoth-split before after first second text n result is at writes =
+    let front : take n text ≡ first = rw (is, at) (take-append_seam first second) in
+    let back : drop n text ≡ second = rw (is, at) (drop-append_seam first second) in
+    subst (λ one. WritesBoth before after result one second) front (subst (WritesBoth before after result (take n text)) back writes)
 
 -- what holds on success holds under any premise
 pub OnOk-any : {A E : Type 0} (P Q : Type 0) (result : Result A E) → OnOk result P → OnOk result (Q → P)

@@ -1,5 +1,5 @@
 -- What is seen of a sink, and what one call adds.
-use Rattle.std.specs.Prelude.{◌≡◌, ℕ, ◌+◌, Result, Bool, IsTrue, OnOk, ◌&&◌, List, [], ◌++◌, length, take, Ok, Err, ◌∷◌, Option, ◌==◌, nat_lt, if◌then◌else◌}
+use Rattle.std.specs.Prelude.{◌≡◌, ℕ, ◌+◌, Result, Bool, IsTrue, OnOk, ◌&&◌, List, [], ◌++◌, length, take, Ok, Err, ◌∷◌, Option, drop, ◌==◌, nat_lt, if◌then◌else◌}
 use Rattle.std.specs.Io.KnownBytes.{Keeps}
 use Rattle.line_protocol.specs.declared.stop.Stop.{Stop}
 use Rattle.line_protocol.specs.declared.stop.Stop.TheVariants.{Interrupted, Failed}
@@ -64,4 +64,12 @@ pub record FlushesOnce (before after : Taken) (result : Result Unit Stop) : Type
   pub failures : after.failures ≡ before.failures + failure_count result
   pub interruptions : after.interruptions ≡ before.interruptions + interruption_count result
   pub call : after.calls ≡ flush_call result ∷ before.calls
+  pub began : Keeps before.began after.began
+
+-- Two texts, of which the first has this length, were taken whole, each by a write.
+pub record TakesBoth (before after : Taken) (first_len : ℕ) (text : List ℕ) : Type 0 where
+  pub taken : after.bytes ≡ before.bytes ++ text
+  pub failures : after.failures ≡ before.failures
+  pub interruptions : after.interruptions ≡ before.interruptions
+  pub calls : after.calls ≡ Took (length (drop first_len text)) ∷ Took (length (take first_len text)) ∷ before.calls
   pub began : Keeps before.began after.began

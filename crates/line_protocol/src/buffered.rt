@@ -114,6 +114,16 @@ impl<W: Sink + Drop> Sink for Buffered<W> {
         outcome
     }
 
+    #[inline]
+    fn take_both(&mut self, text: &[u8], first_len: usize) -> bool {
+        if text.len() > ROOM - self.bytes.len() || self.bytes.extend_from_slice(text).is_err() {
+            return false;
+        }
+        self.log.note(&[0], &text[..first_len]);
+        self.log.note(&[0], &text[first_len..]);
+        true
+    }
+
     fn flush(&mut self) -> Result<(), Stop> {
         let outcome = self.hand_on_all();
         self.log.note(&[flush_ending(outcome)], &[]);

@@ -54,6 +54,10 @@ impl<W: Write + Drop> Sink for IntoWriter<W> {
         outcome
     }
 
+    fn take_both(&mut self, _text: &[u8], _first_len: usize) -> bool {
+        false
+    }
+
     fn flush(&mut self) -> Result<(), Stop>
         ensures flushes { FlushesOnce (taken_by (W.contents self.old.writer) self.old.log.calls) (taken_by (W.contents self.new.writer) self.new.log.calls) result }
         ensures bytes { Keeps (W.contents self.old.writer) (W.contents self.new.writer) }

@@ -1,5 +1,5 @@
 //! Replies, written without memory.
-ghost use Rattle.std.specs.Prelude.{◌≡◌, ◌+◌, ◌<◌, ◌≤◌, [], ◌++◌, IsTrue, OnErr, OnOk, decimal, codes, length};
+ghost use Rattle.std.specs.Prelude.{◌≡◌, ◌+◌, ◌<◌, ◌≤◌, [], ◌++◌, IsTrue, OnErr, OnOk, decimal, codes, drop, false, length, take};
 ghost use Rattle.trace_types.specs.text.Text.{reply_text, order_text, state_text, kind_text, name_text};
 ghost use Rattle.trace_types.specs.tenant.Code.{code_text};
 ghost use Rattle.line_protocol.specs.Answer.{addressee_text, reply_head, reply_tail};
@@ -50,25 +50,65 @@ pub fn write_answer<W: Sink>(
     ensures { WritesBoth (W.seen writer.old) (W.seen writer.new) result (addressee_text tenant.now ++ codes " ") (reply_text reply.now ++ codes "\n") }
 {
     let mut text = ReplyText::new();
-    write_addressee(writer, &mut text, tenant)?;
-    write_reply_in(writer, &mut text, reply)
+    push_addressee(&mut text, tenant);
+    if has_tail(reply) {
+        return write_apart(writer, &mut text, reply);
+    }
+    let to_len = text.len();
+    push_head(&mut text, reply);
+    text.push(b"\n");
+    write_both(writer, text.as_bytes(), to_len)
 }
 
-/// Writes whom an answer names, and the blank after it, by way of an empty text.
-#[inline(always)]
-fn write_addressee<W: Sink>(
+/// Writes a text, and then the reply with its end of line.
+#[inline(never)]
+fn write_apart<W: Sink>(
     writer: &mut W,
     text: &mut ReplyText,
-    tenant: &Option<Name>,
+    reply: &Reply,
 ) -> Result<(), WriteFault>
-    requires { text.old ≡ [] }
-    ensures written { Writes (W.seen writer.old) (W.seen writer.new) result (addressee_text tenant.now ++ codes " ") }
-    ensures none { text.new ≡ [] }
+    ensures { WritesBoth (W.seen writer.old) (W.seen writer.new) result text.old (reply_text reply.now ++ codes "\n") }
 {
-    push_addressee(text, tenant);
-    let outcome = write_bytes(writer, text.as_bytes());
+    write_bytes(writer, text.as_bytes())?;
     text.clear();
-    outcome
+    write_reply_in(writer, text, reply)
+}
+
+/// Writes two texts, of which the first ends at this place: at once where the sink takes them, else one after the other.
+#[inline(always)]
+fn write_both<W: Sink>(writer: &mut W, text: &[u8], first_len: usize) -> Result<(), WriteFault>
+    requires { first_len ≤ length text.now }
+    ensures { WritesBoth (W.seen writer.old) (W.seen writer.new) result (take first_len text.now) (drop first_len text.now) }
+{
+    if writer.take_both(text, first_len) {
+        return Ok(());
+    }
+    write_each(writer, &text[..first_len], &text[first_len..])
+}
+
+/// Writes two texts.
+#[cold]
+#[inline(never)]
+fn write_each<W: Sink>(writer: &mut W, first: &[u8], second: &[u8]) -> Result<(), WriteFault>
+    ensures { WritesBoth (W.seen writer.old) (W.seen writer.new) result first.now second.now }
+{
+    write_bytes(writer, first)?;
+    write_bytes(writer, second)
+}
+
+/// Whether a reply has a list or a stamp.
+#[inline(always)]
+fn has_tail(reply: &Reply) -> bool
+    ensures { result ≡ false → reply_tail reply.now ≡ [] }
+{
+    match reply {
+        Reply::List(_) | Reply::Event(_) | Reply::Stamp(_) | Reply::Message(..) => true,
+        Reply::Accepted(_)
+        | Reply::Ordering(_)
+        | Reply::Task(..)
+        | Reply::Count(..)
+        | Reply::Refused(_) => false,
+    }
 }
 
 /// Writes the reply, with its end of line, by way of an empty text.

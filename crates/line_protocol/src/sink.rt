@@ -1,6 +1,6 @@
 //! A writer whose calls are counted.
-ghost use Rattle.std.specs.Prelude.{◌≤◌, length, IfOk};
-ghost use Rattle.line_protocol.specs.Sink.{Taken, WritesOnce, FlushesOnce};
+ghost use Rattle.std.specs.Prelude.{◌≡◌, ◌≤◌, length, IfOk, MatchBool};
+ghost use Rattle.line_protocol.specs.Sink.{Taken, WritesOnce, TakesBoth, FlushesOnce};
 
 use crate::Stop;
 
@@ -13,6 +13,12 @@ pub trait Sink {
     fn write_some(&mut self, bytes: &[u8]) -> Result<usize, Stop>
         ensures bound { IfOk result (λ n. n ≤ length bytes.now) }
         ensures writes { WritesOnce (seen self.old) (seen self.new) result bytes.now };
+
+    /// Takes two texts whole, as a write of each would, and tells so; or does nothing. The first ends at this place.
+    fn take_both(&mut self, text: &[u8], first_len: usize) -> bool
+        requires { first_len ≤ length text.now }
+        ensures both { MatchBool result (TakesBoth (seen self.old) (seen self.new) first_len text.now)
+            (seen self.new ≡ seen self.old) };
 
     /// Hands on what it has taken.
     fn flush(&mut self) -> Result<(), Stop>

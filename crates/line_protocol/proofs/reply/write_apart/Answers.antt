@@ -1,0 +1,9 @@
+use Rattle.std.proofs.Common.{◌++◌, codes}
+use Rattle.trace_types.specs.text.Text.{reply_text}
+use Rattle.line_protocol.proofs.PatientTexts.{WritesBoth-second}
+use Rattle.line_protocol.proofs.reply.write_apart.Goals as goal
+
+pub returns : goal.returns
+returns g c =
+    WritesBoth-second (g.W.Sink.seen c.args.writer.now) (g.W.Sink.seen c.write_bytes.new.writer) (g.W.Sink.seen c.write_reply_in.new.writer)
+    c.args.text.now (reply_text c.args.reply.now ++ codes "\n") c.write_reply_in.result (rw c.as_bytes.ensures.text at c.in_ok-write_bytes.ensures) c.write_reply_in.ensures
