@@ -242,8 +242,9 @@ impl EvTree {
         Ok(after)
     }
 
-    /// The tree after the event, as [`EvTree::event`] gives it, and a point of the id that the event raised. There is no
-    /// point where one of the two trees is higher than the 128 levels of a [`Point`], and none so near was found.
+    /// The tree after the event, as [`EvTree::event`] gives it, and a point of the id that the event raised. Finding it takes
+    /// no memory. There is none only where one of the two trees is higher than the 128 levels of a [`Point`] and each raised
+    /// point that was found lies below them.
     pub fn event_with_point(
         alloc: Global,
         id: &IdTree,
