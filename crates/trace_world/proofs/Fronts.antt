@@ -7,16 +7,6 @@ use Rattle.line_protocol.specs.Sink.{Taken}
 use Rattle.line_protocol.specs.Writing.{WritesText, WritesBoth, GoesWell, GoesWrong, EndsInFault}
 use Rattle.line_protocol.proofs.WritingLemmas.{WritesFront-first, WritesFront-later}
 
--- what holds holds on an error
-pub OnErr-always : {T E P : Type 0} (result : Result T E) → P → OnErr result P
-OnErr-always (Ok value) h = tt
-OnErr-always (Err error) h = h
-
--- what holds of each error holds of the one that there is
-pub IfErr-always : {T E : Type 0} {P : E → Type 0} (result : Result T E) → ((error : E) → P error) → IfErr result P
-IfErr-always (Ok value) h = tt
-IfErr-always (Err error) h = h error
-
 -- what holds of this error holds of the one that there is
 pub IfErr-equal : {T E : Type 0} (P : E → Type 0) (result : Result T E) (error : E) → IsErrAnd result (λ e. e ≡ error) → P error → IfErr result P
 IfErr-equal P (Ok value) error is h = tt
