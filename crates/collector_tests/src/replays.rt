@@ -8,7 +8,7 @@ use std::io::{Error, ErrorKind, Read, Write};
 use std::process::Abort;
 use std::test::Fail;
 use trace_types::{Limits, Name};
-use trace_world::{Counts, ReplayFault, World, replay};
+use trace_world::{Counts, ReplayFault, World, replay, replay_bytes};
 
 /// How a reader or a writer goes: one call fails once so many bytes were moved.
 #[derive(Clone, Copy)]
@@ -123,11 +123,8 @@ fn stops<R: Abort + AllocGlobal>(
         outcome == Err(fault) && text.as_slice() == want.as_bytes(),
         "{want}"
     );
-    let (outcome, text) = replayed(rt, &mut world, b"x count\n", Pace::ENDLESS, Pace::ENDLESS);
-    assert!(rt;
-        outcome.is_ok() && text.as_slice() == count.as_bytes(),
-        "after {want}"
-    );
+    let text = replay_bytes(rt, rt.alloc(), &mut world, b"x count\n")?;
+    assert!(rt; text.as_slice() == count.as_bytes(), "after {want}");
     Ok(())
 }
 
