@@ -9,4 +9,3 @@ pub mod Sharing
 pub mod Tasks
 pub mod TreeClock
 pub mod Upheld
-pub mod PrivatePoints

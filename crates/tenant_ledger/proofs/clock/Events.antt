@@ -8,9 +8,6 @@ use Rattle.tenant_ledger.proofs.clock.Reaching.{new_event, first_of, second_of}
 pub event_bounds : (history : History) (event : ℕ) → IsTrue (is_event history event) → (0 < event) × (event ≤ length history)
 event_bounds history event is = grind (arith, nat_tests)
 
-pub event_from_bounds : (history : History) (event : ℕ) → 0 < event → event ≤ length history → IsTrue (is_event history event)
-event_from_bounds history event positive within = grind (arith, nat_tests)
-
 -- an event that is not the newest one was one before
 pub older_event : (row : Row) (earlier : History) (event : ℕ) → event ≢ new_event earlier → IsTrue (is_event (row ∷ earlier) event)
     → IsTrue (is_event earlier event)
@@ -28,11 +25,7 @@ module _ {Id Tree : Type 0} (clock : Clock Id Tree) (row : Row) (earlier : Histo
   abbrev pub known_before_new : Tree
   known_before_new = known_before clock row.kind (tree_of clock earlier (first_of row earlier)) (tree_of clock earlier (second_of row earlier))
 
-  -- what the new event knows
-  abbrev pub new_tree : Tree
-  new_tree = clock.event (acting_id clock earlier row) known_before_new
-
-  pub tree_of-new : tree_of clock (row ∷ earlier) (new_event earlier) ≡ new_tree
+  pub tree_of-new : tree_of clock (row ∷ earlier) (new_event earlier) ≡ clock.event (acting_id clock earlier row) known_before_new
   tree_of-new = cond-true (eqb (new_event earlier) (new_event earlier)) _ _ (eq-eqb (new_event earlier) (new_event earlier) refl)
 
   pub tree_of-older : (event : ℕ) → event ≢ new_event earlier → tree_of clock (row ∷ earlier) event ≡ tree_of clock earlier event

@@ -1,35 +1,18 @@
 -- Rows that some requests leave are a legal history.
-use Rattle.std.proofs.Common.{◌≡◌, Bool, false, List, [], ◌∷◌, Option, Some, None, option_map, refl, sym, subst, arith}
-use Rattle.std.proofs.lemmas.Bool.{not-false}
+use Rattle.std.proofs.Common.{◌≡◌, List, [], ◌∷◌, Option, Some, None, option_map, refl, sym, subst, arith}
 use Rattle.std.proofs.lemmas.Bool.Decides.{nat_tests}
 use Rattle.std.proofs.lemmas.List.{reverse-append}
-use Rattle.tenant_ledger.proofs.Words.{Limits, History, history_of, first_code, refusals, refusal_of, reported, Tenant, fresh, row_after, with_row, answer_to, step_unless, step, after, AreLegal, Code, Row, Reported, Request, Allows, IsLegal}
-use Rattle.trace_types.specs.declared.request.Request.TheVariants.{Local, Spawn, Send, Recv, End, Join, Count}
+use Rattle.tenant_ledger.proofs.Words.{Limits, History, history_of, refusal_of, reported, Tenant, fresh, row_after, with_row, answer_to, step_unless, step, after, AreLegal, Code, Row, Reported, Request, Allows, IsLegal}
+use Rattle.trace_types.specs.declared.request.Request.TheVariants.{Count}
 
--- no test holds
-abbrev NoneHolds : List (Bool × Code) → Type 0
-NoneHolds [] = Unit {0}
-NoneHolds (refusal ∷ others) = (refusal.0 ≡ false) × NoneHolds others
-
--- where no code is found no test holds
-none_holds : (tests : List (Bool × Code)) → first_code tests ≡ None → NoneHolds tests
-none_holds [] none = tt
-none_holds (refusal ∷ others) none = (grind (arith, nat_tests), none_holds others (grind (arith, nat_tests)))
-
--- so a report that is not refused is allowed
+-- a report that is not refused is allowed
 abbrev AllowsReport : History → Option Reported → Type 0
 AllowsReport history None = Unit {0}
 AllowsReport history (Some report) = Allows history report.task report.kind report.name
 
-allows_report : (limits : Limits) (history : History) (request : Request) → NoneHolds (refusals limits history request) → AllowsReport history (reported request)
-allows_report limits history (Local task) (known, (live, others)) = ((not-false _ known, live), tt)
-allows_report limits history (Spawn task child) (known, (live, (new, others))) = ((not-false _ known, live), new)
-allows_report limits history (Send task message) (known, (live, (new, others))) = ((not-false _ known, live), new)
-allows_report limits history (Recv task message) (known, (live, (sent, (not_received, others)))) = ((not-false _ known, live), (not-false _ sent, not_received))
-allows_report limits history (End task) (known, (live, others)) = ((not-false _ known, live), tt)
-allows_report limits history (Join task child) (known, (live, (child_known, (ended, (not_joined, others))))) =
-    ((not-false _ known, live), (not-false _ child_known, not-false _ ended, not_joined))
-allows_report limits history query none = tt
+allows_report : (limits : Limits) (history : History) (request : Request) → refusal_of limits history request ≡ None → AllowsReport history (reported request)
+allows_report limits history Count none = tt
+allows_report limits history request none = grind (arith, nat_tests)
 
 -- and adds its row
 abbrev row_of_report : History → Reported → Row
@@ -49,7 +32,7 @@ legal_after_step tenant request legal = by (refusal_of tenant.limits (history_of
 
     by : (refusal : Option Code) → refusal_of tenant.limits (history_of tenant.rows) request ≡ refusal → IsLegal (history_of (step_unless refusal tenant request).1.rows)
     by None is = subst (λ row. IsLegal (history_of (with_row tenant row).rows)) (sym (adds_its_row (history_of tenant.rows) request))
-        (with_report (reported request) (allows_report tenant.limits (history_of tenant.rows) request (none_holds (refusals tenant.limits (history_of tenant.rows) request) is)))
+        (with_report (reported request) (allows_report tenant.limits (history_of tenant.rows) request is))
     by (Some code) is = legal
 
 legal_after : (tenant : Tenant) (requests : List Request) → IsLegal (history_of tenant.rows) → IsLegal (history_of (after tenant requests).rows)

@@ -1,7 +1,7 @@
 -- One more row of any kind keeps the invariant, where its ids and its tree are in order.
 use Rattle.std.proofs.Common.{◌≡◌, ◌≢◌, ◌⊎◌, ℕ, ◌<◌, ◌≤◌, true, false, Bool, IsTrue, ◌∷◌, sym, ap, ◌∙◌, subst, inl, inr, arith}
 use Rattle.std.proofs.lemmas.Bool.Decides.{nat_tests}
-use Rattle.std.proofs.lemmas.Bool.{false≢true, cases_Bool, cases_eq}
+use Rattle.std.proofs.lemmas.Bool.{true_from_ne_false, cases_Bool, cases_eq}
 use Rattle.tenant_ledger.proofs.Words.{Text, History, last_event, is_event, reaches, Clock, id_of, tree_of, acting_id, Row, OwnsSome, Raises, ClockLaws, IsLive, holds, value_of, OneHolder, HolderIsAhead, IsPrivate, HasPrivatePoint, EventsHavePrivatePoints, TreesRise, Invariant}
 use Rattle.trace_types.proofs.Reachability.{last_event-le, reaches_earlier}
 use Rattle.tenant_ledger.proofs.clock.Events.{known_before_new, tree_of-new, tree_of-older, event_bounds, older_event}
@@ -61,10 +61,7 @@ module _ {Id Tree : Type 0} {clock : Clock Id Tree} {Point : Type 0} {IsNormalId
         (laws.event_raises (acting_id clock earlier row) (known_before_new clock row earlier) (acting_id_normal laws row earlier) new.id_some gathered.normal)
 
     raised_within : is_within new_raises.rises.0 ≡ true
-    raised_within = elim (cases_Bool (is_within new_raises.rises.0)) [
-      | inl within ↦ within
-      | inr outside ↦ absurd (omega (arith, new_raises.rises.1, new_raises.outside new_raises.rises.0 outside))
-    ]
+    raised_within = true_from_ne_false _ λ outside. omega (arith, new_raises.rises.1, new_raises.outside new_raises.rises.0 outside)
 
     trees_normal : (event : ℕ) → IsNormalTree (tree_of clock (row ∷ earlier) event)
     trees_normal event = elim (cases_eq event (new_event earlier)) [
@@ -72,14 +69,9 @@ module _ {Id Tree : Type 0} {clock : Clock Id Tree} {Point : Type 0} {IsNormalId
       | inr older ↦ subst IsNormalTree (sym (tree_of-older clock row earlier event older)) (before.normal.trees event)
     ]
 
-    stood_by : (task : Text) (point : Point) → is_within point ≡ false → holds laws (row ∷ earlier) task point ≡ true → StoodBy task point
-    stood_by task point outside held = elim (new.holders task point held) [ inl took ↦ absurd (false≢true (sym outside ∙ took.1)) | inr stood ↦ stood ]
-
     one_holder : OneHolder laws (row ∷ earlier)
-    one_holder task other point held other_held = elim (cases_Bool (is_within point)) [
-      | inl within ↦ new.one_within task other point within held other_held
-      | inr outside ↦ before.one_holder task other point (stood_by task point outside held).1 (stood_by other point outside other_held).1
-    ]
+    one_holder task other point held other_held =
+        grind (arith, nat_tests, new.holders task point held, new.holders other point other_held, new.one_within task other point, before.one_holder task other point)
 
     -- at a point of its id no event before knows more than is known before the new one
     all_below : (point : Point) → is_within point ≡ true → (event : ℕ) → value_of laws earlier event point ≤ base_value point
@@ -102,21 +94,18 @@ module _ {Id Tree : Type 0} {clock : Clock Id Tree} {Point : Type 0} {IsNormalId
 
     holder_is_ahead : HolderIsAhead laws (row ∷ earlier)
     holder_is_ahead task point held event =
-        let IsAhead = λ (last : ℕ). value_of laws (row ∷ earlier) event point ≤ value_of laws (row ∷ earlier) last point in
+        let value_at = λ (last : ℕ). value_of laws (row ∷ earlier) last point in
+        let not_new : last_event earlier task ≢ new_event earlier = λ is. omega (arith, last_event-le earlier task, is) in
         elim (new.holders task point held) [
-          | inl took ↦ subst IsAhead (sym took.0) (new_is_ahead point took.1 event)
-          | inr stood ↦
-              let not_new : last_event earlier task ≢ new_event earlier = λ is. omega (arith, last_event-le earlier task, is) in
-              subst IsAhead (sym stood.0) (omega (arith, value_of-older (last_event earlier task) point not_new, stays_ahead task point stood.1 stood.2 event))
+          | inl took ↦ omega (arith, ap value_at took.0, new_is_ahead point took.1 event)
+          | inr stood ↦ omega (arith, ap value_at stood.0, value_of-older (last_event earlier task) point not_new, stays_ahead task point stood.1 stood.2 event)
         ]
 
     -- the new event knows as much of a point as an event before it only where one that its row follows does
     followed_knows : (event : ℕ) (point : Point) → value_of laws earlier event point ≤ new_value point
         → (other : ℕ) × Follows row earlier other × (value_of laws earlier event point ≤ value_of laws earlier other point)
     followed_knows event point known = elim (cases_Bool (is_within point)) [
-      | inl within ↦
-          let was : WasHeld point = new.was_held point within in
-          (last_event earlier was.task, was.followed, before.holder_is_ahead was.task point was.held event)
+      | inl within ↦ let was = new.was_held point within in (last_event earlier was.task, was.followed, before.holder_is_ahead was.task point was.held event)
       | inr outside ↦ let from = gathered.from_followed point in (from.0, from.1, omega (arith, known, new_raises.outside point outside, from.2))
     ]
 

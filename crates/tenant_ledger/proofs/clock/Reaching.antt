@@ -3,7 +3,7 @@ use Rattle.std.proofs.Common.{◌≡◌, ◌≢◌, ◌⊎◌, ℕ, suc, ◌<◌
 use Rattle.std.specs.List.{list_any}
 use Rattle.std.proofs.lemmas.Bool.Decides.{nat_tests}
 use Rattle.std.proofs.lemmas.Bool.{eqb-true, or_right}
-use Rattle.tenant_ledger.proofs.Words.{History, last_event, increasing, second_event, predecessors, reaches, Row}
+use Rattle.tenant_ledger.proofs.Words.{History, last_event, increasing, second_event, reaches, Row}
 use Rattle.trace_types.proofs.Reachability.{last_event-le, second_event-le, reaches_newest}
 
 -- the event that a row adds
@@ -26,21 +26,13 @@ pub followed-le : (row : Row) (earlier : History) (event : ℕ) → Follows row 
 followed-le row earlier event (inl first) = omega (arith, first, last_event-le earlier row.task)
 followed-le row earlier event (inr second) = omega (arith, second, second_event-le earlier row.kind row.name)
 
--- a test that holds of some event among two numbers holds of one of the two
-of_increasing : (test : ℕ → Bool) (a b : ℕ) → list_any test (increasing a b) ≡ true → (test a ≡ true) ⊎ (test b ≡ true)
-of_increasing test a b any = grind (arith, nat_tests)
-
--- and where it holds of one of them, which is an event, it holds of some
+-- a test that holds of one of two numbers, which is an event, holds of some among them
 any_of_increasing : (test : ℕ → Bool) (a b event : ℕ) → event ≢ 0 → (event ≡ a) ⊎ (event ≡ b) → test event ≡ true → list_any test (increasing a b) ≡ true
 any_of_increasing test a b event some one holds = grind (arith, nat_tests)
 
 -- the row follows an event that this one reaches
 abbrev pub ReachesFollowed : Row → History → ℕ → Type 0
 ReachesFollowed row earlier a = (event : ℕ) × Follows row earlier event × (reaches earlier a event ≡ true)
-
-reaches_followed : (row : Row) (earlier : History) (a : ℕ)
-    → list_any (λ event. reaches earlier a event) (predecessors earlier row.task row.kind row.name) ≡ true → ReachesFollowed row earlier a
-reaches_followed row earlier a any = grind (arith, nat_tests)
 
 pub new_reaches_itself : (row : Row) (earlier : History) → reaches (row ∷ earlier) (new_event earlier) (new_event earlier) ≡ true
 new_reaches_itself row earlier = grind (arith, nat_tests)

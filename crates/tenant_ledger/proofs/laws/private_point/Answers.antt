@@ -1,6 +1,6 @@
-use Rattle.trace_types.specs.tenant.Rows.{history_of}
+use Rattle.tenant_ledger.proofs.Words.{history_of}
 use Rattle.tenant_ledger.proofs.clock.Legality.{IsLegal_from_AreLegal}
-use Rattle.tenant_ledger.proofs.clock.PrivatePoints.{decides_reach}
+use Rattle.tenant_ledger.proofs.clock.Consequences.{decides_reach}
 use Rattle.tenant_ledger.proofs.laws.private_point.Goals as goal
 
 pub returns : goal.returns
