@@ -2,7 +2,7 @@
 use Rattle.std.proofs.Common.{length-append, ◌≢◌, ℕ, ◌<◌, ◌≤◌, true, List, ◌++◌, subst, [], ◌∷◌, length, refl, ap, ◌∙◌, inl, inr, arith, ◌≡◌, ◌↔◌, IsTrue, eqb, sym}
 use Rattle.std.proofs.lemmas.Bool.Decides.{nat_tests}
 use Rattle.std.proofs.lemmas.Bool.{cases_eq, cond_both, false≢true, eqb-true, eqb-false}
-use Rattle.tenant_ledger.proofs.Words.{owns, IsPrivate, Text, History, Zero, AreDisjoint, maximum, tree_clock, id_of, tree_of, acting_id, Row, IsLegal, is_event, reaches, order_of, EventTree, value, Clock, Order, Same, StandsAs, ClockLaws, value_of, Invariant}
+use Rattle.tenant_ledger.proofs.Words.{owns, IsPrivate, Text, History, Zero, AreDisjoint, maximum, tree_clock, id_of, tree_of, acting_id, Row, IsLegal, is_event, reaches, order_of, value, Clock, Order, StandsAs, ClockLaws, value_of, Invariant}
 use Rattle.trace_types.specs.clock.Points.{Point}
 use Rattle.tenant_ledger.specs.Laws.{DecidesReach, IsRaisedBy, known_before_event}
 use Rattle.event_tree.proofs.Joined.{maximum-joined-le}
@@ -22,9 +22,6 @@ below_iff_reaches laws history holds a b is =
     let private = holds.private_points a is in
     (λ below. private.1 b (below private.0), λ reached. holds.trees_rise a b reached)
 
-equal_stand_as_same : (e f : EventTree) → e ≡ f → StandsAs Same e f
-equal_stand_as_same e f equal = ((λ point. omega (arith, ap (λ tree. value tree point) equal)), (λ point. omega (arith, ap (λ tree. value tree point) equal)))
-
 -- each two events' trees stand to each other as the events do in the graph
 pub stands_as_ordered : (history : History) → IsLegal history → (a b : ℕ) → IsTrue (is_event history a) → IsTrue (is_event history b)
     → StandsAs (order_of history a b) (tree_of tree_clock history a) (tree_of tree_clock history b)
@@ -34,7 +31,7 @@ stands_as_ordered history legal a b a_is b_is =
     let above = below_iff_reaches tree_clock_laws history holds b a b_is in
     let Stands = λ (order : Order). StandsAs order (tree_of tree_clock history a) (tree_of tree_clock history b) in
     cond_both (eqb a b) _ _ Stands
-    (λ same. equal_stand_as_same (tree_of tree_clock history a) (tree_of tree_clock history b) (ap (tree_of tree_clock history) (eqb-true a b same)))
+    (λ same. rw (eqb-true a b same) ((λ point. omega arith), (λ point. omega arith)))
     λ differ. cond_both (reaches history a b) _ _ Stands
     (λ forth. (below.1 forth, λ is_above. eqb-false a b differ (grind (arith, reaches_forward history a b forth, reaches_forward history b a (above.0 is_above)))))
     λ not_forth. cond_both (reaches history b a) _ _ Stands

@@ -8,11 +8,6 @@ use Rattle.tenant_ledger.proofs.clock.Reaching.{new_event, first_of, second_of}
 pub event_bounds : (history : History) (event : ℕ) → IsTrue (is_event history event) → (0 < event) × (event ≤ length history)
 event_bounds history event is = grind (arith, nat_tests)
 
--- an event that is not the newest one was one before
-pub older_event : (row : Row) (earlier : History) (event : ℕ) → event ≢ new_event earlier → IsTrue (is_event (row ∷ earlier) event)
-    → IsTrue (is_event earlier event)
-older_event row earlier event older is = grind (arith, nat_tests)
-
 -- what is no event knows nothing
 pub tree_of-nothing : {Id Tree : Type 0} (clock : Clock Id Tree) (history : History) → tree_of clock history 0 ≡ clock.start
 tree_of-nothing clock [] = refl

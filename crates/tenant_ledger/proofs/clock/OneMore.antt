@@ -4,7 +4,7 @@ use Rattle.std.proofs.lemmas.Bool.Decides.{nat_tests}
 use Rattle.std.proofs.lemmas.Bool.{true_from_ne_false, cases_Bool, cases_eq}
 use Rattle.tenant_ledger.proofs.Words.{Text, History, last_event, is_event, reaches, Clock, id_of, tree_of, acting_id, Row, OwnsSome, Raises, ClockLaws, IsLive, holds, value_of, OneHolder, HolderIsAhead, IsPrivate, HasPrivatePoint, EventsHavePrivatePoints, TreesRise, Invariant}
 use Rattle.trace_types.proofs.Reachability.{last_event-le, reaches_earlier}
-use Rattle.tenant_ledger.proofs.clock.Events.{known_before_new, tree_of-new, tree_of-older, event_bounds, older_event}
+use Rattle.tenant_ledger.proofs.clock.Events.{known_before_new, tree_of-new, tree_of-older, event_bounds}
 use Rattle.tenant_ledger.proofs.clock.Gathered.{Gathers, gathers}
 use Rattle.tenant_ledger.proofs.clock.Normal.{acting_id_normal}
 use Rattle.tenant_ledger.proofs.clock.Reaching.{new_event, Follows, new_reaches_itself, followed-le, reached_from, reached_from_older, reaches_from_followed}
@@ -135,7 +135,7 @@ module _ {Id Tree : Type 0} {clock : Clock Id Tree} {Point : Type 0} {IsNormalId
     private_points event is_one = elim (cases_eq event (new_event earlier)) [
       | inl is ↦ subst (HasPrivatePoint laws (row ∷ earlier)) (sym is) (new_raises.rises.0, raised_is_private new_raises.rises.0 raised_within new_raises.rises.1)
       | inr older ↦
-          let is_old = older_event row earlier event older is_one in
+          let is_old : IsTrue (is_event earlier event) = grind (arith, nat_tests, older, is_one) in
           let private = before.private_points event is_old in
           (private.0, stays_private event is_old private.0 private.1)
     ]
@@ -146,14 +146,9 @@ module _ {Id Tree : Type 0} {clock : Clock Id Tree} {Point : Type 0} {IsNormalId
       | inr earlier_one ↦ elim earlier_one [
         | inl (last, (followed, follows, known)) ↦
             let older = reached_from_older earlier event followed (λ is. omega (arith, followed-le row earlier followed follows, is)) known in
-            omega (
-              arith,
-              value_of-older event point older,
-              value_of-new other point last,
-              before.trees_rise event followed known point,
-              gathered.followed_below followed follows point,
-              new_raises.above point,
-            )
+            let rises = before.trees_rise event followed known point in
+            let below = gathered.followed_below followed follows point in
+            omega (arith, value_of-older event point older, value_of-new other point last, rises, below, new_raises.above point)
         | inr (other_older, known) ↦
             let older = reached_from_older earlier event other other_older known in
             omega (arith, value_of-older event point older, value_of-older other point other_older, before.trees_rise event other known point)

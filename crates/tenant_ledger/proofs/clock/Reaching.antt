@@ -1,10 +1,9 @@
 -- Which events reach the new one and which the others, and that reaching goes forward.
-use Rattle.std.proofs.Common.{◌≡◌, ◌≢◌, ◌⊎◌, ℕ, suc, ◌<◌, ◌≤◌, Bool, true, eqb, [], ◌∷◌, length, refl, sym, ◌∙◌, inl, inr, arith}
-use Rattle.std.specs.List.{list_any}
+use Rattle.std.proofs.Common.{◌≡◌, ◌≢◌, ◌⊎◌, ℕ, suc, ◌<◌, ◌≤◌, true, [], ◌∷◌, length, sym, inl, inr, arith}
 use Rattle.std.proofs.lemmas.Bool.Decides.{nat_tests}
-use Rattle.std.proofs.lemmas.Bool.{eqb-true, or_right}
-use Rattle.tenant_ledger.proofs.Words.{History, last_event, increasing, second_event, reaches, Row}
-use Rattle.trace_types.proofs.Reachability.{last_event-le, second_event-le, reaches_newest}
+use Rattle.std.proofs.lemmas.Bool.{eqb-true}
+use Rattle.tenant_ledger.proofs.Words.{History, last_event, second_event, reaches, Row}
+use Rattle.trace_types.proofs.Reachability.{last_event-le, second_event-le}
 
 -- the event that a row adds
 abbrev pub new_event : History → ℕ
@@ -25,10 +24,6 @@ Follows row earlier event = (event ≡ first_of row earlier) ⊎ (event ≡ seco
 pub followed-le : (row : Row) (earlier : History) (event : ℕ) → Follows row earlier event → event ≤ length earlier
 followed-le row earlier event (inl first) = omega (arith, first, last_event-le earlier row.task)
 followed-le row earlier event (inr second) = omega (arith, second, second_event-le earlier row.kind row.name)
-
--- a test that holds of one of two numbers, which is an event, holds of some among them
-any_of_increasing : (test : ℕ → Bool) (a b event : ℕ) → event ≢ 0 → (event ≡ a) ⊎ (event ≡ b) → test event ≡ true → list_any test (increasing a b) ≡ true
-any_of_increasing test a b event some one holds = grind (arith, nat_tests)
 
 -- the row follows an event that this one reaches
 abbrev pub ReachesFollowed : Row → History → ℕ → Type 0
@@ -57,13 +52,7 @@ reaches_forward (row ∷ earlier) a b reached = elim (reached_from row earlier a
 pub reached_from_older : (earlier : History) (a b : ℕ) → b ≢ new_event earlier → reaches earlier a b ≡ true → a ≢ new_event earlier
 reached_from_older earlier a b older reached is = grind (arith, reaches_forward earlier a b reached)
 
--- and no event reaches 0
-reaches_nothing : (history : History) (a b : ℕ) → a ≢ 0 → reaches history a b ≡ true → b ≢ 0
-reaches_nothing history a b some reached zero = grind (arith, reaches_forward history a b reached)
-
 -- an event that reaches one that the row follows reaches the new one
 pub reaches_from_followed : (row : Row) (earlier : History) (a : ℕ) → a ≢ 0 → ReachesFollowed row earlier a
     → reaches (row ∷ earlier) a (new_event earlier) ≡ true
-reaches_from_followed row earlier a some (event, follows, reached) =
-    reaches_newest row earlier a (new_event earlier) refl
-    ∙ or_right (eqb (new_event earlier) a) _ (any_of_increasing (λ e. reaches earlier a e) (first_of row earlier) (second_of row earlier) event (reaches_nothing earlier a event some reached) follows reached)
+reaches_from_followed row earlier a some (event, follows, reached) = grind (arith, nat_tests, reaches_forward earlier a event reached)

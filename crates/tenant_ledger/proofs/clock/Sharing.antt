@@ -33,19 +33,13 @@ module _ {Id Tree : Type 0} {clock : Clock Id Tree} {Point : Type 0} {IsNormalId
   named_once (Some name) one other is is_too = sym ((is_same_iff name one).0 is) ∙ (is_same_iff name other).0 is_too
 
   module _ (shares : SharesOut) where
-    -- a task that holds a point is the acting one, or has it from the row, or held it before
-    abbrev Part : Point → Text → Type 0
-    Part point task = ((row.task ≡ task) × (laws.owns kept point ≡ true)) ⊎ (IsGiven task point ⊎ StoodBy laws row earlier task point)
-
-    part : (task : Text) (point : Point) → holds laws (row ∷ earlier) task point ≡ true → Part point task
-    part task point held = grind (arith, nat_tests, is_same_iff row.task task, shares.others task point)
-
     holders : (task : Text) (point : Point) → holds laws (row ∷ earlier) task point ≡ true → TookPart laws row earlier task point ⊎ StoodBy laws row earlier task point
-    holders task point held = grind (arith, nat_tests, part task point held, is_same_iff row.task task, last_event-acting row earlier task, shares.kept_within point)
+    holders task point held = grind (arith, nat_tests, is_same_iff row.task task, shares.others task point, last_event-acting row earlier task, shares.kept_within point)
 
     one_within : (task other : Text) (point : Point) → is_within laws row earlier point ≡ true
         → holds laws (row ∷ earlier) task point ≡ true → holds laws (row ∷ earlier) other point ≡ true → task ≡ other
-    one_within task other point within held other_held = grind (arith, part task point held, part other point other_held, named_once row.name task other)
+    one_within task other point within held other_held =
+        grind (arith, nat_tests, is_same_iff row.task task, is_same_iff row.task other, shares.others task point, shares.others other point, named_once row.name task other)
 
     live_some : (task : Text) → IsLive (row ∷ earlier) task → OwnsSome laws.owns (id_of clock (row ∷ earlier) task)
     live_some task live = elim (cases_Bool (is_same row.task task)) [

@@ -1,8 +1,8 @@
 -- What one row more makes of the tasks: which are known and ended, and their last events.
 use Rattle.std.proofs.lemmas.Bool.Decides.{nat_tests}
-use Rattle.std.proofs.Common.{◌≡◌, suc, true, false, [], ◌∷◌, length, refl, sym, ◌∙◌, subst, arith}
+use Rattle.std.proofs.Common.{◌≡◌, suc, true, false, [], ◌∷◌, length, refl, arith}
 use Rattle.std.specs.List.{list_any}
-use Rattle.std.proofs.lemmas.Bool.{false≢true, ne_eqb, or_parts, false_from_ne_true}
+use Rattle.std.proofs.lemmas.Bool.{ne_eqb, or_parts}
 use Rattle.tenant_ledger.proofs.Words.{Text, is_same, History, newest, is_of, starts, ends, last_event, is_known, is_ended, Row, IsLive, IsLegal}
 use Rattle.trace_types.proofs.Names.{is_same_iff}
 
@@ -31,15 +31,11 @@ unwas_known row earlier task unknown = grind (arith, nat_tests)
 
 -- what is live is no task that is not known
 pub live_is_not_unknown : (history : History) (task other : Text) → IsLive history task → is_known history other ≡ false → is_same task other ≡ false
-live_is_not_unknown history task other live unknown =
-    false_from_ne_true (is_same task other)
-    (λ same. false≢true (sym unknown ∙ subst (λ name. is_known history name ≡ true) ((is_same_iff task other).0 same) live.0))
+live_is_not_unknown history task other live unknown = grind (arith, nat_tests, is_same_iff task other)
 
 -- nor one that has ended
 pub live_is_not_ended : (history : History) (task other : Text) → IsLive history task → is_ended history other ≡ true → is_same task other ≡ false
-live_is_not_ended history task other live ended =
-    false_from_ne_true (is_same task other)
-    (λ same. false≢true (sym live.1 ∙ subst (λ name. is_ended history name ≡ true) (sym ((is_same_iff task other).0 same)) ended))
+live_is_not_ended history task other live ended = grind (arith, nat_tests, is_same_iff task other)
 
 -- a task that is not known has no event
 pub unknown_has_no_event : (history : History) (task : Text) → IsLegal history → is_known history task ≡ false → newest (is_of task) history ≡ 0

@@ -1,7 +1,7 @@
 -- Each legal history keeps the invariant.
 use Rattle.std.proofs.lemmas.Bool.Decides.{nat_tests}
-use Rattle.std.proofs.Common.{◌≡◌, true, [], ◌∷◌, sym, ◌∙◌, arith}
-use Rattle.tenant_ledger.proofs.Words.{Text, is_same, root, History, Clock, id_of, Row, ClockLaws, OwnsSome, IsLive, IsLegal, holds, Invariant}
+use Rattle.std.proofs.Common.{[], ◌∷◌, arith}
+use Rattle.tenant_ledger.proofs.Words.{root, History, Clock, Row, ClockLaws, IsLegal, Invariant}
 use Rattle.trace_types.proofs.Names.{is_same_iff}
 use Rattle.tenant_ledger.proofs.clock.Events.{event_bounds}
 use Rattle.tenant_ledger.proofs.clock.OneMore.{IsInOrder, keeps_invariant}
@@ -9,18 +9,11 @@ use Rattle.tenant_ledger.proofs.clock.Sharing.{allowed_is_in_order}
 
 module _ {Id Tree : Type 0} {clock : Clock Id Tree} {Point : Type 0} {IsNormalId : Id → Type 0} {IsNormalTree : Tree → Type 0}
     (laws : ClockLaws clock Point IsNormalId IsNormalTree) where
-  holder_is_root : (task : Text) (point : Point) → holds laws [] task point ≡ true → task ≡ root
-  holder_is_root task point held =
-      let same : is_same task root ≡ true = grind (arith, nat_tests, laws.nobody_owns point) in (is_same_iff task root).0 same
-
-  root_owns_some : (task : Text) → IsLive [] task → OwnsSome laws.owns (id_of clock [] task)
-  root_owns_some task live = grind (arith, nat_tests)
-
   -- before any row
   first_invariant : Invariant laws []
   first_invariant = record {
-    normal = record { trees = λ event. laws.start_normal; some = root_owns_some };
-    one_holder = λ task other point held other_held. holder_is_root task point held ∙ sym (holder_is_root other point other_held);
+    normal = record { trees = λ event. laws.start_normal; some = λ task live. grind (arith, nat_tests) };
+    one_holder = λ task other point held other_held. grind (arith, nat_tests, laws.nobody_owns point, is_same_iff task root, is_same_iff other root);
     holder_is_ahead = λ task point held event. omega arith;
     private_points = λ event is. let bounds = event_bounds [] event is in absurd (omega (arith, bounds.0, bounds.1));
     trees_rise = λ event other reached point. omega arith;
