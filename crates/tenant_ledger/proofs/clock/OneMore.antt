@@ -7,7 +7,7 @@ use Rattle.trace_types.proofs.Reachability.{last_event-le, reaches_earlier}
 use Rattle.tenant_ledger.proofs.clock.Events.{known_before_new, tree_of-new, tree_of-older, event_bounds}
 use Rattle.tenant_ledger.proofs.clock.Gathered.{Gathers, gathers}
 use Rattle.tenant_ledger.proofs.clock.Normal.{acting_id_normal}
-use Rattle.tenant_ledger.proofs.clock.Reaching.{new_event, Follows, new_reaches_itself, followed-le, reached_from, reached_from_older, reaches_from_followed}
+use Rattle.tenant_ledger.proofs.clock.Reaching.{new_event, Follows, followed-le, reached_from, reached_from_older, reaches_from_followed}
 
 module _ {Id Tree : Type 0} {clock : Clock Id Tree} {Point : Type 0} {IsNormalId : Id → Type 0} {IsNormalTree : Tree → Type 0}
     (laws : ClockLaws clock Point IsNormalId IsNormalTree) (row : Row) (earlier : History) where
@@ -113,7 +113,7 @@ module _ {Id Tree : Type 0} {clock : Clock Id Tree} {Point : Type 0} {IsNormalId
     pub raised_is_private : (point : Point) → is_within point ≡ true → base_value point < new_value point
         → IsPrivate laws (row ∷ earlier) (new_event earlier) point
     raised_is_private point within higher other known = elim (cases_eq other (new_event earlier)) [
-      | inl is ↦ subst (λ e. reaches (row ∷ earlier) (new_event earlier) e ≡ true) (sym is) (new_reaches_itself row earlier)
+      | inl is ↦ grind (arith, nat_tests, is)
       | inr older ↦ absurd (omega (arith, known, value_of-older other point older, all_below point within other, higher))
     ]
 

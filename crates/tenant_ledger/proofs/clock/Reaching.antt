@@ -29,9 +29,6 @@ followed-le row earlier event (inr second) = omega (arith, second, second_event-
 abbrev pub ReachesFollowed : Row → History → ℕ → Type 0
 ReachesFollowed row earlier a = (event : ℕ) × Follows row earlier event × (reaches earlier a event ≡ true)
 
-pub new_reaches_itself : (row : Row) (earlier : History) → reaches (row ∷ earlier) (new_event earlier) (new_event earlier) ≡ true
-new_reaches_itself row earlier = grind (arith, nat_tests)
-
 -- what reaches an event after one row more is that event, or reaches one that the row follows, or did so before
 pub reached_from : (row : Row) (earlier : History) (a b : ℕ) → reaches (row ∷ earlier) a b ≡ true
     → (a ≡ b) ⊎ (((b ≡ new_event earlier) × ReachesFollowed row earlier a) ⊎ ((b ≢ new_event earlier) × (reaches earlier a b ≡ true)))
