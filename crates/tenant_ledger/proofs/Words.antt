@@ -1,4 +1,11 @@
--- The names of the definitions that the proofs cite, passed on from one place. Declares nothing.
+-- The names of the definitions and of the general lemmas that the proofs cite, passed on from one place. Declares nothing.
+pub use Rattle.std.proofs.lemmas.Bool.{and_left, and_right, cases_Bool, cases_eq, cond-false, cond-true, cond_both, eq-eqb, eqb-true, false_from_ne_true, false≢true, ne_eqb, or_left, or_parts, or_right}
+pub use Rattle.std.proofs.lemmas.Bool.Decides.{nat_tests}
+pub use Rattle.std.proofs.lemmas.List.{append_assoc, length-append, length-map, length-reverse, map-append, reverse-append, reverse-reverse}
+pub use Rattle.std.proofs.lemmas.List.Sums.{sum_by-append}
+pub use Rattle.std.proofs.lemmas.Option.{get_or_from_slice_get, same_Some, slice_get-get_or, slice_get-map, slice_get_read, slice_get_within}
+pub use Rattle.std.proofs.Math.Path.{transport}
+pub use Rattle.trace_types.proofs.Names.{differ_by_test, is_same-itself, is_same_iff}
 pub use Rattle.event_tree.specs.Comparison.{IsBelow, StandsAs}
 pub use Rattle.message_book.specs.Book.{entry_of, entry_with_receipt, has_receipt, Messages, refusal_of_receive, with_changed, with_message, with_receipt, without_receipts}
 pub use Rattle.tenant_ledger.specs.ClockLaws.{ClockLaws, OwnsSome, Raises}

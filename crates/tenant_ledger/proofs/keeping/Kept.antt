@@ -1,10 +1,6 @@
 -- A book is kept with the event of a report that is not refused.
-use Rattle.std.proofs.lemmas.Bool.Decides.{nat_tests}
 use Rattle.std.proofs.Common.{◌≡◌, ◌≢◌, ℕ, suc, ◌-◌, ◌<◌, ◌≤◌, List, [], ◌∷◌, ◌++◌, length, map, slice_get, option_map, Some, sym, ap, ◌∙◌, subst, arith}
-use Rattle.std.proofs.lemmas.List.{length-append, length-map, length-reverse, reverse-append, map-append}
-use Rattle.std.proofs.lemmas.Option.{same_Some, slice_get-map}
-use Rattle.std.proofs.Math.Path.{transport}
-use Rattle.tenant_ledger.proofs.Words.{Text, History, history_of, task_count, tree_clock, id_of, tree_of, row_after, Row, IsLive, AllowsNamed, IsLegal, Contents, Event, IsKept, IsKeptWith, IsTask, IsReport, IsReady, HasRoom, AreMessages, Notes, history_in, task_in, of_each, id_after, event_of, with_event, tasks_with, task_count_with, Report}
+use Rattle.tenant_ledger.proofs.Words.{nat_tests, length-append, length-map, length-reverse, reverse-append, map-append, same_Some, slice_get-map, transport, Text, History, history_of, task_count, tree_clock, id_of, tree_of, row_after, Row, IsLive, AllowsNamed, IsLegal, Contents, Event, IsKept, IsKeptWith, IsTask, IsReport, IsReady, HasRoom, AreMessages, Notes, history_in, task_in, of_each, id_after, event_of, with_event, tasks_with, task_count_with, Report}
 use Rattle.message_book.specs.Book as message_book
 use Rattle.tenant_ledger.proofs.clock.Events.{tree_of-older}
 use Rattle.tenant_ledger.proofs.clock.Legality.{IsLegal_from_AreLegal}

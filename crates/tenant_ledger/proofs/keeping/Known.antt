@@ -1,12 +1,9 @@
 -- What is known of a task that the book has, or has not.
 use Rattle.std.proofs.Common.{◌≡◌, true, false, [], ◌∷◌, Option, Some, None, refl, sym, ◌∙◌, subst, arith}
 use Rattle.std.specs.Prelude.{is_some}
-use Rattle.std.proofs.lemmas.Bool.Decides.{nat_tests}
-use Rattle.std.proofs.lemmas.Bool.{false≢true, false_from_ne_true}
-use Rattle.tenant_ledger.proofs.Words.{Text, is_same, History, joins, is_known, is_ended, is_joined, state_of, Row, Kind, Join, Task, AllowsNamed, IsLegal, Contents, IsKept, IsTask, history_in, task_in}
+use Rattle.tenant_ledger.proofs.Words.{false≢true, false_from_ne_true, nat_tests, is_same_iff, Text, is_same, History, joins, is_known, is_ended, is_joined, state_of, Row, Kind, Join, Task, AllowsNamed, IsLegal, Contents, IsKept, IsTask, history_in, task_in}
 use Rattle.trace_types.specs.declared.task_state.TaskState.{TaskState}
 use Rattle.trace_types.specs.declared.task_state.TaskState.TheVariants as state
-use Rattle.trace_types.proofs.Names.{is_same_iff}
 use Rattle.tenant_ledger.proofs.clock.Legality.{IsLegal_from_AreLegal}
 use Rattle.tenant_ledger.proofs.clock.Tasks.{live_is_not_unknown, unwas_known}
 

@@ -1,10 +1,7 @@
 -- What stands at a place of a list that is longer by some items, and what is told of each event.
 use Rattle.std.proofs.Common.{◌≡◌, ◌≢◌, ℕ, suc, ◌-◌, ◌<◌, ◌≤◌, List, [], ◌∷◌, ◌++◌, length, map, slice_get, Some, refl, sym, ap, ◌∙◌, inl, inr, arith}
 use Rattle.std.proofs.Math.ListN.{get_or-append}
-use Rattle.std.proofs.lemmas.Bool.{cases_eq}
-use Rattle.std.proofs.lemmas.List.{length-append, map-append}
-use Rattle.std.proofs.lemmas.Option.{slice_get_within, slice_get-get_or, get_or_from_slice_get}
-use Rattle.tenant_ledger.proofs.Words.{Id, History, Row, of_each, with_seed}
+use Rattle.tenant_ledger.proofs.Words.{cases_eq, length-append, map-append, slice_get_within, slice_get-get_or, get_or_from_slice_get, Id, History, Row, of_each, with_seed}
 
 -- what stands in a list stands there in a longer one
 pub slice_get-longer : {X : Type 0} (xs ys : List X) (place : ℕ) (x : X) → slice_get xs place ≡ Some x → slice_get (xs ++ ys) place ≡ Some x

@@ -2,9 +2,7 @@
 use Rattle.std.proofs.Common.{◌≡◌, suc, Bool, true, false, List, [], ◌∷◌, ◌++◌, length, Option, Some, None, Result, Ok, Err, IsTrue, refl, sym, ap, ◌∙◌, subst, inl, inr}
 use Rattle.std.specs.List.{AllByRecursion}
 use Rattle.std.specs.Result.{result_err, IsErrAnd}
-use Rattle.std.proofs.lemmas.Bool.{cases_Bool, cond-false}
-use Rattle.std.proofs.lemmas.List.{length-reverse}
-use Rattle.tenant_ledger.proofs.Words.{Limits, History, history_of, first_code, refusals, refusal_of, reported, Steps, step_unless, answer_to, accepted, row_after, with_row, may_lack_memory, Tenant, Answers, is_report, step, Text, Code, NoMemory, Reply, Reported, Request, Row, Kind, Contents, Event, IsKept, Decides, Prepares, refusals_of_report, history_in, tenant_of, fresh, after, AreLegal}
+use Rattle.tenant_ledger.proofs.Words.{cases_Bool, cond-false, length-reverse, Limits, History, history_of, first_code, refusals, refusal_of, reported, Steps, step_unless, answer_to, accepted, row_after, with_row, may_lack_memory, Tenant, Answers, is_report, step, Text, Code, NoMemory, Reply, Reported, Request, Row, Kind, Contents, Event, IsKept, Decides, Prepares, refusals_of_report, history_in, tenant_of, fresh, after, AreLegal}
 use Rattle.trace_types.specs.declared.reply.Reply.TheVariants as reply
 use Rattle.trace_types.specs.declared.request.Request.TheVariants as request
 use Rattle.trace_types.specs.text.Text.{CanBeWritten}

@@ -1,11 +1,6 @@
 -- What a report that is not refused says of the ids and of the trees that its event is made of.
-use Rattle.std.proofs.lemmas.Bool.Decides.{nat_tests}
 use Rattle.std.proofs.Common.{◌≡◌, ◌≢◌, ◌+◌, ◌<◌, ◌≤◌, true, false, length, slice_get, Option, Some, None, is_some, refl, sym, ap, ◌∙◌, subst, inl, inr, arith}
-use Rattle.std.proofs.lemmas.Bool.{false≢true, cond-false}
-use Rattle.std.proofs.lemmas.List.{length-reverse}
-use Rattle.std.proofs.lemmas.Option.{same_Some, slice_get_within}
-use Rattle.tenant_ledger.proofs.Words.{Text, second_event, History, last_event, is_ended, is_joined, tree_clock, id_of, tree_of, acting_id, id_at, of_named, takes_in, Id, Zero, AreDisjoint, owns, EventTree, maximum, Row, Kind, Join, AllowsNamed, Contents, IsKept, IsReport, history_in, task_in, row_of_report, ids_made, id_for, joined_by, Report, Task}
-use Rattle.trace_types.proofs.Names.{differ_by_test}
+use Rattle.tenant_ledger.proofs.Words.{false≢true, cond-false, nat_tests, length-reverse, same_Some, slice_get_within, differ_by_test, Text, second_event, History, last_event, is_ended, is_joined, tree_clock, id_of, tree_of, acting_id, id_at, of_named, takes_in, Id, Zero, AreDisjoint, owns, EventTree, maximum, Row, Kind, Join, AllowsNamed, Contents, IsKept, IsReport, history_in, task_in, row_of_report, ids_made, id_for, joined_by, Report, Task}
 use Rattle.tenant_ledger.proofs.clock.Consequences.{ids_are_disjoint, acting_id_is_not_Zero, known_before_maximum-le}
 use Rattle.tenant_ledger.proofs.clock.Events.{known_before_new}
 use Rattle.tenant_ledger.proofs.clock.Reaching.{followed-le}

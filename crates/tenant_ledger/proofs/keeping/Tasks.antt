@@ -1,11 +1,7 @@
 -- What is to be kept of each task after a report is right.
-use Rattle.std.proofs.lemmas.Bool.Decides.{nat_tests}
 use Rattle.std.proofs.Common.{◌≡◌, ℕ, suc, ◌+◌, true, false, cond, List, [], ◌∷◌, ◌++◌, length, slice_get, Option, Some, None, is_some, refl, sym, ap, ◌∙◌, subst, arith}
-use Rattle.std.proofs.lemmas.Bool.{false≢true, cond-true, cond-false, cond_both, or_left, or_right, and_right}
-use Rattle.std.proofs.lemmas.List.Sums.{sum_by-append}
-use Rattle.tenant_ledger.proofs.Words.{Text, is_same, root, History, starts, starts_task, ends, ends_task, joins, joins_task, names, is_known, is_ended, is_joined, state_of, task_count, tree_clock, id_of, id_kept, of_named, row_after, Id, Zero, Row, Kind, Local, Spawn, End, Join, IsLive, AllowsNamed, Contents, IsKept, IsTask, history_in, task_in, ids_made, made_ids, acting_after, id_left, named_after, joined_by, task_with, count_with, task_with_some, count_with_some, Task}
+use Rattle.tenant_ledger.proofs.Words.{false≢true, cond-true, cond-false, cond_both, or_left, or_right, and_right, nat_tests, sum_by-append, is_same-itself, is_same_iff, Text, is_same, root, History, starts, starts_task, ends, ends_task, joins, joins_task, names, is_known, is_ended, is_joined, state_of, task_count, tree_clock, id_of, id_kept, of_named, row_after, Id, Zero, Row, Kind, Local, Spawn, End, Join, IsLive, AllowsNamed, Contents, IsKept, IsTask, history_in, task_in, ids_made, made_ids, acting_after, id_left, named_after, joined_by, task_with, count_with, task_with_some, count_with_some, Task}
 use Rattle.trace_types.specs.declared.task_state.TaskState.TheVariants.{Live, Joined}
-use Rattle.trace_types.proofs.Names.{is_same-itself, is_same_iff}
 use Rattle.tenant_ledger.proofs.clock.Tasks.{last_event-acting, last_event-bystander, last_event-started, live_is_not_unknown, live_is_not_ended, unknown_has_no_event}
 use Rattle.tenant_ledger.proofs.keeping.Known.{differ_back, legal_history, task_kept, has_known, unknown_has_not_ended, unended_is_not_joined}
 use Rattle.tenant_ledger.proofs.keeping.Lists.{slice_get-longer, slice_get-seam, slice_get-behind}

@@ -1,7 +1,5 @@
 use Rattle.std.proofs.Common.{◌≡◌, ◌+◌, ◌∷◌, [], ◌++◌, cond, length, map, is_some, option_to_list, Some, refl, sym, ap, ◌∙◌, arith}
-use Rattle.std.proofs.Math.Path.{transport}
-use Rattle.std.proofs.lemmas.List.{map-append, append_assoc, length-append}
-use Rattle.tenant_ledger.proofs.Words.{is_same, IsReady, with_seed}
+use Rattle.tenant_ledger.proofs.Words.{map-append, append_assoc, length-append, transport, is_same, IsReady, with_seed}
 use Rattle.tenant_ledger.proofs.keeping.Kept.{added_is_kept}
 use Rattle.tenant_ledger.proofs.keeping.Lists.{seeded-append}
 use Rattle.tenant_ledger.proofs.book.Book.commit.Goals as goal

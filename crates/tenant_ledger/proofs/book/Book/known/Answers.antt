@@ -1,6 +1,5 @@
 use Rattle.std.proofs.Common.{sym, ap, ◌∙◌, arith}
-use Rattle.std.proofs.lemmas.Option.{same_Some}
-use Rattle.tenant_ledger.proofs.Words.{tree_clock, tree_of, history_in}
+use Rattle.tenant_ledger.proofs.Words.{same_Some, tree_clock, tree_of, history_in}
 use Rattle.tenant_ledger.proofs.clock.Events.{tree_of-nothing}
 use Rattle.tenant_ledger.proofs.keeping.Kept.{one_tree, tree_at_event}
 use Rattle.tenant_ledger.proofs.book.Book.known.Goals as goal

@@ -1,6 +1,5 @@
 use Rattle.std.proofs.Common.{◌≡◌, suc, length, Some, sym, ap, ◌∙◌, subst}
-use Rattle.std.proofs.Math.Path.{transport}
-use Rattle.tenant_ledger.proofs.Words.{with_row, Row, Contents, Event, IsKept, IsReady, row_of_report, tenant_of}
+use Rattle.tenant_ledger.proofs.Words.{transport, with_row, Row, Contents, Event, IsKept, IsReady, row_of_report, tenant_of}
 use Rattle.trace_types.specs.declared.reply.Reply.TheVariants as reply
 use Rattle.tenant_ledger.proofs.keeping.Kept.{kept_with_room, report_with_room, report_is_ready}
 use Rattle.tenant_ledger.proofs.keeping.Refused.{lacked, steps_to_row}

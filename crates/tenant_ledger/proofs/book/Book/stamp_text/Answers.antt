@@ -1,7 +1,5 @@
 use Rattle.std.proofs.Common.{◌≡◌, ℕ, ◌≤◌, ◌<◌, true, length, sym, ◌∙◌, arith}
-use Rattle.std.proofs.lemmas.List.{length-reverse}
-use Rattle.std.proofs.lemmas.Option.{same_Some, slice_get_within}
-use Rattle.tenant_ledger.proofs.Words.{is_event, Contents, history_in}
+use Rattle.tenant_ledger.proofs.Words.{length-reverse, same_Some, slice_get_within, is_event, Contents, history_in}
 use Rattle.trace_types.specs.text.StampText.{stamp_text}
 use Rattle.tenant_ledger.proofs.clock.Events.{event_bounds}
 use Rattle.tenant_ledger.proofs.keeping.Kept.{one_tree, one_place, tree_at_event, id_at_event}

@@ -1,6 +1,5 @@
 use Rattle.std.proofs.Common.{◌∙◌}
-use Rattle.std.proofs.Math.Path.{transport}
-use Rattle.tenant_ledger.proofs.Words.{Notes}
+use Rattle.tenant_ledger.proofs.Words.{transport, Notes}
 use Rattle.tenant_ledger.proofs.keeping.Messages.{receive_is_received, receive_taken_back}
 use Rattle.tenant_ledger.proofs.book.commit.take_back.Goals as goal
 
