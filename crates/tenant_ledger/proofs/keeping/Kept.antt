@@ -1,6 +1,6 @@
 -- A book is kept with the event of a report that is not refused.
 use Rattle.std.proofs.Common.{◌≡◌, ◌≢◌, ℕ, suc, ◌-◌, ◌<◌, ◌≤◌, List, [], ◌∷◌, ◌++◌, length, map, slice_get, option_map, Some, sym, ap, ◌∙◌, subst, arith}
-use Rattle.tenant_ledger.proofs.Words.{nat_tests, length-append, length-map, length-reverse, reverse-append, map-append, same_Some, slice_get-map, transport, Text, History, history_of, task_count, tree_clock, id_of, tree_of, row_after, Row, IsLive, AllowsNamed, IsLegal, Contents, Event, IsKept, IsKeptWith, IsTask, IsReport, IsReady, HasRoom, AreMessages, Notes, history_in, task_in, of_each, id_after, event_of, with_event, tasks_with, task_count_with, Report}
+use Rattle.tenant_ledger.proofs.Words.{nat_tests, length-append, length-map, length-reverse, reverse-append, map-append, same_Some, slice_get-map, transport, Text, History, history_of, task_count, tree_clock, id_of, tree_of, row_after, Row, IsLegal, Contents, Event, IsKept, IsKeptWith, IsTask, IsReport, IsReady, HasRoom, AreMessages, Notes, history_in, task_in, of_each, id_after, event_of, with_event, tasks_with, task_count_with, Report}
 use Rattle.message_book.specs.Book as message_book
 use Rattle.tenant_ledger.proofs.clock.Events.{tree_of-older}
 use Rattle.tenant_ledger.proofs.clock.Legality.{IsLegal_from_AreLegal}
@@ -9,14 +9,7 @@ use Rattle.tenant_ledger.proofs.keeping.Lists.{length-of_each, at_event, same_pl
 use Rattle.tenant_ledger.proofs.keeping.Messages.{noted_are_messages}
 use Rattle.tenant_ledger.proofs.keeping.Tasks.{id_is_kept, id_is_left, tasks_are_kept, tasks_are_counted}
 
--- the rows with one more, the newest first
-pub longer : (rows : List Row) (row : Row) → history_of (rows ++ row ∷ []) ≡ row ∷ history_of rows
-longer rows row = reverse-append rows (row ∷ [])
-
--- the id of the newest event's task
-id_after-new : (row : Row) (earlier : History) → id_after (row ∷ earlier) (suc (length earlier)) ≡ id_of tree_clock (row ∷ earlier) row.task
-id_after-new row earlier = grind (arith, nat_tests)
-
+-- a row more leaves the ids after the events before it
 id_after-older : (row : Row) (earlier : History) (event : ℕ) → event ≢ suc (length earlier) → id_after (row ∷ earlier) event ≡ id_after earlier event
 id_after-older row earlier event older = grind (arith, nat_tests)
 
@@ -64,20 +57,16 @@ module _ (book : Contents) (kept : IsKept book) (report : Report) (is : IsReport
 
   -- the rows with that of the report are legal
   pub legal_with_row : IsLegal (row ∷ history)
-  legal_with_row = subst IsLegal (longer book.rows row) (IsLegal_from_AreLegal book.limits (book.rows ++ row ∷ []) is.legal)
-
-  allowed : AllowsNamed history report.kind report.name
-  allowed = legal_with_row.0.1
-
-  pub live : IsLive history report.task
-  live = legal_with_row.0.0
+  legal_with_row = subst IsLegal (reverse-append book.rows (row ∷ [])) (IsLegal_from_AreLegal book.limits (book.rows ++ row ∷ []) is.legal)
 
   pub keeps_report : (after : message_book.Book) → Notes report.kind report.name (suc (length book.rows)) book.messages after → 0 < book.kept_ids
       → IsKeptWith (with_event (event_of book report) (record book { messages = after })) (tasks_with (event_of book report) book) (task_count_with (event_of book report) book)
   keeps_report after notes seeded =
       let event = event_of book report in
-      let to_longer = sym (longer book.rows row) in
-      let joined = sym is.joined in
+      let live = legal_with_row.0.0 in
+      let allowed = legal_with_row.0.1 in
+      let to_longer = sym (reverse-append book.rows (row ∷ [])) in
+      let newest : id_after (row ∷ history) (suc (length history)) ≡ id_of tree_clock (row ∷ history) row.task = grind (arith, nat_tests) in
       record {
         legal = is.legal;
         small = omega (arith, is.few, length-append book.rows (row ∷ []));
@@ -86,11 +75,11 @@ module _ (book : Contents) (kept : IsKept book) (report : Report) (is : IsReport
             let place = id_is_kept book kept report.task report.acting is.acting live report.kind report.name in
             map-append (slice_get (book.ids ++ event.ids)) book.places (event.acting.id ∷ [])
             ∙ (λ i. same_places book.ids event.ids book.places (of_each id_after history) kept.places i
-            ++ (place ∙ ap Some (sym (id_after-new row history))) i ∷ [])
+            ++ (place ∙ ap Some (sym newest)) i ∷ [])
             ∙ sym (map-append Some (of_each id_after history) (id_after (row ∷ history) (suc (length history)) ∷ []))
             ∙ ap (λ h. map Some (of_each id_after h)) to_longer;
         tasks_are = λ name. subst (λ h. IsTask (book.ids ++ event.ids) h name (tasks_with event book name)) to_longer
-            (subst (λ had. IsTask (book.ids ++ event.ids) (row ∷ history) name (tasks_with (event_of book (record report { joined = had })) book name)) joined
+            (subst (λ had. IsTask (book.ids ++ event.ids) (row ∷ history) name (tasks_with (event_of book (record report { joined = had })) book name)) (sym is.joined)
             (tasks_are_kept book kept report.task report.acting is.acting live report.kind report.name allowed name));
         counted = ap (λ had. task_count_with (event_of book (record report { joined = had })) book) is.joined
             ∙ tasks_are_counted book kept report.task report.acting is.acting live report.kind report.name allowed ∙ ap task_count to_longer;
@@ -109,7 +98,7 @@ module _ (book : Contents) (kept : IsKept book) (report : Report) (is : IsReport
     notes = notes;
     next = keeps_report after notes room.seeded;
     room = search;
-    id = id_is_left book kept report.task report.acting is.acting live report.kind report.name;
+    id = id_is_left book kept report.task report.acting is.acting legal_with_row.0.0 report.kind report.name;
   }
 
 -- A book to which a ready event was added is kept.

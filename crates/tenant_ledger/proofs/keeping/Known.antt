@@ -13,19 +13,17 @@ differ_back one other differ = false_from_ne_true (is_same other one) λ same.
     false≢true (sym differ ∙ (is_same_iff one other).1 (sym ((is_same_iff other one).0 same)))
 
 -- a task that a row may take in has ended
-joined_was : (earlier : History) (row : Row) (task : Text) → AllowsNamed earlier row.kind row.name → joins task row ≡ true → is_ended earlier task ≡ true
-joined_was earlier row task allowed = by row.kind row.name allowed
-  where
-    by : (kind : Kind) (name : Option Text) → AllowsNamed earlier kind name → joins task (record row { kind = kind; name = name }) ≡ true → is_ended earlier task ≡ true
-    by Join (Some child) allowed joins_it = subst (λ name. is_ended earlier name ≡ true) ((is_same_iff child task).0 joins_it) allowed.1
-    by Join None allowed joins_it = absurd allowed
-    by kind name allowed joins_it = absurd (false≢true joins_it)
+joined_was : (earlier : History) (row : Row) (task : Text) (kind : Kind) (name : Option Text) → AllowsNamed earlier kind name
+    → joins task (record row { kind = kind; name = name }) ≡ true → is_ended earlier task ≡ true
+joined_was earlier row task Join (Some child) allowed joins_it = subst (λ name. is_ended earlier name ≡ true) ((is_same_iff child task).0 joins_it) allowed.1
+joined_was earlier row task Join None allowed joins_it = absurd allowed
+joined_was earlier row task kind name allowed joins_it = absurd (false≢true joins_it)
 
 -- so each task that was joined has ended
 pub joined_has_ended : (history : History) (task : Text) → IsLegal history → is_joined history task ≡ true → is_ended history task ≡ true
 joined_has_ended [] task legal joined = absurd (false≢true joined)
 joined_has_ended (row ∷ earlier) task legal joined =
-    grind (arith, nat_tests, joined_was earlier row task legal.0.1, joined_has_ended earlier task legal.1)
+    grind (arith, nat_tests, joined_was earlier row task row.kind row.name legal.0.1, joined_has_ended earlier task legal.1)
 
 -- and a task that is not known has not ended
 pub unknown_has_not_ended : (history : History) (task : Text) → IsLegal history → is_known history task ≡ false → is_ended history task ≡ false

@@ -23,12 +23,11 @@ slice_get-behind (first ∷ xs) x other rest = slice_get-behind xs x other rest
 pub same_places : {X : Type 0} (xs more : List X) (places : List ℕ) (found : List X) → map (slice_get xs) places ≡ map Some found
     → map (slice_get (xs ++ more)) places ≡ map Some found
 same_places xs more [] [] is = refl
-same_places xs more [] (x ∷ found) is = cc
-same_places xs more (place ∷ places) [] is = cc
 same_places xs more (place ∷ places) (x ∷ found) is =
     let here : slice_get xs place ≡ Some x = cc in
     let rest : map (slice_get xs) places ≡ map Some found = cc in
     λ i. slice_get-longer xs more place x here i ∷ same_places xs more places found rest i
+same_places xs more places found is = cc
 
 module _ {A : Type 0} (told : History → ℕ → A) where
   pub length-of_each : (history : History) → length (of_each told history) ≡ length history

@@ -4,7 +4,7 @@ use Rattle.std.specs.List.{list_any}
 use Rattle.tenant_ledger.proofs.Words.{false≢true, cases_Bool, cond-true, cond-false, and_left, and_right, or_left, or_parts, false_from_ne_true, nat_tests, length-append, sum_by-append, is_same_iff, is_same-itself, Messages, entry_of, has_receipt, with_message, with_changed, with_receipt, without_receipts, entry_with_receipt, Limits, Text, is_same, History, names, sends, sends_message, receives, receives_message, is_sent, is_received, receipts, message_count, Row, Kind, Send, Recv, IsMessage, AreMessages, Notes, AllowsNamed, IsLegal}
 use Rattle.message_book.specs.Book as message_book
 use Rattle.message_book.specs.declared.entry.Entry.{Entry}
-use Rattle.message_book.proofs.Messages.{no_first_code, entry_of-changed, received_has_receipt, without_receipts-received}
+use Rattle.message_book.proofs.Messages.{no_first_code, entry_of-changed, without_receipts-received}
 use Rattle.tenant_ledger.proofs.keeping.Known.{differ_back}
 
 -- ---- the messages with one more, or with one changed
@@ -55,13 +55,11 @@ messages_stay limits row earlier messages sends_none receives_none before = reco
 }
 
 -- a message that a row may receive was sent
-received_was_sent : (earlier : History) (row : Row) (name : Text) → AllowsNamed earlier row.kind row.name → receives name row ≡ true → is_sent earlier name ≡ true
-received_was_sent earlier row name allowed = by row.kind row.name allowed
-  where
-    by : (kind : Kind) (named : Option Text) → AllowsNamed earlier kind named → receives name (record row { kind = kind; name = named }) ≡ true → is_sent earlier name ≡ true
-    by Recv (Some message) allowed received = subst (λ m. is_sent earlier m ≡ true) ((is_same_iff message name).0 received) allowed.0
-    by Recv None allowed received = absurd allowed
-    by kind named allowed received = absurd (false≢true received)
+received_was_sent : (earlier : History) (row : Row) (name : Text) (kind : Kind) (named : Option Text) → AllowsNamed earlier kind named
+    → receives name (record row { kind = kind; name = named }) ≡ true → is_sent earlier name ≡ true
+received_was_sent earlier row name Recv (Some message) allowed received = subst (λ m. is_sent earlier m ≡ true) ((is_same_iff message name).0 received) allowed.0
+received_was_sent earlier row name Recv None allowed received = absurd allowed
+received_was_sent earlier row name kind named allowed received = absurd (false≢true received)
 
 -- so one that was not sent has no receipts
 unsent_has_no_receipts : (history : History) (name : Text) → IsLegal history → is_sent history name ≡ false → receipts history name ≡ []
@@ -69,7 +67,7 @@ unsent_has_no_receipts [] name legal unsent = refl
 unsent_has_no_receipts (row ∷ earlier) name legal unsent =
     let not_before : is_sent earlier name ≡ false = (or_parts (sends name row) (list_any (sends name) earlier) unsent).1 in
     let not_now : receives name row ≡ false = false_from_ne_true (receives name row)
-    (λ received. false≢true (sym not_before ∙ received_was_sent earlier row name legal.0.1 received)) in
+    (λ received. false≢true (sym not_before ∙ received_was_sent earlier row name row.kind row.name legal.0.1 received)) in
     cond-false (receives name row) _ _ not_now ∙ unsent_has_no_receipts earlier name legal.1 not_before
 
 -- what was not sent is not kept
@@ -161,10 +159,6 @@ noted_are_messages limits history task Recv (Some name) preds before after legal
 noted_are_messages limits history task kind name preds before after legal allowed are notes = rw notes (messages_stay limits _ history before refl refl are)
 
 -- what was received can be taken back
-pub receive_is_received : (name : Text) (event : ℕ) (before after : message_book.Book) → Notes Recv (Some name) event before after
-    → has_receipt (entry_of after.messages name) ≡ true
-receive_is_received name event before after notes = received_has_receipt name event before after notes.0 notes.1
-
 pub receive_taken_back : (name : Text) (event : ℕ) (before after : message_book.Book) → Notes Recv (Some name) event before after
     → record after { messages = without_receipts name after.messages } ≡ before
 receive_taken_back name event before after notes =

@@ -82,16 +82,12 @@ all_with_one_more : (requests : List Request) (request : Request) → AllByRecur
 all_with_one_more [] request all one = (one, tt)
 all_with_one_more (first ∷ requests) request all one = (all.0, all_with_one_more requests request all.1 one)
 
--- a tenant is its limits and its rows
-same_tenant : (tenant : Tenant) (limits : Limits) (rows : List Row) → tenant.limits ≡ limits → tenant.rows ≡ rows → tenant ≡ record { limits = limits; rows = rows }
-same_tenant tenant limits rows limits_are rows_are = λ i. record { limits = limits_are i; rows = rows_are i }
-
 pub AreLegal-push : (limits : Limits) (rows : List Row) (request : Request) (row : Row) → CanBeWritten request
     → refusal_of limits (history_of rows) request ≡ None → (answer_to (history_of rows) request).1 ≡ Some row
     → AreLegal limits rows → AreLegal limits (rows ++ row ∷ [])
 AreLegal-push limits rows request row written unrefused answered legal =
     let tenant : Tenant = record { limits = limits; rows = rows } in
-    let same : after (fresh limits) legal.0 ≡ tenant = same_tenant (after (fresh limits) legal.0) limits rows (limits-after (fresh limits) legal.0) legal.2 in (
+    let same : after (fresh limits) legal.0 ≡ tenant = λ i. record { limits = limits-after (fresh limits) legal.0 i; rows = legal.2 i } in (
       legal.0 ++ request ∷ [],
       all_with_one_more legal.0 request legal.1 written,
       ap (λ (t : Tenant). t.rows) (

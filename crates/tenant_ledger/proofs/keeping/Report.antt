@@ -5,7 +5,7 @@ use Rattle.tenant_ledger.proofs.clock.Consequences.{ids_are_disjoint, acting_id_
 use Rattle.tenant_ledger.proofs.clock.Events.{known_before_new}
 use Rattle.tenant_ledger.proofs.clock.Reaching.{followed-le}
 use Rattle.tenant_ledger.proofs.clock.Tasks.{live_is_not_ended}
-use Rattle.tenant_ledger.proofs.keeping.Kept.{legal_with_row, live}
+use Rattle.tenant_ledger.proofs.keeping.Kept.{legal_with_row}
 use Rattle.tenant_ledger.proofs.keeping.Known.{legal_history, task_kept, IsAt, is_at, has_known}
 use Rattle.tenant_ledger.proofs.keeping.Tasks.{own_id}
 
@@ -36,7 +36,7 @@ module _ {book : Contents} {report : Report} (kept : IsKept book) (is : IsReport
   row = row_of_report book report
 
   own_id_kept : slice_get book.ids report.acting.id ≡ Some (id_of tree_clock history report.task)
-  own_id_kept = own_id book kept report.task report.acting is.acting (live book kept report is)
+  own_id_kept = own_id book kept report.task report.acting is.acting (legal_with_row book kept report is).0.0
 
   pub own_place : report.acting.id < length book.ids
   own_place = slice_get_within book.ids report.acting.id _ own_id_kept
@@ -93,7 +93,7 @@ module _ {book : Contents} {report : Report} (kept : IsKept book) (is : IsReport
 
       pub disjoint : {own other : Id} → own ≡ id_of tree_clock history report.task → other ≡ of_named Zero (id_of tree_clock history) report.name → AreDisjoint own other
       disjoint acts is_named point held other_held =
-          let differ = live_is_not_ended history report.task joins.0 (live book kept report is) joins.5 in
+          let differ = live_is_not_ended history report.task joins.0 (legal_with_row book kept report is).0.0 joins.5 in
           ids_are_disjoint history (legal_history book kept) report.task joins.0 (differ_by_test report.task joins.0 differ) point
           (ap (λ id. owns id point) (sym acts) ∙ held)
           (ap (λ id. owns id point) (sym (is_named ∙ ap (of_named Zero (id_of tree_clock history)) joins.2)) ∙ other_held)

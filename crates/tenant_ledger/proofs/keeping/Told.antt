@@ -101,39 +101,40 @@ module _ (book : Contents) (is : IsKept book) where
       told Concurrent refl event event_is
       ∙ (λ i. filter (λ other. concurrent_by (eqb other event) (reaches history other event) (reaches history event other) (itself other) i) (events history))
 
-module _ (book : Contents) (is : IsKept book) {V : Type 0} (items : V → List ℕ) (event : ℕ) (found : Result V QueryFault) (answer : Reply)
-    (known : IfOk found (λ _. query.has_tree book.trees event ≡ true))
-    (fault : IfErr found (λ refusal. refusal ≡ fault_due book.trees event))
-    (listed : IfOk found (λ value. answer ≡ reply.List (items value))) (refused : IfErr found (λ refusal. answer ≡ reply.Refused (code_of refusal))) where
-  -- a list of events that is told by the trees is answered as it is due
-  list_answered : (asked : Request) (graph list : List ℕ) → (IsTrue (query.has_tree book.trees event) → list ≡ graph)
-      → (is_event (history_in book) event ≡ true → (reply.List graph ≡ reply_to_view (tenant_of book) asked) × IsTrue (not (is_report asked)) × MayLackMemory (tenant_of book) asked)
-      → (is_event (history_in book) event ≡ false → reply.Refused NoEvent ≡ reply_to_view (tenant_of book) asked)
+module _ (book : Contents) (is : IsKept book) {trees : List EventTree} (trees_are : trees ≡ book.trees) (event : ℕ) {V : Type 0} (items : V → List ℕ) (answer : Reply) where
+  -- a search through the trees that found this list, or a fault, was answered
+  abbrev IsAnswered : Request → List ℕ → Result V QueryFault → Type 0
+  IsAnswered asked list found = IfOk found (λ _. query.has_tree trees event ≡ true) → IfErr found (λ refusal. refusal ≡ fault_due trees event)
+      → IfOk found (λ value. answer ≡ reply.List (items value)) → IfErr found (λ refusal. answer ≡ reply.Refused (code_of refusal))
       → IfOk found (λ value. items value ≡ list) → Answers (tenant_of book) asked answer
-  list_answered asked graph list told due none events = by found known fault listed refused events
-    where
-      by : (outcome : Result V QueryFault) → IfOk outcome (λ _. query.has_tree book.trees event ≡ true)
-          → IfErr outcome (λ refusal. refusal ≡ fault_due book.trees event) → IfOk outcome (λ value. answer ≡ reply.List (items value))
-          → IfErr outcome (λ refusal. answer ≡ reply.Refused (code_of refusal)) → IfOk outcome (λ value. items value ≡ list) → Answers (tenant_of book) asked answer
-      by (Ok value) known fault listed refused events =
-          inl (listed ∙ ap reply.List (events ∙ told known) ∙ (due (sym (same_events book is event) ∙ known)).0)
-      by (Err refusal) known fault listed refused events = elim (cases_Bool (query.has_tree book.trees event)) [
-        | inl there ↦
-            let given = due (sym (same_events book is event) ∙ there) in
-            inr (given.1, given.2, refused ∙ ap (λ f. reply.Refused (code_of f)) (fault ∙ cond-true (query.has_tree book.trees event) _ _ there))
-        | inr nowhere ↦
-            inl (refused ∙ ap (λ f. reply.Refused (code_of f)) (fault ∙ cond-false (query.has_tree book.trees event) _ _ nowhere)
-            ∙ none (sym (same_events book is event) ∙ nowhere))
-      ]
 
-  pub past_answered : IfOk found (λ value. items value ≡ query.trees_before book.trees event) → Answers (tenant_of book) (request.Past event) answer
+  has_it : query.has_tree trees event ≡ is_event (history_in book) event
+  has_it = ap (λ found. query.has_tree found event) trees_are ∙ same_events book is event
+
+  -- a list of events that is told by the trees is answered as it is due
+  list_answered : (asked : Request) (graph list : List ℕ) → (is_event (history_in book) event ≡ true → list ≡ graph)
+      → (is_event (history_in book) event ≡ true → (reply.List graph ≡ reply_to_view (tenant_of book) asked) × IsTrue (not (is_report asked)) × MayLackMemory (tenant_of book) asked)
+      → (is_event (history_in book) event ≡ false → reply.Refused NoEvent ≡ reply_to_view (tenant_of book) asked) → (found : Result V QueryFault) → IsAnswered asked list found
+  list_answered asked graph list told due none (Ok value) known fault listed refused events =
+      let there = sym has_it ∙ known in inl (listed ∙ ap reply.List (events ∙ told there) ∙ (due there).0)
+  list_answered asked graph list told due none (Err refusal) known fault listed refused events = elim (cases_Bool (query.has_tree trees event)) [
+    | inl there ↦
+        let given = due (sym has_it ∙ there) in
+        inr (given.1, given.2, refused ∙ ap (λ f. reply.Refused (code_of f)) (fault ∙ cond-true (query.has_tree trees event) _ _ there))
+    | inr nowhere ↦
+        inl (refused ∙ ap (λ f. reply.Refused (code_of f)) (fault ∙ cond-false (query.has_tree trees event) _ _ nowhere) ∙ none (sym has_it ∙ nowhere))
+  ]
+
+  pub past_answered : (found : Result V QueryFault) → IsAnswered (request.Past event) (query.trees_before trees event) found
   past_answered =
-      list_answered (request.Past event) (past_of (history_in book) event) (query.trees_before book.trees event) (past_told book is event)
+      list_answered (request.Past event) (past_of (history_in book) event) (query.trees_before trees event)
+      (λ there. ap (λ found. query.trees_before found event) trees_are ∙ past_told book is event (same_events book is event ∙ there))
       (λ there. (rw there refl, refl, (refl, rw there refl))) (λ nowhere. rw nowhere refl)
 
-  pub concurrent_answered : IfOk found (λ value. items value ≡ query.concurrent_of book.trees event) → Answers (tenant_of book) (request.Concurrent event) answer
+  pub concurrent_answered : (found : Result V QueryFault) → IsAnswered (request.Concurrent event) (query.concurrent_of trees event) found
   concurrent_answered =
-      list_answered (request.Concurrent event) (concurrent_with (history_in book) event) (query.concurrent_of book.trees event) (concurrent_told book is event)
+      list_answered (request.Concurrent event) (concurrent_with (history_in book) event) (query.concurrent_of trees event)
+      (λ there. ap (λ found. query.concurrent_of found event) trees_are ∙ concurrent_told book is event (same_events book is event ∙ there))
       (λ there. (rw there refl, refl, (refl, rw there refl))) (λ nowhere. rw nowhere refl)
 
 -- the reply that gives the order that was found
@@ -146,11 +147,7 @@ pub order_answered : (book : Contents) → IsKept book → (first second : ℕ)
     → order_reply (query.order_due book.trees first second) ≡ reply_to_view (tenant_of book) (request.Order first second)
 order_answered book is first second =
     ap order_reply (λ i. cond (same_events book is first i && same_events book is second i) (Ok (order_between book.trees first second)) (Err Unknown))
-    ∙ by
-  where
-    by : order_reply (cond (is_event (history_in book) first && is_event (history_in book) second) (Ok (order_between book.trees first second)) (Err Unknown))
-        ≡ reply_to_view (tenant_of book) (request.Order first second)
-    by = elim (cases_Bool (is_event (history_in book) first)) [
+    ∙ elim (cases_Bool (is_event (history_in book) first)) [
       | inl one ↦ elim (cases_Bool (is_event (history_in book) second)) [
         | inl other ↦
             let told = trees_tell book is first second (same_events book is first ∙ one) (same_events book is second ∙ other) in
