@@ -37,3 +37,5 @@ pub use Rattle.trace_types.specs.tenant.Reported.{reported}
 pub use Rattle.trace_types.specs.tenant.Rows.{ends, ends_task, events, History, history_of, is_ended, is_event, is_joined, is_known, is_of, is_received, is_sent, joins, joins_task, last_event, message_count, names, newest, receipts, receives, receives_message, row_of, sends, sends_message, starts, starts_task, state_of, task_count}
 pub use Rattle.trace_types.specs.tenant.Tenant.{accepted, after, answer_to, Answers, AreLegal, fresh, is_report, may_lack_memory, MayLackMemory, reply_to_view, row_after, step, step_unless, Steps, Tenant, with_row}
 pub use Rattle.trace_types.specs.text.Name.{is_same, root, Text}
+pub use Rattle.trace_types.specs.declared.reply.Reply.TheVariants.{Accepted, Ordering, Refused}
+pub use Rattle.std.specs.List.{AllByRecursion, filter, list_any, range_with_len}

@@ -107,7 +107,7 @@ pub added_is_kept : (book : Contents) (event : Event) → IsReady book event →
     → new.ids ≡ book.ids ++ event.ids → 0 < new.kept_ids → ((name : Text) → task_in new name ≡ tasks_with event book name) → length new.tasks ≡ task_count_with event book
     → IsKept new
 added_is_kept book event ready new limits messages rows trees places ids some tasks count =
-    let next : IsKeptWith (record (with_event event book) { limits = new.limits; messages = new.messages; rows = new.rows; trees = new.trees; places = new.places; ids = new.ids }) (tasks_with event book) (task_count_with event book) =
+    let next =
     transport (λ i. IsKeptWith (record (with_event event book) { limits = sym limits i; messages = sym messages i; rows = sym rows i; trees = sym trees i; places = sym places i; ids = sym ids i })
     (tasks_with event book) (task_count_with event book)) ready.next in
     let tasks_are : (name : Text) → IsTask new.ids (history_in new) name (task_in new name) = λ name. subst (IsTask new.ids (history_in new) name) (sym (tasks name)) (next.tasks_are name) in

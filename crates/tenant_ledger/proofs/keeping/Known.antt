@@ -50,12 +50,12 @@ module _ (book : Contents) (kept : IsKept book) where
   legal_history = IsLegal_from_AreLegal book.limits book.rows kept.legal
 
   -- what is kept of a task that the book has
-  pub task_kept : (name : Text) (task : Task) → task_in book name ≡ Some task → IsTask book.ids (history_in book) name (Some task)
-  task_kept name task found = subst (IsTask book.ids (history_in book) name) found (kept.tasks_are name)
+  pub task_kept : (name : Text) {task : Task} → task_in book name ≡ Some task → IsTask book.ids (history_in book) name (Some task)
+  task_kept name found = subst (IsTask book.ids (history_in book) name) found (kept.tasks_are name)
 
   -- it is as far as the book says
-  pub is_at : (name : Text) (task : Task) → task_in book name ≡ Some task → IsAt (history_in book) name task.state
-  is_at name task found = subst (IsAt (history_in book) name) (sym (task_kept name task found).1) (state_is_at (history_in book) name legal_history)
+  pub is_at : (name : Text) {task : Task} → task_in book name ≡ Some task → IsAt (history_in book) name task.state
+  is_at name found = subst (IsAt (history_in book) name) (sym (task_kept name found).1) (state_is_at (history_in book) name legal_history)
 
   -- the book has the tasks that are known
   pub has_known : (name : Text) → is_some (task_in book name) ≡ is_known (history_in book) name

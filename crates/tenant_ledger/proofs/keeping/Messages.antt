@@ -1,7 +1,6 @@
 -- What is kept of the messages is right after one more row.
 use Rattle.std.proofs.Common.{◌≡◌, ℕ, suc, ◌+◌, true, false, cond, List, [], ◌∷◌, ◌++◌, length, Option, Some, None, option_map, is_some, nat_lt, refl, sym, ap, ◌∙◌, subst, inl, inr, arith}
-use Rattle.std.specs.List.{list_any}
-use Rattle.tenant_ledger.proofs.Words.{false≢true, cases_Bool, cond-true, cond-false, and_left, and_right, or_left, or_parts, false_from_ne_true, nat_tests, length-append, sum_by-append, is_same_iff, is_same-itself, Messages, entry_of, has_receipt, with_message, with_changed, with_receipt, without_receipts, entry_with_receipt, Limits, Text, is_same, History, names, sends, sends_message, receives, receives_message, is_sent, is_received, receipts, message_count, Row, Kind, Send, Recv, IsMessage, AreMessages, Notes, AllowsNamed, IsLegal}
+use Rattle.tenant_ledger.proofs.Words.{list_any, false≢true, cases_Bool, cond-true, cond-false, and_left, and_right, or_left, or_parts, false_from_ne_true, nat_tests, length-append, sum_by-append, is_same_iff, is_same-itself, Messages, entry_of, has_receipt, with_message, with_changed, with_receipt, without_receipts, entry_with_receipt, Limits, Text, is_same, History, names, sends, sends_message, receives, receives_message, is_sent, is_received, receipts, message_count, Row, Kind, Send, Recv, IsMessage, AreMessages, Notes, AllowsNamed, IsLegal}
 use Rattle.message_book.specs.Book as message_book
 use Rattle.message_book.specs.declared.entry.Entry.{Entry}
 use Rattle.message_book.proofs.Messages.{no_first_code, entry_of-changed, without_receipts-received}
@@ -65,10 +64,7 @@ received_was_sent earlier row name kind named allowed received = absurd (false�
 unsent_has_no_receipts : (history : History) (name : Text) → IsLegal history → is_sent history name ≡ false → receipts history name ≡ []
 unsent_has_no_receipts [] name legal unsent = refl
 unsent_has_no_receipts (row ∷ earlier) name legal unsent =
-    let not_before : is_sent earlier name ≡ false = (or_parts (sends name row) (list_any (sends name) earlier) unsent).1 in
-    let not_now : receives name row ≡ false = false_from_ne_true (receives name row)
-    (λ received. false≢true (sym not_before ∙ received_was_sent earlier row name row.kind row.name legal.0.1 received)) in
-    cond-false (receives name row) _ _ not_now ∙ unsent_has_no_receipts earlier name legal.1 not_before
+    grind (arith, nat_tests, received_was_sent earlier row name row.kind row.name legal.0.1, unsent_has_no_receipts earlier name legal.1)
 
 -- what was not sent is not kept
 unsent_is_absent : (history : History) (name : Text) (found : Option Entry) → IsMessage history name found → is_sent history name ≡ false → found ≡ None

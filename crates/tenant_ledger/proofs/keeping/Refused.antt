@@ -1,9 +1,7 @@
 -- Which refusal is due, and what a request that is not refused steps to.
 use Rattle.std.proofs.Common.{◌≡◌, suc, Bool, true, false, List, [], ◌∷◌, ◌++◌, length, Option, Some, None, Result, Ok, Err, IsTrue, refl, sym, ap, ◌∙◌, subst, inl, inr}
-use Rattle.std.specs.List.{AllByRecursion}
 use Rattle.std.specs.Result.{result_err, IsErrAnd}
-use Rattle.tenant_ledger.proofs.Words.{cases_Bool, cond-false, length-reverse, Limits, History, history_of, first_code, refusals, refusal_of, reported, Steps, step_unless, answer_to, accepted, row_after, with_row, may_lack_memory, Tenant, Answers, is_report, step, Text, Code, NoMemory, Reply, Reported, Request, Row, Kind, Contents, Event, IsKept, Decides, Prepares, refusals_of_report, history_in, tenant_of, fresh, after, AreLegal}
-use Rattle.trace_types.specs.declared.reply.Reply.TheVariants as reply
+use Rattle.tenant_ledger.proofs.Words.{AllByRecursion, cases_Bool, cond-false, length-reverse, Limits, History, history_of, first_code, refusals, refusal_of, reported, Steps, step_unless, answer_to, accepted, row_after, with_row, may_lack_memory, Tenant, Answers, is_report, step, Text, Code, NoMemory, Reply, Reported, Request, Row, Kind, Contents, Event, IsKept, Decides, Prepares, refusals_of_report, history_in, tenant_of, fresh, after, AreLegal, Accepted, Refused}
 use Rattle.trace_types.specs.declared.request.Request.TheVariants as request
 use Rattle.trace_types.specs.text.Text.{CanBeWritten}
 use Rattle.trace_types.proofs.Interleaving.{after-push, limits-after}
@@ -48,16 +46,16 @@ report_may_lack request report = cc
 pub lacked : (old new : Contents) (request : Request) (outcome : Result Event Code) → is_report request ≡ true → IsErrAnd outcome (λ given. given ≡ NoMemory)
     → None ≡ refusal_of old.limits (history_in old) request → IsKept new → tenant_of new ≡ tenant_of old → Prepares outcome old request new
 lacked old new request (Ok event) report given none kept tenant = absurd given
-lacked old new request (Err code) report given none kept tenant = (kept, tenant, inr ((report_may_lack request report, sym none), ap reply.Refused given, refl))
+lacked old new request (Err code) report given none kept tenant = (kept, tenant, inr ((report_may_lack request report, sym none), ap Refused given, refl))
 
 -- else its row is added
 pub steps_to_row : (book : Contents) (request : Request) (task : Text) (kind : Kind) (name : Option Text)
     → refusal_of book.limits (history_in book) request ≡ None → answer_to (history_in book) request ≡ accepted (history_in book) task kind name
-    → step (tenant_of book) request ≡ (reply.Accepted (suc (length book.rows)), with_row (tenant_of book) (Some (row_after (history_in book) task kind name)))
+    → step (tenant_of book) request ≡ (Accepted (suc (length book.rows)), with_row (tenant_of book) (Some (row_after (history_in book) task kind name)))
 steps_to_row book request task kind name none answer =
     ap (λ refusal. step_unless refusal (tenant_of book) request) none
     ∙ ap (λ (given : Reply × Option Row). (given.0, with_row (tenant_of book) given.1)) answer
-    ∙ ap (λ n. (reply.Accepted (suc n), with_row (tenant_of book) (Some (row_after (history_in book) task kind name)))) (length-reverse book.rows)
+    ∙ ap (λ n. (Accepted (suc n), with_row (tenant_of book) (Some (row_after (history_in book) task kind name)))) (length-reverse book.rows)
 
 -- a request that reports nothing leaves the tenant as it was
 query_leaves : (tenant : Tenant) (request : Request) → is_report request ≡ false → (answer_to (history_of tenant.rows) request).1 ≡ None

@@ -46,7 +46,7 @@ module _ {book : Contents} {report : Report} (kept : IsKept book) (is : IsReport
 
   -- the events that it follows
   pub acting_last : report.acting.last ≡ last_event history report.task
-  acting_last = (task_kept book kept report.task report.acting is.acting).2
+  acting_last = (task_kept book kept report.task is.acting).2
 
   pub last-le : report.acting.last ≤ length book.rows
   last-le = omega (arith, acting_last, followed-le row history (last_event history report.task) (inl refl), length-reverse book.rows)
@@ -81,9 +81,9 @@ module _ {book : Contents} {report : Report} (kept : IsKept book) (is : IsReport
       joined_id_kept : slice_get book.ids had.id ≡ Some (id_of tree_clock history joins.0)
       joined_id_kept =
           let same : joins.1 ≡ had = same_Some joins.1 had (sym joins.3 ∙ had_is) in
-          let right = task_kept book kept joins.0 joins.1 joins.4 in
+          let right = task_kept book kept joins.0 joins.4 in
           ap (λ (t : Task). slice_get book.ids t.id) (sym same) ∙ right.3 λ joined.
-          false≢true (sym joins.6 ∙ (subst (IsAt history joins.0) joined (is_at book kept joins.0 joins.1 joins.4)).1)
+          false≢true (sym joins.6 ∙ (subst (IsAt history joins.0) joined (is_at book kept joins.0 joins.4)).1)
 
       pub joined_place : had.id < length book.ids
       joined_place = slice_get_within book.ids had.id _ joined_id_kept

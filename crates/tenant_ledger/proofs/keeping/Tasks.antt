@@ -57,7 +57,7 @@ module _ (book : Contents) (kept : IsKept book) (task : Text) (acting : Task) (f
 
   module _ (live : IsLive history task) where
     was_kept : IsTask book.ids history task (Some acting)
-    was_kept = task_kept book kept task acting found
+    was_kept = task_kept book kept task found
 
     unjoined : is_joined history task ≡ false
     unjoined = unended_is_not_joined history task (legal_history book kept) live.1
@@ -122,7 +122,7 @@ module _ (book : Contents) (kept : IsKept book) (task : Text) (acting : Task) (f
     joined_is_task : (child : Text) (joined : Task) → task_in book child ≡ Some joined → is_ended history child ≡ true
         → IsRight Join (Some child) child (Some (record joined { state = Joined }))
     joined_is_task child joined child_found ended =
-        let right = task_kept book kept child joined child_found in
+        let right = task_kept book kept child child_found in
         let differ = live_is_not_ended history task child live ended in (
           known_stays (row Join (Some child)) history child right.0,
           sym (cond-true (is_joined (row Join (Some child) ∷ history) child) _ _ (or_left (is_same child child) _ (is_same-itself child))),

@@ -1,15 +1,14 @@
 -- The lists that are told by comparing the kept trees are those of the graph, and so is the row of an event.
 use Rattle.std.proofs.Common.{◌≡◌, ℕ, suc, ◌-◌, ◌<◌, ◌≤◌, ◌≢◌, Bool, true, false, cond, not, ◌&&◌, IsTrue, eqb, ltb, List, [], ◌∷◌, ◌++◌, length, get_or, slice_get, reverse, map, option_map, Some, Result, Ok, Err, IfOk, IfErr, refl, sym, ap, ◌∙◌, subst, inl, inr, arith}
-use Rattle.std.specs.List.{filter, range_with_len}
 use Rattle.trace_query.specs.Compared.{is_order}
-use Rattle.tenant_ledger.proofs.Words.{cases_Bool, cond_both, eq-eqb, ne_eqb, eqb-true, cond-true, cond-false, nat_tests, length-reverse, map-append, reverse-append, reverse-reverse, get_or_from_slice_get, same_Some, slice_get-map, slice_get_read, of_each, tree_at, StandInOrder, order_between, others_standing, fault_due, History, history_of, is_event, row_of, events, reaches, order_of, past_of, concurrent_with, Id, EventTree, Leaf, tree_clock, tree_of, stamp_of, Order, Same, Before, After, Concurrent, Row, is_report, MayLackMemory, Answers, reply_to_view, NoEvent, Reply, Request, IsBelow, Contents, IsKept, tenant_of, history_in, code_of}
+use Rattle.tenant_ledger.proofs.Words.{transport, filter, range_with_len, cases_Bool, cond_both, eq-eqb, ne_eqb, eqb-true, cond-true, cond-false, nat_tests, length-reverse, map-append, reverse-append, reverse-reverse, get_or_from_slice_get, same_Some, slice_get-map, slice_get_read, of_each, tree_at, StandInOrder, order_between, others_standing, fault_due, History, history_of, is_event, row_of, events, reaches, order_of, past_of, concurrent_with, Id, EventTree, Leaf, tree_clock, tree_of, stamp_of, Order, Same, Before, After, Concurrent, Row, is_report, MayLackMemory, Answers, reply_to_view, NoEvent, Reply, Request, IsBelow, Contents, IsKept, tenant_of, history_in, code_of}
+use Rattle.trace_types.specs.declared.reply.Reply.TheVariants as reply
+use Rattle.trace_types.specs.declared.request.Request.TheVariants as request
 use Rattle.trace_query.specs.Queries as query
 use Rattle.trace_query.specs.Laws.{Tells}
 use Rattle.trace_query.proofs.ComparedTrees.{tree_order_stands}
 use Rattle.trace_query.proofs.Told.{told_by_orders}
 use Rattle.trace_types.proofs.Reachability.{reaches_newest, reaches_earlier}
-use Rattle.trace_types.specs.declared.reply.Reply.TheVariants as reply
-use Rattle.trace_types.specs.declared.request.Request.TheVariants as request
 use Rattle.trace_query.specs.declared.query_fault.QueryFault.{QueryFault}
 use Rattle.trace_query.specs.declared.query_fault.QueryFault.TheVariants.{Unknown}
 use Rattle.event_tree.proofs.Standing.{stand_one_way}
@@ -30,10 +29,7 @@ reaches_itself (row ∷ earlier) event =
 
 -- an event is in the past of another one where it is another one and reaches it
 before_by : (same forth back : Bool) → is_order Before (cond same Same (cond forth Before (cond back After Concurrent))) ≡ (not same && forth)
-before_by true forth back = refl
-before_by false true back = refl
-before_by false false true = refl
-before_by false false false = refl
+before_by same forth back = grind (arith, nat_tests)
 
 -- and concurrent with it where neither reaches the other
 concurrent_by : (same forth back : Bool) → (same ≡ true → forth ≡ true) → is_order Concurrent (cond same Same (cond forth Before (cond back After Concurrent))) ≡ (not forth && not back)
@@ -77,9 +73,7 @@ module _ (book : Contents) (is : IsKept book) where
       let one_is : IsTrue (is_event history earlier) = sym (same_events earlier) ∙ earlier_is in
       let other_is : IsTrue (is_event history later) = sym (same_events later) ∙ later_is in
       let holds = invariant_upheld tree_clock_laws history (IsLegal_from_AreLegal book.limits book.rows is.legal) in
-      let kept_below : IsBelow (tree_of tree_clock history later) (tree_of tree_clock history earlier) =
-      subst (IsBelow (tree_of tree_clock history later)) (tree_is_kept earlier one_is)
-      (subst (λ tree. IsBelow tree (tree_at trees earlier)) (tree_is_kept later other_is) below) in
+      let kept_below = transport (λ i. IsBelow (tree_is_kept later other_is i) (tree_is_kept earlier one_is i)) below in
       let reached : IsTrue (reaches history later earlier) = (below_iff_reaches tree_clock_laws history holds later earlier other_is).0 kept_below in
       elim (reaches_forward history later earlier reached) [ inl same ↦ omega (arith, same, before) | inr after ↦ omega (arith, after.0, before) ]
 
@@ -143,10 +137,11 @@ order_reply (Ok order) = reply.Ordering order
 order_reply (Err fault) = reply.Refused (code_of fault)
 
 -- an order that is told by the trees is answered as it is due
-pub order_answered : (book : Contents) → IsKept book → (first second : ℕ)
-    → order_reply (query.order_due book.trees first second) ≡ reply_to_view (tenant_of book) (request.Order first second)
-order_answered book is first second =
-    ap order_reply (λ i. cond (same_events book is first i && same_events book is second i) (Ok (order_between book.trees first second)) (Err Unknown))
+pub order_answered : (book : Contents) → IsKept book → {trees : List EventTree} → trees ≡ book.trees → (first second : ℕ)
+    → order_reply (query.order_due trees first second) ≡ reply_to_view (tenant_of book) (request.Order first second)
+order_answered book is trees_are first second =
+    ap (λ trees. order_reply (query.order_due trees first second)) trees_are
+    ∙ ap order_reply (λ i. cond (same_events book is first i && same_events book is second i) (Ok (order_between book.trees first second)) (Err Unknown))
     ∙ elim (cases_Bool (is_event (history_in book) first)) [
       | inl one ↦ elim (cases_Bool (is_event (history_in book) second)) [
         | inl other ↦
@@ -180,7 +175,4 @@ row_is_kept rows event row event_is row_is =
 -- the stamp of an event is its task's id and what it knows
 pub stamp_knows : (history : History) (event : ℕ) → (stamp_of tree_clock history event).1 ≡ tree_of tree_clock history event
 stamp_knows [] event = refl
-stamp_knows (row ∷ earlier) event =
-    let is_new = eqb event (suc (length earlier)) in
-    cond_both is_new _ _ (λ (stamp : Id × EventTree). stamp.1 ≡ tree_of tree_clock (row ∷ earlier) event) (λ _. refl)
-    (λ older. stamp_knows earlier event ∙ sym (cond-false is_new _ _ older))
+stamp_knows (row ∷ earlier) event = grind (arith, nat_tests, stamp_knows earlier event)

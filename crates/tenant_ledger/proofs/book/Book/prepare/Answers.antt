@@ -1,6 +1,5 @@
 use Rattle.std.proofs.Common.{◌≡◌, suc, length, Some, sym, ap, ◌∙◌, subst}
-use Rattle.tenant_ledger.proofs.Words.{transport, with_row, Row, Contents, Event, IsKept, IsReady, row_of_report, tenant_of}
-use Rattle.trace_types.specs.declared.reply.Reply.TheVariants as reply
+use Rattle.tenant_ledger.proofs.Words.{transport, with_row, Row, Contents, Event, IsKept, IsReady, row_of_report, tenant_of, Accepted}
 use Rattle.tenant_ledger.proofs.keeping.Kept.{kept_with_room, report_with_room, report_is_ready}
 use Rattle.tenant_ledger.proofs.keeping.Refused.{lacked, steps_to_row}
 use Rattle.tenant_ledger.proofs.book.Book.prepare.Goals as goal
@@ -30,5 +29,5 @@ returns g c =
           c.note.new.self.messages c.in_ok-note.ensures.noted c.in_ok-make_room.ensures.room),
       ap tenant_of c.note.ensures.others ∙ tenant,
       steps_to_row old c.args.request.now report.task report.kind report.name (sym c.in_ok-report.ensures.refused) c.in_ok-report.ensures.answer
-          ∙ ap (λ (row : Row). (reply.Accepted (suc (length old.rows)), with_row (tenant_of old) (Some row))) row,
+          ∙ ap (λ (row : Row). (Accepted (suc (length old.rows)), with_row (tenant_of old) (Some row))) row,
     )
