@@ -9,18 +9,12 @@ use Rattle.tenant_ledger.proofs.keeping.Lists.{length-of_each, at_event, same_pl
 use Rattle.tenant_ledger.proofs.keeping.Messages.{noted_are_messages}
 use Rattle.tenant_ledger.proofs.keeping.Tasks.{id_is_kept, id_is_left, tasks_are_kept, tasks_are_counted}
 
--- a row more leaves the ids after the events before it
-id_after-older : (row : Row) (earlier : History) (event : ℕ) → event ≢ suc (length earlier) → id_after (row ∷ earlier) event ≡ id_after earlier event
-id_after-older row earlier event older = grind (arith, nat_tests)
-
 module _ (book : Contents) (kept : IsKept book) where
-  within_rows : (event : ℕ) → event ≤ length book.rows → event ≤ length (history_in book)
-  within_rows event within = omega (arith, within, length-reverse book.rows)
-
   -- what the book has of an event: its tree, and the id of its task after it
   pub tree_at_event : (event : ℕ) → 0 < event → event ≤ length book.rows → slice_get book.trees (event - 1) ≡ Some (tree_of tree_clock (history_in book) event)
   tree_at_event event positive within =
-      ap (λ trees. slice_get trees (event - 1)) kept.trees ∙ at_event (tree_of tree_clock) (tree_of-older tree_clock) (history_in book) event positive (within_rows event within)
+      ap (λ trees. slice_get trees (event - 1)) kept.trees ∙ at_event (tree_of tree_clock) (tree_of-older tree_clock) (history_in book) event positive
+      (omega (arith, within, length-reverse book.rows))
 
   -- the book has a tree of each event
   pub one_tree : length book.trees ≡ length book.rows
@@ -35,7 +29,7 @@ module _ (book : Contents) (kept : IsKept book) where
   pub id_at_event : (event place : ℕ) → 0 < event → event ≤ length book.rows → slice_get book.places (event - 1) ≡ Some place
       → slice_get book.ids place ≡ Some (id_after (history_in book) event)
   id_at_event event place positive within there =
-      let told = at_event id_after id_after-older (history_in book) event positive (within_rows event within) in
+      let told = at_event id_after (λ row earlier e before. grind (arith, nat_tests)) (history_in book) event positive (omega (arith, within, length-reverse book.rows)) in
       same_Some (slice_get book.ids place) (Some (id_after (history_in book) event))
       (sym (slice_get-map (slice_get book.ids) book.places (event - 1) ∙ ap (option_map (slice_get book.ids)) there)
       ∙ ap (λ ids. slice_get ids (event - 1)) kept.places ∙ slice_get-map Some (of_each id_after (history_in book)) (event - 1) ∙ ap (option_map Some) told)

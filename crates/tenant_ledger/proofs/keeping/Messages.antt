@@ -34,11 +34,7 @@ length-changed change (first ∷ later) message = grind (arith, nat_tests, lengt
 module _ (row : Row) (earlier : History) (name : Text) where
   is_message_stays : sends name row ≡ false → receives name row ≡ false → (found : Option Entry) → IsMessage earlier name found → IsMessage (row ∷ earlier) name found
   is_message_stays not_sent not_received None unsent = rw not_sent unsent
-  is_message_stays not_sent not_received (Some entry) right = (
-    rw not_sent right.0,
-    right.1 ∙ sym (cond-false (sends name row) _ _ not_sent),
-    right.2 ∙ sym (cond-false (receives name row) _ _ not_received),
-  )
+  is_message_stays not_sent not_received (Some entry) right = rw (not_sent, not_received) right
 
 message_count-more : (row : Row) (earlier : History) → message_count (row ∷ earlier) ≡ message_count earlier + cond (sends_message row.kind) 1 0
 message_count-more row earlier = let sums = sum_by-append (λ (r : Row). cond (sends_message r.kind) 1 0) (row ∷ []) earlier in omega (arith, sums)
@@ -107,11 +103,8 @@ module _ (limits : Limits) (task message : Text) (preds : List ℕ) (earlier : H
   received : is_sent earlier message ≡ true → (found : Option Entry) → IsMessage earlier message found
       → IsMessage (naming Recv ∷ earlier) message (option_map (entry_with_receipt (suc (length earlier))) found)
   received sent None unsent = absurd (false≢true (sym unsent ∙ sent))
-  received sent (Some entry) right = (
-    right.0,
-    right.1,
-    ap (λ (events : List ℕ). events ++ suc (length earlier) ∷ []) right.2 ∙ sym (cond-true (is_same message message) _ _ (is_same-itself message)),
-  )
+  received sent (Some entry) right =
+      (right.0, right.1, rw (is_same-itself message) (ap (λ (events : List ℕ). events ++ suc (length earlier) ∷ []) right.2))
 
   messages_received : is_sent earlier message ≡ true
       → AreMessages limits (naming Recv ∷ earlier) (record messages { messages = with_receipt message (suc (length earlier)) messages.messages })

@@ -88,9 +88,6 @@ AreLegal-push limits rows request row written unrefused answered legal =
     let same : after (fresh limits) legal.0 ≡ tenant = λ i. record { limits = limits-after (fresh limits) legal.0 i; rows = legal.2 i } in (
       legal.0 ++ request ∷ [],
       all_with_one_more legal.0 request legal.1 written,
-      ap (λ (t : Tenant). t.rows) (
-          after-push (fresh limits) legal.0 request
-          ∙ (ap (λ t. (step t request).1) same
-          ∙ (ap (λ refusal. (step_unless refusal tenant request).1) unrefused ∙ ap (with_row tenant) answered))
-          ),
+      ap (λ (t : Tenant). t.rows) (after-push (fresh limits) legal.0 request ∙ ap (λ t. (step t request).1) same
+          ∙ ap (λ refusal. (step_unless refusal tenant request).1) unrefused ∙ ap (with_row tenant) answered),
     )

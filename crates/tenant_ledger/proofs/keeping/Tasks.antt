@@ -62,16 +62,14 @@ module _ (book : Contents) (kept : IsKept book) (task : Text) (acting : Task) (f
     unjoined : is_joined history task ≡ false
     unjoined = unended_is_not_joined history task (legal_history book kept) live.1
 
-    was_live : acting.state ≡ Live
-    was_live = was_kept.1 ∙ cond-false (is_joined history task) _ _ unjoined ∙ cond-false (is_ended history task) _ _ live.1
-
     pub own_id : slice_get book.ids acting.id ≡ Some (id_of tree_clock history task)
-    own_id = was_kept.3 λ joined. let clash : Live ≡ Joined = sym was_live ∙ joined in cc
+    own_id =
+        let was_live = was_kept.1 ∙ cond-false (is_joined history task) _ _ unjoined ∙ cond-false (is_ended history task) _ _ live.1 in
+        was_kept.3 λ joined. let clash : Live ≡ Joined = sym was_live ∙ joined in cc
 
     -- the acting task is left in this state
     state_after : (kind : Kind) (name : Option Text) → AllowsNamed history kind name → (acting_after kind event place acting).state ≡ state_of (row kind name ∷ history) task
-    state_after End name allowed =
-        sym (cond-false (is_joined history task) _ _ unjoined ∙ cond-true (is_ended (row End name ∷ history) task) _ _ (or_left (is_same task task) _ (is_same-itself task)))
+    state_after End name allowed = rw (unjoined, is_same-itself task) refl
     state_after Join (Some child) allowed = rw (differ_back task child (live_is_not_ended history task child live allowed.1)) was_kept.1
     state_after kind name allowed = was_kept.1
 

@@ -33,10 +33,7 @@ before_by same forth back = grind (arith, nat_tests)
 
 -- and concurrent with it where neither reaches the other
 concurrent_by : (same forth back : Bool) → (same ≡ true → forth ≡ true) → is_order Concurrent (cond same Same (cond forth Before (cond back After Concurrent))) ≡ (not forth && not back)
-concurrent_by true forth back itself = rw (itself refl) refl
-concurrent_by false true back itself = refl
-concurrent_by false false true itself = refl
-concurrent_by false false false itself = refl
+concurrent_by same forth back itself = grind (arith, nat_tests, itself)
 
 module _ (book : Contents) (is : IsKept book) where
   abbrev pub history : History
