@@ -33,8 +33,7 @@ unknown_has_not_ended (row ∷ earlier) task legal unknown =
 
 -- so neither was joined
 pub unended_is_not_joined : (history : History) (task : Text) → IsLegal history → is_ended history task ≡ false → is_joined history task ≡ false
-unended_is_not_joined history task legal unended =
-    false_from_ne_true (is_joined history task) (λ joined. false≢true (sym unended ∙ joined_has_ended history task legal joined))
+unended_is_not_joined history task legal unended = grind (arith, nat_tests, joined_has_ended history task legal)
 
 -- what the rows are for a task in this state
 abbrev pub IsAt : History → Text → TaskState → Type 0

@@ -1,14 +1,12 @@
 -- What stands at a place of a list that is longer by some items, and what is told of each event.
-use Rattle.std.proofs.Common.{◌≡◌, ◌≢◌, ℕ, suc, ◌-◌, ◌<◌, ◌≤◌, List, [], ◌∷◌, ◌++◌, length, map, slice_get, Some, refl, sym, ap, ◌∙◌, inl, inr, arith}
-use Rattle.std.proofs.Math.ListN.{get_or-append}
-use Rattle.tenant_ledger.proofs.Words.{cases_eq, length-append, map-append, slice_get_within, slice_get-get_or, get_or_from_slice_get, Id, History, Row, of_each, with_seed}
+use Rattle.std.proofs.Common.{◌≡◌, ◌≢◌, ℕ, zero, suc, ◌-◌, ◌<◌, ◌≤◌, List, [], ◌∷◌, ◌++◌, length, map, slice_get, Some, refl, sym, ap, ◌∙◌, inl, inr, arith}
+use Rattle.tenant_ledger.proofs.Words.{cases_eq, length-append, map-append, Id, History, Row, of_each, with_seed}
 
 -- what stands in a list stands there in a longer one
 pub slice_get-longer : {X : Type 0} (xs ys : List X) (place : ℕ) (x : X) → slice_get xs place ≡ Some x → slice_get (xs ++ ys) place ≡ Some x
-slice_get-longer xs ys place x there =
-    let within : place < length xs = slice_get_within xs place x there in
-    let longer : place < length (xs ++ ys) = omega (arith, within, length-append xs ys) in
-    slice_get-get_or (xs ++ ys) place x longer ∙ ap Some (get_or-append xs ys x place within ∙ get_or_from_slice_get xs place x x there)
+slice_get-longer [] ys place x there = cc
+slice_get-longer (first ∷ xs) ys zero x there = there
+slice_get-longer (first ∷ xs) ys (suc place) x there = slice_get-longer xs ys place x there
 
 -- and what is added stands behind it
 pub slice_get-seam : {X : Type 0} (xs : List X) (x : X) (rest : List X) → slice_get (xs ++ x ∷ rest) (length xs) ≡ Some x
@@ -32,8 +30,7 @@ same_places xs more places found is = cc
 module _ {A : Type 0} (told : History → ℕ → A) where
   pub length-of_each : (history : History) → length (of_each told history) ≡ length history
   length-of_each [] = refl
-  length-of_each (row ∷ earlier) =
-      length-append (of_each told earlier) (told (row ∷ earlier) (suc (length earlier)) ∷ []) ∙ omega (arith, length-of_each earlier)
+  length-of_each (row ∷ earlier) = omega (arith, length-of_each earlier, length-append (of_each told earlier) (told (row ∷ earlier) (suc (length earlier)) ∷ []))
 
   -- a row more leaves what is told of the events before it
   abbrev pub Stays : Type 0

@@ -1,6 +1,6 @@
 -- What is kept of the messages is right after one more row.
 use Rattle.std.proofs.Common.{◌≡◌, ℕ, suc, ◌+◌, true, false, cond, List, [], ◌∷◌, ◌++◌, length, Option, Some, None, option_map, is_some, nat_lt, refl, sym, ap, ◌∙◌, subst, inl, inr, arith}
-use Rattle.tenant_ledger.proofs.Words.{list_any, false≢true, cases_Bool, cond-true, cond-false, and_left, and_right, or_left, or_parts, false_from_ne_true, nat_tests, length-append, sum_by-append, is_same_iff, is_same-itself, Messages, entry_of, has_receipt, with_message, with_changed, with_receipt, without_receipts, entry_with_receipt, Limits, Text, is_same, History, names, sends, sends_message, receives, receives_message, is_sent, is_received, receipts, message_count, Row, Kind, Send, Recv, IsMessage, AreMessages, Notes, AllowsNamed, IsLegal}
+use Rattle.tenant_ledger.proofs.Words.{false≢true, cases_Bool, cond-true, cond-false, and_left, and_right, or_left, nat_tests, length-append, sum_by-append, is_same_iff, is_same-itself, Messages, entry_of, has_receipt, with_message, with_changed, with_receipt, without_receipts, entry_with_receipt, Limits, Text, is_same, History, names, sends, sends_message, receives, receives_message, is_sent, is_received, receipts, message_count, Row, Kind, Send, Recv, IsMessage, AreMessages, Notes, AllowsNamed, IsLegal}
 use Rattle.message_book.specs.Book as message_book
 use Rattle.message_book.specs.declared.entry.Entry.{Entry}
 use Rattle.message_book.proofs.Messages.{no_first_code, entry_of-changed, without_receipts-received}

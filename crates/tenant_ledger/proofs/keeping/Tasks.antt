@@ -174,8 +174,7 @@ module _ (book : Contents) (kept : IsKept book) (task : Text) (acting : Task) (f
         → count_with task (tasks_after kind name) (count_with_some (named_after kind event place (joined_by (task_in book) kind name)) name (task_in book) (length book.tasks))
         ≡ task_count (row kind name ∷ history)
     tasks_are_counted kind name allowed =
-        let there = acting_is_there name (named_after kind event place (joined_by (task_in book) kind name)) in
-        rw there (omega (arith, by kind name allowed, task_count-more (row kind name) history))
+        rw (acting_is_there name (named_after kind event place (joined_by (task_in book) kind name))) (omega (arith, by kind name allowed, task_count-more (row kind name) history))
       where
         by : (kind : Kind) (name : Option Text) → AllowsNamed history kind name
             → count_with_some (named_after kind event place (joined_by (task_in book) kind name)) name (task_in book) (length book.tasks) ≡ task_count history + cond (starts_task kind) 1 0

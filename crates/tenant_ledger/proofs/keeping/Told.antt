@@ -1,7 +1,7 @@
 -- The lists that are told by comparing the kept trees are those of the graph, and so is the row of an event.
-use Rattle.std.proofs.Common.{◌≡◌, ℕ, suc, ◌-◌, ◌<◌, ◌≤◌, ◌≢◌, Bool, true, false, cond, not, ◌&&◌, IsTrue, eqb, ltb, List, [], ◌∷◌, ◌++◌, length, get_or, slice_get, reverse, map, option_map, Some, Result, Ok, Err, IfOk, IfErr, refl, sym, ap, ◌∙◌, subst, inl, inr, arith}
+use Rattle.std.proofs.Common.{◌≡◌, ℕ, suc, ◌-◌, ◌<◌, ◌≤◌, Bool, true, false, cond, not, ◌&&◌, IsTrue, eqb, ltb, List, [], ◌∷◌, ◌++◌, length, get_or, slice_get, reverse, map, option_map, Some, Result, Ok, Err, IfOk, IfErr, refl, sym, ap, ◌∙◌, inl, inr, arith}
 use Rattle.trace_query.specs.Compared.{is_order}
-use Rattle.tenant_ledger.proofs.Words.{transport, filter, range_with_len, cases_Bool, cond_both, eq-eqb, ne_eqb, eqb-true, cond-true, cond-false, nat_tests, length-reverse, map-append, reverse-append, reverse-reverse, get_or_from_slice_get, same_Some, slice_get-map, slice_get_read, of_each, tree_at, StandInOrder, order_between, others_standing, fault_due, History, history_of, is_event, row_of, events, reaches, order_of, past_of, concurrent_with, Id, EventTree, Leaf, tree_clock, tree_of, stamp_of, Order, Same, Before, After, Concurrent, Row, is_report, MayLackMemory, Answers, reply_to_view, NoEvent, Reply, Request, IsBelow, Contents, IsKept, tenant_of, history_in, code_of}
+use Rattle.tenant_ledger.proofs.Words.{transport, filter, range_with_len, cases_Bool, eq-eqb, eqb-true, cond-true, cond-false, nat_tests, length-reverse, map-append, reverse-append, reverse-reverse, get_or_from_slice_get, same_Some, slice_get-map, slice_get_read, of_each, tree_at, StandInOrder, order_between, others_standing, fault_due, History, history_of, is_event, row_of, events, reaches, order_of, past_of, concurrent_with, EventTree, Leaf, tree_clock, tree_of, stamp_of, Order, Same, Before, After, Concurrent, Row, is_report, MayLackMemory, Answers, reply_to_view, NoEvent, Reply, Request, IsBelow, Contents, IsKept, tenant_of, history_in, code_of}
 use Rattle.trace_types.specs.declared.reply.Reply.TheVariants as reply
 use Rattle.trace_types.specs.declared.request.Request.TheVariants as request
 use Rattle.trace_query.specs.Queries as query
@@ -71,8 +71,7 @@ module _ (book : Contents) (is : IsKept book) where
       let other_is : IsTrue (is_event history later) = sym (same_events later) ∙ later_is in
       let holds = invariant_upheld tree_clock_laws history (IsLegal_from_AreLegal book.limits book.rows is.legal) in
       let kept_below = transport (λ i. IsBelow (tree_is_kept later other_is i) (tree_is_kept earlier one_is i)) below in
-      let reached : IsTrue (reaches history later earlier) = (below_iff_reaches tree_clock_laws history holds later earlier other_is).0 kept_below in
-      elim (reaches_forward history later earlier reached) [ inl same ↦ omega (arith, same, before) | inr after ↦ omega (arith, after.0, before) ]
+      elim (reaches_forward history later earlier ((below_iff_reaches tree_clock_laws history holds later earlier other_is).0 kept_below)) [ inl same ↦ omega (arith, same, before) | inr after ↦ omega (arith, after.0, before) ]
 
   told : (wanted : Order) → is_order wanted Same ≡ false → (event : ℕ) → IsTrue (query.has_tree trees event)
       → others_standing wanted trees event ≡ filter (λ other. is_order wanted (order_of history other event)) (events history)
@@ -106,9 +105,9 @@ module _ (book : Contents) (is : IsKept book) {trees : List EventTree} (trees_ar
   list_answered : (asked : Request) (graph list : List ℕ) → (is_event (history_in book) event ≡ true → list ≡ graph)
       → (is_event (history_in book) event ≡ true → (reply.List graph ≡ reply_to_view (tenant_of book) asked) × IsTrue (not (is_report asked)) × MayLackMemory (tenant_of book) asked)
       → (is_event (history_in book) event ≡ false → reply.Refused NoEvent ≡ reply_to_view (tenant_of book) asked) → (found : Result V QueryFault) → IsAnswered asked list found
-  list_answered asked graph list told due none (Ok value) known fault listed refused events =
-      let there = sym has_it ∙ known in inl (listed ∙ ap reply.List (events ∙ told there) ∙ (due there).0)
-  list_answered asked graph list told due none (Err refusal) known fault listed refused events = elim (cases_Bool (query.has_tree trees event)) [
+  list_answered asked graph list same due none (Ok value) known fault listed refused events =
+      let there = sym has_it ∙ known in inl (listed ∙ ap reply.List (events ∙ same there) ∙ (due there).0)
+  list_answered asked graph list same due none (Err refusal) known fault listed refused events = elim (cases_Bool (query.has_tree trees event)) [
     | inl there ↦
         let given = due (sym has_it ∙ there) in
         inr (given.1, given.2, refused ∙ ap (λ f. reply.Refused (code_of f)) (fault ∙ cond-true (query.has_tree trees event) _ _ there))
@@ -164,8 +163,7 @@ pub row_is_kept : (rows : List Row) (event : ℕ) (row : Row) → is_event (hist
 row_is_kept rows event row event_is row_is =
     let bounds = event_bounds (history_of rows) event event_is in
     let inside : event - 1 < length rows = omega (arith, bounds.0, bounds.1, length-reverse rows) in
-    let stays = λ (newest : Row) (earlier : History) (e : ℕ) (older : e ≢ suc (length earlier)). cond-false (eqb e (suc (length earlier))) (Some newest) (row_of earlier e) (ne_eqb e _ older) in
-    same_Some _ _ (sym (at_event row_of stays (history_of rows) event bounds.0 bounds.1)
+    same_Some _ _ (sym (at_event row_of (λ newest earlier e older. grind (arith, nat_tests)) (history_of rows) event bounds.0 bounds.1)
     ∙ ap (λ found. slice_get found (event - 1)) (rows_in_order (history_of rows) ∙ ap (map Some) (reverse-reverse rows))
     ∙ slice_get-map Some rows (event - 1) ∙ ap (option_map Some) (slice_get_read rows (length rows) (event - 1) row refl inside row_is))
 
