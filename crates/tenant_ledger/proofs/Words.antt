@@ -1,9 +1,9 @@
 -- The names of the definitions and of the general lemmas that the proofs cite, passed on from one place. Declares nothing.
-pub use Rattle.std.proofs.lemmas.Bool.{and_left, and_right, cases_Bool, cases_eq, cond-false, cond-true, cond_both, eq-eqb, eqb-true, false_from_ne_true, false≢true, ne_eqb, or_left, or_parts, or_right}
+pub use Rattle.std.proofs.lemmas.Bool.{and_left, and_right, cases_Bool, cases_eq, cond-false, cond-true, cond_both, eq-eqb, eqb-true, false_from_ne_true, false≢true, or_left, or_right}
 pub use Rattle.std.proofs.lemmas.Bool.Decides.{nat_tests}
 pub use Rattle.std.proofs.lemmas.List.{append_assoc, length-append, length-map, length-reverse, map-append, reverse-append, reverse-reverse}
 pub use Rattle.std.proofs.lemmas.List.Sums.{sum_by-append}
-pub use Rattle.std.proofs.lemmas.Option.{get_or_from_slice_get, same_Some, slice_get-get_or, slice_get-map, slice_get_read, slice_get_within}
+pub use Rattle.std.proofs.lemmas.Option.{get_or_from_slice_get, same_Some, slice_get-map, slice_get_read, slice_get_within}
 pub use Rattle.std.proofs.Math.Path.{transport}
 pub use Rattle.trace_types.proofs.Names.{differ_by_test, is_same-itself, is_same_iff}
 pub use Rattle.event_tree.specs.Comparison.{IsBelow, StandsAs}
@@ -38,4 +38,4 @@ pub use Rattle.trace_types.specs.tenant.Rows.{ends, ends_task, events, History, 
 pub use Rattle.trace_types.specs.tenant.Tenant.{accepted, after, answer_to, Answers, AreLegal, fresh, is_report, may_lack_memory, MayLackMemory, reply_to_view, row_after, step, step_unless, Steps, Tenant, with_row}
 pub use Rattle.trace_types.specs.text.Name.{is_same, root, Text}
 pub use Rattle.trace_types.specs.declared.reply.Reply.TheVariants.{Accepted, Ordering, Refused}
-pub use Rattle.std.specs.List.{AllByRecursion, filter, list_any, range_with_len}
+pub use Rattle.std.specs.List.{AllByRecursion, filter, range_with_len}
