@@ -4,6 +4,8 @@
 //! prints `ok` where that holds. It is run once for each block of memory that it asks for, with that block refused.
 #![tactic(auto)]
 
+ghost use Rattle.std.specs.Prelude.{◌≡◌};
+
 mod run;
 
 use line_protocol::{IntoWriter, read_request, write_reply};
