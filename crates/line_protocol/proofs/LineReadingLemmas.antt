@@ -1,11 +1,11 @@
 -- The reads that a line reader makes, the lines that it finds, and for callers what they are together.
-use Rattle.std.proofs.Common.{Result, Ok, Err, IsErrAnd, ◌≡◌, ◌≤◌, ◌+◌, ℕ, Bool, IsTrue, true, false, cond, List, [], ◌∷◌, ◌++◌, ◌⊎◌, inl, inr, length, take, drop, refl, sym, ap, ◌∙◌, append_assoc, arith, length-append, subst, ◌==◌, lt-ltb}
+use Rattle.std.proofs.Common.{Result, Ok, Err, IsErrAnd, ◌≡◌, ◌≤◌, ◌<◌, ◌+◌, ℕ, Bool, IsTrue, true, false, cond, List, [], ◌∷◌, ◌++◌, ◌⊎◌, inl, inr, length, take, drop, refl, sym, ap, ◌∙◌, append_assoc, arith, length-append, subst, ◌==◌, lt-ltb}
 use Rattle.std.proofs.lemmas.List.{append-nil, append_cancel_left}
 use Rattle.std.proofs.Math.Seq.{take-append_seam}
 use Rattle.std.proofs.KnownBytes.{Keeps-refl, Keeps-trans}
 use Rattle.trace_types.specs.text.Name.{Text}
-use Rattle.trace_types.specs.text.Lines.{lines, without_return, is_too_long}
-use Rattle.line_protocol.specs.Held.{Held, fresh_held}
+use Rattle.trace_types.specs.text.Lines.{lines, without_return, is_longer_than}
+use Rattle.line_protocol.specs.Held.{Held, ReadingBounds, fresh_within}
 use Rattle.line_protocol.specs.Source.{Given, HasToldEnd, StopsAtEnd, one_if}
 use Rattle.line_protocol.specs.declared.line.Line.TheVariants.{Whole, TooLong}
 use Rattle.line_protocol.specs.declared.read_fault.ReadFault.{ReadFault}
@@ -23,6 +23,7 @@ Reads-none given held = record {
   ended = λ ended. inl ended;
   whole = Keeps-refl given.whole;
   work = omega arith;
+  bounds = refl;
 }
 
 -- more reads were made; none of them where the end was told before
@@ -38,6 +39,7 @@ Reads-on {before = before} {mid = mid} {after = after} first at_end second = rec
   ];
   whole = Keeps-trans before.whole mid.whole after.whole first.whole second.whole;
   work = omega arith;
+  bounds = second.bounds ∙ first.bounds;
 }
 
 -- more reads were made where the end was not told
@@ -46,11 +48,11 @@ pub Reads-more : {before mid after : Given} {old held new : Held} {failed : ℕ}
 Reads-more first goes_on second = Reads-on first (λ ended. absurd (cc)) second
 
 -- what is known of the end since nothing was held, the source told
-pub has_told_end : {before after : Given} {held : Held} {failed : ℕ} → Reads before after fresh_held held failed → IsTrue held.is_ended → HasToldEnd after
+pub has_told_end : {before after : Given} {bounds : ReadingBounds} {held : Held} {failed : ℕ} → Reads before after (fresh_within bounds) held failed → IsTrue held.is_ended → HasToldEnd after
 has_told_end reads ended = elim (reads.ended ended) [ inl never ↦ absurd (cc) | inr told ↦ told ]
 
 -- the end was told once at most, and by the last read
-pub stops_at_end : {before after : Given} {held : Held} {failed : ℕ} → Reads before after fresh_held held failed → StopsAtEnd before after
+pub stops_at_end : {before after : Given} {bounds : ReadingBounds} {held : Held} {failed : ℕ} → Reads before after (fresh_within bounds) held failed → StopsAtEnd before after
 stops_at_end {before = before} {after = after} {held = held} reads = by held.is_ended reads.ends (has_told_end reads)
   where
     by : (b : Bool) → after.ends + 0 ≡ before.ends + one_if b → (IsTrue b → HasToldEnd after) → StopsAtEnd before after
@@ -59,14 +61,15 @@ stops_at_end {before = before} {after = after} {held = held} reads = by held.is_
 
 -- bytes that are held were taken or thrown away
 pub Reads-fewer : {before after : Given} {old held new : Held} {failed : ℕ} → Reads before after old held failed
-    → new.reads ≡ held.reads → new.is_ended ≡ held.is_ended → length new.left ≤ length held.left → Reads before after old new failed
-Reads-fewer reads same_reads same_end fewer = record {
+    → new.reads ≡ held.reads → new.is_ended ≡ held.is_ended → new.bounds ≡ held.bounds → length new.left ≤ length held.left → Reads before after old new failed
+Reads-fewer reads same_reads same_end same_bounds fewer = record {
   counted = omega arith;
   failures = reads.failures;
   ends = rw same_end reads.ends;
   ended = rw same_end reads.ended;
   whole = reads.whole;
-  work = omega arith;
+  work = omega (arith, ap (λ (bounds : ReadingBounds). bounds.reads) same_bounds);
+  bounds = same_bounds ∙ reads.bounds;
 }
 
 -- more reads were made, until this result
@@ -78,7 +81,7 @@ ReadsUntil-more first goes_on second = record { reads = Reads-more first goes_on
 pub Reads-dropped : {before after : Given} {old held new : Held} {failed : ℕ} {left : List ℕ} → Reads before after old held failed
     → new ≡ record held { left = left } → length left ≤ length held.left → Reads before after old new failed
 Reads-dropped {before = before} {after = after} {old = old} {held = held} {failed = failed} {left = left} reads is fewer =
-    let dropped : Reads before after old (record held { left = left }) failed = Reads-fewer reads refl refl fewer in
+    let dropped : Reads before after old (record held { left = left }) failed = Reads-fewer reads refl refl refl fewer in
     subst (λ (h : Held). Reads before after old h failed) (sym is) dropped
 
 -- what was known at a fault is known where that fault is answered
@@ -88,7 +91,7 @@ ReadsUntil-fault (Ok value) fault is reads = absurd is
 ReadsUntil-fault {before = before} {after = after} {old = old} {new = new} (Err e) fault is reads = record {
   reads = subst (λ f. Reads before after old new (failed_reads_of f)) (sym is) reads.reads;
   most = reads.most;
-  too_long = subst (λ f. AllWereMade f new.reads) (sym is) reads.too_long;
+  too_long = subst (λ f. AllWereMade f new) (sym is) reads.too_long;
 }
 
 -- the line before an end of line
@@ -113,17 +116,17 @@ GivesLine-last gave x xs is_ended ended grows splits no_end = record {
 }
 
 -- a line that is held is found as what it is
-found_as : {given given' : List ℕ} (old new : Held) (b : Bool) → is_too_long new.line ≡ b → GivesLine given given' old.left new.left new.is_ended new.line
+found_as : {given given' : List ℕ} (old new : Held) (b : Bool) → is_longer_than new.bounds.bytes new.line ≡ b → GivesLine given given' old.left new.left new.is_ended new.line
     → Finds given given' old new (cond b TooLong Whole)
 found_as old new true is gives = (new.line, gives, is)
 found_as old new false is gives = (gives, is)
 
-pub Finds-line : {given given' : List ℕ} (old new : Held) → GivesLine given given' old.left new.left new.is_ended new.line → Finds given given' old new (kind_of new.line)
-Finds-line old new gives = found_as old new (is_too_long new.line) refl gives
+pub Finds-line : {given given' : List ℕ} (old new : Held) → GivesLine given given' old.left new.left new.is_ended new.line → Finds given given' old new (kind_of new.bounds.bytes new.line)
+Finds-line old new gives = found_as old new (is_longer_than new.bounds.bytes new.line) refl gives
 
 -- what is found at an end of line
 pub Finds-at : {given given' mid : List ℕ} {at : ℕ} (old new : Held) → Comes given given' old.left mid → EndsAt mid at
-    → new.line ≡ without_return (take at mid) → new.left ≡ drop (at + 1) mid → Finds given given' old new (kind_of new.line)
+    → new.line ≡ without_return (take at mid) → new.left ≡ drop (at + 1) mid → Finds given given' old new (kind_of new.bounds.bytes new.line)
 Finds-at {mid = mid} {at = at} old new comes ends line left =
     let before : take at mid ≡ ends.before =
     ap (λ n. take n mid) (sym ends.place) ∙ ap (take (length ends.before)) ends.splits ∙ take-append_seam ends.before (10 ∷ ends.after) in
@@ -137,12 +140,12 @@ none_of (x ∷ xs) ys e = cc
 
 -- what is found at the end of the input
 pub Finds-rest : {given given' : List ℕ} (old new : Held) (mid : List ℕ) → Comes given given' old.left mid → HasNoEnd mid → IsTrue new.is_ended
-    → new.line ≡ mid → new.left ≡ [] → Finds given given' old new (last_line mid)
+    → new.line ≡ mid → new.left ≡ [] → Finds given given' old new (last_line new.bounds.bytes mid)
 Finds-rest {given = given} old new [] comes no_end ended line left =
     let none = none_of old.left comes.gave comes.adds in
     (comes.grows ∙ ap (λ more. given ++ more) none.1 ∙ append-nil given, none.0, left, ended)
 Finds-rest {given = given} {given' = given'} old new (x ∷ xs) comes no_end ended line left =
-    subst (λ (found : Text). Finds given given' old new (kind_of found)) line
+    subst (λ (found : Text). Finds given given' old new (kind_of new.bounds.bytes found)) line
     (Finds-line old new (rw (line, left) (GivesLine-last comes.gave x xs new.is_ended ended comes.grows (sym comes.adds) no_end)))
 
 -- no line loses more than one byte
@@ -155,36 +158,36 @@ length-without_return (x ∷ []) = one (x == 13) refl
     one false e = rw e (omega arith)
 length-without_return (x ∷ y ∷ xs) = let rest = length-without_return (y ∷ xs) in omega arith
 
-too_long : (line : List ℕ) → 201 ≤ length line → is_too_long line ≡ true
-too_long line long = lt-ltb _ _ long
+too_long : (most : ℕ) (line : List ℕ) → most < length line → is_longer_than most line ≡ true
+too_long most line long = lt-ltb _ _ long
 
 -- a line that was skipped
-skipped_line : {given given' given'' left mid left' : List ℕ} (is_ended : Bool) (skipped : List ℕ) → Comes given given' left mid → HasNoEnd mid → 202 ≤ length mid → HasNoEnd skipped
+skipped_line : {given given' given'' left mid left' : List ℕ} (most : ℕ) (is_ended : Bool) (skipped : List ℕ) → Comes given given' left mid → HasNoEnd mid → most + 2 ≤ length mid → HasNoEnd skipped
     → (given'' ≡ given' ++ (skipped ++ 10 ∷ left')) ⊎ ((given'' ≡ given' ++ skipped) × (left' ≡ []) × IsTrue is_ended)
-    → (line : Text) × GivesLine given given'' left left' is_ended line × (is_too_long line ≡ true)
-skipped_line {given = given} {left = left} {mid = mid} {left' = left'} is_ended skipped comes no_end long none (inl grows) =
+    → (line : Text) × GivesLine given given'' left left' is_ended line × (is_longer_than most line ≡ true)
+skipped_line {given = given} {left = left} {mid = mid} {left' = left'} most is_ended skipped comes no_end long none (inl grows) =
     let more : List ℕ = skipped ++ 10 ∷ left' in (
       without_return (mid ++ skipped),
       GivesLine-ended (comes.gave ++ more) (mid ++ skipped) is_ended
           (grows ∙ ap (λ bytes. bytes ++ more) comes.grows ∙ append_assoc given comes.gave more)
           (sym (append_assoc left comes.gave more) ∙ ap (λ bytes. bytes ++ more) (sym comes.adds) ∙ sym (append_assoc mid skipped (10 ∷ left')))
           (HasNoEnd-append mid skipped no_end none),
-      too_long (without_return (mid ++ skipped)) (omega (arith, length-without_return (mid ++ skipped), length-append mid skipped)),
+      too_long most (without_return (mid ++ skipped)) (omega (arith, length-without_return (mid ++ skipped), length-append mid skipped)),
     )
-skipped_line {mid = []} is_ended skipped comes no_end long none (inr ends) = absurd (omega arith)
-skipped_line {given = given} {left = left} {mid = x ∷ xs} {left' = left'} is_ended skipped comes no_end long none (inr ends) = (
+skipped_line {mid = []} most is_ended skipped comes no_end long none (inr ends) = absurd (omega arith)
+skipped_line {given = given} {left = left} {mid = x ∷ xs} {left' = left'} most is_ended skipped comes no_end long none (inr ends) = (
   x ∷ (xs ++ skipped),
   rw ends.1
       (GivesLine-last (comes.gave ++ skipped) x (xs ++ skipped) is_ended ends.2
       (ends.0 ∙ ap (λ bytes. bytes ++ skipped) comes.grows ∙ append_assoc given comes.gave skipped)
       (sym (append_assoc left comes.gave skipped) ∙ ap (λ bytes. bytes ++ skipped) (sym comes.adds))
       (HasNoEnd-append (x ∷ xs) skipped no_end none)),
-  too_long (x ∷ (xs ++ skipped)) (omega (arith, length-append xs skipped)),
+  too_long most (x ∷ (xs ++ skipped)) (omega (arith, length-append xs skipped)),
 )
 
-pub Finds-skipped : {given given' given'' left mid left' : List ℕ} {is_ended : Bool} → Comes given given' left mid → HasNoEnd mid → 202 ≤ length mid → Skips given' given'' left' is_ended
-    → (line : Text) × GivesLine given given'' left left' is_ended line × (is_too_long line ≡ true)
-Finds-skipped {is_ended = is_ended} comes no_end long skips = skipped_line is_ended skips.skipped comes no_end long skips.no_end skips.grows
+pub Finds-skipped : {given given' given'' left mid left' : List ℕ} {is_ended : Bool} (most : ℕ) → Comes given given' left mid → HasNoEnd mid → most + 2 ≤ length mid → Skips given' given'' left' is_ended
+    → (line : Text) × GivesLine given given'' left left' is_ended line × (is_longer_than most line ≡ true)
+Finds-skipped {is_ended = is_ended} most comes no_end long skips = skipped_line most is_ended skips.skipped comes no_end long skips.no_end skips.grows
 
 -- a read failed while a line was skipped
 pub FindsNone-skipped : {given given' given'' mid : List ℕ} {old : Held} → Comes given given' old.left mid → HasNoEnd mid → Skipped given' given'' → old.is_ended ≡ false → FindsNone given given'' old

@@ -44,14 +44,14 @@ pub record Skips (given given' left' : List ℕ) (is_ended : Bool) : Type 0 wher
   pub no_end : HasNoEnd skipped
   pub grows : (given' ≡ given ++ (skipped ++ 10 ∷ left')) ⊎ ((given' ≡ given ++ skipped) × (left' ≡ []) × IsTrue is_ended)
 
--- what a line is
-abbrev pub kind_of_length : ℕ → Line
-kind_of_length n = if nat_lt 200 n then TooLong else Whole
+-- what a line is, where so many bytes are the most
+abbrev pub kind_of_length : ℕ → ℕ → Line
+kind_of_length most n = if nat_lt most n then TooLong else Whole
 
-abbrev pub kind_of : Text → Line
-kind_of line = kind_of_length (length line)
+abbrev pub kind_of : ℕ → Text → Line
+kind_of most line = kind_of_length most (length line)
 
 -- what the bytes after the last end of line are
-abbrev pub last_line : Text → Line
-last_line [] = End
-last_line (byte ∷ bytes) = kind_of (byte ∷ bytes)
+abbrev pub last_line : ℕ → Text → Line
+last_line most [] = End
+last_line most (byte ∷ bytes) = kind_of most (byte ∷ bytes)

@@ -1,8 +1,8 @@
 -- What a line reader finds, between what it held and what its source had given before and after.
-use Rattle.std.specs.Prelude.{◌≡◌, ℕ, ◌+◌, ◌-◌, ◌*◌, ◌≤◌, ◌<◌, ◌^◌, ◌⊎◌, Result, Option, Bool, true, false, IsTrue, List, [], ◌∷◌, ◌++◌, length, Ok, Err, Some, None, IfOk, IfErr, OnErr}
+use Rattle.std.specs.Prelude.{◌≡◌, ℕ, ◌+◌, ◌-◌, ◌*◌, ◌≤◌, ◌<◌, ◌⊎◌, Result, Option, Bool, true, false, IsTrue, List, [], ◌∷◌, ◌++◌, length, Ok, Err, Some, None, IfOk, IfErr, OnErr}
 use Rattle.std.specs.Io.KnownBytes.{Keeps}
 use Rattle.trace_types.specs.text.Name.{Text}
-use Rattle.trace_types.specs.text.Lines.{lines, is_too_long}
+use Rattle.trace_types.specs.text.Lines.{lines, is_longer_than}
 use Rattle.line_protocol.specs.Held.{Held}
 use Rattle.line_protocol.specs.Source.{Given, HasToldEnd, one_if}
 use Rattle.line_protocol.specs.Ends.{HasNoEnd, EndsAt, Skipped, Skips}
@@ -22,9 +22,9 @@ pub record GivesLine (given given' left left' : List ℕ) (is_ended : Bool) (lin
 -- what was found
 abbrev pub Finds : List ℕ → List ℕ → Held → Held → Line → Type 0
 Finds given given' old new Whole =
-    GivesLine given given' old.left new.left new.is_ended new.line × (is_too_long new.line ≡ false)
+    GivesLine given given' old.left new.left new.is_ended new.line × (is_longer_than new.bounds.bytes new.line ≡ false)
 Finds given given' old new TooLong =
-    (line : Text) × GivesLine given given' old.left new.left new.is_ended line × (is_too_long line ≡ true)
+    (line : Text) × GivesLine given given' old.left new.left new.is_ended line × (is_longer_than new.bounds.bytes line ≡ true)
 Finds given given' old new End =
     (given' ≡ given) × (old.left ≡ []) × (new.left ≡ []) × IsTrue new.is_ended
 
@@ -35,9 +35,9 @@ pub record FindsNone (given given' : List ℕ) (old : Held) : Type 0 where
   pub no_end : HasNoEnd (old.left ++ gave)
   pub goes_on : old.is_ended ≡ false
 
--- More bytes than a line reader can still give: those that it holds, and 65536 for each read that it may make.
+-- More bytes than a line reader can still give: those that it holds, and 65538 for each read that it may make.
 abbrev pub work_left : Held → ℕ
-work_left held = 65536 * (2 ^ 30 - held.reads) + length held.left
+work_left held = 65538 * (held.bounds.reads - held.reads) + length held.left
 
 -- Each line that is found leaves less.
 abbrev pub LeavesLess : Held → Held → Line → Type 0
@@ -56,12 +56,13 @@ failed_reads (Ok value) = 0
 failed_reads (Err fault) = failed_reads_of fault
 
 -- all the reads were made where the fault is that there were too many
-abbrev pub AllWereMade : ReadFault → ℕ → Type 0
-AllWereMade read_fault.Read reads = Unit {0}
-AllWereMade read_fault.TooLong reads = 2 ^ 30 ≤ reads
+abbrev pub AllWereMade : ReadFault → Held → Type 0
+AllWereMade read_fault.Read held = Unit {0}
+AllWereMade read_fault.TooLong held = held.bounds.reads ≤ held.reads
 
 -- Reads were made, and so many of them failed. None was made after one that told the end, and the end is known only
--- where it was told. What the source can tell of its bytes stays so, and each read pays for the bytes that it adds.
+-- where it was told. What the source can tell of its bytes stays so, and each read pays for the bytes that it adds. No
+-- call changes the bounds.
 pub record Reads (before after : Given) (old new : Held) (failed : ℕ) : Type 0 where
   pub counted : new.reads + before.reads ≡ old.reads + after.reads
   pub failures : after.failures ≡ before.failures + failed
@@ -69,24 +70,26 @@ pub record Reads (before after : Given) (old new : Held) (failed : ℕ) : Type 0
   pub ended : IsTrue new.is_ended → IsTrue old.is_ended ⊎ HasToldEnd after
   pub whole : Keeps before.whole after.whole
   pub work : work_left new ≤ work_left old
+  pub bounds : new.bounds ≡ old.bounds
 
--- Reads were made in a call that was answered so, and 2^30 at most in all. A failed one is a fault.
+-- Reads were made in a call that was answered so, and in all no more than may be. A failed one is a fault.
 pub record ReadsUntil {A : Type 0} (before after : Given) (old new : Held) (result : Result A ReadFault) : Type 0 where
   pub reads : Reads before after old new (failed_reads result)
-  pub most : new.reads ≤ 2 ^ 30
-  pub too_long : IfErr result (λ fault. AllWereMade fault new.reads)
+  pub most : new.reads ≤ new.bounds.reads
+  pub too_long : IfErr result (λ fault. AllWereMade fault new)
 
--- One read was made into what is held; it adds at most 65536 bytes, and nothing where it stopped.
+-- One read was made into what is held; it adds at most 65538 bytes, and nothing where it stopped.
 pub record FillsOnce {A : Type 0} (old new : Held) (result : Result A Stop) : Type 0 where
   pub counted : new.reads ≡ old.reads + 1
-  pub fits : length new.left ≤ length old.left + 65536
+  pub fits : length new.left ≤ length old.left + 65538
+  pub bounds : new.bounds ≡ old.bounds
   pub stopped : OnErr result ((new.left ≡ old.left) × (new.is_ended ≡ false))
 
 -- The first end of line of what is left was found; or there is none, and none is to be looked for, since the source
 -- told the end or the line is too long. A fault comes only where there is none and the end was not told.
 abbrev pub FindsEnd : Held → Held → Result (Option ℕ) ReadFault → Type 0
 FindsEnd old new (Ok (Some at)) = EndsAt new.left at
-FindsEnd old new (Ok None) = HasNoEnd new.left × (IsTrue new.is_ended ⊎ (202 ≤ length new.left))
+FindsEnd old new (Ok None) = HasNoEnd new.left × (IsTrue new.is_ended ⊎ (new.bounds.bytes + 2 ≤ length new.left))
 FindsEnd old new (Err fault) = HasNoEnd new.left × (old.is_ended ≡ false)
 
 -- The source was read to the end of the line, or a fault came before it.

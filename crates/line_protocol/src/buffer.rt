@@ -1,7 +1,7 @@
 //! The bytes that a line reader has read.
 ghost use Rattle.std.specs.Prelude.{◌≡◌, ◌↔◌, ◌+◌, ◌-◌, ◌≤◌, ◌<◌, ◌^◌, IsTrue, [], false, IfOk, OnOk, OnErr, length, take, drop, slice_range, position, ◌==◌};
 ghost use Rattle.trace_types.specs.text.Lines.{without_return};
-ghost use Rattle.line_protocol.specs.Held.{fresh_held};
+ghost use Rattle.line_protocol.specs.Held.{fresh_held, fresh_within};
 ghost use Rattle.line_protocol.specs.LineReading.{FindsNext, FindsEnd, SkipsLine, FillsOnce, NeedsRead, ReadsUntil, work_left};
 ghost use Rattle.line_protocol.specs.Ends.{IsEnd, Comes, kind_of, kind_of_length, last_line};
 ghost use Rattle.line_protocol.specs.Source.{CountsRead, failure_count, bytes_read, gives_none};
@@ -25,10 +25,12 @@ pub struct Buffer {
     line_feed: Option<usize>,
     is_ended: bool,
     reads: u64,
+    most_bytes: usize,
+    most_reads: u64,
 }
 
 impl Model for Buffer {
-    ghost use Rattle.std.specs.Prelude.{◌≡◌, ◌≤◌, ◌^◌, ◌==◌, position, slice_range, vec_len};
+    ghost use Rattle.std.specs.Prelude.{◌≡◌, ◌+◌, ◌≤◌, ◌^◌, ◌==◌, position, slice_range, vec_len};
     ghost use Rattle.line_protocol.specs.Held.{Held};
 
     ghost Value = { Held };
@@ -38,36 +40,50 @@ impl Model for Buffer {
       left = slice_range b.bytes.items b.start b.end;
       is_ended = b.is_ended;
       reads = b.reads;
+      bounds = record { bytes = b.most_bytes; reads = b.most_reads };
     } };
 
     ghost invariant = { λ b. record {
       line_from : b.line_start ≤ b.line_end;
-      line_to : b.line_end ≤ 65536;
+      line_to : b.line_end ≤ vec_len b.bytes;
       left_from : b.start ≤ b.end;
-      left_to : b.end ≤ 65536;
-      room : vec_len b.bytes ≡ 65536;
-      reads : b.reads ≤ 2 ^ 30;
+      left_to : b.end ≤ vec_len b.bytes;
+      room : b.most_bytes + 2 ≤ vec_len b.bytes;
+      room_to : vec_len b.bytes ≤ 65538;
+      reads : b.reads ≤ b.most_reads;
+      most_bytes : b.most_bytes ≤ 65536;
+      most_reads : b.most_reads ≤ 2 ^ 30;
       line_feed : b.line_feed ≡ position (λ byte. byte == 10) (slice_range b.bytes.items b.start b.end);
     } };
 }
 
 impl Buffer {
-    /// How many bytes there is room for.
-    const ROOM: usize = 65536;
+    /// How many bytes there is room for at least.
+    const LEAST_ROOM: usize = 65536;
 
-    /// How many reads are made at most.
-    const MOST_READS: u64 = 1 << 30;
+    /// How many reads are made for requests at most.
+    pub(crate) const MOST_READS: u64 = 1 << 30;
 
-    /// How many bytes a line has at most.
-    const MOST_BYTES: usize = 200;
+    /// How many bytes a line of requests has at most.
+    pub(crate) const MOST_BYTES: usize = 200;
 
-    /// Nothing that was read yet.
+    /// Nothing that was read yet, for requests: lines of at most 200 bytes, and at most 2^30 reads.
     pub fn new(alloc: Global) -> Result<Buffer, Memory>
         ensures { IfOk result (λ buffer. buffer ≡ fresh_held) }
     {
-        let bytes = vec![in alloc; 0; Buffer::ROOM]?;
+        Buffer::with_bounds(alloc, Buffer::MOST_BYTES, Buffer::MOST_READS)
+    }
+
+    /// Nothing that was read yet, for lines of at most `bytes` bytes and at most `reads` reads.
+    pub fn with_bounds(alloc: Global, bytes: usize, reads: u64) -> Result<Buffer, Memory>
+        requires bytes { (1 ≤ bytes) × (bytes ≤ 65536) }
+        requires reads { (1 ≤ reads) × (reads ≤ 2 ^ 30) }
+        ensures { IfOk result (λ buffer. buffer ≡ fresh_within (record { bytes = bytes; reads = reads })) }
+    {
+        // A line of the most bytes fits with its carriage return and its end.
+        let room = Buffer::LEAST_ROOM.max(bytes + 2);
         Ok(Buffer {
-            bytes,
+            bytes: vec![in alloc; 0; room]?,
             line_start: 0,
             line_end: 0,
             start: 0,
@@ -75,6 +91,8 @@ impl Buffer {
             line_feed: None,
             is_ended: false,
             reads: 0,
+            most_bytes: bytes,
+            most_reads: reads,
         })
     }
 
@@ -94,7 +112,7 @@ impl Buffer {
 
     /// Finds the next line of the source. It takes no memory.
     ///
-    /// `Read` comes where a read failed, `TooLong` where 2^30 reads were made into this buffer.
+    /// `Read` comes where a read failed, `TooLong` where all the reads that may be made into this buffer were made.
     pub fn next_line<R: Source>(&mut self, source: &mut R) -> Result<Line, ReadFault>
         ensures finds { FindsNext (R.seen source.old) (R.seen source.new) self.old self.new result }
         ensures at_end { IsTrue self.old.is_ended → (source.new ≡ source.old) × IsTrue self.new.is_ended }
@@ -118,7 +136,7 @@ impl Buffer {
     {
         loop {
             let end = self.end_of_line();
-            if end.is_some() || self.is_ended || self.left_len() > Buffer::MOST_BYTES + 1 {
+            if end.is_some() || self.is_ended || self.left_len() > self.most_bytes + 1 {
                 return Ok(end);
             }
             self.read_more(source)?;
@@ -138,7 +156,8 @@ impl Buffer {
         ensures line { self.new.line ≡ without_return (take at self.old.left) }
         ensures left { self.new.left ≡ drop (at + 1) self.old.left }
         ensures same { (self.new.is_ended ≡ self.old.is_ended) × (self.new.reads ≡ self.old.reads) }
-        ensures kind { result ≡ kind_of self.new.line }
+        ensures bounds { self.new.bounds ≡ self.old.bounds }
+        ensures kind { result ≡ kind_of self.new.bounds.bytes self.new.line }
     {
         let piece = &self.bytes[self.start..self.start + at];
         let len = length_without_return(piece);
@@ -146,7 +165,7 @@ impl Buffer {
         self.line_end = self.start + len;
         self.start += at + 1;
         self.line_feed = first_end(&self.bytes[self.start..self.end]);
-        kind_of(len)
+        kind_of(len, self.most_bytes)
     }
 
     /// Takes all that is left as the last line, if there is any.
@@ -154,14 +173,19 @@ impl Buffer {
         ensures line { self.new.line ≡ self.old.left }
         ensures left { self.new.left ≡ [] }
         ensures same { (self.new.is_ended ≡ self.old.is_ended) × (self.new.reads ≡ self.old.reads) }
-        ensures kind { result ≡ last_line self.old.left }
+        ensures bounds { self.new.bounds ≡ self.old.bounds }
+        ensures kind { result ≡ last_line self.new.bounds.bytes self.old.left }
     {
         let len = self.end - self.start;
         self.line_start = self.start;
         self.line_end = self.end;
         self.start = self.end;
         self.line_feed = None;
-        if len == 0 { Line::End } else { kind_of(len) }
+        if len == 0 {
+            Line::End
+        } else {
+            kind_of(len, self.most_bytes)
+        }
     }
 
     /// Reads on until the line that is left has its end, and keeps nothing of it.
@@ -209,14 +233,14 @@ impl Buffer {
 
     /// Reads once; an interrupted read is tried again.
     fn read_more<R: Source>(&mut self, source: &mut R) -> Result<(), ReadFault>
-        requires room { length self.old.left < 65536 }
+        requires room { length self.old.left ≤ self.old.bounds.bytes + 1 }
         requires open { self.old.is_ended ≡ false }
         ensures comes { Comes (R.seen source.old).bytes (R.seen source.new).bytes self.old.left self.new.left }
         ensures same { OnErr result (self.new.left ≡ self.old.left) }
         ensures progress { OnOk result (self.old.reads < self.new.reads) }
         ensures reads { ReadsUntil (R.seen source.old) (R.seen source.new) self.old self.new result }
     {
-        while self.reads < Buffer::MOST_READS {
+        while self.reads < self.most_reads {
             match self.fill(source) {
                 Ok(()) => return Ok(()),
                 Err(Stop::Interrupted) => {}
@@ -228,9 +252,9 @@ impl Buffer {
 
     /// Makes one read into all the room that is free, with what is left moved to the front.
     fn fill<R: Source>(&mut self, source: &mut R) -> Result<(), Stop>
-        requires room { length self.old.left < 65536 }
+        requires room { length self.old.left ≤ self.old.bounds.bytes + 1 }
         requires open { self.old.is_ended ≡ false }
-        requires reads { self.old.reads < 2 ^ 30 }
+        requires reads { self.old.reads < self.old.bounds.reads }
         ensures comes { Comes (R.seen source.old).bytes (R.seen source.new).bytes self.old.left self.new.left }
         ensures read { CountsRead (R.seen source.old) (R.seen source.new) (failure_count result) self.new.is_ended }
         ensures held { FillsOnce self.old self.new result }
@@ -291,11 +315,11 @@ fn length_without_return(piece: &[u8]) -> usize
     }
 }
 
-/// What a line of this length is.
-fn kind_of(len: usize) -> Line
-    ensures { result ≡ kind_of_length len }
+/// What a line of this length is, where so many bytes are the most.
+fn kind_of(len: usize, most: usize) -> Line
+    ensures { result ≡ kind_of_length most len }
 {
-    if len > Buffer::MOST_BYTES {
+    if len > most {
         Line::TooLong
     } else {
         Line::Whole

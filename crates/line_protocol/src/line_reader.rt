@@ -1,7 +1,7 @@
 //! Bytes, cut into lines.
-ghost use Rattle.std.specs.Prelude.{◌≡◌, IsTrue, [], false, None, Err, IfOk, IfSome, IfNone};
+ghost use Rattle.std.specs.Prelude.{◌≡◌, ◌≤◌, ◌^◌, IsTrue, [], false, None, Err, IfOk, IfSome, IfNone};
 ghost use Rattle.std.specs.Result.{result_err};
-ghost use Rattle.line_protocol.specs.Held.{fresh_held};
+ghost use Rattle.line_protocol.specs.Held.{fresh_held, fresh_within};
 ghost use Rattle.line_protocol.specs.LineReading.{FindsNext};
 
 use crate::buffer::Buffer;
@@ -31,14 +31,31 @@ impl<'a, R: Source, B: Drop> Drop for LineReader<'a, R, B> {
 }
 
 impl<'a, R: Source> LineReader<'a, R> {
-    /// A line reader that has read nothing yet.
+    /// A line reader that has read nothing yet, for requests: lines of at most 200 bytes, and at most 2^30 reads.
     pub fn new(alloc: Global, source: &'a mut R) -> Result<LineReader<'a, R>, Memory>
         ensures same_source { IfOk result (λ reader. reader.source.ghost_name ≡ source.entry.ghost_name) }
         ensures source { IfOk result (λ reader. reader.source.now ≡ source.old) }
         ensures held { IfOk result (λ reader. reader.buffer ≡ fresh_held) }
         ensures fault { IfOk result (λ reader. reader.fault ≡ None) }
     {
-        let buffer = Buffer::new(alloc)?;
+        LineReader::with_bounds(alloc, source, Buffer::MOST_BYTES, Buffer::MOST_READS)
+    }
+
+    /// A line reader that has read nothing yet, for lines of at most `bytes` bytes and at most `reads` reads.
+    pub fn with_bounds(
+        alloc: Global,
+        source: &'a mut R,
+        bytes: usize,
+        reads: u64,
+    ) -> Result<LineReader<'a, R>, Memory>
+        requires bytes { (1 ≤ bytes) × (bytes ≤ 65536) }
+        requires reads { (1 ≤ reads) × (reads ≤ 2 ^ 30) }
+        ensures same_source { IfOk result (λ reader. reader.source.ghost_name ≡ source.entry.ghost_name) }
+        ensures source { IfOk result (λ reader. reader.source.now ≡ source.old) }
+        ensures held { IfOk result (λ reader. reader.buffer ≡ fresh_within (record { bytes = bytes; reads = reads })) }
+        ensures fault { IfOk result (λ reader. reader.fault ≡ None) }
+    {
+        let buffer = Buffer::with_bounds(alloc, bytes, reads)?;
         Ok(LineReader {
             source,
             buffer,

@@ -14,7 +14,7 @@ use Rattle.trace_types.specs.world.World.{World}
 use Rattle.trace_types.specs.declared.code.Code.TheVariants as code
 use Rattle.trace_types.specs.declared.reply.Reply.{Reply}
 use Rattle.trace_types.specs.declared.reply.Reply.TheVariants.{Refused}
-use Rattle.line_protocol.specs.Held.{Held, fresh_held}
+use Rattle.line_protocol.specs.Held.{Held, fresh_held, request_bounds}
 use Rattle.line_protocol.specs.Ends.{end_count}
 use Rattle.line_protocol.specs.Source.{Given, one_if}
 use Rattle.line_protocol.specs.Sink.{Taken}
@@ -46,12 +46,12 @@ pub record Answered (given given' : List ℕ) (held held' : Held) (old : World) 
   pub gives : GivesLine given given' held.left held'.left held'.is_ended line
   pub answers : DoesLine old line to reply new
 
-pub answered_too_long : (given given' : List ℕ) (held held' : Held) (world : World) → Finds given given' held held' TooLong
+pub answered_too_long : (given given' : List ℕ) (held held' : Held) (world : World) → held'.bounds ≡ request_bounds → Finds given given' held held' TooLong
     → Answered given given' held held' world (codes "?") (Refused code.Line) world
-answered_too_long given given' held held' world (line, gives, long) = record {
+answered_too_long given given' held held' world within (line, gives, long) = record {
   line = line;
   gives = gives;
-  answers = answers_nobody world line code.Line (rw long refl);
+  answers = answers_nobody world line code.Line (rw (rw within at long) refl);
 }
 
 pub answered_whole : (given given' : List ℕ) (held held' : Held) (old : World) (to : Text) (reply : Reply) (new : World) → Finds given given' held held' Whole
@@ -331,10 +331,10 @@ HandsOn-fault {A = A} (Err e) fault taken is holds = subst (λ one. HandsOn {A =
 
 -- the answer to a line that was found, as the loop knows it
 pub answered_where_too_long : (given given' : List ℕ) (held held' : Held) (world world' : World) (found : Line) (answer result : Answer)
-    → found ≡ TooLong → Finds given given' held held' found → answer ≡ result → result ≡ record { tenant = None; reply = Refused code.Line } → world' ≡ world
+    → held'.bounds ≡ request_bounds → found ≡ TooLong → Finds given given' held held' found → answer ≡ result → result ≡ record { tenant = None; reply = Refused code.Line } → world' ≡ world
     → Answered given given' held held' world (addressee_text answer.tenant) answer.reply world'
-answered_where_too_long given given' held held' world world' found answer result is finds same result_is world_is =
-    rw (same ∙ result_is, world_is) (answered_too_long given given' held held' world (subst (Finds given given' held held') is finds))
+answered_where_too_long given given' held held' world world' found answer result within is finds same result_is world_is =
+    rw (same ∙ result_is, world_is) (answered_too_long given given' held held' world within (subst (Finds given given' held held') is finds))
 
 pub answered_where_whole : (given given' : List ℕ) (held held' : Held) (old new world' : World) (found : Line) (answer result : Answer) (line : Text)
     → found ≡ Whole → Finds given given' held held' found → answer ≡ result → line ≡ held'.line → world' ≡ new → DoesLine old line (addressee_text result.tenant) result.reply new

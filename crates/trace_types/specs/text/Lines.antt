@@ -31,6 +31,10 @@ line_of piece = if piece.is_ended then without_return piece.bytes else piece.byt
 abbrev pub lines : List ℕ → List Text
 lines bytes = map line_of (pieces bytes)
 
+-- more than so many bytes
+abbrev pub is_longer_than : ℕ → Text → Bool
+is_longer_than most line = nat_lt most (length line)
+
 -- more bytes than a line of requests may have
 abbrev pub is_too_long : Text → Bool
-is_too_long line = nat_lt 200 (length line)
+is_too_long line = is_longer_than 200 line

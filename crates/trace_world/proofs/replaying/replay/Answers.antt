@@ -1,8 +1,8 @@
-use Rattle.std.proofs.Common.{ℕ, List, ◌≡◌, ◌<◌, IsTrue, [], refl, sym, ap, subst, arith}
+use Rattle.std.proofs.Common.{ℕ, List, ◌≡◌, ◌<◌, IsTrue, [], refl, sym, ap, ◌∙◌, subst, arith}
 use Rattle.std.proofs.lemmas.List.{append-nil}
 use Rattle.line_protocol.proofs.EndsLemmas.{HasNoEnd-front}
 use Rattle.line_protocol.proofs.LineReadingLemmas.{HasRead-start, Reads-none, Reads-on, stops_at_end}
-use Rattle.line_protocol.specs.Held.{Held, fresh_held}
+use Rattle.line_protocol.specs.Held.{Held, ReadingBounds, fresh_held}
 use Rattle.line_protocol.specs.LineReading.{Finds, FindsNone, LeavesLess, NeedsRead, Reads, failed_reads, work_left}
 use Rattle.line_protocol.specs.declared.line.Line.TheVariants.{End}
 use Rattle.trace_types.specs.world.Replay.{is_accepted, is_answered, is_refused}
@@ -33,7 +33,7 @@ answered : (g : Over) (c : After-write g)
 answered g c =
     elim c.match-branch-4.branch [
       | in-TooLong w ↦ answered_where_too_long _ _ c.loop-lines.lines c.next_line.new.lines c.loop-lines.world c.match-branch-4.world c.in_ok-next_line.field-0 c.match-branch-4.answer w.to_nobody-answer.result
-          w.in-TooLong.is c.in_ok-next_line.ensures.finds.line w.answer-is w.to_nobody-answer.ensures w.world-is
+          (c.next_line.ensures.finds.reads.reads.bounds ∙ c.loop-lines.invariant.reads.bounds) w.in-TooLong.is c.in_ok-next_line.ensures.finds.line w.answer-is w.to_nobody-answer.ensures w.world-is
       | in-Whole w ↦ answered_where_whole _ _ c.loop-lines.lines c.next_line.new.lines c.loop-lines.world w.to_line-answer.new.world c.match-branch-4.world c.in_ok-next_line.field-0 c.match-branch-4.answer w.to_line-answer.result w.line.result.now
           w.in-Whole.is c.in_ok-next_line.ensures.finds.line w.answer-is w.line.ensures w.world-is w.to_line-answer.ensures
     ]
@@ -141,7 +141,7 @@ loop-lines-preserved g c =
       follows = rw c.count.ensures (Follows-line answered.line _ _ (follows g at.After-next_line) answered.gives (gives_no_more g at.After-next_line) answered.answers wrote.written
           (WroteTexts-line _ _ (follows g at.After-next_line).texts _ _ (follows g at.After-next_line).wrote wrote.both));
       reads = Reads-on {failed = 0} before.reads (λ ended. ap g.R.Source.seen (c.next_line.ensures.at_end ended).0) step.reads.reads;
-      most = step.reads.most;
+      most = omega (arith, step.reads.most, ap (λ (bounds : ReadingBounds). bounds.reads) (all_reads g at.After-next_line).bounds);
       began = begun_answer g at.After-write;
       write_failures = omega (arith, before.write_failures, c.in_ok-hand_on.ensures.well, wrote.no_failure);
       interruptions = omega (arith, before.interruptions, c.in_ok-hand_on.ensures.well, wrote.interruptions);

@@ -13,7 +13,7 @@ invariant-loop-lines g l = record {
   write_failures : (g.W.Sink.seen l.writer).failures ≡ (g.W.Sink.seen l.fn.writer).failures;
   began : Keeps (g.W.Sink.seen l.fn.writer).began (g.W.Sink.seen l.writer).began;
   interruptions : (g.W.Sink.seen l.fn.writer).interruptions ≤ (g.W.Sink.seen l.writer).interruptions;
-  room : l.counts.lines + work_left l.lines ≤ 2 ^ 46;
+  room : l.counts.lines + work_left l.lines ≤ 2 ^ 47;
   accepted : l.counts.accepted ≤ l.counts.lines;
   answered : l.counts.answered ≤ l.counts.lines;
   refused : l.counts.refused ≤ l.counts.lines;

@@ -1,4 +1,4 @@
-use Rattle.std.proofs.Common.{◌≡◌, ◌-◌, ◌^◌, IsTrue}
+use Rattle.std.proofs.Common.{◌≡◌, ◌-◌, IsTrue}
 use Rattle.line_protocol.specs.LineReading.{Reads}
 use Rattle.line_protocol.specs.Ends.{Comes}
 use Rattle.line_protocol.proofs.buffer.Buffer.find_end.Given as goal
@@ -11,4 +11,4 @@ invariant-loop-self g l = record {
 }
 
 abbrev pub decreases-loop-self : goal.decreases-loop-self
-decreases-loop-self g l = 2 ^ 30 - l.self.reads
+decreases-loop-self g l = l.self.bounds.reads - l.self.reads

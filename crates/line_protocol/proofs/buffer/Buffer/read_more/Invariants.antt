@@ -1,4 +1,4 @@
-use Rattle.std.proofs.Common.{◌≡◌, ◌-◌, ◌^◌, ◌≤◌, false}
+use Rattle.std.proofs.Common.{◌≡◌, ◌-◌, ◌≤◌, false}
 use Rattle.line_protocol.specs.LineReading.{Reads}
 use Rattle.line_protocol.specs.Ends.{Comes}
 use Rattle.line_protocol.proofs.buffer.Buffer.read_more.Given as goal
@@ -13,4 +13,4 @@ invariant-loop-self g l = record {
 }
 
 abbrev pub decreases-loop-self : goal.decreases-loop-self
-decreases-loop-self g l = 2 ^ 30 - l.self.reads
+decreases-loop-self g l = l.self.bounds.reads - l.self.reads
