@@ -1,4 +1,5 @@
 //! Lines and replies as they come and go, over readers and writers that are slow, interrupted or fail.
+ghost use Rattle.std.specs.Prelude.{◌≤◌, ◌^◌};
 
 use line_protocol::{
     Buffered, FromReader, IntoWriter, Line, LineReader, Source, WriteFault, flush, write_bytes,
@@ -50,6 +51,10 @@ fn shown(alloc: Global, bytes: &[u8], most: usize, fails: bool) -> Result<Vec<u8
 
 fn shown_from<R: Source>(alloc: Global, source: &mut R) -> Result<Vec<u8>, Fail> {
     let mut lines = LineReader::new(alloc, source)?;
+    shown_by(alloc, &mut lines)
+}
+
+fn shown_by<R: Source>(alloc: Global, lines: &mut LineReader<'_, R>) -> Result<Vec<u8>, Fail> {
     let mut text = Vec::new(alloc);
     for _ in 0..9 {
         let found = lines.next();
@@ -127,6 +132,79 @@ fn two_hundred_bytes_are_a_line(rt: HostRuntime) -> Result<(), Fail> {
         let text = shown_long(rt.alloc(), len, end)?;
         assert_eq!(rt; text.as_slice(), want, "{len} bytes");
     }
+    Ok(())
+}
+
+/// The lines of at most so many bytes, within so many reads.
+fn shown_within(alloc: Global, text: &[u8], bytes: usize, reads: u64) -> Result<Vec<u8>, Fail>
+    requires bytes { (1 ≤ bytes) × (bytes ≤ 65536) }
+    requires reads { (1 ≤ reads) × (reads ≤ 2 ^ 30) }
+{
+    let mut source = FromReader::new(text);
+    shown_from_within(alloc, &mut source, bytes, reads)
+}
+
+fn shown_from_within<R: Source>(
+    alloc: Global,
+    source: &mut R,
+    bytes: usize,
+    reads: u64,
+) -> Result<Vec<u8>, Fail>
+    requires bytes { (1 ≤ bytes) × (bytes ≤ 65536) }
+    requires reads { (1 ≤ reads) × (reads ≤ 2 ^ 30) }
+{
+    let mut lines = LineReader::with_bounds(alloc, source, bytes, reads)?;
+    shown_by(alloc, &mut lines)
+}
+
+#[test]
+fn the_bound_of_bytes_is_that_of_a_line(rt: HostRuntime) -> Result<(), Fail> {
+    let table: [(&[u8], &[u8], &[u8]); 6] = [
+        (b"a\nabc\nabcd\n", b"a|!|!|", b"a|abc|!|"),
+        (b"a\r\nabc\r\nabcd\r\n", b"a|!|!|", b"a|abc|!|"),
+        (b"a\r\r\nabc\r\r\n", b"!|!|", b"a\r|!|"),
+        (b"\nabc", b"|!|", b"|abc|"),
+        (b"a", b"a|", b"a|"),
+        (b"abc\r", b"!|", b"!|"),
+    ];
+    for (text, one, three) in table {
+        let shown = shown_within(rt.alloc(), text, 1, 9)?;
+        assert_eq!(rt; shown.as_slice(), one);
+        let shown = shown_within(rt.alloc(), text, 3, 9)?;
+        assert_eq!(rt; shown.as_slice(), three);
+    }
+    Ok(())
+}
+
+/// How many bytes of this are shown, within the greatest bound.
+fn shown_len(alloc: Global, len: usize, end: &[u8]) -> Result<usize, Fail> {
+    let mut text = vec![in alloc; b'x'; len]?;
+    text.extend_from_slice(end)?;
+    Ok(shown_within(alloc, &text, 65536, 9)?.len())
+}
+
+#[test]
+fn the_greatest_bound_has_room(rt: HostRuntime) -> Result<(), Fail> {
+    let table: [(usize, &[u8], usize); 6] = [
+        (65536, b"", 65537),
+        (65536, b"\nb", 65539),
+        (65536, b"\r\nb", 65539),
+        (65536, b"\r\r\nb", 4),
+        (65537, b"", 2),
+        (65537, b"\nb", 4),
+    ];
+    for (len, end, want) in table {
+        assert_eq!(rt; shown_len(rt.alloc(), len, end)?, want);
+    }
+    Ok(())
+}
+
+#[test]
+fn the_bound_of_reads_ends_the_reading(rt: HostRuntime) -> Result<(), Fail> {
+    let shown = shown_within(rt.alloc(), b"a\nb", 3, 1)?;
+    assert_eq!(rt; shown.as_slice(), b"a|????????".as_slice());
+    let shown = shown_within(rt.alloc(), b"a\nb", 3, 2)?;
+    assert_eq!(rt; shown.as_slice(), b"a|b|".as_slice());
     Ok(())
 }
 
