@@ -1,7 +1,9 @@
 -- The answers of the queries, step by step.
-use Rattle.std.proofs.Common.{◌≡◌, ◌≢◌, ℕ, zero, suc, ◌+◌, ◌-◌, ◌<◌, ◌≤◌, ◌↔◌, Bool, true, false, ◌&&◌, cond, List, [], ◌∷◌, ◌++◌, length, get_or, take, map, IsTrue, ltb, Ok, Err, refl, sym, ap, subst, ◌∙◌, inl, inr, arith}
+use Rattle.std.proofs.Common.{◌≡◌, ◌≢◌, ℕ, zero, suc, ◌+◌, ◌-◌, ◌<◌, ◌≤◌, ◌↔◌, Bool, true, false, ◌&&◌, cond, List, [], ◌∷◌, ◌++◌, length, get_or, take, map, IsTrue, ltb, Result, Ok, Err, IsErrAnd, refl, sym, ap, subst, ◌∙◌, inl, inr, arith}
+use Rattle.std.specs.Global.{Vec}
 use Rattle.std.specs.List.{filter, range_with_len}
-use Rattle.std.proofs.lemmas.Bool.{false≢true, and_from, cases_Bool, cond-true, cond-false, lt-ltb}
+use Rattle.std.proofs.Math.Path.{transport}
+use Rattle.std.proofs.lemmas.Bool.{false≢true, and_parts, and_from, cases_Bool, cond-true, cond-false, ltb-true, lt-ltb}
 use Rattle.std.proofs.lemmas.List.{get_or-map, length-map, take_all, append-nil}
 use Rattle.std.proofs.lemmas.List.Elements.{filter_more}
 use Rattle.std.proofs.lemmas.List.FromFn.{length-range_with_len, get_or-range_with_len}
@@ -13,8 +15,9 @@ use Rattle.trace_types.specs.clock.EventTree.{EventTree, Leaf}
 use Rattle.event_tree.specs.Comparison.{StandsAs}
 use Rattle.event_tree.proofs.Standing.{stand_one_way}
 use Rattle.trace_query.specs.Compared.{tree_order, is_order}
-use Rattle.trace_query.specs.Queries.{has_tree, events_of, tree_at, order_between, is_other_standing, others_standing, order_due}
-use Rattle.trace_query.specs.declared.query_fault.QueryFault.TheVariants.{Unknown}
+use Rattle.trace_query.specs.Queries.{has_tree, events_of, tree_at, order_between, is_other_standing, others_standing, order_due, ListsExactly}
+use Rattle.trace_query.specs.declared.query_fault.QueryFault.{QueryFault}
+use Rattle.trace_query.specs.declared.query_fault.QueryFault.TheVariants.{Unknown, Memory}
 use Rattle.trace_query.proofs.ComparedTrees.{stands_as_compared, is_order_iff}
 use Rattle.trace_query.proofs.Listed.{is_other_standing_iff, others_are_exact}
 
@@ -94,57 +97,85 @@ module _ (wanted : Order) (trees : List EventTree) (event : ℕ) where
   pub unlisted : (number : ℕ) → (number ≢ event → ¬ StandsAs wanted (tree_at trees number) (tree_at trees event)) → is_listed number ≡ false
   unlisted number refutes = refuted (is_listed number) ((is_other_standing_iff wanted trees number event).0) (λ holds. refutes holds.0 holds.1)
 
-  -- past the last place are all of them
-  pub listed_all : (place : ℕ) (events : List ℕ) → length trees ≤ place → events ≡ listed_to place → events ≡ others_standing wanted trees event
-  listed_all place events past so_far =
-      let wide : length (events_of trees) ≡ length trees = length-range_with_len 1 (length trees) in
-      so_far ∙ ap (filter is_listed) (take_all place (events_of trees) (omega arith))
+  found : (events : Vec ℕ) → IsTrue (has_tree trees event) → events.items ≡ others_standing wanted trees event → ListsExactly (others_standing wanted) trees event (Ok events)
+  found events is all = record { known = is; events = all; fault = tt; empty = λ none. tt }
 
-  -- also where no later one is listed
-  pub listed_before : (place : ℕ) (events : List ℕ) → place ≤ length trees → ((later : ℕ) → place < later → later ≤ length trees → is_listed later ≡ false)
-      → events ≡ listed_to place → events ≡ others_standing wanted trees event
-  listed_before place events within none so_far = so_far ∙ passed_over is_listed (length trees) place (length trees - place) (omega arith) none
+  -- where no later one is listed they are all there
+  pub found_before : (place : ℕ) (events : Vec ℕ) → IsTrue (has_tree trees event) → place ≤ length trees → ((later : ℕ) → place < later → later ≤ length trees → is_listed later ≡ false)
+      → events.items ≡ listed_to place → ListsExactly (others_standing wanted) trees event (Ok events)
+  found_before place events is within none so_far = found events is (so_far ∙ passed_over is_listed (length trees) place (length trees - place) (omega arith) none)
 
-module _ {K : Type 0} (tree : K → EventTree) (kept : List K) (place : ℕ) (other : K) (is_other : other ≡ get_or kept place other) (within : place < length kept) where
+pub event_bounds : (trees : List EventTree) (event : ℕ) → IsTrue (has_tree trees event) → (0 < event) × (event ≤ length trees)
+event_bounds trees event is =
+    let parts = and_parts (ltb 0 event) (ltb event (suc (length trees))) is in
+    let high : event < suc (length trees) = ltb-true event (suc (length trees)) parts.1 in
+    (ltb-true 0 event parts.0, omega (arith, high))
+
+pub event_from_bounds : (trees : List EventTree) (event : ℕ) → 0 < event → event ≤ length trees → IsTrue (has_tree trees event)
+event_from_bounds trees event positive within =
+    and_from (ltb 0 event) (ltb event (suc (length trees))) (lt-ltb 0 event positive) (lt-ltb event (suc (length trees)) (omega (arith, within)))
+
+-- past the last place they are all there
+pub found_all : {K : Type 0} (tree : K → EventTree) (kept : List K) (wanted : Order) (event place : ℕ) (events : Vec ℕ) → IsTrue (has_tree (map tree kept) event)
+    → place ≡ length kept → events.items ≡ listed_to wanted (map tree kept) event place → ListsExactly (others_standing wanted) (map tree kept) event (Ok events)
+found_all tree kept wanted event place events is last so_far =
+    let all = length-map kept tree in
+    found_before wanted (map tree kept) event place events is (omega (arith, last, all)) (λ later above within. absurd (omega (arith, above, within, last, all))) so_far
+
+-- what is kept in a place, and what is kept for an event
+pub record ArePlaced {K : Type 0} (tree : K → EventTree) (kept : List K) (event place : ℕ) (other one : K) : Type 0 where
+  pub other_is : other ≡ get_or kept place other
+  pub one_is : tree one ≡ tree_at (map tree kept) event
+  pub within : place < length kept
+  pub event_is : IsTrue (has_tree (map tree kept) event)
+
+-- the event in the place is another one than the event, and stands so to it
+abbrev pub IsOtherStanding : {K : Type 0} → Order → (K → EventTree) → ℕ → ℕ → K → K → Type 0
+IsOtherStanding wanted tree event place other one = (place + 1 ≢ event) × StandsAs wanted (tree other) (tree one)
+
+module _ {K : Type 0} {tree : K → EventTree} {kept : List K} {event place : ℕ} {other one : K} (placed : ArePlaced tree kept event place other one) where
   many : place < length (map tree kept)
-  many = let long : length (map tree kept) ≡ length kept = length-map kept tree in omega arith
+  many = omega (arith, placed.within, length-map kept tree)
 
-  -- what is kept in a place is the tree of its event
+  -- there is an event in the place
+  pub here : IsTrue (has_tree (map tree kept) (place + 1))
+  here = event_from_bounds (map tree kept) (place + 1) (omega arith) (omega (arith, many))
+
+  -- what is kept there is its tree
   pub tree_in_place : tree other ≡ tree_at (map tree kept) (place + 1)
   tree_in_place =
       let back : (place + 1) - 1 ≡ place = omega arith in
-      ap tree is_other ∙ sym (get_or-map tree kept place other (Leaf 0) within) ∙ ap (λ (k : ℕ). get_or (map tree kept) k (Leaf 0)) (sym back)
+      ap tree placed.other_is ∙ sym (get_or-map tree kept place other (Leaf 0) placed.within) ∙ ap (λ (k : ℕ). get_or (map tree kept) k (Leaf 0)) (sym back)
 
-module _ {K : Type 0} (tree : K → EventTree) (wanted : Order) (kept : List K) (event place : ℕ) (other one : K)
-    (is_other : other ≡ get_or kept place other) (is_one : tree one ≡ tree_at (map tree kept) event) (within : place < length kept)
-    (events : List ℕ) (so_far : events ≡ listed_to wanted (map tree kept) event place) where
-  at : tree other ≡ tree_at (map tree kept) (place + 1)
-  at = tree_in_place tree kept place other is_other within
+  -- it is listed where it is another one that stands so
+  listed_iff : (wanted : Order) → IsTrue (is_listed wanted (map tree kept) event (place + 1)) ↔ IsOtherStanding wanted tree event place other one
+  listed_iff wanted =
+      transport
+      (λ i. IsTrue (is_listed wanted (map tree kept) event (place + 1)) ↔ ((place + 1 ≢ event) × StandsAs wanted (sym tree_in_place i) (sym placed.one_is i)))
+      (is_other_standing_iff wanted (map tree kept) (place + 1) event)
 
-  there : StandsAs wanted (tree other) (tree one) → StandsAs wanted (tree_at (map tree kept) (place + 1)) (tree_at (map tree kept) event)
-  there stands = subst (StandsAs wanted (tree_at (map tree kept) (place + 1))) is_one (subst (λ (e : EventTree). StandsAs wanted e (tree one)) at stands)
-
-  -- another event that stands so is listed
-  pub listed_one : (place + 1 ≢ event) → StandsAs wanted (tree other) (tree one) → (next : List ℕ) → next ≡ events ++ (place + 1) ∷ []
-      → next ≡ listed_to wanted (map tree kept) event (place + 1)
-  listed_one differ stands next is_next =
-      is_next
-      ∙ gathered_one (is_listed wanted (map tree kept) event) (length (map tree kept)) place events (many tree kept place other is_other within) so_far ((is_other_standing_iff wanted (map tree kept) (place + 1) event).1 (differ, there stands))
-
-  -- and then the list has an event
-  pub not_empty : (place + 1 ≢ event) → StandsAs wanted (tree other) (tree one) → ¬ (others_standing wanted (map tree kept) event ≡ [])
-  not_empty differ stands none =
-      let long : length (map tree kept) ≡ length kept = length-map kept tree in
-      let is_event : IsTrue (has_tree (map tree kept) (place + 1)) =
-      and_from (ltb 0 (place + 1)) (ltb (place + 1) (suc (length (map tree kept)))) (lt-ltb 0 (place + 1) (omega arith)) (lt-ltb (place + 1) (suc (length (map tree kept))) (omega arith)) in
-      let listed = (others_are_exact wanted (map tree kept) event (place + 1)).1 (is_event, differ, there stands) in
-      let nothing : length (others_standing wanted (map tree kept) event) ≡ 0 = ap (λ list. length list) none in
-      omega (arith, listed.1, nothing)
+  pub listed_one : (wanted : Order) (events : List ℕ) → events ≡ listed_to wanted (map tree kept) event place → IsOtherStanding wanted tree event place other one
+      → (next : List ℕ) → next ≡ events ++ (place + 1) ∷ [] → next ≡ listed_to wanted (map tree kept) event (place + 1)
+  listed_one wanted events so_far stands next is_next =
+      is_next ∙ gathered_one (is_listed wanted (map tree kept) event) (length (map tree kept)) place events many so_far ((listed_iff wanted).1 stands)
 
   -- any other one is passed over
-  pub listed_none : (place + 1 ≢ event → ¬ StandsAs wanted (tree other) (tree one)) → events ≡ listed_to wanted (map tree kept) event (place + 1)
-  listed_none refutes =
-      gathered_none (is_listed wanted (map tree kept) event) (length (map tree kept)) place events (many tree kept place other is_other within) so_far
-      (unlisted wanted (map tree kept) event (place + 1)
-      (λ differ there. refutes differ
-      (subst (StandsAs wanted (tree other)) (sym is_one) (subst (λ (e : EventTree). StandsAs wanted e (tree_at (map tree kept) event)) (sym at) there))))
+  pub listed_none : (wanted : Order) (events : List ℕ) → events ≡ listed_to wanted (map tree kept) event place → ¬ IsOtherStanding wanted tree event place other one
+      → events ≡ listed_to wanted (map tree kept) event (place + 1)
+  listed_none wanted events so_far refutes =
+      gathered_none (is_listed wanted (map tree kept) event) (length (map tree kept)) place events many so_far (refuted _ (listed_iff wanted).0 refutes)
+
+  -- for a list that has it memory may be wanting
+  pub refused_one : (wanted : Order) → IsOtherStanding wanted tree event place other one → (result : Result (Vec ℕ) QueryFault) → IsErrAnd result (λ fault. fault ≡ Memory)
+      → ListsExactly (others_standing wanted) (map tree kept) event result
+  refused_one wanted stands (Ok events) never = absurd never
+  refused_one wanted stands (Err fault) refused = record {
+    known = tt;
+    events = tt;
+    fault = refused ∙ sym (cond-true (has_tree (map tree kept) event) Memory Unknown placed.event_is);
+    empty = λ none.
+        let others = (is_other_standing_iff wanted (map tree kept) (place + 1) event).0 ((listed_iff wanted).1 stands) in
+        let listed = (others_are_exact wanted (map tree kept) event (place + 1)).1 (here, others.0, others.1) in
+        let nothing : length (others_standing wanted (map tree kept) event) ≡ 0 = ap (λ list. length list) none in
+        absurd (omega (arith, listed.1, nothing));
+  }

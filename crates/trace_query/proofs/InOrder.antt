@@ -1,92 +1,91 @@
 -- Trees that stand in the order of their events need one look at each pair.
-use Rattle.std.proofs.Common.{◌≡◌, ◌≢◌, ◌↔◌, ℕ, zero, suc, ◌+◌, ◌-◌, ◌<◌, ◌≤◌, Bool, true, not, ◌&&◌, IsTrue, ltb, Option, List, [], ◌∷◌, length, get_or, map, sym, subst, ◌∙◌, arith}
-use Rattle.std.proofs.lemmas.Bool.{false≢true, and_parts, and_from, ltb-true, lt-ltb, not-true, not_from_false}
+use Rattle.std.proofs.Common.{◌≡◌, ◌↔◌, ℕ, zero, suc, ◌+◌, ◌-◌, ◌<◌, Bool, true, not, ◌&&◌, IsTrue, Option, List, [], ◌∷◌, length, get_or, take, map, Ok, sym, ◌∙◌, arith, length-take-le, get_or-take}
+use Rattle.std.specs.Global.{Vec}
+use Rattle.std.proofs.lemmas.Bool.{false≢true, and_parts, not-true, not_from_false}
 use Rattle.std.proofs.lemmas.List.{length-map}
+use Rattle.std.proofs.Math.Path.{transport}
 use Rattle.trace_types.specs.declared.order.Order.TheVariants.{Before, Concurrent}
 use Rattle.trace_types.specs.clock.EventTree.{EventTree, Leaf}
-use Rattle.event_tree.specs.Comparison.{IsBelow, StandsAs}
+use Rattle.event_tree.specs.Comparison.{IsBelow}
 use Rattle.trace_query.specs.Compared.{is_below}
 use Rattle.trace_query.specs.Deciding.{IsDecidedBy, DecideInOrder, point_in}
-use Rattle.trace_query.specs.Queries.{has_tree, tree_at, StandInOrder, trees_before}
+use Rattle.trace_query.specs.Queries.{has_tree, tree_at, StandInOrder, trees_before, ListsExactly}
 use Rattle.trace_query.specs.declared.deciding.Deciding.{Deciding}
 use Rattle.trace_query.proofs.ComparedTrees.{is_below_iff}
-use Rattle.trace_query.proofs.Gathered.{refuted, refuted_by, listed_to, unlisted, listed_before, tree_in_place}
-
-pub event_bounds : (trees : List EventTree) (event : ℕ) → IsTrue (has_tree trees event) → (0 < event) × (event ≤ length trees)
-event_bounds trees event is =
-    let parts = and_parts (ltb 0 event) (ltb event (suc (length trees))) is in
-    let high : event < suc (length trees) = ltb-true event (suc (length trees)) parts.1 in
-    (ltb-true 0 event parts.0, omega (arith, high))
-
-event_from_bounds : (trees : List EventTree) (event : ℕ) → 0 < event → event ≤ length trees → IsTrue (has_tree trees event)
-event_from_bounds trees event positive within =
-    and_from (ltb 0 event) (ltb event (suc (length trees))) (lt-ltb 0 event positive) (lt-ltb event (suc (length trees)) (omega (arith, within)))
+use Rattle.trace_query.proofs.Gathered.{refuted, refuted_by, listed_to, unlisted, found_before, event_bounds, event_from_bounds, ArePlaced, IsOtherStanding, here, tree_in_place}
 
 -- no later event is in the past, so the list is that of the earlier ones
-pub earlier_are_all : (trees : List EventTree) (event place : ℕ) (events : List ℕ) → StandInOrder trees → IsTrue (has_tree trees event) → place ≡ event - 1
-    → events ≡ listed_to Before trees event place → events ≡ trees_before trees event
-earlier_are_all trees event place events in_order is last =
+pub found_earlier : (trees : List EventTree) (event place : ℕ) (events : Vec ℕ) → StandInOrder trees → IsTrue (has_tree trees event) → place ≡ event - 1
+    → events.items ≡ listed_to Before trees event place → ListsExactly trees_before trees event (Ok events)
+found_earlier trees event place events in_order is last =
     let bounds = event_bounds trees event is in
-    listed_before Before trees event place events (omega (arith, bounds.1, last))
+    found_before Before trees event place events is (omega (arith, bounds.1, last))
     (λ later above within.
     unlisted Before trees event later
     (λ differ stands. in_order event later is (event_from_bounds trees later (omega (arith, above)) within) (omega (arith, bounds.0, above, last, differ)) stands.0))
 
-module _ {K : Type 0} (tree : K → EventTree) (kept : List K) (in_order : StandInOrder (map tree kept)) (event place : ℕ) (other one : K)
-    (is_other : other ≡ get_or kept place other) (is_one : tree one ≡ tree_at (map tree kept) event) (within : place < length kept)
-    (event_is : IsTrue (has_tree (map tree kept) event)) where
-  here : IsTrue (has_tree (map tree kept) (place + 1))
-  here =
-      let long : length (map tree kept) ≡ length kept = length-map kept tree in
-      event_from_bounds (map tree kept) (place + 1) (omega arith) (omega arith)
+-- what is kept for the earlier events
+module _ {K : Type 0} (tree : K → EventTree) (kept : List K) (event : ℕ) (event_is : IsTrue (has_tree (map tree kept) event)) where
+  pub earlier_many : length (take (event - 1) kept) ≡ event - 1
+  earlier_many =
+      let bounds = event_bounds (map tree kept) event event_is in
+      length-take-le (event - 1) kept (omega (arith, bounds.0, bounds.1, length-map kept tree))
 
-  there : tree other ≡ tree_at (map tree kept) (place + 1)
-  there = tree_in_place tree kept place other is_other within
+  pub placed_earlier : (place : ℕ) (other one : K) → other ≡ get_or (take (event - 1) kept) place other → tree one ≡ tree_at (map tree kept) event
+      → place < length (take (event - 1) kept) → (place + 1 < event) × ArePlaced tree kept event place other one
+  placed_earlier place other one other_is one_is within =
+      let bounds = event_bounds (map tree kept) event event_is in
+      let before : place < event - 1 = omega (arith, earlier_many, within) in (
+        omega (arith, before),
+        record {
+          other_is = other_is ∙ get_or-take (event - 1) kept place other before;
+          one_is = one_is;
+          within = omega (arith, before, bounds.1, length-map kept tree);
+          event_is = event_is;
+        },
+      )
 
+module _ {K : Type 0} {tree : K → EventTree} {kept : List K} {event place : ℕ} {other one : K} (placed : ArePlaced tree kept event place other one) (in_order : StandInOrder (map tree kept)) where
   -- the event is not below an earlier one
-  pub not_below_earlier : place + 1 < event → ¬ IsBelow (tree one) (tree other)
+  not_below_earlier : place + 1 < event → ¬ IsBelow (tree one) (tree other)
   not_below_earlier earlier below =
-      in_order (place + 1) event here event_is earlier
-      (subst (IsBelow (tree_at (map tree kept) event)) there (subst (λ (e : EventTree). IsBelow e (tree other)) is_one below))
+      in_order (place + 1) event (here placed) placed.event_is earlier (transport (λ i. IsBelow (placed.one_is i) (tree_in_place placed i)) below)
 
   -- and no later one is below it
-  pub later_not_below : event < place + 1 → ¬ IsBelow (tree other) (tree one)
+  later_not_below : event < place + 1 → ¬ IsBelow (tree other) (tree one)
   later_not_below later below =
-      in_order event (place + 1) event_is here later
-      (subst (IsBelow (tree_at (map tree kept) (place + 1))) is_one (subst (λ (e : EventTree). IsBelow e (tree one)) there below))
+      in_order event (place + 1) placed.event_is (here placed) later (transport (λ i. IsBelow (tree_in_place placed i) (placed.one_is i)) below)
 
-  -- so an earlier event is concurrent with the event exactly where it is not below it
-  pub earlier_apart : place + 1 < event → (below : Bool) → (IsTrue below ↔ IsBelow (tree other) (tree one))
-      → IsTrue (not below) ↔ ((place + 1 ≢ event) × StandsAs Concurrent (tree other) (tree one))
+  -- so an earlier event is in the past exactly where it is below the event
+  pub earlier_before : place + 1 < event → (below : Bool) → (IsTrue below ↔ IsBelow (tree other) (tree one)) → IsTrue below ↔ IsOtherStanding Before tree event place other one
+  earlier_before earlier below told = (λ is. ((λ same. omega (arith, same, earlier)), (told.0 is, not_below_earlier earlier)), λ holds. told.1 holds.1.0)
+
+  -- and concurrent with it exactly where it is not
+  pub earlier_apart : place + 1 < event → (below : Bool) → (IsTrue below ↔ IsBelow (tree other) (tree one)) → IsTrue (not below) ↔ IsOtherStanding Concurrent tree event place other one
   earlier_apart earlier below told = (
     λ apart. ((λ same. omega (arith, same, earlier)), (refuted_by told (not-true below apart), not_below_earlier earlier)),
     λ holds. not_from_false below (refuted below told.0 holds.1.0),
   )
 
   -- and a later one exactly where the event is not below it
-  pub later_apart : event < place + 1 → (below : Bool) → (IsTrue below ↔ IsBelow (tree one) (tree other))
-      → IsTrue (not below) ↔ ((place + 1 ≢ event) × StandsAs Concurrent (tree other) (tree one))
+  pub later_apart : event < place + 1 → (below : Bool) → (IsTrue below ↔ IsBelow (tree one) (tree other)) → IsTrue (not below) ↔ IsOtherStanding Concurrent tree event place other one
   later_apart later below told = (
     λ apart. ((λ same. omega (arith, same, later)), (later_not_below later, refuted_by told (not-true below apart))),
     λ holds. not_from_false below (refuted below told.0 holds.1.1),
   )
 
-  module _ (points : List (Option Deciding)) (decided : DecideInOrder (map tree kept) points) where
-    -- the point of an earlier event decides whether its tree is below that of the event
-    pub decided_earlier : place + 1 < event → IsDecidedBy (point_in points place) (tree other) (tree one)
-    decided_earlier earlier =
-        let back : (place + 1) - 1 ≡ place = omega arith in
-        subst (λ (k : ℕ). IsDecidedBy (point_in points k) (tree other) (tree one)) back
-        (subst (λ (e : EventTree). IsDecidedBy (point_in points ((place + 1) - 1)) e (tree one)) (sym there)
-        (subst (λ (e : EventTree). IsDecidedBy (point_in points ((place + 1) - 1)) (tree_at (map tree kept) (place + 1)) e) (sym is_one)
-        (decided (place + 1) event here event_is earlier)))
+module _ {K : Type 0} {tree : K → EventTree} {kept : List K} {event place : ℕ} {other one : K} (placed : ArePlaced tree kept event place other one)
+    (points : List (Option Deciding)) (decided : DecideInOrder (map tree kept) points) where
+  -- the point of an earlier event decides whether its tree is below that of the event
+  pub decided_earlier : place + 1 < event → IsDecidedBy (point_in points place) (tree other) (tree one)
+  decided_earlier earlier =
+      let back : (place + 1) - 1 ≡ place = omega arith in
+      transport (λ i. IsDecidedBy (point_in points (back i)) (sym (tree_in_place placed) i) (sym placed.one_is i)) (decided (place + 1) event (here placed) placed.event_is earlier)
 
-    -- and that of the event whether its tree is below that of a later one
-    pub decided_later : event < place + 1 → IsDecidedBy (point_in points (event - 1)) (tree one) (tree other)
-    decided_later later =
-        subst (λ (e : EventTree). IsDecidedBy (point_in points (event - 1)) e (tree other)) (sym is_one)
-        (subst (λ (e : EventTree). IsDecidedBy (point_in points (event - 1)) (tree_at (map tree kept) event) e) (sym there)
-        (decided event (place + 1) event_is here later))
+  -- and that of the event whether its tree is below that of a later one
+  pub decided_later : event < place + 1 → IsDecidedBy (point_in points (event - 1)) (tree one) (tree other)
+  decided_later later =
+      transport (λ i. IsDecidedBy (point_in points (event - 1)) (sym placed.one_is i) (sym (tree_in_place placed) i)) (decided event (place + 1) placed.event_is (here placed) later)
 
 -- whether none of these trees is below the first, computed
 abbrev none_below : EventTree → List EventTree → Bool

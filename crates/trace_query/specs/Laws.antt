@@ -6,15 +6,11 @@ use Rattle.trace_types.specs.clock.EventTree.{EventTree}
 use Rattle.trace_types.specs.declared.order.Order.{Order}
 use Rattle.event_tree.specs.Comparison.{StandsAs}
 use Rattle.trace_query.specs.Compared.{tree_order, is_order}
-use Rattle.trace_query.specs.Queries.{has_tree, events_of, tree_at}
+use Rattle.trace_query.specs.Queries.{has_tree, events_of, tree_at, Lists}
 
 -- the computed order is the one in which the trees stand
 abbrev pub ComparesAsStands : Type 0
 ComparesAsStands = (e f : EventTree) → StandsAs (tree_order e f) e f
-
--- a list of events for each list of trees and each event
-abbrev pub Lists : Type 0
-Lists = List EventTree → ℕ → List ℕ
 
 -- the list has an event exactly where it is another one and stands so
 abbrev pub HasExactly : Order → Lists → Type 0

@@ -1,5 +1,6 @@
 -- What queries about the order of events are due, from the list of the events' trees: event k has the k-th, from 1.
-use Rattle.std.specs.Prelude.{ℕ, suc, ◌-◌, ◌<◌, Bool, not, ◌&&◌, IsTrue, List, length, ◌==◌, nat_lt, if◌then◌else◌, Result, Ok, Err}
+use Rattle.std.specs.Prelude.{◌≡◌, ℕ, suc, ◌-◌, ◌<◌, Bool, not, ◌&&◌, IsTrue, List, [], length, ◌==◌, nat_lt, if◌then◌else◌, Result, Ok, Err, IfOk, IfErr}
+use Rattle.std.specs.Global.{Vec}
 use Rattle.std.specs.List.{slice_index_or, filter, range_with_len}
 use Rattle.trace_types.specs.clock.EventTree.{EventTree, Leaf}
 use Rattle.trace_types.specs.declared.order.Order.{Order}
@@ -54,3 +55,16 @@ order_due trees first second = if has_tree trees first && has_tree trees second 
 -- why a list is refused for this event, if it is
 abbrev pub fault_due : List EventTree → ℕ → QueryFault
 fault_due trees event = if has_tree trees event then Memory else Unknown
+
+-- a list of events for each list of trees and each event
+abbrev pub Lists : Type 0
+Lists = List EventTree → ℕ → List ℕ
+
+-- the result is the list of the event, exactly, or why it is refused
+pub record ListsExactly (list_of : Lists) (trees : List EventTree) (event : ℕ) (result : Result (Vec ℕ) QueryFault) : Type 0 where
+  -- what is no event has no list
+  pub known : IfOk result (λ _. IsTrue (has_tree trees event))
+  pub events : IfOk result (λ events. events.items ≡ list_of trees event)
+  pub fault : IfErr result (λ fault. fault ≡ fault_due trees event)
+  -- a list that has no event wants no memory
+  pub empty : list_of trees event ≡ [] → IfErr result (λ fault. fault ≡ Unknown)

@@ -1,8 +1,8 @@
 //! Queries about the order of events. Event k has the k-th of the kept trees, from 1.
-ghost use Rattle.std.specs.Prelude.{◌≡◌, ◌↔◌, IfOk, IfErr, IsTrue, map, [], true, false};
+ghost use Rattle.std.specs.Prelude.{◌≡◌, ◌↔◌, IfOk, IfErr, IsTrue, map, true, false};
 ghost use Rattle.event_tree.specs.Comparison.{IsBelow};
 ghost use Rattle.trace_query.specs.Deciding.{IsDecidedBy, DecideInOrder, point_in};
-ghost use Rattle.trace_query.specs.Queries.{has_tree, tree_at, StandInOrder, trees_before, concurrent_of, order_due, fault_due};
+ghost use Rattle.trace_query.specs.Queries.{has_tree, tree_at, StandInOrder, trees_before, concurrent_of, order_due, ListsExactly};
 
 use crate::{Compare, Deciding, Meant, QueryFault};
 use std::alloc::Global;
@@ -34,12 +34,7 @@ pub fn past<C: Compare>(
     kept: &[C::Kept],
     event: u64,
 ) -> Result<Vec<u64>, QueryFault>
-    ensures known { IfOk result (λ _. has_tree (map C.Kept.tree kept.now) event ≡ true) }
-    ensures events { IfOk result
-        (λ events. events.items ≡ trees_before (map C.Kept.tree kept.now) event) }
-    ensures fault { IfErr result (λ fault. fault ≡ fault_due (map C.Kept.tree kept.now) event) }
-    ensures empty { trees_before (map C.Kept.tree kept.now) event ≡ []
-        → IfErr result (λ fault. fault ≡ QueryFault.Unknown) }
+    ensures { ListsExactly trees_before (map C.Kept.tree kept.now) event result }
 {
     let tree = kept_of(kept, event)?;
     let mut events = Vec::new(alloc);
@@ -61,12 +56,7 @@ pub fn past_in_order<C: Compare>(
     event: u64,
 ) -> Result<Vec<u64>, QueryFault>
     requires { StandInOrder (map C.Kept.tree kept.now) }
-    ensures known { IfOk result (λ _. has_tree (map C.Kept.tree kept.now) event ≡ true) }
-    ensures events { IfOk result
-        (λ events. events.items ≡ trees_before (map C.Kept.tree kept.now) event) }
-    ensures fault { IfErr result (λ fault. fault ≡ fault_due (map C.Kept.tree kept.now) event) }
-    ensures empty { trees_before (map C.Kept.tree kept.now) event ≡ []
-        → IfErr result (λ fault. fault ≡ QueryFault.Unknown) }
+    ensures { ListsExactly trees_before (map C.Kept.tree kept.now) event result }
 {
     past_by_points(compare, alloc, kept, &[], event)
 }
@@ -82,12 +72,7 @@ pub fn past_by_points<C: Compare>(
 ) -> Result<Vec<u64>, QueryFault>
     requires in_order { StandInOrder (map C.Kept.tree kept.now) }
     requires decided { DecideInOrder (map C.Kept.tree kept.now) points.now }
-    ensures known { IfOk result (λ _. has_tree (map C.Kept.tree kept.now) event ≡ true) }
-    ensures events { IfOk result
-        (λ events. events.items ≡ trees_before (map C.Kept.tree kept.now) event) }
-    ensures fault { IfErr result (λ fault. fault ≡ fault_due (map C.Kept.tree kept.now) event) }
-    ensures empty { trees_before (map C.Kept.tree kept.now) event ≡ []
-        → IfErr result (λ fault. fault ≡ QueryFault.Unknown) }
+    ensures { ListsExactly trees_before (map C.Kept.tree kept.now) event result }
 {
     let tree = kept_of(kept, event)?;
     let earlier = &kept[..event as usize - 1];
@@ -109,12 +94,7 @@ pub fn concurrent_with<C: Compare>(
     kept: &[C::Kept],
     event: u64,
 ) -> Result<Vec<u64>, QueryFault>
-    ensures known { IfOk result (λ _. has_tree (map C.Kept.tree kept.now) event ≡ true) }
-    ensures events { IfOk result
-        (λ events. events.items ≡ concurrent_of (map C.Kept.tree kept.now) event) }
-    ensures fault { IfErr result (λ fault. fault ≡ fault_due (map C.Kept.tree kept.now) event) }
-    ensures empty { concurrent_of (map C.Kept.tree kept.now) event ≡ []
-        → IfErr result (λ fault. fault ≡ QueryFault.Unknown) }
+    ensures { ListsExactly concurrent_of (map C.Kept.tree kept.now) event result }
 {
     let tree = kept_of(kept, event)?;
     let mut events = Vec::new(alloc);
@@ -136,12 +116,7 @@ pub fn concurrent_in_order<C: Compare>(
     event: u64,
 ) -> Result<Vec<u64>, QueryFault>
     requires { StandInOrder (map C.Kept.tree kept.now) }
-    ensures known { IfOk result (λ _. has_tree (map C.Kept.tree kept.now) event ≡ true) }
-    ensures events { IfOk result
-        (λ events. events.items ≡ concurrent_of (map C.Kept.tree kept.now) event) }
-    ensures fault { IfErr result (λ fault. fault ≡ fault_due (map C.Kept.tree kept.now) event) }
-    ensures empty { concurrent_of (map C.Kept.tree kept.now) event ≡ []
-        → IfErr result (λ fault. fault ≡ QueryFault.Unknown) }
+    ensures { ListsExactly concurrent_of (map C.Kept.tree kept.now) event result }
 {
     concurrent_by_points(compare, alloc, kept, &[], event)
 }
@@ -157,12 +132,7 @@ pub fn concurrent_by_points<C: Compare>(
 ) -> Result<Vec<u64>, QueryFault>
     requires in_order { StandInOrder (map C.Kept.tree kept.now) }
     requires decided { DecideInOrder (map C.Kept.tree kept.now) points.now }
-    ensures known { IfOk result (λ _. has_tree (map C.Kept.tree kept.now) event ≡ true) }
-    ensures events { IfOk result
-        (λ events. events.items ≡ concurrent_of (map C.Kept.tree kept.now) event) }
-    ensures fault { IfErr result (λ fault. fault ≡ fault_due (map C.Kept.tree kept.now) event) }
-    ensures empty { concurrent_of (map C.Kept.tree kept.now) event ≡ []
-        → IfErr result (λ fault. fault ≡ QueryFault.Unknown) }
+    ensures { ListsExactly concurrent_of (map C.Kept.tree kept.now) event result }
 {
     let tree = kept_of(kept, event)?;
     let own_place = event as usize - 1;
