@@ -1,9 +1,9 @@
 -- The answers of the queries, step by step.
-use Rattle.std.proofs.Common.{◌≡◌, ◌≢◌, ℕ, zero, suc, ◌+◌, ◌-◌, ◌<◌, ◌≤◌, ◌↔◌, Bool, true, false, ◌&&◌, cond, List, [], ◌∷◌, ◌++◌, length, get_or, take, map, IsTrue, ltb, Result, Ok, Err, IsErrAnd, refl, sym, ap, subst, ◌∙◌, inl, inr, arith}
+use Rattle.std.proofs.Common.{◌≡◌, ◌≢◌, ℕ, zero, suc, ◌+◌, ◌-◌, ◌<◌, ◌≤◌, ◌↔◌, Bool, true, false, ◌&&◌, cond, List, [], ◌∷◌, ◌++◌, length, get_or, take, map, IsTrue, Result, Ok, Err, IsErrAnd, refl, sym, ap, subst, ◌∙◌, inl, inr, arith}
 use Rattle.std.specs.Global.{Vec}
 use Rattle.std.specs.List.{filter, range_with_len}
 use Rattle.std.proofs.Math.Path.{transport}
-use Rattle.std.proofs.lemmas.Bool.{false≢true, and_parts, and_from, cases_Bool, cond-true, cond-false, ltb-true, lt-ltb}
+use Rattle.std.proofs.lemmas.Bool.{false≢true, and_from, cases_Bool, cond-true, cond-false}
 use Rattle.std.proofs.lemmas.List.{get_or-map, length-map, take_all, append-nil}
 use Rattle.std.proofs.lemmas.List.Elements.{filter_more}
 use Rattle.std.proofs.lemmas.List.FromFn.{length-range_with_len, get_or-range_with_len}
@@ -19,7 +19,7 @@ use Rattle.trace_query.specs.Queries.{has_tree, events_of, tree_at, order_betwee
 use Rattle.trace_query.specs.declared.query_fault.QueryFault.{QueryFault}
 use Rattle.trace_query.specs.declared.query_fault.QueryFault.TheVariants.{Unknown, Memory}
 use Rattle.trace_query.proofs.ComparedTrees.{stands_as_compared, is_order_iff}
-use Rattle.trace_query.proofs.Listed.{is_other_standing_iff, others_are_exact}
+use Rattle.trace_query.proofs.Listed.{event_from_bounds, is_other_standing_iff, others_are_exact}
 
 -- the test for an order is that of the program
 is_order-test : (order : Order) → sameb the_type order Concurrent ≡ is_order Concurrent order
@@ -104,16 +104,6 @@ module _ (wanted : Order) (trees : List EventTree) (event : ℕ) where
   pub found_before : (place : ℕ) (events : Vec ℕ) → IsTrue (has_tree trees event) → place ≤ length trees → ((later : ℕ) → place < later → later ≤ length trees → is_listed later ≡ false)
       → events.items ≡ listed_to place → ListsExactly (others_standing wanted) trees event (Ok events)
   found_before place events is within none so_far = found events is (so_far ∙ passed_over is_listed (length trees) place (length trees - place) (omega arith) none)
-
-pub event_bounds : (trees : List EventTree) (event : ℕ) → IsTrue (has_tree trees event) → (0 < event) × (event ≤ length trees)
-event_bounds trees event is =
-    let parts = and_parts (ltb 0 event) (ltb event (suc (length trees))) is in
-    let high : event < suc (length trees) = ltb-true event (suc (length trees)) parts.1 in
-    (ltb-true 0 event parts.0, omega (arith, high))
-
-pub event_from_bounds : (trees : List EventTree) (event : ℕ) → 0 < event → event ≤ length trees → IsTrue (has_tree trees event)
-event_from_bounds trees event positive within =
-    and_from (ltb 0 event) (ltb event (suc (length trees))) (lt-ltb 0 event positive) (lt-ltb event (suc (length trees)) (omega (arith, within)))
 
 -- past the last place they are all there
 pub found_all : {K : Type 0} (tree : K → EventTree) (kept : List K) (wanted : Order) (event place : ℕ) (events : Vec ℕ) → IsTrue (has_tree (map tree kept) event)

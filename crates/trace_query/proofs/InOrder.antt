@@ -12,7 +12,8 @@ use Rattle.trace_query.specs.Deciding.{IsDecidedBy, DecideInOrder, point_in}
 use Rattle.trace_query.specs.Queries.{has_tree, tree_at, StandInOrder, trees_before, ListsExactly}
 use Rattle.trace_query.specs.declared.deciding.Deciding.{Deciding}
 use Rattle.trace_query.proofs.ComparedTrees.{is_below_iff}
-use Rattle.trace_query.proofs.Gathered.{refuted, refuted_by, listed_to, unlisted, found_before, event_bounds, event_from_bounds, ArePlaced, IsOtherStanding, here, tree_in_place}
+use Rattle.trace_query.proofs.Listed.{event_bounds, event_from_bounds}
+use Rattle.trace_query.proofs.Gathered.{refuted, refuted_by, listed_to, unlisted, found_before, ArePlaced, IsOtherStanding, here, tree_in_place}
 
 -- no later event is in the past, so the list is that of the earlier ones
 pub found_earlier : (trees : List EventTree) (event place : ℕ) (events : Vec ℕ) → StandInOrder trees → IsTrue (has_tree trees event) → place ≡ event - 1

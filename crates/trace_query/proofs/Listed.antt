@@ -1,5 +1,5 @@
 -- What stands in the lists.
-use Rattle.std.proofs.Common.{◌≡◌, ◌≢◌, ℕ, zero, suc, ◌+◌, ◌-◌, ◌<◌, ◌↔◌, Bool, true, not, IsTrue, eqb, ltb, List, [], ◌∷◌, length, get_or, Contains, sym, ap, subst, ◌∙◌, arith}
+use Rattle.std.proofs.Common.{◌≡◌, ◌≢◌, ℕ, zero, suc, ◌+◌, ◌-◌, ◌<◌, ◌≤◌, ◌↔◌, Bool, true, not, IsTrue, eqb, ltb, List, [], ◌∷◌, length, get_or, Contains, sym, ap, subst, ◌∙◌, arith}
 use Rattle.std.specs.List.{filter}
 use Rattle.std.specs.List.Sorted.{IsStrictlyIncreasing}
 use Rattle.std.proofs.lemmas.Bool.{and_parts, and_from, ltb-true, lt-ltb, eqb-false, ne_eqb, not-true, not_from_false, cond-true, cond_both}
@@ -36,6 +36,16 @@ filter-Contains test xs x one = (
   All-contains (λ y. test y ≡ true) (filter test xs) x (filter_passes test xs) one,
 )
 
+pub event_bounds : (trees : List EventTree) (event : ℕ) → IsTrue (has_tree trees event) → (0 < event) × (event ≤ length trees)
+event_bounds trees event is =
+    let parts = and_parts (ltb 0 event) (ltb event (suc (length trees))) is in
+    let high : event < suc (length trees) = ltb-true event (suc (length trees)) parts.1 in
+    (ltb-true 0 event parts.0, omega (arith, high))
+
+pub event_from_bounds : (trees : List EventTree) (event : ℕ) → 0 < event → event ≤ length trees → IsTrue (has_tree trees event)
+event_from_bounds trees event positive within =
+    and_from (ltb 0 event) (ltb event (suc (length trees))) (lt-ltb 0 event positive) (lt-ltb event (suc (length trees)) (omega (arith, within)))
+
 -- the list of the events has each event
 pub Contains-events : (trees : List EventTree) (event : ℕ) → Contains (events_of trees) event ↔ IsTrue (has_tree trees event)
 Contains-events trees event = (
@@ -43,15 +53,13 @@ Contains-events trees event = (
       let long : length (events_of trees) ≡ length trees = length-range_with_len 1 (length trees) in
       let at : get_or (events_of trees) one.0 event ≡ 1 + one.0 = get_or-range_with_len 1 (length trees) one.0 event (omega (arith, one.1)) in
       let is : event ≡ 1 + one.0 = sym one.2 ∙ at in
-      and_from (ltb 0 event) (ltb event (suc (length trees))) (lt-ltb 0 event (omega arith)) (lt-ltb event (suc (length trees)) (omega (arith, one.1))),
+      event_from_bounds trees event (omega (arith, is)) (omega (arith, is, long, one.1)),
   λ is.
-      let parts = and_parts (ltb 0 event) (ltb event (suc (length trees))) is in
-      let low : 0 < event = ltb-true 0 event parts.0 in
-      let high : event < suc (length trees) = ltb-true event (suc (length trees)) parts.1 in
+      let bounds = event_bounds trees event is in
       let long : length (events_of trees) ≡ length trees = length-range_with_len 1 (length trees) in
-      let at : get_or (events_of trees) (event - 1) event ≡ 1 + (event - 1) = get_or-range_with_len 1 (length trees) (event - 1) event (omega arith) in
-      let back : 1 + (event - 1) ≡ event = omega arith in
-      (event - 1, omega arith, at ∙ back),
+      let at : get_or (events_of trees) (event - 1) event ≡ 1 + (event - 1) = get_or-range_with_len 1 (length trees) (event - 1) event (omega (arith, bounds.0, bounds.1)) in
+      let back : 1 + (event - 1) ≡ event = omega (arith, bounds.0) in
+      (event - 1, omega (arith, long, bounds.0, bounds.1), at ∙ back),
 )
 
 -- the test is what it says

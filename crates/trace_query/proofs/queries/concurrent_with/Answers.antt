@@ -7,12 +7,7 @@ use Rattle.trace_query.proofs.queries.concurrent_with.Goals as goal
 
 -- what is compared
 placed : (g : Over) (c : After-index-kept-place g) → ArePlaced g.C.Kept.Meant.tree c.args.kept.now c.args.event c.loop-place.place c.index-kept-place.result c.in_ok-tree.tree.now
-placed g c = record {
-  other_is = c.index-kept-place.is;
-  one_is = c.in_ok-tree.ensures.tree;
-  within = c.loop-place-test.true;
-  event_is = c.in_ok-tree.ensures.known;
-}
+placed g c = record { other_is = c.index-kept-place.is; one_is = c.in_ok-tree.ensures.tree; within = c.loop-place-test.true; event_is = c.in_ok-tree.ensures.known }
 
 pub loop-place-preserved : goal.loop-place-preserved
 loop-place-preserved g c =
