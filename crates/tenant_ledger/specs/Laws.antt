@@ -1,13 +1,13 @@
 -- What the trees of a tenant's events come to.
-use Rattle.std.specs.Prelude.{◌≡◌, ◌↔◌, ℕ, suc, ◌<◌, ◌≤◌, true, IsTrue, List, ◌∷◌, ◌++◌, length}
+use Rattle.std.specs.Prelude.{◌≡◌, ◌↔◌, ℕ, suc, ◌≤◌, IsTrue, List, ◌∷◌, ◌++◌, length}
 use Rattle.trace_types.specs.tenant.Rows.{History, last_event}
 use Rattle.trace_types.specs.tenant.Reachability.{reaches, second_event}
 use Rattle.trace_types.specs.clock.Points.{Point}
-use Rattle.trace_types.specs.clock.Id.{owns}
 use Rattle.trace_types.specs.clock.EventTree.{EventTree, maximum, value}
 use Rattle.trace_types.specs.clock.Clock.{tree_clock}
 use Rattle.trace_types.specs.clock.Stamps.{tree_of, acting_id, known_before}
 use Rattle.trace_types.specs.declared.row.Row.{Row}
+use Rattle.event_tree.specs.Risen.{IsRaisedAt}
 
 -- the greatest value of the event's tree is at most the event's number
 abbrev pub IsAtMostItsNumber : History → ℕ → Type 0
@@ -25,8 +25,7 @@ pub record IsRaisedBy (history : History) (event : ℕ) (point : Point) : Type 0
   pub earlier : History
   pub rows : history ≡ later ++ row ∷ earlier
   pub number : event ≡ suc (length earlier)
-  pub owned : owns (acting_id tree_clock earlier row) point ≡ true
-  pub raised : value (known_before_event row earlier) point < value (tree_of tree_clock history event) point
+  pub raised : IsRaisedAt (acting_id tree_clock earlier row) (known_before_event row earlier) (tree_of tree_clock history event) point
 
 -- The point decides which events the event reaches: those that know as much of it.
 abbrev pub DecidesReach : History → ℕ → Point → Type 0

@@ -99,8 +99,8 @@ pub decides_reach : (history : History) → IsLegal history → (event : ℕ) (p
 decides_reach history legal event point raised other =
     let whole = raised.later ++ raised.row ∷ raised.earlier in
     let same = ap (λ h. tree_of tree_clock h event) raised.rows ∙ ap (tree_of tree_clock whole) raised.number in
-    let private = private_in raised.later raised.row raised.earlier (subst IsLegal raised.rows legal) point raised.owned
-    (omega (arith, raised.raised, ap (λ tree. value tree point) same)) in
+    let private = private_in raised.later raised.row raised.earlier (subst IsLegal raised.rows legal) point raised.raised.owned
+    (omega (arith, raised.raised.raised, ap (λ tree. value tree point) same)) in
     let here = subst (λ h. IsPrivate tree_clock_laws h event point) (sym raised.rows)
     (subst (λ e. IsPrivate tree_clock_laws whole e point) (sym raised.number) private) in
     (here other, λ reached. (invariant_upheld tree_clock_laws history legal).trees_rise event other reached point)
