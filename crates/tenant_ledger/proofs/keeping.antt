@@ -1,5 +1,6 @@
 pub mod Lists
 pub mod Known
+pub mod Points
 pub mod Tasks
 pub mod Messages
 pub mod Kept

@@ -11,7 +11,7 @@ use Rattle.trace_types.specs.clock.Stamps.{id_of, tree_of, stamp_of, of_named}
 use Rattle.trace_types.specs.tenant.Tenant.{Tenant, AreLegal, row_after, with_row, step, Steps}
 use Rattle.trace_types.specs.clock.Id.{Id, Zero, One}
 use Rattle.trace_types.specs.clock.IdOperations.{split, sum}
-use Rattle.trace_types.specs.clock.EventTree.{EventTree}
+use Rattle.trace_types.specs.clock.EventTree.{EventTree, value}
 use Rattle.trace_types.specs.declared.row.Row.{Row}
 use Rattle.trace_types.specs.declared.code.Code.{Code}
 use Rattle.trace_types.specs.declared.task_state.TaskState.TheVariants as state
@@ -21,8 +21,11 @@ use Rattle.trace_types.specs.declared.reply.Reply.TheVariants as reply
 use Rattle.trace_types.specs.declared.request.Reported.{Reported}
 use Rattle.trace_types.specs.declared.request.Request.{Request}
 use Rattle.trace_types.specs.declared.code.Code.TheVariants.{NoTask, TaskExists, TaskEnded, NoMessage, MessageExists, AlreadyReceived, NotEnded, AlreadyJoined, EventsFull, TasksFull, MessagesFull, NoEvent, NoMemory}
+use Rattle.trace_query.specs.Deciding.{point_in}
+use Rattle.trace_query.specs.declared.deciding.Deciding.{Deciding}
 use Rattle.trace_query.specs.declared.query_fault.QueryFault.{QueryFault}
 use Rattle.trace_query.specs.declared.query_fault.QueryFault.TheVariants as fault
+use Rattle.tenant_ledger.specs.Laws.{IsRaisedBy}
 use Rattle.tenant_ledger.specs.declared.book.task.Task.{Task}
 use Rattle.tenant_ledger.specs.declared.book.report.Report.{Report}
 use Rattle.tenant_ledger.specs.declared.book.ids.Ids.{Ids}
@@ -35,6 +38,7 @@ use Rattle.message_book.specs.declared.entry.Entry.{Entry}
 pub record Room : Type 0 where
   pub rows : ℕ
   pub trees : ℕ
+  pub points : ℕ
   pub places : ℕ
   pub ids : ℕ
   pub tasks : ℕ
@@ -44,6 +48,7 @@ pub record Contents : Type 0 where
   pub limits : Limits
   pub rows : List Row
   pub trees : List EventTree
+  pub points : List (Option Deciding)
   pub places : List ℕ
   pub ids : List Id
   pub kept_ids : ℕ
@@ -96,11 +101,27 @@ of_each told (row ∷ earlier) = of_each told earlier ++ told (row ∷ earlier) 
 abbrev pub id_after : History → ℕ → Id
 id_after history event = (stamp_of tree_clock history event).0
 
+-- a point that the event raised, with the value there of what it knows
+pub record IsPointOf (history : History) (event : ℕ) (deciding : Deciding) : Type 0 where
+  pub raised : IsRaisedBy history event deciding.point
+  pub own : deciding.value ≡ value (tree_of tree_clock history event) deciding.point
+
+-- so it is where the event has a point
+abbrev pub MayHavePoint : History → ℕ → Option Deciding → Type 0
+MayHavePoint history event None = Unit {0}
+MayHavePoint history event (Some deciding) = IsPointOf history event deciding
+
+-- the points of the events, in their order
+pub record ArePoints (history : History) (points : List (Option Deciding)) : Type 0 where
+  pub counted : length points ≡ length history
+  pub each : (place : ℕ) → MayHavePoint history (suc place) (point_in points place)
+
 -- The book is kept for its rows, with these tasks.
 pub record IsKeptWith (book : Contents) (tasks : Text → Option Task) (count : ℕ) : Type 0 where
   pub legal : AreLegal book.limits book.rows
   pub small : length book.rows ≤ 16384
   pub trees : book.trees ≡ of_each (tree_of tree_clock) (history_in book)
+  pub points : ArePoints (history_in book) book.points
   pub places : map (slice_get book.ids) book.places ≡ map Some (of_each id_after (history_in book))
   pub tasks_are : (name : Text) → IsTask book.ids (history_in book) name (tasks name)
   pub counted : count ≡ task_count (history_in book)
@@ -115,6 +136,7 @@ IsKept book = IsKeptWith book (task_in book) (length book.tasks)
 pub record HasRoom (book : Contents) : Type 0 where
   pub rows : 0 < book.room.rows
   pub trees : 0 < book.room.trees
+  pub points : 0 < book.room.points
   pub places : 0 < book.room.places
   pub ids : 2 ≤ book.room.ids
   pub tasks : 2 ≤ book.room.tasks
@@ -201,19 +223,29 @@ named_after Spawn event place joined = Some (record { state = state.Live; last =
 named_after Join event place (Some task) = Some (record task { state = state.Joined })
 named_after kind event place joined = None
 
--- What is to be kept of an event: its row, what it knows, the ids that it makes, and its tasks.
+-- what is known after the event of a report
+abbrev pub tree_of_report : Contents → Report → EventTree
+tree_of_report book report = tree_of tree_clock (row_of_report book report ∷ history_in book) (suc (length (history_in book)))
+
+-- a point that it raised, where one was found
+abbrev pub MayRaise : Contents → Report → Option Deciding → Type 0
+MayRaise book report point = MayHavePoint (row_of_report book report ∷ history_in book) (suc (length (history_in book))) point
+
+-- What is to be kept of an event: its row, what it knows, a point that it raised, the ids that it makes, and its tasks.
 pub record Event : Type 0 where
   pub row : Row
   pub tree : EventTree
+  pub point : Option Deciding
   pub ids : List Id
   pub acting : Task
   pub named : Option Task
 
--- what is to be kept of a report
-abbrev pub event_of : Contents → Report → Event
-event_of book report = record {
+-- what is to be kept of a report, with this point
+abbrev pub event_of : Contents → Report → Option Deciding → Event
+event_of book report point = record {
   row = row_of_report book report;
-  tree = tree_of tree_clock (row_of_report book report ∷ history_in book) (suc (length (history_in book)));
+  tree = tree_of_report book report;
+  point = point;
   ids = made_ids (ids_made report.kind (id_of tree_clock (history_in book) report.task) (of_named Zero (id_of tree_clock (history_in book)) report.name));
   acting = acting_after report.kind (suc (length (history_in book))) (length book.ids) report.acting;
   named = named_after report.kind (suc (length (history_in book))) (length book.ids) report.joined;
@@ -242,6 +274,7 @@ abbrev pub with_event : Event → Contents → Contents
 with_event event book = record book {
   rows = book.rows ++ event.row ∷ [];
   trees = book.trees ++ event.tree ∷ [];
+  points = book.points ++ event.point ∷ [];
   places = book.places ++ event.acting.id ∷ [];
   ids = book.ids ++ event.ids;
 }

@@ -24,6 +24,7 @@ use stamp_codec::write_parts;
 use std::alloc::Global;
 use std::marker::Model;
 pub(crate) use task::Task;
+use trace_query::Deciding;
 use trace_types::{Code, Limits, Memory, Name, Row, TaskState, Text};
 
 /// The rows, and what is kept beside them.
@@ -36,6 +37,8 @@ pub(crate) struct Book<S: Keep> {
     alloc: Global,
     /// What each event knows, in the order of the events.
     trees: Vec<S::Kept>,
+    /// A point that each event raised, where one was found, in the order of the events.
+    points: Vec<Option<Deciding>>,
     /// The place of the id of each event's task after it, in the order of the events.
     places: Vec<usize>,
     /// Each id that some task has or had. That of `root` is kept with the first accepted report.
@@ -60,6 +63,7 @@ impl<S: Keep> Model for Book<S> {
       limits = b.limits;
       rows = b.rows.items;
       trees = map S.Kept.tree b.trees.items;
+      points = b.points.items;
       places = b.places.items;
       ids = with_seed (map S.Id.id b.ids.items);
       kept_ids = length b.ids.items;
@@ -68,6 +72,7 @@ impl<S: Keep> Model for Book<S> {
       room = record {
         rows = vec_capacity b.rows - vec_len b.rows;
         trees = vec_capacity b.trees - vec_len b.trees;
+        points = vec_capacity b.points - vec_len b.points;
         places = vec_capacity b.places - vec_len b.places;
         ids = vec_capacity b.ids - vec_len b.ids;
         tasks = spare b.tasks;
@@ -93,6 +98,7 @@ impl<S: Keep> Book<S> {
             rows: Vec::new(alloc),
             alloc,
             trees: Vec::new(alloc),
+            points: Vec::new(alloc),
             places: Vec::new(alloc),
             ids: Vec::new(alloc),
             tasks,
@@ -151,6 +157,13 @@ impl<S: Keep> Book<S> {
         ensures { map S.Kept.tree result.now ≡ self.now.trees }
     {
         &self.trees
+    }
+
+    /// A point that each event raised, with its value there, where one was found, in the order of the events.
+    pub(crate) fn points(&self) -> &[Option<Deciding>]
+        ensures { result.now ≡ self.now.points }
+    {
+        &self.points
     }
 
     /// What the book allocates from.

@@ -13,7 +13,7 @@ use crate::share::{Keep, MeantId, Share, Through};
 use crate::{PlainShare, Prepared, laws};
 use std::alloc::Global;
 use std::marker::Model;
-use trace_query::{Compare, Meant, QueryFault, concurrent_in_order, order, past_in_order};
+use trace_query::{Compare, Meant, QueryFault, concurrent_by_points, order, past_by_points};
 use trace_types::{Code, Limits, Memory, Name, Numbers, Reply, Request, Row};
 
 /// What one tenant has reported. Its ids and trees are kept by a share, the same in each call.
@@ -153,18 +153,20 @@ impl<S: Keep> Ledger<S> {
         }
     }
 
-    /// The other events that reach the event, by the trees kept for them.
+    /// The other events that reach the event, by the trees and the points kept for them.
     fn past<C: Compare<Kept = S::Kept>>(&self, compare: &C, event: u64) -> Reply
         ensures { Answers self.now (Request.Past event) result }
     {
-        listed(past_in_order(compare, self.book.alloc(), self.book.trees(), event))
+        let book = &self.book;
+        listed(past_by_points(compare, book.alloc(), book.trees(), book.points(), event))
     }
 
-    /// The events that neither reach the event nor are reached from it, by the trees kept for them.
+    /// The events that neither reach the event nor are reached from it, by the trees and the points kept for them.
     fn concurrent_with<C: Compare<Kept = S::Kept>>(&self, compare: &C, event: u64) -> Reply
         ensures { Answers self.now (Request.Concurrent event) result }
     {
-        listed(concurrent_in_order(compare, self.book.alloc(), self.book.trees(), event))
+        let book = &self.book;
+        listed(concurrent_by_points(compare, book.alloc(), book.trees(), book.points(), event))
     }
 
     /// The row of the event.

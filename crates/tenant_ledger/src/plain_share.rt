@@ -1,9 +1,11 @@
 //! Ids and trees that are kept as they are.
+ghost use Rattle.std.specs.Prelude.{◌↔◌, ◌≤◌, IsTrue};
+ghost use Rattle.trace_types.specs.clock.EventTree.{value};
 
 use crate::{Keep, Share};
 use event_tree::EvTree;
 use id_tree::IdTree;
-use trace_query::Compare;
+use trace_query::{Compare, Deciding};
 use trace_types::{Memory, Order};
 
 /// Keeps the ids and trees themselves. It takes no lock, and waits for nobody.
@@ -19,6 +21,10 @@ impl Compare for PlainShare {
 
     fn is_below(&self, first: &EvTree, second: &EvTree) -> bool {
         first.leq(second)
+    }
+
+    fn is_below_at(&self, _first: &EvTree, deciding: &Deciding, second: &EvTree) -> bool {
+        knows(second, deciding)
     }
 }
 
@@ -50,4 +56,21 @@ impl<R> Share<R> for PlainShare {
     fn below_kept(&self, _rt: &R, first: &EvTree, second: &EvTree) -> bool {
         first.leq(second)
     }
+
+    fn below_kept_at(
+        &self,
+        _rt: &R,
+        _first: &EvTree,
+        deciding: &Deciding,
+        second: &EvTree,
+    ) -> bool {
+        knows(second, deciding)
+    }
+}
+
+/// Whether the tree has at the point no less than this value.
+fn knows(tree: &EvTree, deciding: &Deciding) -> bool
+    ensures { IsTrue result ↔ (deciding.now.value ≤ value tree.now deciding.now.point) }
+{
+    deciding.value <= tree.value_at(&deciding.point)
 }

@@ -1,11 +1,12 @@
 //! What the tenants' ledgers share.
 ghost use Rattle.std.specs.Prelude.{◌≡◌, ◌↔◌, IfOk, IsTrue};
 ghost use Rattle.event_tree.specs.Comparison.{IsBelow, StandsAs};
+ghost use Rattle.trace_query.specs.Deciding.{IsDeciding};
 ghost use Rattle.trace_types.specs.clock.Id.{Id};
 
 use event_tree::EvTree;
 use id_tree::IdTree;
-use trace_query::{Compare, Meant};
+use trace_query::{Compare, Deciding, Meant};
 use trace_types::{Memory, Order};
 
 /// Values that stand for ids, in whatever form they are kept.
@@ -52,6 +53,20 @@ pub trait Share<R>: Keep {
     /// Whether no value of the tree of `first` is above that of `second` at the same point. It takes no memory.
     fn below_kept(&self, rt: &R, first: &Self::Kept, second: &Self::Kept) -> bool
         ensures { IsTrue result ↔ IsBelow (Self.Kept.tree first.now) (Self.Kept.tree second.now) };
+
+    /// The same, where a point of `first` decides it. It takes no memory.
+    fn below_kept_at(
+        &self,
+        rt: &R,
+        first: &Self::Kept,
+        deciding: &Deciding,
+        second: &Self::Kept,
+    ) -> bool
+        requires { IsDeciding deciding.now (Self.Kept.tree first.now) (Self.Kept.tree second.now) }
+        ensures { IsTrue result ↔ IsBelow (Self.Kept.tree first.now) (Self.Kept.tree second.now) }
+    {
+        self.below_kept(rt, first, second)
+    }
 }
 
 /// Compares kept trees as a share does that may wait.
@@ -70,5 +85,9 @@ impl<R, S: Share<R>> Compare for Through<'_, R, S> {
 
     fn is_below(&self, first: &S::Kept, second: &S::Kept) -> bool {
         self.share.below_kept(self.rt, first, second)
+    }
+
+    fn is_below_at(&self, first: &S::Kept, deciding: &Deciding, second: &S::Kept) -> bool {
+        self.share.below_kept_at(self.rt, first, deciding, second)
     }
 }

@@ -1,14 +1,16 @@
 -- The lists that are told by comparing the kept trees are those of the graph, and so is the row of an event.
-use Rattle.std.proofs.Common.{◌≡◌, ℕ, suc, ◌-◌, ◌<◌, ◌≤◌, Bool, true, false, cond, not, ◌&&◌, IsTrue, eqb, ltb, List, [], ◌∷◌, ◌++◌, length, get_or, slice_get, reverse, map, option_map, Some, Result, Ok, Err, IfOk, IfErr, refl, sym, ap, ◌∙◌, inl, inr, arith}
+use Rattle.std.proofs.Common.{◌≡◌, ℕ, suc, ◌-◌, ◌<◌, ◌≤◌, Bool, true, false, cond, not, ◌&&◌, IsTrue, eqb, ltb, List, [], ◌∷◌, ◌++◌, length, get_or, slice_get, reverse, map, option_map, Option, Some, None, Result, Ok, Err, IfOk, IfErr, refl, sym, ap, ◌∙◌, subst, inl, inr, arith}
 use Rattle.trace_query.specs.Compared.{is_order}
-use Rattle.tenant_ledger.proofs.Words.{transport, filter, range_with_len, cases_Bool, eq-eqb, eqb-true, cond-true, cond-false, nat_tests, length-reverse, map-append, reverse-append, reverse-reverse, get_or_from_slice_get, same_Some, slice_get-map, slice_get_read, of_each, tree_at, StandInOrder, order_between, others_standing, fault_due, History, history_of, is_event, row_of, events, reaches, order_of, past_of, concurrent_with, EventTree, Leaf, tree_clock, tree_of, stamp_of, Order, Same, Before, After, Concurrent, Row, is_report, MayLackMemory, Answers, reply_to_view, NoEvent, Reply, Request, IsBelow, Contents, IsKept, tenant_of, history_in, code_of}
+use Rattle.tenant_ledger.proofs.Words.{transport, filter, range_with_len, cases_Bool, eq-eqb, eqb-true, cond-true, cond-false, nat_tests, length-reverse, map-append, reverse-append, reverse-reverse, get_or_from_slice_get, same_Some, slice_get-map, slice_get_read, of_each, tree_at, StandInOrder, order_between, others_standing, fault_due, History, history_of, is_event, row_of, events, reaches, order_of, past_of, concurrent_with, EventTree, Leaf, tree_clock, tree_of, stamp_of, Order, Same, Before, After, Concurrent, Row, is_report, MayLackMemory, Answers, reply_to_view, NoEvent, Reply, Request, IsBelow, Contents, IsKept, IsLegal, MayHavePoint, value, tenant_of, history_in, code_of}
 use Rattle.trace_types.specs.declared.reply.Reply.TheVariants as reply
 use Rattle.trace_types.specs.declared.request.Request.TheVariants as request
+use Rattle.trace_query.specs.Deciding.{DecideInOrder, DecidesBelow, IsDecidedBy, point_in}
 use Rattle.trace_query.specs.Queries as query
 use Rattle.trace_query.specs.Laws.{Tells}
 use Rattle.trace_query.proofs.ComparedTrees.{tree_order_stands}
 use Rattle.trace_query.proofs.Told.{told_by_orders}
 use Rattle.trace_types.proofs.Reachability.{reaches_newest, reaches_earlier}
+use Rattle.trace_query.specs.declared.deciding.Deciding.{Deciding}
 use Rattle.trace_query.specs.declared.query_fault.QueryFault.{QueryFault}
 use Rattle.trace_query.specs.declared.query_fault.QueryFault.TheVariants.{Unknown}
 use Rattle.event_tree.proofs.Standing.{stand_one_way}
@@ -16,7 +18,7 @@ use Rattle.tenant_ledger.proofs.keeping.Kept.{one_tree, tree_at_event}
 use Rattle.tenant_ledger.proofs.clock.Events.{event_bounds}
 use Rattle.tenant_ledger.proofs.keeping.Lists.{at_event}
 use Rattle.tenant_ledger.proofs.clock.Legality.{IsLegal_from_AreLegal}
-use Rattle.tenant_ledger.proofs.clock.Consequences.{below_iff_reaches, stands_as_ordered}
+use Rattle.tenant_ledger.proofs.clock.Consequences.{below_iff_reaches, decides_reach, stands_as_ordered}
 use Rattle.tenant_ledger.proofs.clock.Reaching.{reaches_forward}
 use Rattle.tenant_ledger.proofs.clock.TreeClock.{tree_clock_laws}
 use Rattle.tenant_ledger.proofs.clock.Upheld.{invariant_upheld}
@@ -72,6 +74,31 @@ module _ (book : Contents) (is : IsKept book) where
       let holds = invariant_upheld tree_clock_laws history (IsLegal_from_AreLegal book.limits book.rows is.legal) in
       let kept_below = transport (λ i. IsBelow (tree_is_kept later other_is i) (tree_is_kept earlier one_is i)) below in
       elim (reaches_forward history later earlier ((below_iff_reaches tree_clock_laws history holds later earlier other_is).0 kept_below)) [ inl same ↦ omega (arith, same, before) | inr after ↦ omega (arith, after.0, before) ]
+
+  -- a point that an event raised decides which later events it reaches, and so which trees its own is below
+  pub decide_in_order : DecideInOrder trees book.points
+  decide_in_order earlier later earlier_is later_is before =
+      by (point_in book.points (earlier - 1)) (subst (λ e. MayHavePoint history e (point_in book.points (earlier - 1))) number (is.points.each (earlier - 1)))
+    where
+      one_is : IsTrue (is_event history earlier)
+      one_is = sym (same_events earlier) ∙ earlier_is
+
+      other_is : IsTrue (is_event history later)
+      other_is = sym (same_events later) ∙ later_is
+
+      number : suc (earlier - 1) ≡ earlier
+      number = omega (arith, (event_bounds history earlier one_is).0)
+
+      legal : IsLegal history
+      legal = IsLegal_from_AreLegal book.limits book.rows is.legal
+
+      by : (found : Option Deciding) → MayHavePoint history earlier found → IsDecidedBy found (tree_at trees earlier) (tree_at trees later)
+      by None none = tt
+      by (Some deciding) has = record {
+        own = has.own ∙ ap (λ tree. value tree deciding.point) (sym (tree_is_kept earlier one_is));
+        decides = transport (λ i. DecidesBelow deciding.point (sym (tree_is_kept earlier one_is) i) (sym (tree_is_kept later other_is) i))
+            (λ known. (invariant_upheld tree_clock_laws history legal).trees_rise earlier later ((decides_reach history legal earlier deciding.point has.raised later).0 known));
+      }
 
   told : (wanted : Order) → is_order wanted Same ≡ false → (event : ℕ) → IsTrue (query.has_tree trees event)
       → others_standing wanted trees event ≡ filter (λ other. is_order wanted (order_of history other event)) (events history)

@@ -36,6 +36,7 @@ impl<S: Keep> Book<S> {
         let Draft {
             row,
             tree,
+            point,
             first,
             second,
             acting,
@@ -47,6 +48,7 @@ impl<S: Keep> Book<S> {
         put(&mut self.tasks, row.task, acting);
         self.rows.push_reserved(row);
         self.trees.push_reserved(tree);
+        self.points.push_reserved(point);
         self.places.push_reserved(acting.id);
         self.rows.len() as u64
     }

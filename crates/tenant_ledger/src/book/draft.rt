@@ -1,11 +1,14 @@
 //! What is to be kept of an event.
-ghost use Rattle.std.specs.Prelude.{◌≡◌, suc, ◌<◌, ◌≤◌, [], true, IfOk, OnOk, OnErr, IfSome, IfNone, Some, length, slice_get};
+ghost use Rattle.std.specs.Prelude.{◌≡◌, ◌≢◌, suc, ◌+◌, ◌^◌, ◌<◌, ◌≤◌, [], true, IfOk, OnOk, OnErr, IfSome, IfNone, Some, length, slice_get};
 ghost use Rattle.trace_types.specs.tenant.Reachability.{increasing};
 ghost use Rattle.trace_types.specs.clock.Clock.{tree_clock};
 ghost use Rattle.trace_types.specs.clock.Stamps.{tree_of, acting_id, takes_in};
 ghost use Rattle.trace_types.specs.tenant.Tenant.{is_report, row_after};
-ghost use Rattle.trace_types.specs.clock.EventTree.{Leaf};
-ghost use Rattle.tenant_ledger.specs.Ledger.{IsKept, HasRoom, history_in, MayNote, IsReport, row_of_report, event_of, Notes, Prepares};
+ghost use Rattle.trace_types.specs.clock.Event.{event};
+ghost use Rattle.trace_types.specs.clock.EventTree.{Leaf, maximum, value};
+ghost use Rattle.trace_types.specs.clock.Id.{Zero};
+ghost use Rattle.event_tree.specs.Risen.{IsRaisedAt};
+ghost use Rattle.tenant_ledger.specs.Ledger.{IsKept, HasRoom, history_in, MayNote, IsReport, row_of_report, tree_of_report, MayRaise, event_of, Notes, Prepares};
 
 use super::{Book, Report, Task};
 use crate::share::{Keep, Share};
@@ -13,6 +16,7 @@ use event_tree::EvTree;
 use id_tree::IdTree;
 use std::alloc::Global;
 use std::marker::Model;
+use trace_query::Deciding;
 use trace_types::{Code, Kind, Memory, Name, Preds, Request, Row};
 
 /// What is to be kept of an event.
@@ -20,6 +24,8 @@ use trace_types::{Code, Kind, Memory, Name, Preds, Request, Row};
 pub(crate) struct Draft<S: Keep> {
     pub(super) row: Row,
     pub(super) tree: S::Kept,
+    /// A point that it raised, where one was found.
+    pub(super) point: Option<Deciding>,
     /// The ids that it makes, which are to stand after those that the book has.
     pub(super) first: Option<S::Id>,
     pub(super) second: Option<S::Id>,
@@ -43,6 +49,7 @@ impl<S: Keep> Model for Draft<S> {
     ghost view = { λ d. record {
       row = d.row;
       tree = S.Kept.tree d.tree;
+      point = d.point;
       ids = map S.Id.id (option_to_list d.first ++ option_to_list d.second);
       acting = d.acting;
       named = d.named;
@@ -100,17 +107,20 @@ impl<S: Keep> Book<S> {
         requires book { IsKept self.now }
         requires seeded { 0 < self.now.kept_ids }
         requires report { IsReport self.now report.now }
-        ensures { IfOk result (λ draft. draft ≡ event_of self.now report.now) }
+        ensures event { IfOk result (λ draft. draft ≡ event_of self.now report.now draft.point) }
+        ensures point { IfOk result (λ draft. MayRaise self.now report.now draft.point) }
     {
         let ids = self.ids_made(report)?;
         let id = ids.acting(self.id(report.acting.id));
-        let tree = share.keep_tree(rt, self.tree_after(report, id)?)?;
+        let (tree, point) = self.tree_after(report, id)?;
+        let tree = share.keep_tree(rt, tree)?;
         let (first, second) = ids.keep(rt, share)?;
         let event = self.event_count() + 1;
         let place = self.id_count();
         Ok(Draft {
             row: self.row_after(report),
             tree,
+            point,
             first,
             second,
             acting: report.acting_after(event, place),
@@ -132,20 +142,21 @@ impl<S: Keep> Book<S> {
         }
     }
 
-    /// What the report's event knows, which is made with this id.
-    fn tree_after(&self, report: &Report, id: &IdTree) -> Result<EvTree, Memory>
+    /// What the report's event knows, which is made with this id, and a point that it raised.
+    fn tree_after(&self, report: &Report, id: &IdTree) -> Result<(EvTree, Option<Deciding>), Memory>
         requires book { IsKept self.now }
         requires report { IsReport self.now report.now }
         requires id { id.now ≡ acting_id tree_clock (history_in self.now) (row_of_report self.now report.now) }
-        ensures { IfOk result (λ tree. tree ≡ (event_of self.now report.now).tree) }
+        ensures tree { IfOk result (λ found. found.0 ≡ tree_of_report self.now report.now) }
+        ensures point { IfOk result (λ found. MayRaise self.now report.now found.1) }
     {
         let start = EvTree::leaf(0);
         let own = self.known(report.acting.last, &start);
         if takes_in(report.kind) {
             let known = own.join(self.alloc, self.known(report.second, &start))?;
-            Ok(EvTree::event(self.alloc, id, &known)?)
+            event_with_point(self.alloc, id, &known)
         } else {
-            Ok(EvTree::event(self.alloc, id, own)?)
+            event_with_point(self.alloc, id, own)
         }
     }
 
@@ -192,11 +203,32 @@ impl<S: Keep> Book<S> {
         }
         self.rows.reserve(1)?;
         self.trees.reserve(1)?;
+        self.points.reserve(1)?;
         self.places.reserve(1)?;
         self.ids.reserve(2)?;
         self.tasks.reserve(2)?;
         Ok(())
     }
+}
+
+/// The tree after an event of the id, and a point that the event raised, where one was found, with the value there.
+fn event_with_point(
+    alloc: Global,
+    id: &IdTree,
+    known: &EvTree,
+) -> Result<(EvTree, Option<Deciding>), Memory>
+    requires some { id.now ≢ Zero }
+    requires fits { maximum known.now + 1 < 2 ^ 64 }
+    ensures tree { IfOk result (λ found. found.0 ≡ event id.now known.now) }
+    ensures raised { IfOk result (λ found. IfSome found.1 (λ deciding. IsRaisedAt id.now known.now found.0 deciding.point)) }
+    ensures own { IfOk result (λ found. IfSome found.1 (λ deciding. deciding.value ≡ value found.0 deciding.point)) }
+{
+    let (tree, point) = EvTree::event_with_point(alloc, id, known)?;
+    let deciding = point.map(|point| Deciding {
+        value: tree.value_at(&point),
+        point,
+    });
+    Ok((tree, deciding))
 }
 
 /// Whether a report of this kind takes in what its second event knew.

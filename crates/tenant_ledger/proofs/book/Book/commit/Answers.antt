@@ -17,6 +17,7 @@ returns-clause-book g c =
     added_is_kept _ _ ready _ refl refl c.push_reserved.ensures.items
     (ap (map tree) c.push_reserved-2.ensures.items ∙ map-append tree book.trees.items (draft.tree ∷ []))
     c.push_reserved-3.ensures.items
+    c.push_reserved-4.ensures.items
     (ap (λ ids. with_seed (map id ids)) ids ∙ seeded-append id book.ids.items made ready.room.seeded)
     (omega (arith, ready.room.seeded, ap length ids, length-append book.ids.items made))
     (λ name. c.put.ensures.tasks name ∙ ap (λ had. cond (is_same draft.row.task name) (Some draft.acting) had) (c.put_some.ensures.tasks name))

@@ -22,10 +22,11 @@ returns g c =
     let report = c.in_ok-report.report in
     let kept = kept_with_room old c.requires.book mid c.make_room.ensures.same c.make_room.ensures.seeded in
     let row : row_of_report old report ≡ c.in_ok-draft.draft.row =
-    sym (ap (λ (event : Event). event.row) c.in_ok-draft.ensures ∙ ap (λ (book : Contents). row_of_report book report) c.make_room.ensures.same) in (
-      transport (λ i. IsReady (sym c.note.ensures.others i) (sym c.in_ok-draft.ensures i))
+    sym (ap (λ (event : Event). event.row) c.in_ok-draft.ensures.event ∙ ap (λ (book : Contents). row_of_report book report) c.make_room.ensures.same) in (
+      transport (λ i. IsReady (sym c.note.ensures.others i) (sym c.in_ok-draft.ensures.event i))
           (report_is_ready mid kept report (report_with_room old c.requires.book mid c.make_room.ensures.same report c.in_ok-report.ensures.report)
-          c.note.new.self.messages c.in_ok-note.ensures.noted c.in_ok-make_room.ensures.room),
+          c.note.new.self.messages c.in_ok-note.ensures.noted c.in_ok-make_room.ensures.room
+          c.in_ok-draft.draft.point c.in_ok-draft.ensures.point),
       ap tenant_of c.note.ensures.others ∙ ap tenant_of c.make_room.ensures.same,
       steps_to_row old c.args.request.now report.task report.kind report.name (sym c.in_ok-report.ensures.refused) c.in_ok-report.ensures.answer
           ∙ ap (λ (row : Row). (Accepted (suc (length old.rows)), with_row (tenant_of old) (Some row))) row,

@@ -1,5 +1,6 @@
 use Rattle.std.proofs.Common.{sym, ◌∙◌}
 use Rattle.tenant_ledger.proofs.keeping.Report.{last-le, second-le, id_some, fits, knows_both, knows_own}
+use Rattle.tenant_ledger.proofs.keeping.Points.{found_by_report}
 use Rattle.tenant_ledger.proofs.book.Book.tree_after.Goals as goal
 
 pub known-own-requires-clause-event : goal.known-own-requires-clause-event
@@ -8,18 +9,32 @@ known-own-requires-clause-event g c = last-le c.requires.book c.requires.report
 pub known-requires-clause-event : goal.known-requires-clause-event
 known-requires-clause-event g c = second-le c.requires.book c.requires.report
 
-pub event-requires-clause-some : goal.event-requires-clause-some
-event-requires-clause-some g c = id_some c.requires.book c.requires.report c.requires.id
+pub event_with_point-requires-clause-some : goal.event_with_point-requires-clause-some
+event_with_point-requires-clause-some g c = id_some c.requires.book c.requires.report c.requires.id
 
-pub event-requires-clause-fits : goal.event-requires-clause-fits
-event-requires-clause-fits g c =
+pub event_with_point-requires-clause-fits : goal.event_with_point-requires-clause-fits
+event_with_point-requires-clause-fits g c =
     let takes = sym c.takes_in.ensures ∙ c.if-takes_in.true in
     fits c.requires.book c.requires.report (c.in_ok-known.ensures ∙ knows_both c.requires.book c.requires.report takes c.known-own.ensures c.known.ensures)
 
-pub event-requires-else-takes_in-clause-some : goal.event-requires-else-takes_in-clause-some
-event-requires-else-takes_in-clause-some g c = id_some c.requires.book c.requires.report c.requires.id
+pub event_with_point-requires-else-takes_in-clause-some : goal.event_with_point-requires-else-takes_in-clause-some
+event_with_point-requires-else-takes_in-clause-some g c = id_some c.requires.book c.requires.report c.requires.id
 
-pub event-requires-else-takes_in-clause-fits : goal.event-requires-else-takes_in-clause-fits
-event-requires-else-takes_in-clause-fits g c =
+pub event_with_point-requires-else-takes_in-clause-fits : goal.event_with_point-requires-else-takes_in-clause-fits
+event_with_point-requires-else-takes_in-clause-fits g c =
     let takes_none = sym c.takes_in.ensures ∙ c.if-takes_in.false in
     fits c.requires.book c.requires.report (knows_own c.requires.book c.requires.report takes_none c.known-own.ensures)
+
+pub returns-then-takes_in-clause-point : goal.returns-then-takes_in-clause-point
+returns-then-takes_in-clause-point g c =
+    let takes = sym c.takes_in.ensures ∙ c.if-takes_in.true in
+    let known = c.in_ok-known.ensures ∙ knows_both c.requires.book c.requires.report takes c.known-own.ensures c.known.ensures in
+    let found = c.event_with_point.ensures in
+    found_by_report c.args.self.now c.args.report.now c.requires.id known c.event_with_point.result found.tree found.raised found.own
+
+pub returns-clause-point : goal.returns-clause-point
+returns-clause-point g c =
+    let takes_none = sym c.takes_in.ensures ∙ c.if-takes_in.false in
+    let known = knows_own c.requires.book c.requires.report takes_none c.known-own.ensures in
+    let found = c.event_with_point-else-takes_in.ensures in
+    found_by_report c.args.self.now c.args.report.now c.requires.id known c.event_with_point-else-takes_in.result found.tree found.raised found.own

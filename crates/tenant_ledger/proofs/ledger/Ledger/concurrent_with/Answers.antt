@@ -1,15 +1,20 @@
 use Rattle.std.proofs.Common.{sym, subst}
-use Rattle.tenant_ledger.proofs.Words.{StandInOrder, Tenant, Answers}
+use Rattle.tenant_ledger.proofs.Words.{transport, StandInOrder, Tenant, Answers}
 use Rattle.trace_types.specs.declared.request.Request.TheVariants as request
-use Rattle.tenant_ledger.proofs.keeping.Told.{stand_in_order, concurrent_answered}
+use Rattle.trace_query.specs.Deciding.{DecideInOrder}
+use Rattle.tenant_ledger.proofs.keeping.Told.{decide_in_order, stand_in_order, concurrent_answered}
 use Rattle.tenant_ledger.proofs.ledger.Ledger.concurrent_with.Goals as goal
 
-pub concurrent_in_order-requires : goal.concurrent_in_order-requires
-concurrent_in_order-requires g c = subst StandInOrder (sym c.trees.ensures) (stand_in_order c.self.inside.book c.self.invariant)
+pub concurrent_by_points-requires-clause-in_order : goal.concurrent_by_points-requires-clause-in_order
+concurrent_by_points-requires-clause-in_order g c = subst StandInOrder (sym c.trees.ensures) (stand_in_order c.self.inside.book c.self.invariant)
+
+pub concurrent_by_points-requires-clause-decided : goal.concurrent_by_points-requires-clause-decided
+concurrent_by_points-requires-clause-decided g c =
+    transport (λ i. DecideInOrder (sym c.trees.ensures i) (sym c.points.ensures i)) (decide_in_order c.self.inside.book c.self.invariant)
 
 pub returns : goal.returns
 returns g c =
-    let searched = c.concurrent_in_order.ensures in
+    let searched = c.concurrent_by_points.ensures in
     subst (λ (tenant : Tenant). Answers tenant (request.Concurrent c.args.event) c.listed.result) c.self.view_is
     (concurrent_answered c.self.inside.book c.self.invariant c.trees.ensures c.args.event (λ v. v.items) c.listed.result
-    c.concurrent_in_order.result searched.known searched.fault c.listed.ensures.events c.listed.ensures.fault searched.events)
+    c.concurrent_by_points.result searched.known searched.fault c.listed.ensures.events c.listed.ensures.fault searched.events)

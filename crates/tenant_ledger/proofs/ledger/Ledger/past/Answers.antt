@@ -1,15 +1,20 @@
 use Rattle.std.proofs.Common.{sym, subst}
-use Rattle.tenant_ledger.proofs.Words.{StandInOrder, Tenant, Answers}
+use Rattle.tenant_ledger.proofs.Words.{transport, StandInOrder, Tenant, Answers}
 use Rattle.trace_types.specs.declared.request.Request.TheVariants as request
-use Rattle.tenant_ledger.proofs.keeping.Told.{stand_in_order, past_answered}
+use Rattle.trace_query.specs.Deciding.{DecideInOrder}
+use Rattle.tenant_ledger.proofs.keeping.Told.{decide_in_order, stand_in_order, past_answered}
 use Rattle.tenant_ledger.proofs.ledger.Ledger.past.Goals as goal
 
-pub past_in_order-requires : goal.past_in_order-requires
-past_in_order-requires g c = subst StandInOrder (sym c.trees.ensures) (stand_in_order c.self.inside.book c.self.invariant)
+pub past_by_points-requires-clause-in_order : goal.past_by_points-requires-clause-in_order
+past_by_points-requires-clause-in_order g c = subst StandInOrder (sym c.trees.ensures) (stand_in_order c.self.inside.book c.self.invariant)
+
+pub past_by_points-requires-clause-decided : goal.past_by_points-requires-clause-decided
+past_by_points-requires-clause-decided g c =
+    transport (λ i. DecideInOrder (sym c.trees.ensures i) (sym c.points.ensures i)) (decide_in_order c.self.inside.book c.self.invariant)
 
 pub returns : goal.returns
 returns g c =
-    let searched = c.past_in_order.ensures in
+    let searched = c.past_by_points.ensures in
     subst (λ (tenant : Tenant). Answers tenant (request.Past c.args.event) c.listed.result) c.self.view_is
     (past_answered c.self.inside.book c.self.invariant c.trees.ensures c.args.event (λ v. v.items) c.listed.result
-    c.past_in_order.result searched.known searched.fault c.listed.ensures.events c.listed.ensures.fault searched.events)
+    c.past_by_points.result searched.known searched.fault c.listed.ensures.events c.listed.ensures.fault searched.events)
