@@ -6,6 +6,8 @@
 #![tactic(auto)]
 
 #[cfg(test)]
+mod exports;
+#[cfg(test)]
 mod ledgers;
 #[cfg(test)]
 mod queries;

@@ -1,0 +1,46 @@
+-- What a check leaves, of what its reader gave before and after.
+use Rattle.std.specs.Prelude.{◌≡◌, ℕ, ◌<◌, ◌≤◌, IsTrue, List, [], ◌∷◌, ◌++◌, length, Option, Some, None}
+use Rattle.trace_types.specs.text.Name.{Text}
+use Rattle.line_protocol.specs.declared.line.Line.{Line}
+use Rattle.line_protocol.specs.declared.line.Line.TheVariants.{Whole, TooLong as TooLongLine, End}
+use Rattle.line_protocol.specs.Source.{Given, HasToldEnd}
+use Rattle.line_protocol.specs.declared.read_fault.ReadFault.{ReadFault}
+use Rattle.line_protocol.specs.declared.read_fault.ReadFault.TheVariants as read_fault
+use Rattle.trace_export.specs.Graph.{IsKeptGraph}
+use Rattle.trace_export.specs.Verdict.{IsVerdict, IsRightNext, IsFaulty}
+use Rattle.trace_export.specs.declared.graph.Graph.{Graph}
+use Rattle.trace_export.specs.declared.placed.Placed.{Placed}
+use Rattle.trace_export.specs.declared.reason.Reason.{Reason}
+use Rattle.trace_export.specs.declared.check_fault.CheckFault.{CheckFault}
+use Rattle.trace_export.specs.declared.check_fault.CheckFault.TheVariants.{Read, TooLong}
+use Rattle.trace_export.specs.declared.verdict.Verdict.{Verdict}
+use Rattle.trace_export.specs.declared.verdict.Verdict.TheVariants.{Yes, No}
+
+-- how a fault of reading is told
+abbrev pub check_fault_of : ReadFault → CheckFault
+check_fault_of read_fault.Read = Read
+check_fault_of read_fault.TooLong = TooLong
+
+-- the end was told, where it is answered that every line is right
+abbrev pub SawAll : Given → Verdict → Type 0
+SawAll after (Yes count) = HasToldEnd after
+SawAll after (No number reason) = Unit {0}
+
+-- The verdict on what the reader gave, and on all that it may give after it: a faulty line was read to its end.
+pub record Judges (before after : Given) (verdict : Verdict) : Type 0 where
+  pub came : List ℕ
+  pub grows : after.bytes ≡ before.bytes ++ came
+  pub all : SawAll after verdict
+  pub is_due : (rest : List ℕ) → (IsTrue after.has_ended → rest ≡ []) → IsVerdict (came ++ rest) verdict
+
+-- the text of a line that was found; of one that is too long it is not kept
+abbrev pub IsTextFound : Line → Text → Text → Type 0
+IsTextFound Whole line text = (text ≡ line) × (length line ≤ 65536)
+IsTextFound TooLongLine line text = 65536 < length text
+IsTextFound End line text = ⊥
+
+-- the line is right and its event is kept, or it is faulty and nothing is
+abbrev pub IsJudged : Option Reason → Graph → Graph → Text → Type 0
+IsJudged None old new text =
+    (placed : Placed) × IsRightNext old.placed.items text placed × (new.placed.items ≡ old.placed.items ++ placed ∷ []) × IsKeptGraph new
+IsJudged (Some reason) old new text = IsFaulty reason old.placed.items text × (new.placed.items ≡ old.placed.items)

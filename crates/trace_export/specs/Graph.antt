@@ -1,0 +1,77 @@
+-- What is kept of right lines, to compare the next one with.
+use Rattle.std.specs.Prelude.{◌≡◌, ℕ, suc, ◌+◌, ◌-◌, ◌*◌, ◌/◌, ◌<◌, ◌≤◌, ◌↔◌, ◌⊎◌, List, [], ◌∷◌, ◌++◌, length, map, All, Contains}
+use Rattle.std.specs.List.{slice_index_or}
+use Rattle.trace_types.specs.clock.EventTree.{EventTree}
+use Rattle.event_tree.specs.Comparison.{IsBelow}
+use Rattle.trace_export.specs.Bits.{HasBit}
+use Rattle.trace_export.specs.Edges.{Placing, IsPlaced, IsConnected, AreOrderedAlike, listed_preds, listed_tree}
+use Rattle.trace_export.specs.declared.graph.Graph.{Graph}
+use Rattle.trace_export.specs.declared.placed.Placed.{Placed}
+
+-- the events that an event follows are earlier ones
+abbrev pub AreEarlier : List ℕ → ℕ → Type 0
+AreEarlier preds event = All (λ pred. (0 < pred) × (pred < event)) preds
+
+-- so are those of every event
+abbrev pub EdgesLeadBack : Placing → Type 0
+EdgesLeadBack placing = (event : ℕ) → IsPlaced placing event → AreEarlier (listed_preds placing event) event
+
+-- the bits of the events that reach the event, but for itself; event k has bit k - 1
+abbrev pub reaching_row : List (List ℕ) → ℕ → List ℕ
+reaching_row rows event = slice_index_or rows (event - 1) []
+
+-- the bits are those of the events that reach the event
+abbrev pub AreReaching : Placing → List ℕ → ℕ → Type 0
+AreReaching placing bits event = (place : ℕ) → HasBit bits place ↔ ((suc place < event) × IsConnected placing (suc place) event)
+
+-- some event follows this one
+abbrev pub IsFollowed : Placing → ℕ → Type 0
+IsFollowed placing event = (later : ℕ) × IsPlaced placing later × Contains (listed_preds placing later) event
+
+-- the trees of every two events compare as the edges say
+abbrev pub AreAllAlike : Placing → Type 0
+AreAllAlike placing = (a b : ℕ) → IsPlaced placing a → IsPlaced placing b → a < b → AreOrderedAlike placing a b
+
+-- The bits are those of the listed edges, and the trees compare as these say.
+pub record IsGraph (placing : Placing) (rows : List (List ℕ)) (followed : List ℕ) : Type 0 where
+  pub back : EdgesLeadBack placing
+  pub alike : AreAllAlike placing
+  pub row_count : length rows ≡ length placing
+  pub reaching : (event : ℕ) → IsPlaced placing event → AreReaching placing (reaching_row rows event) event
+  pub room : (event : ℕ) → IsPlaced placing event → 64 * length (reaching_row rows event) ≤ event + 63
+  pub followed_are : (place : ℕ) → HasBit followed place ↔ IsFollowed placing (suc place)
+
+-- so it is with what is kept
+abbrev pub rows_of : Graph → List (List ℕ)
+rows_of graph = map (λ row. row.items) graph.reaching.items
+
+abbrev pub IsKeptGraph : Graph → Type 0
+IsKeptGraph graph = IsGraph graph.placed.items (rows_of graph) graph.followed.items × (16384 < 64 * length graph.followed.items)
+
+-- the place is that of an event that some of these follow, or of one that reaches it
+abbrev pub IsReachedBy : List (List ℕ) → List ℕ → ℕ → Type 0
+IsReachedBy rows preds place = (pred : ℕ) × Contains preds pred × (HasBit (reaching_row rows pred) place ⊎ (place ≡ pred - 1))
+
+-- A tree that is to come next, above which these bits are, is not below that of the event, where none follows it; nor above,
+-- where the event does not reach it and all that it follows do.
+pub record IsApartFrom (placing : Placing) (followed reaching : List ℕ) (tree : EventTree) (event : ℕ) : Type 0 where
+  pub not_below : ¬ HasBit followed (event - 1) → ¬ IsBelow tree (listed_tree placing event)
+  pub not_above : ¬ HasBit reaching (event - 1) → All (λ pred. HasBit reaching (pred - 1)) (listed_preds placing event)
+      → ¬ IsBelow (listed_tree placing event) tree
+
+-- the tree is below that of an earlier event, or above that of one that does not reach it
+abbrev pub IsRefutedBy : Placing → List ℕ → EventTree → ℕ → Type 0
+IsRefutedBy placing reaching tree event =
+    IsBelow tree (listed_tree placing event) ⊎ ((¬ HasBit reaching (event - 1)) × IsBelow (listed_tree placing event) tree)
+
+-- The next event's tree is above those that it follows, and apart from the others. So it is ordered as the edges say: what
+-- is below an event is below each that follows it.
+pub record IsComparedNext (placing : Placing) (followed reaching : List ℕ) (placed : Placed) : Type 0 where
+  pub above : All (λ pred. IsBelow (listed_tree placing pred) placed.tree) placed.preds
+  pub apart : (event : ℕ) → IsPlaced placing event → IsApartFrom placing followed reaching placed.tree event
+
+-- it is not above one that it follows, or is refuted by an earlier one
+abbrev pub RefutesNext : Placing → List ℕ → Placed → Type 0
+RefutesNext placing reaching placed =
+    ((pred : ℕ) × Contains placed.preds pred × (¬ IsBelow (listed_tree placing pred) placed.tree))
+    ⊎ ((event : ℕ) × IsPlaced placing event × IsRefutedBy placing reaching placed.tree event)

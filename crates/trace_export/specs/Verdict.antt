@@ -1,0 +1,104 @@
+-- What a check of bytes answers.
+use Rattle.std.specs.Prelude.{◌≡◌, ℕ, suc, ◌<◌, ◌≤◌, ◌⊎◌, IsTrue, List, [], ◌∷◌, ◌++◌, length, All}
+use Rattle.std.specs.List.Sorted.{IsStrictlyIncreasing}
+use Rattle.trace_types.specs.text.Name.{Text}
+use Rattle.trace_types.specs.text.Lines.{lines}
+use Rattle.trace_types.specs.clock.Id.{Id}
+use Rattle.trace_types.specs.clock.EventTree.{EventTree}
+use Rattle.serde_json.specs.Data.{Data}
+use Rattle.stamp_codec.specs.StampText.{Written, written_tree}
+use Rattle.stamp_codec.specs.Reading.{SpellsNormal}
+use Rattle.trace_export.specs.Listing.{Listed, ListsAs, IsReadAs}
+use Rattle.trace_export.specs.Edges.{Placing, AreOrderedAlike, IsPlaced}
+use Rattle.trace_export.specs.declared.placed.Placed.{Placed}
+use Rattle.trace_export.specs.declared.reason.Reason.{Reason}
+use Rattle.trace_export.specs.declared.reason.Reason.TheVariants.{NoJson, NoEvent, Number, Preds, Stamp, Order}
+use Rattle.trace_export.specs.declared.verdict.Verdict.{Verdict}
+use Rattle.trace_export.specs.declared.verdict.Verdict.TheVariants.{Yes, No}
+
+-- the line is JSON, and not too long
+abbrev pub IsJsonLine : Text → Type 0
+IsJsonLine line = (length line ≤ 65536) × ((json : Data) × IsReadAs line json)
+
+-- the event has this number, and there may be so many
+abbrev pub IsNumbered : Listed → ℕ → Type 0
+IsNumbered listed number = (listed.event ≡ number) × (number ≤ 16384)
+
+-- the events increase, and each is an earlier one than this
+abbrev pub AreIncreasingBefore : List ℕ → ℕ → Type 0
+AreIncreasingBefore events event = IsStrictlyIncreasing events × All (λ earlier. (0 < earlier) × (earlier < event)) events
+
+-- the events that it follows do
+abbrev pub FollowsEarlier : Listed → Type 0
+FollowsEarlier listed = AreIncreasingBefore listed.preds listed.event
+
+-- the text spells a stamp with this tree
+abbrev pub IsStampTree : Text → EventTree → Type 0
+IsStampTree text tree = (id : Id) × (written : Written) × SpellsNormal text id written × (tree ≡ written_tree written)
+
+-- its stamp has this tree
+abbrev pub HasTree : Listed → EventTree → Type 0
+HasTree listed tree = IsStampTree listed.stamp tree
+
+-- each earlier event and this one, which comes next, are ordered as the edges say
+abbrev pub IsOrderedNext : Placing → Placed → Type 0
+IsOrderedNext earlier placed =
+    (other : ℕ) → IsPlaced earlier other → AreOrderedAlike (earlier ++ placed ∷ []) other (suc (length earlier))
+
+-- the line lists this event, and is not too long
+abbrev pub IsListing : Text → Listed → Type 0
+IsListing line listed = (length line ≤ 65536) × ListsAs line listed
+
+-- The event may come next after these, with such edges and such a tree.
+pub record ComesNext (earlier : Placing) (listed : Listed) (placed : Placed) : Type 0 where
+  pub number : IsNumbered listed (suc (length earlier))
+  pub preds : FollowsEarlier listed
+  pub tree : HasTree listed placed.tree
+  pub edges : placed.preds ≡ listed.preds
+
+-- The line lists the event that comes next, which is ordered as the edges say.
+pub record IsRightNext (earlier : Placing) (line : Text) (placed : Placed) : Type 0 where
+  pub listed : Listed
+  pub listing : IsListing line listed
+  pub comes : ComesNext earlier listed placed
+  pub ordered : IsOrderedNext earlier placed
+
+-- after these events each line is right, the first as the next event, and then they are all listed
+abbrev pub AreRightAfter : Placing → List Text → Placing → Type 0
+AreRightAfter earlier [] placing = placing ≡ earlier
+AreRightAfter earlier (line ∷ rest) placing =
+    (placed : Placed) × IsRightNext earlier line placed × AreRightAfter (earlier ++ placed ∷ []) rest placing
+
+-- why the event does not come next after these
+abbrev pub IsRefusedFor : Reason → Placing → Listed → Type 0
+IsRefusedFor NoJson earlier listed = ⊥
+IsRefusedFor NoEvent earlier listed = ⊥
+IsRefusedFor Number earlier listed = ¬ IsNumbered listed (suc (length earlier))
+IsRefusedFor Preds earlier listed = IsNumbered listed (suc (length earlier)) × (¬ FollowsEarlier listed)
+IsRefusedFor Stamp earlier listed =
+    IsNumbered listed (suc (length earlier)) × FollowsEarlier listed × ((tree : EventTree) → ¬ HasTree listed tree)
+IsRefusedFor Order earlier listed =
+    (placed : Placed) × ComesNext earlier listed placed
+    × ((other : ℕ) × IsPlaced earlier other × (¬ AreOrderedAlike (earlier ++ placed ∷ []) other (suc (length earlier))))
+
+-- the line after these is faulty for this reason, and for none that comes before it
+abbrev pub IsFaulty : Reason → Placing → Text → Type 0
+IsFaulty NoJson earlier line = ¬ IsJsonLine line
+IsFaulty NoEvent earlier line = IsJsonLine line × ((listed : Listed) → ¬ ListsAs line listed)
+IsFaulty reason earlier line = (listed : Listed) × IsListing line listed × IsRefusedFor reason earlier listed
+
+-- the first faulty line, and the first reason there
+pub record FailsAt (all : List Text) (number : ℕ) (reason : Reason) : Type 0 where
+  pub before : List Text
+  pub line : Text
+  pub rest : List Text
+  pub splits : all ≡ before ++ line ∷ rest
+  pub counts : number ≡ suc (length before)
+  pub placing : Placing
+  pub right : AreRightAfter [] before placing
+  pub faulty : IsFaulty reason placing line
+
+-- the verdict on the bytes: all lines are right and so many, or the first faulty one
+abbrev pub IsVerdict : List ℕ → Verdict → Type 0
+IsVerdict bytes (Yes count) = (count ≡ length (lines bytes)) × ((placing : Placing) × AreRightAfter [] (lines bytes) placing)
+IsVerdict bytes (No number reason) = FailsAt (lines bytes) number reason

@@ -1,0 +1,102 @@
+//! One line of an export is judged.
+ghost use Rattle.std.specs.Prelude.{◌≡◌, ℕ, suc, ◌<◌, ◌≤◌, ◌++◌, ◌∷◌, ◌↔◌, [], IfOk, IfSome, IfNone, IsTrue, length};
+ghost use Rattle.trace_types.specs.clock.EventTree.{EventTree};
+ghost use Rattle.trace_export.specs.declared.placed.Placed.{Placed};
+ghost use Rattle.trace_export.specs.Graph.{IsKeptGraph};
+ghost use Rattle.trace_export.specs.Listing.{Listed, listed_of};
+ghost use Rattle.trace_export.specs.Verdict.{IsFaulty, IsRightNext, IsRefusedFor, ComesNext, IsOrderedNext, AreIncreasingBefore, IsStampTree};
+
+use crate::Reason;
+use crate::event_line::{EventLine, read_listed};
+use crate::graph::Graph;
+use crate::placed::Placed;
+use event_tree::EvTree;
+use serde_json::{Category, Value};
+use stamp_codec::{StampFault, read_stamp};
+use std::alloc::Global;
+use trace_types::{Memory, Preds};
+
+/// Adds the event that the line lists, where it is right; else tells why it is faulty.
+pub(crate) fn add_line(
+    graph: &mut Graph,
+    alloc: Global,
+    line: &[u8],
+) -> Result<Option<Reason>, Memory>
+    requires graph { IsKeptGraph graph.old }
+    requires short { length line.now ≤ 65536 }
+    ensures right { IfOk result (λ fault. IfNone fault ((placed : Placed) × IsRightNext graph.old.placed.items line.now placed
+        × (graph.new.placed.items ≡ graph.old.placed.items ++ placed ∷ []) × IsKeptGraph graph.new)) }
+    ensures faulty { IfOk result (λ fault. IfSome fault (λ reason. IsFaulty reason graph.old.placed.items line.now
+        × (graph.new.placed.items ≡ graph.old.placed.items))) }
+{
+    let Ok(text) = str::from_utf8(line) else {
+        return Ok(Some(Reason::NoJson));
+    };
+    match Value::from_str(alloc, text) {
+        Ok(json) => match read_listed(alloc, &json) {
+            Some(listed) => add_listed(graph, alloc, &listed),
+            None => Ok(Some(Reason::NoEvent)),
+        },
+        Err(error) if error.classify() == Category::Memory => Err(Memory),
+        Err(_) => Ok(Some(Reason::NoJson)),
+    }
+}
+
+/// Adds the listed event, where it may come next; else tells why it is refused.
+fn add_listed(
+    graph: &mut Graph,
+    alloc: Global,
+    listed: &EventLine<'_>,
+) -> Result<Option<Reason>, Memory>
+    requires graph { IsKeptGraph graph.old }
+    ensures right { IfOk result (λ fault. IfNone fault ((placed : Placed) × ComesNext graph.old.placed.items (listed_of listed.now) placed
+        × IsOrderedNext graph.old.placed.items placed
+        × (graph.new.placed.items ≡ graph.old.placed.items ++ placed ∷ []) × IsKeptGraph graph.new)) }
+    ensures refused { IfOk result (λ fault. IfSome fault (λ reason. IsRefusedFor reason graph.old.placed.items (listed_of listed.now)
+        × (graph.new.placed.items ≡ graph.old.placed.items))) }
+{
+    let number = graph.len() as u64 + 1;
+    if listed.event != number || graph.len() >= Graph::MOST {
+        return Ok(Some(Reason::Number));
+    }
+    if !are_increasing_before(&listed.preds, number) {
+        return Ok(Some(Reason::Preds));
+    }
+    let Some(tree) = read_tree(alloc, listed.stamp)? else {
+        return Ok(Some(Reason::Stamp));
+    };
+    let placed = Placed {
+        preds: listed.preds.share(),
+        tree,
+    };
+    let fault = if graph.add(alloc, placed)? {
+        None
+    } else {
+        Some(Reason::Order)
+    };
+    Ok(fault)
+}
+
+/// Whether the events increase, and are all before this one.
+fn are_increasing_before(preds: &Preds, event: u64) -> bool
+    ensures { IsTrue result ↔ AreIncreasingBefore preds.now event }
+{
+    match *preds.as_slice() {
+        [] => true,
+        [one] => 0 < one && one < event,
+        [first, second] => 0 < first && first < second && second < event,
+        _ => false,
+    }
+}
+
+/// The tree of the stamp that the text spells; none where it is refused.
+fn read_tree(alloc: Global, stamp: &str) -> Result<Option<EvTree>, Memory>
+    ensures tree { IfOk result (λ tree. IfSome tree (IsStampTree stamp.now)) }
+    ensures none { IfOk result (λ tree. IfNone tree ((other : EventTree) → ¬ IsStampTree stamp.now other)) }
+{
+    match read_stamp(alloc, stamp.as_bytes()) {
+        Ok(stamp) => Ok(Some(stamp.tree)),
+        Err(StampFault::Memory) => Err(Memory),
+        Err(_) => Ok(None),
+    }
+}

@@ -1,0 +1,65 @@
+//! The check of an export.
+ghost use Rattle.std.specs.Prelude.{◌≡◌, ◌+◌, ◌<◌, ◌≤◌, ◌↔◌, ◌^◌, IfOk, IsErrOf, length};
+ghost use Rattle.line_protocol.specs.Source.{StopsAtEnd};
+ghost use Rattle.trace_types.specs.text.Name.{Text};
+ghost use Rattle.trace_export.specs.Checked.{Judges, IsTextFound, IsJudged};
+ghost use Rattle.trace_export.specs.Graph.{IsKeptGraph};
+
+use crate::add_line::add_line;
+use crate::graph::Graph;
+use crate::{CheckFault, Reason, Verdict};
+use line_protocol::{Buffer, Line, Source};
+use std::alloc::Global;
+use trace_types::Memory;
+
+/// The most bytes of a line.
+const MOST_BYTES: usize = 65536;
+
+/// The most reads of one check.
+const MOST_READS: u64 = 1 << 30;
+
+/// Whether the lines that a reader gives are an export, in which the trees of every two events compare as the listed edges
+/// say. It reads to the end, or to the end of the first faulty line.
+///
+/// A line of more than 65536 bytes is faulty. `Read` comes where a read failed, `TooLong` where 2^30 reads were made, and
+/// `Memory` where a request for memory was refused.
+pub fn check<R: Source>(alloc: Global, reader: &mut R) -> Result<Verdict, CheckFault>
+    ensures verdict { IfOk result (Judges (R.seen reader.old) (R.seen reader.new)) }
+
+    // How much is read.
+    ensures reads { (R.seen reader.new).reads ≤ (R.seen reader.old).reads + 2 ^ 30 }
+    ensures ends { StopsAtEnd (R.seen reader.old) (R.seen reader.new) }
+
+    // When each fault comes. A failed read is never passed over.
+    ensures read { IsErrOf result CheckFault.Read ↔ ((R.seen reader.old).failures < (R.seen reader.new).failures) }
+    ensures too_long { IsErrOf result CheckFault.TooLong → (R.seen reader.new).reads ≡ (R.seen reader.old).reads + 2 ^ 30 }
+{
+    let mut lines = Buffer::with_bounds(alloc, MOST_BYTES, MOST_READS)?;
+    let mut graph = Graph::new(alloc)?;
+    loop {
+        let found = lines.next_line(reader)?;
+        if found == Line::End {
+            return Ok(Verdict::Yes(graph.len() as u64));
+        }
+        if let Some(reason) = judge(&mut graph, alloc, found, lines.line())? {
+            return Ok(Verdict::No(graph.len() as u64 + 1, reason));
+        }
+    }
+}
+
+/// Adds the event that a line lists, where it is right; else tells why it is faulty. A line that is too long has no text.
+fn judge(
+    graph: &mut Graph,
+    alloc: Global,
+    found: Line,
+    line: &[u8],
+) -> Result<Option<Reason>, Memory>
+    requires graph { IsKeptGraph graph.old }
+    requires whole { found ≡ Line.Whole → length line.now ≤ 65536 }
+    ensures { IfOk result (λ fault. (text : Text) → IsTextFound found line.now text → IsJudged fault graph.old graph.new text) }
+{
+    match found {
+        Line::Whole => add_line(graph, alloc, line),
+        Line::TooLong | Line::End => Ok(Some(Reason::NoJson)),
+    }
+}

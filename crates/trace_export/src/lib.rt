@@ -1,0 +1,22 @@
+//! Exports: a trace as lines of JSON, and their check.
+//!
+//! The one contract: [`check`] answers the verdict on the bytes that its reader gives, as `specs/Verdict.antt` defines it
+//! by what each line lists (`specs/Listing.antt`), the edges between events and their trees (`specs/Edges.antt`); [`laws`]
+//! says what a yes means. `specs/Graph.antt` has what is kept of the lines so far.
+#![tactic(auto)]
+
+mod add_line;
+mod bits;
+mod check_fault;
+mod checking;
+mod event_line;
+mod graph;
+pub mod laws;
+mod placed;
+mod reason;
+mod verdict;
+
+pub use check_fault::CheckFault;
+pub use checking::check;
+pub use reason::Reason;
+pub use verdict::Verdict;

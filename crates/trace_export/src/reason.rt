@@ -1,0 +1,36 @@
+//! Why a line of an export is faulty.
+ghost use Rattle.std.specs.Prelude.{◌≡◌};
+ghost use Rattle.trace_export.specs.Reasons.{reason_number};
+
+/// Why a line of an export is faulty. Of several the first here is told.
+#[derive(Clone, Copy, Debug, PartialEq, Eq)]
+pub enum Reason {
+    /// It is no JSON, nests it deeper than 127 levels, or has more than 65536 bytes.
+    NoJson,
+    /// It is no object of exactly the six keys with their kinds of values.
+    NoEvent,
+    /// The event is not the number of the line, or is above 16384.
+    Number,
+    /// The predecessors do not increase, or are no earlier events.
+    Preds,
+    /// The text of the stamp is refused.
+    Stamp,
+    /// The trees of an earlier event and of this one do not compare as the listed edges say.
+    Order,
+}
+
+impl Reason {
+    /// From 1 to 6.
+    pub fn number(self) -> u64
+        ensures { result ≡ reason_number self }
+    {
+        match self {
+            Reason::NoJson => 1,
+            Reason::NoEvent => 2,
+            Reason::Number => 3,
+            Reason::Preds => 4,
+            Reason::Stamp => 5,
+            Reason::Order => 6,
+        }
+    }
+}
