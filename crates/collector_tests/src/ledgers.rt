@@ -1,14 +1,17 @@
-//! One tenant's ledger, by its calls: what is prepared, and how often it compares.
+//! One tenant's ledger, by its calls: what is prepared, how often it compares, and its lists where trees are deep.
+ghost use Rattle.std.specs.Prelude.{◌≡◌, true};
+ghost use Rattle.trace_types.specs.tenant.Tenant.{is_report};
 
 use event_tree::EvTree;
 use id_tree::IdTree;
 use line_protocol::read_request;
 use stamp_codec::write_parts;
+use std::alloc::Global;
 use std::cell::Cell;
 use std::test::Fail;
 use tenant_ledger::{Keep, Ledger, PlainShare, Share};
-use trace_query::Compare;
-use trace_types::{Limits, Memory, Order, Reply, Request};
+use trace_query::{Compare, Deciding, Plain, QueryFault, concurrent_with, past};
+use trace_types::{Limits, Memory, Name, Numbers, Order, Reply, Request};
 
 /// Tasks that start and join others.
 const FAMILY: &str = "spawn root a
@@ -76,23 +79,34 @@ fn what_is_prepared_is_what_is_kept(rt: HostRuntime) -> Result<(), Fail> {
     Ok(())
 }
 
-/// Keeps ids and trees as they are, and counts how often it compares two.
+/// Keeps ids and trees as they are, and counts how often it compares two trees, and how often it looks at one point.
 #[derive(Drop)]
 struct Counting {
     compared: Cell<u64>,
+    looked: Cell<u64>,
+}
+
+/// Counts one more.
+fn count(number: &Cell<u64>) {
+    number.set(number.get().wrapping_add(1));
 }
 
 impl Compare for Counting {
     type Kept = EvTree;
 
     fn order(&self, first: &EvTree, second: &EvTree) -> Order {
-        self.compared.set(self.compared.get().wrapping_add(1));
+        count(&self.compared);
         first.order(second)
     }
 
     fn is_below(&self, first: &EvTree, second: &EvTree) -> bool {
-        self.compared.set(self.compared.get().wrapping_add(1));
+        count(&self.compared);
         first.leq(second)
+    }
+
+    fn is_below_at(&self, first: &EvTree, deciding: &Deciding, second: &EvTree) -> bool {
+        count(&self.looked);
+        Plain.is_below_at(first, deciding, second)
     }
 }
 
@@ -124,21 +138,32 @@ impl<R> Share<R> for Counting {
     fn below_kept(&self, _rt: &R, first: &EvTree, second: &EvTree) -> bool {
         self.is_below(first, second)
     }
+
+    fn below_kept_at(&self, _rt: &R, first: &EvTree, deciding: &Deciding, second: &EvTree) -> bool {
+        self.is_below_at(first, deciding, second)
+    }
 }
 
-/// How many comparisons the ledger and a view of it make for a query.
+/// How many comparisons of trees and looks at one point there were since this was asked last.
+fn counted(share: &Counting) -> (u64, u64) {
+    let counted = (share.compared.get(), share.looked.get());
+    share.compared.set(0);
+    share.looked.set(0);
+    counted
+}
+
+/// How many of them the ledger and a view of it make for a query.
 fn comparisons<R>(
     rt: &R,
     share: &Counting,
     ledger: &mut Ledger<Counting>,
     query: &Request,
-) -> [u64; 2] {
-    share.compared.set(0);
+) -> [(u64, u64); 2] {
+    let _ = counted(share);
     let _ = ledger.report(rt, share, query);
-    let of_ledger = share.compared.get();
-    share.compared.set(0);
+    let of_ledger = counted(share);
     let _ = ledger.ask(share, query);
-    [of_ledger, share.compared.get()]
+    [of_ledger, counted(share)]
 }
 
 /// A ledger that counts, after this run.
@@ -160,15 +185,91 @@ fn counting_ledger<R: AllocGlobal>(
 fn comparisons_are_counted(rt: HostRuntime) -> Result<(), Fail> {
     let share = Counting {
         compared: Cell::new(0),
+        looked: Cell::new(0),
     };
     let mut ledger = counting_ledger(&rt, &share, TALK)?;
     for (query, want) in [
-        (Request::Order(3, 4), 1),
-        (Request::Past(4), 3),
-        (Request::Concurrent(4), 5),
+        (Request::Order(3, 4), (1, 0)),
+        (Request::Past(4), (0, 3)),
+        (Request::Concurrent(4), (0, 5)),
     ] {
         let found = comparisons(&rt, &share, &mut ledger, &query);
         assert_eq!(rt; found, [want, want], "{query:?}");
     }
+    Ok(())
+}
+
+/// How many tasks a chain has beside `root`: the trees of its last events are higher than the halves of a point.
+const CHAIN: u64 = 300;
+
+/// The ledger after the report; the tree of its event follows the others.
+fn grown(
+    alloc: Global,
+    share: &Counting,
+    ledger: Ledger<Counting>,
+    trees: &mut Vec<EvTree>,
+    report: &Request,
+) -> Result<Ledger<Counting>, Fail>
+    requires { is_report report.now ≡ true }
+{
+    match ledger.prepare(&(), share, report) {
+        Ok(prepared) => {
+            let tree = prepared.tree().share(alloc);
+            let (ledger, _) = prepared.commit();
+            trees.push(tree?)?;
+            Ok(ledger)
+        }
+        Err((ledger, _)) => Ok(ledger),
+    }
+}
+
+/// A chain of tasks, each started by the one before, which then goes on; and what its events know.
+fn chain(alloc: Global, share: &Counting) -> Result<(Ledger<Counting>, Vec<EvTree>), Fail> {
+    let mut ledger = Ledger::new(alloc, Limits::default())?;
+    let mut trees = Vec::new(alloc);
+    let mut task = Name::root();
+    for number in 0..CHAIN {
+        let name = format!(in alloc; "t{number}")?;
+        let child = Name::read(name.as_bytes()).ok_or("no name")?;
+        let spawn = Request::Spawn(task, child);
+        ledger = grown(alloc, share, ledger, &mut trees, &spawn)?;
+        ledger = grown(alloc, share, ledger, &mut trees, &Request::Local(task))?;
+        task = child;
+    }
+    Ok((ledger, trees))
+}
+
+/// Whether the ledger's lists of the event are those that comparing whole trees gives.
+fn lists_as_trees_do(
+    alloc: Global,
+    share: &Counting,
+    ledger: &Ledger<Counting>,
+    trees: &[EvTree],
+    event: u64,
+) -> Result<bool, QueryFault> {
+    let past = past(&Plain, alloc, trees, event)?;
+    let concurrent = concurrent_with(&Plain, alloc, trees, event)?;
+    Ok(
+        ledger.ask(share, &Request::Past(event)) == Reply::List(Numbers::from(past))
+            && ledger.ask(share, &Request::Concurrent(event))
+                == Reply::List(Numbers::from(concurrent)),
+    )
+}
+
+#[test]
+fn lists_by_points_are_those_by_trees_at_any_depth(rt: HostRuntime) -> Result<(), Fail> {
+    let share = Counting {
+        compared: Cell::new(0),
+        looked: Cell::new(0),
+    };
+    let (ledger, trees) = chain(rt.alloc(), &share)?;
+    for event in [1, 2, 3, 254, 255, 256, 257, 258, 259, 599, 600] {
+        let holds = lists_as_trees_do(rt.alloc(), &share, &ledger, &trees, event)?;
+        assert!(rt; holds, "{event}");
+    }
+    let _ = counted(&share);
+    let _ = ledger.ask(&share, &Request::Past(600));
+    // The ids of the first 257 events lie within the 128 levels of a point.
+    assert_eq!(rt; counted(&share), (342, 257));
     Ok(())
 }
