@@ -110,6 +110,26 @@ struct Opened<'a> {
     expansions: u32,
 }
 
+/// A part of a tree: the halves in which it lies, from the root down, 0 for left and 1 for right, the uppermost the lowest
+/// bit; and how many they are. Below the 128th level it keeps none.
+pub struct Place {
+    halves: u128,
+    levels: u32,
+}
+
+impl Place {
+    const WHOLE: Place = Place { halves: 0, levels: 0 };
+
+    fn in_half(self, half: u128) -> Place {
+        Place { halves: self.halves << 1 | half, levels: self.levels + 1 }
+    }
+
+    /// The halves of a point in it, unless it lies too deep: below the place it goes on to the left.
+    pub fn point(&self) -> Option<u128> {
+        (self.levels <= u128::BITS).then_some(self.halves)
+    }
+}
+
 /// What growing costs: expansions, and then steps down.
 type Cost = (u32, u32);
 
@@ -337,6 +357,43 @@ impl Tree {
             let cost = self.cost(id).expect("an id of some points");
             self.grown(id, cost).expect("what costs this much")
         })
+    }
+
+    /// A place that was raised by an event, where this is the tree before it and `after` the one after it. What both share
+    /// is passed over, so it walks what the event made anew.
+    pub fn raised_place(&self, after: &Tree) -> Option<Place> {
+        self.raised(0, after, 0)
+    }
+
+    fn raised(&self, lift: u64, after: &Tree, after_lift: u64) -> Option<Place> {
+        let (low, after_low) = (lift + self.min(), after_lift + after.min());
+        match (self, after) {
+            (Tree::Leaf(_), Tree::Leaf(_)) => return (low < after_low).then_some(Place::WHOLE),
+            (Tree::Fork { children, .. }, Tree::Fork { children: others, .. }) if Arc::ptr_eq(children, others) => {
+                return (low < after_low).then_some(Place::WHOLE);
+            }
+            _ => {}
+        }
+        let (one, other) = (self.opened(), after.opened());
+        match one.left.raised(low, other.left, after_low) {
+            Some(place) => Some(place.in_half(0)),
+            None => Some(one.right.raised(low, other.right, after_low)?.in_half(1)),
+        }
+    }
+
+    /// The value at the point with these halves.
+    pub fn value_at(&self, mut halves: u128) -> u64 {
+        let (mut tree, mut sum) = (self, 0);
+        loop {
+            match tree {
+                Tree::Leaf(n) => return sum + n,
+                Tree::Fork { base, children, .. } => {
+                    sum += base;
+                    tree = if halves & 1 == 0 { &children.left } else { &children.right };
+                    halves >>= 1;
+                }
+            }
+        }
     }
 
     pub fn write(&self, text: &mut Vec<u8>) {

@@ -1,12 +1,13 @@
 // Replays the requests that `itc_trace replay` serves, in plain Rust, for speed alone: no proofs.
 //
-// `plain [--events N] [--tasks N] [--messages N] TENANT..` gives the program's replies byte for byte, and refuses in the
-// same order. It leaves out: refusing for want of memory (the process ends), the bound on reads, the program's statuses and
+// `plain [--points] [--events N] [--tasks N] [--messages N] TENANT..` gives the program's replies byte for byte, and refuses in
+// the same order. It leaves out: refusing for want of memory (the process ends), the bound on reads, the program's statuses and
 // lines on standard error, and the ranges of its words (what is no number ends it, names of tenants and limits are taken as
 // they stand). A line that one buffer does not hold is kept whole until its end is read.
 //
 // A message has room for one receipt, as no more is taken. No predecessor is followed: order and lists are told by the
-// trees, a list by comparing with each event that by its number can be in it, one way.
+// trees, a list by comparing with each event that by its number can be in it, one way. With `--points` it keeps with each event
+// a point that it raised, and its value there, and a list compares two events at the point of the earlier one alone.
 #[allow(dead_code)]
 #[path = "clock.rs"]
 mod clock;
@@ -127,6 +128,12 @@ enum Kind {
     Join,
 }
 
+/// A point that an event raised, by its halves, and the event's value there: a later event knows of it where it is no less.
+struct Point {
+    halves: u128,
+    value: u64,
+}
+
 struct Row {
     task: Name,
     kind: Kind,
@@ -134,8 +141,20 @@ struct Row {
     /// Increasing; then 0 where there are less than two.
     preds: [u64; 2],
     tree: Tree,
+    /// None where no points are kept, or all that it raised lies too deep.
+    point: Option<Point>,
     /// The place of its task's id after it.
     id: usize,
+}
+
+impl Row {
+    /// Whether a later event with this tree knows of it.
+    fn is_known_to(&self, tree: &Tree) -> bool {
+        match &self.point {
+            Some(point) => point.value <= tree.value_at(point.halves),
+            None => self.tree.leq(tree),
+        }
+    }
 }
 
 #[derive(Clone, Copy)]
@@ -160,11 +179,13 @@ struct Message {
     received: u64,
 }
 
+/// What is asked for by words.
 #[derive(Clone, Copy)]
 struct Limits {
     events: usize,
     tasks: usize,
     messages: usize,
+    keeps_points: bool,
 }
 
 type Refusal = &'static str;
@@ -262,12 +283,20 @@ impl Tenant {
         self.rows.len() as u64
     }
 
+    /// The tree after an event of the id, and a point that it raised.
+    fn raised(&self, tree: &Tree, id: &Id) -> (Tree, Option<Point>) {
+        let after = tree.event(id);
+        let halves = if self.limits.keeps_points { tree.raised_place(&after).and_then(|place| place.point()) } else { None };
+        let point = halves.map(|halves| Point { halves, value: after.value_at(halves) });
+        (after, point)
+    }
+
     /// Adds an event with which the task of this place takes nothing in and keeps its id.
     fn add_alone(&mut self, place: usize, task_name: Name, kind: Kind, name: Option<Name>) -> u64 {
         let task = self.tasks[place];
-        let tree = self.known(task.last).event(&self.ids[task.id]);
+        let (tree, point) = self.raised(self.known(task.last), &self.ids[task.id]);
         let preds = [task.last, 0];
-        let last = self.add(Row { task: task_name, kind, name, preds, tree, id: task.id });
+        let last = self.add(Row { task: task_name, kind, name, preds, tree, point, id: task.id });
         self.tasks[place].last = last;
         last
     }
@@ -313,9 +342,9 @@ impl Tenant {
             }
         };
         let task = self.tasks[place];
-        let tree = self.known(task.last).join(self.known(sent)).event(&self.ids[task.id]);
+        let (tree, point) = self.raised(&self.known(task.last).join(self.known(sent)), &self.ids[task.id]);
         let preds = preds(task.last, sent);
-        let last = self.add(Row { task: name, kind: Kind::Recv, name: Some(message), preds, tree, id: task.id });
+        let last = self.add(Row { task: name, kind: Kind::Recv, name: Some(message), preds, tree, point, id: task.id });
         self.tasks[place].last = last;
         Ok(last)
     }
@@ -331,11 +360,11 @@ impl Tenant {
             Entry::Vacant(entry) => entry.insert(started),
         };
         let task = self.tasks[place];
-        let tree = self.known(task.last).event(&self.ids[task.id]);
+        let (tree, point) = self.raised(self.known(task.last), &self.ids[task.id]);
         let (kept, given) = self.ids[task.id].split();
         let (kept, given) = (self.add_id(kept), self.add_id(given));
         let preds = [task.last, 0];
-        let last = self.add(Row { task: name, kind: Kind::Spawn, name: Some(child), preds, tree, id: kept });
+        let last = self.add(Row { task: name, kind: Kind::Spawn, name: Some(child), preds, tree, point, id: kept });
         self.tasks.push(Task { state: State::Live, last, id: given });
         self.tasks[place] = Task { last, id: kept, ..task };
         Ok(last)
@@ -347,10 +376,10 @@ impl Tenant {
         self.check_room()?;
         let (task, joined) = (self.tasks[place], self.tasks[other]);
         let id = self.ids[task.id].sum(&self.ids[joined.id]);
-        let tree = self.known(task.last).join(self.known(joined.last)).event(&id);
+        let (tree, point) = self.raised(&self.known(task.last).join(self.known(joined.last)), &id);
         let id = self.add_id(id);
         let preds = preds(task.last, joined.last);
-        let last = self.add(Row { task: name, kind: Kind::Join, name: Some(child), preds, tree, id });
+        let last = self.add(Row { task: name, kind: Kind::Join, name: Some(child), preds, tree, point, id });
         self.tasks[place] = Task { last, id, ..task };
         self.tasks[other].state = State::Joined;
         Ok(last)
@@ -390,22 +419,22 @@ impl Tenant {
         Ok(())
     }
 
-    /// No later event happened before this one, so only the trees of the earlier ones are compared, and one way.
+    /// No later event happened before this one, so only the earlier ones are compared, and one way.
     fn tell_past(&self, event: u64, out: &mut Vec<u8>) -> Result<(), Refusal> {
         let tree = &self.row(event)?.tree;
         let earlier = &self.rows[..event as usize - 1];
-        let past = (1..).zip(earlier).filter(|(_, row)| row.tree.leq(tree));
+        let past = (1..).zip(earlier).filter(|(_, row)| row.is_known_to(tree));
         tell_list(past.map(|(number, _)| number), out);
         Ok(())
     }
 
-    /// No earlier event happened after this one, and no later one before it, so each tree is compared one way.
+    /// No earlier event happened after this one, and no later one before it, so each is compared one way.
     fn tell_concurrent(&self, event: u64, out: &mut Vec<u8>) -> Result<(), Refusal> {
-        let tree = &self.row(event)?.tree;
+        let asked = self.row(event)?;
         let concurrent = (1..).zip(&self.rows).filter(|(number, row)| match number.cmp(&event) {
-            Ordering::Less => !row.tree.leq(tree),
+            Ordering::Less => !row.is_known_to(&asked.tree),
             Ordering::Equal => false,
-            Ordering::Greater => !tree.leq(&row.tree),
+            Ordering::Greater => !asked.is_known_to(&row.tree),
         });
         tell_list(concurrent.map(|(number, _)| number), out);
         Ok(())
@@ -494,12 +523,13 @@ fn reply(tenants: &mut [(Name, Tenant)], line: &[u8], out: &mut Vec<u8>) {
 }
 
 fn tenants_of_words() -> Vec<(Name, Tenant)> {
-    let mut limits = Limits { events: 4096, tasks: 512, messages: 2048 };
+    let mut limits = Limits { events: 4096, tasks: 512, messages: 2048, keeps_points: false };
     let mut names = Vec::new();
     let mut words = std::env::args().skip(1);
     while let Some(word) = words.next() {
         let mut limit = || words.next().and_then(|number| number.parse().ok()).expect("a number");
         match word.as_str() {
+            "--points" => limits.keeps_points = true,
             "--events" => limits.events = limit(),
             "--tasks" => limits.tasks = limit(),
             "--messages" => limits.messages = limit(),

@@ -91,6 +91,15 @@ def lists(count):
     return (f"{keyword} {random.randint(1, EVENTS)}" for keyword in ("past", "concurrent") for _ in range(count))
 
 
+def with_lists(reports, count):
+    """The reports, and spread among them so many `past` and `concurrent` of an event that there is by then."""
+    asked = dict(zip(random.sample(range(1, len(reports) + 1), 2 * count), ["past", "concurrent"] * count))
+    for events, report in enumerate(reports, 1):
+        yield report
+        if events in asked:
+            yield f"{asked[events]} {random.randint(1, events)}"
+
+
 def named_last(reports, keyword):
     """The last word of each report with this keyword."""
     return [words[-1] for words in map(str.split, reports) if words[0] == keyword]
@@ -173,3 +182,4 @@ write("fan_last_made_first", GREATEST, addressed("x", grown(["root"] * len(NAMES
 write("growing", f"--messages {MOST_EVENTS} {GREATEST}", addressed("x", growing(churn(MOST_EVENTS, MOST_TASKS, MOST_EVENTS))))
 for events in (1024, 2048, 4096, 8192, 16384):
     write(f"live64_{events}", GREATEST, addressed("x", build(64, events)))
+write("lists_of_build", GREATEST, addressed("x", with_lists(list(build(64, MOST_EVENTS)), 200)))

@@ -1,4 +1,5 @@
 // Times the same operations in plain Rust: a text is refused without a place.
+#[allow(dead_code)]
 #[path = "clock.rs"]
 mod clock;
 
