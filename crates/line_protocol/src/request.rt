@@ -73,10 +73,11 @@ pub fn read_addressed(line: &[u8]) -> Option<(Name, Option<Request>)>
 {
     let (tenant, rest) = split_first(line);
     let name = Name::read(tenant)?;
-    match rest {
-        Some(rest) => Some((name, read_request(rest))),
-        None => Some((name, None)),
-    }
+    let request = match rest {
+        Some(rest) => read_request(rest),
+        None => None,
+    };
+    Some((name, request))
 }
 
 /// The name, where there is one argument and no more.

@@ -20,6 +20,7 @@ use Rattle.trace_types.specs.declared.row.Kind.TheVariants.{Spawn, Send, Recv, E
 use Rattle.trace_types.specs.declared.reply.Reply.TheVariants as reply
 use Rattle.trace_types.specs.declared.request.Reported.{Reported}
 use Rattle.trace_types.specs.declared.request.Request.{Request}
+use Rattle.trace_types.specs.declared.request.Request.TheVariants as request
 use Rattle.trace_types.specs.declared.code.Code.TheVariants.{NoTask, TaskExists, TaskEnded, NoMessage, MessageExists, AlreadyReceived, NotEnded, AlreadyJoined, EventsFull, TasksFull, MessagesFull, NoEvent, NoMemory}
 use Rattle.trace_query.specs.Deciding.{point_in}
 use Rattle.trace_query.specs.declared.deciding.Deciding.{Deciding}
@@ -321,3 +322,9 @@ Prepares (Err code) old request new =
 abbrev pub code_of : QueryFault → Code
 code_of fault.Unknown = NoEvent
 code_of fault.Memory = NoMemory
+
+-- the request is one whose answer is short
+abbrev pub is_brief : Request → Bool
+is_brief (request.Order first second) = true
+is_brief request.Count = true
+is_brief other = false

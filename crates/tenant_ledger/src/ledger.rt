@@ -1,12 +1,12 @@
 //! The ledger of one tenant.
-ghost use Rattle.std.specs.Prelude.{◌≡◌, suc, true, Some, IfOk, IfErr, length};
+ghost use Rattle.std.specs.Prelude.{◌≡◌, suc, true, Some, IfOk, IfErr, IfSome, is_some, length};
 ghost use Rattle.trace_types.specs.tenant.Rows.{history_of, is_event};
 ghost use Rattle.trace_types.specs.tenant.Reachability.{order_of};
 ghost use Rattle.trace_types.specs.clock.Clock.{tree_clock};
 ghost use Rattle.trace_types.specs.clock.Stamps.{tree_of};
 ghost use Rattle.trace_types.specs.tenant.Tenant.{fresh, step, Steps, Answers, AreLegal, is_report, reply_to_view, with_row};
 ghost use Rattle.event_tree.specs.Comparison.{StandsAs};
-ghost use Rattle.tenant_ledger.specs.Ledger.{code_of};
+ghost use Rattle.tenant_ledger.specs.Ledger.{code_of, is_brief};
 
 use crate::book::Book;
 use crate::share::{Keep, MeantId, Share, Through};
@@ -92,6 +92,24 @@ impl<S: Keep> Ledger<S> {
         }
     }
 
+    /// Answers `order` and `count`, whose answers are short, as [`Ledger::report`] does; `None` for any other request.
+    /// It takes no memory.
+    #[inline(always)]
+    pub fn ask_briefly<R>(&self, rt: &R, share: &S, request: &Request) -> Option<Reply>
+    where
+        S: Share<R>,
+        ensures steps { IfSome result (λ reply. Steps self.now request.now reply self.now) }
+        ensures brief { is_some result ≡ is_brief request.now }
+    {
+        match *request {
+            Request::Order(first, second) => {
+                Some(self.order(&Through { rt, share }, first, second))
+            }
+            Request::Count => Some(self.count()),
+            _ => None,
+        }
+    }
+
     /// Does all of a report that may be refused, and leaves the rows: what it gives is to be committed or abandoned.
     ///
     /// Where [`Ledger::report`] would refuse the report it gives that refusal, with the ledger as it was.
@@ -135,15 +153,24 @@ impl<S: Keep> Ledger<S> {
             Request::Stamp(event) => self.stamp(event),
             Request::Task(name) => self.task(&name),
             Request::Message(name) => self.message(&name),
-            Request::Count => Reply::Count(
-                self.book.event_count(),
-                self.book.task_count(),
-                self.book.message_count(),
-            ),
+            Request::Count => self.count(),
         }
     }
 
+    /// How many events, tasks ever and messages there are.
+    #[inline(always)]
+    fn count(&self) -> Reply
+        ensures { result ≡ reply_to_view self.now Request.Count }
+    {
+        Reply::Count(
+            self.book.event_count(),
+            self.book.task_count(),
+            self.book.message_count(),
+        )
+    }
+
     /// How the first event stands to the second, by the trees kept for them.
+    #[inline(always)]
     fn order<C: Compare<Kept = S::Kept>>(&self, compare: &C, first: u64, second: u64) -> Reply
         ensures { result ≡ reply_to_view self.now (Request.Order first second) }
     {

@@ -90,6 +90,16 @@ impl World {
     {
         report(rt, &mut self.ledgers, tenant, request)
     }
+
+    /// As [`World::step`], of a request that [`Ledger::ask_briefly`] answers; `None` for any other.
+    #[inline(always)]
+    pub(crate) fn step_briefly<R>(&self, rt: &R, tenant: usize, request: &Request) -> Option<Reply>
+        requires { tenant < length self.now.tenants }
+        ensures step { IfSome result (λ reply. StepsOne self.now tenant request.now reply self.now) }
+        ensures due { IfSome result (λ reply. IsDue self.now tenant request.now reply self.now) }
+    {
+        self.ledgers[tenant].ask_briefly(rt, &PlainShare, request)
+    }
 }
 
 /// The names once more.
