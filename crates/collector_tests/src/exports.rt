@@ -49,15 +49,46 @@ fn each_fault_has_its_line_and_its_reason(rt: HostRuntime) -> Result<(), Fail> {
     let alloc = rt.alloc();
     for (number, line, reason) in [
         (2, "", Reason::NoJson),
-        (3, r#"{"event":3,"kind":"local","name":"-","preds":[2],"stamp":"[(0,1);(2,0,1)]"}"#, Reason::NoEvent),
-        (4, r#"{"event":5,"kind":"local","name":"-","preds":[2],"stamp":"[(1,0);(2,1,0)]","task":"root"}"#, Reason::Number),
-        (6, r#"{"event":6,"kind":"recv","name":"m","preds":[5,4],"stamp":"[(1,0);4]","task":"root"}"#, Reason::Preds),
-        (5, r#"{"event":5,"kind":"send","name":"m","preds":[5],"stamp":"[(0,1);(2,0,2)]","task":"a"}"#, Reason::Preds),
-        (2, r#"{"event":2,"kind":"spawn","name":"a","preds":[1],"stamp":"[(0,0);2]","task":"root"}"#, Reason::Stamp),
-        (6, r#"{"event":6,"kind":"recv","name":"m","preds":[4,5],"stamp":"[(1,0);3]","task":"root"}"#, Reason::Order),
-        (6, r#"{"event":6,"kind":"recv","name":"m","preds":[4],"stamp":"[(1,0);4]","task":"root"}"#, Reason::Order),
+        (
+            3,
+            r#"{"event":3,"kind":"local","name":"-","preds":[2],"stamp":"[(0,1);(2,0,1)]"}"#,
+            Reason::NoEvent,
+        ),
+        (
+            4,
+            r#"{"event":5,"kind":"local","name":"-","preds":[2],"stamp":"[(1,0);(2,1,0)]","task":"root"}"#,
+            Reason::Number,
+        ),
+        (
+            6,
+            r#"{"event":6,"kind":"recv","name":"m","preds":[5,4],"stamp":"[(1,0);4]","task":"root"}"#,
+            Reason::Preds,
+        ),
+        (
+            5,
+            r#"{"event":5,"kind":"send","name":"m","preds":[5],"stamp":"[(0,1);(2,0,2)]","task":"a"}"#,
+            Reason::Preds,
+        ),
+        (
+            2,
+            r#"{"event":2,"kind":"spawn","name":"a","preds":[1],"stamp":"[(0,0);2]","task":"root"}"#,
+            Reason::Stamp,
+        ),
+        (
+            6,
+            r#"{"event":6,"kind":"recv","name":"m","preds":[4,5],"stamp":"[(1,0);3]","task":"root"}"#,
+            Reason::Order,
+        ),
+        (
+            6,
+            r#"{"event":6,"kind":"recv","name":"m","preds":[4],"stamp":"[(1,0);4]","task":"root"}"#,
+            Reason::Order,
+        ),
     ] {
-        assert_eq!(rt; verdict(alloc, 8, number, line)?, Verdict::No(number as u64, reason));
+        assert_eq!(rt;
+            verdict(alloc, 8, number, line)?,
+            Verdict::No(number as u64, reason)
+        );
     }
     Ok(())
 }
