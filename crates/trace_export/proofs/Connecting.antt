@@ -1,12 +1,12 @@
 -- Ways along listed edges, and one event more.
-use Rattle.std.proofs.Common.{◌≡◌, ◌≢◌, ◌↔◌, ◌⊎◌, ℕ, suc, ◌+◌, ◌-◌, ◌<◌, ◌≤◌, List, [], ◌∷◌, ◌++◌, length, slice_index_or, refl, sym, ap, subst, inl, inr, ◌∙◌, arith, length-append}
-use Rattle.std.specs.List.{Contains, All}
+use Rattle.std.proofs.Common.{◌≡◌, ◌≢◌, ◌↔◌, ℕ, suc, ◌+◌, ◌-◌, ◌<◌, ◌≤◌, List, [], ◌∷◌, ◌++◌, length, slice_index_or, refl, sym, ap, subst, inl, inr, ◌∙◌, arith, length-append}
+use Rattle.std.specs.List.{Contains}
 use Rattle.std.proofs.lemmas.List.{get_or_append_left, get_or-append-add}
 use Rattle.std.proofs.lemmas.List.Elements.{All-contains}
 use Rattle.std.proofs.lemmas.Bool.{cases_eq}
 use Rattle.trace_types.specs.clock.EventTree.{Leaf}
 use Rattle.trace_export.specs.declared.placed.Placed.{Placed}
-use Rattle.trace_export.specs.Edges.{Placing, IsPlaced, placed_at, listed_preds, listed_tree, IsWayBack, IsConnected}
+use Rattle.trace_export.specs.Edges.{Placing, IsPlaced, placed_at, listed_preds, IsWayBack, IsConnected}
 use Rattle.trace_export.specs.Graph.{AreEarlier, EdgesLeadBack}
 
 -- the events with one more

@@ -1,11 +1,10 @@
 -- Lines that are right one after another make a good export.
-use Rattle.std.proofs.Common.{◌≡◌, ℕ, suc, ◌+◌, ◌-◌, ◌<◌, ◌≤◌, List, [], ◌∷◌, ◌++◌, length, slice_index_or, refl, sym, ap, subst, inl, inr, ◌∙◌, arith, length-append, append_assoc}
+use Rattle.std.proofs.Common.{◌≡◌, ℕ, suc, ◌+◌, ◌-◌, List, [], ◌∷◌, ◌++◌, length, slice_index_or, refl, sym, ap, subst, inl, inr, ◌∙◌, arith, length-append, append_assoc}
 use Rattle.std.proofs.lemmas.Bool.{cases_eq, cases_lt}
 use Rattle.std.proofs.lemmas.List.{get_or_append_left, get_or-append-add, append-nil}
 use Rattle.trace_types.specs.text.Name.{Text}
-use Rattle.event_tree.specs.Comparison.{IsBelow}
 use Rattle.trace_export.specs.declared.placed.Placed.{Placed}
-use Rattle.trace_export.specs.Edges.{Placing, IsPlaced, placed_at, listed_preds, listed_tree, AreOrderedAlike}
+use Rattle.trace_export.specs.Edges.{Placing, IsPlaced, placed_at, AreOrderedAlike}
 use Rattle.trace_export.specs.Graph.{AreEarlier, EdgesLeadBack, AreAllAlike}
 use Rattle.trace_export.specs.Listing.{ListsAs}
 use Rattle.trace_export.specs.Laws.{event_line, IsListedIn, IsGoodExport}

@@ -1,5 +1,5 @@
 -- What is kept of right lines, to compare the next one with.
-use Rattle.std.specs.Prelude.{◌≡◌, ℕ, suc, ◌+◌, ◌-◌, ◌*◌, ◌/◌, ◌<◌, ◌≤◌, ◌↔◌, ◌⊎◌, List, [], ◌∷◌, ◌++◌, length, map, All, Contains}
+use Rattle.std.specs.Prelude.{◌≡◌, ℕ, suc, ◌+◌, ◌-◌, ◌*◌, ◌<◌, ◌≤◌, ◌↔◌, ◌⊎◌, List, [], length, map, All, Contains}
 use Rattle.std.specs.List.{slice_index_or}
 use Rattle.trace_types.specs.clock.EventTree.{EventTree}
 use Rattle.event_tree.specs.Comparison.{IsBelow}

@@ -2,7 +2,6 @@
 use Rattle.std.specs.Prelude.{◌≡◌, ℕ, ◌-◌, List, [], length}
 use Rattle.std.specs.List.{slice_index_or}
 use Rattle.trace_types.specs.text.Name.{Text}
-use Rattle.trace_types.specs.text.Lines.{lines}
 use Rattle.trace_export.specs.Listing.{Listed, ListsAs}
 use Rattle.trace_export.specs.Edges.{Placing, IsPlaced, listed_preds, listed_tree, AreOrderedAlike}
 use Rattle.trace_export.specs.Verdict.{HasTree}

@@ -3,7 +3,7 @@ use Rattle.std.proofs.lemmas.Option.{same_Some}
 use Rattle.serde_json.specs.Data.{Data}
 use Rattle.serde_json.specs.Read.{read}
 use Rattle.serde_json.specs.View.{view}
-use Rattle.trace_export.specs.Listing.{Listed, IsJsonOf}
+use Rattle.trace_export.specs.Listing.{IsJsonOf}
 use Rattle.trace_export.proofs.add_line.add_line.Goals as goal
 
 pub returns-in-Ok-from_str-clause-faulty : goal.returns-in-Ok-from_str-clause-faulty

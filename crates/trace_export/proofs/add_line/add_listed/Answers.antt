@@ -1,5 +1,5 @@
-use Rattle.std.proofs.Common.{arith, rules, subst, sym, refl}
-use Rattle.trace_export.specs.Verdict.{AreIncreasingBefore, IsStampTree, ComesNext}
+use Rattle.std.proofs.Common.{arith, rules, subst, sym}
+use Rattle.trace_export.specs.Verdict.{AreIncreasingBefore}
 use Rattle.trace_export.proofs.add_line.add_listed.Goals as goal
 
 pub returns-then-branch-clause-right : goal.returns-then-branch-clause-right

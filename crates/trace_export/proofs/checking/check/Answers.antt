@@ -1,14 +1,12 @@
-use Rattle.std.proofs.Common.{◌≡◌, IsTrue, List, [], refl, sym, ap, length, ◌+◌, Some, None, subst, arith, rules, ◌∙◌}
+use Rattle.std.proofs.Common.{◌≡◌, sym, ap, length, ◌+◌, Some, None, subst, arith, rules}
 use Rattle.trace_types.specs.text.Name.{Text}
-use Rattle.line_protocol.specs.Held.{Held, ReadingBounds, fresh_within}
-use Rattle.line_protocol.specs.LineReading.{Reads, failed_reads, Finds}
+use Rattle.line_protocol.specs.Held.{Held, ReadingBounds}
 use Rattle.line_protocol.specs.declared.line.Line.TheVariants.{End}
-use Rattle.line_protocol.proofs.LineReadingLemmas.{Reads-none, Reads-on, has_told_end, stops_at_end}
+use Rattle.line_protocol.proofs.LineReadingLemmas.{Reads-none, Reads-on, has_told_end}
 use Rattle.trace_export.specs.Checked.{IsTextFound, IsJudged}
 use Rattle.trace_export.specs.Edges.{Placing}
-use Rattle.trace_export.proofs.Judging.{FoundRight, export_bounds, found_none, found_more, judges_yes, judges_no, text_found}
+use Rattle.trace_export.proofs.Judging.{FoundRight, found_none, found_more, judges_no, text_found}
 use Rattle.trace_export.proofs.checking.check.Goals as goal
-use Rattle.trace_export.proofs.checking.check.Given.{Over}
 
 pub loop-graph-init : goal.loop-graph-init
 loop-graph-init g c =

@@ -1,4 +1,4 @@
-use Rattle.std.proofs.Common.{◌≡◌, ◌^◌, ◌≤◌, List, [], length}
+use Rattle.std.proofs.Common.{◌^◌, ◌≤◌}
 use Rattle.line_protocol.specs.Held.{fresh_within}
 use Rattle.line_protocol.specs.LineReading.{Reads, work_left}
 use Rattle.trace_export.specs.Graph.{IsKeptGraph}

@@ -1,4 +1,4 @@
-use Rattle.std.proofs.Common.{◌∙◌, length}
+use Rattle.std.proofs.Common.{◌∙◌}
 use Rattle.trace_types.specs.text.Lines.{lines}
 use Rattle.trace_export.proofs.GoodExports.{good_export}
 use Rattle.trace_export.proofs.laws.yes.Goals as goal

@@ -1,4 +1,4 @@
-use Rattle.std.proofs.Common.{rules, sym, subst}
+use Rattle.std.proofs.Common.{sym, subst}
 use Rattle.trace_export.specs.Edges.{Placing}
 use Rattle.trace_export.specs.Verdict.{IsOrderedNext}
 use Rattle.trace_export.proofs.graph.Graph.add.Goals as goal

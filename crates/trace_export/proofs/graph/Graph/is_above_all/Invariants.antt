@@ -1,4 +1,4 @@
-use Rattle.std.proofs.Common.{ℕ, ◌<◌, All, take}
+use Rattle.std.proofs.Common.{All, take}
 use Rattle.event_tree.specs.Comparison.{IsBelow}
 use Rattle.trace_export.specs.Edges.{listed_tree}
 use Rattle.trace_export.proofs.graph.Graph.is_above_all.Given as goal

@@ -1,5 +1,4 @@
-use Rattle.std.proofs.Common.{ℕ, ◌<◌, ◌≤◌}
-use Rattle.trace_export.specs.Edges.{IsPlaced}
+use Rattle.std.proofs.Common.{ℕ, ◌<◌}
 use Rattle.trace_export.specs.Graph.{IsApartFrom}
 use Rattle.trace_export.proofs.graph.Graph.is_apart_from_all.Given as goal
 

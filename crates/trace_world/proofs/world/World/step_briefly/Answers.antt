@@ -11,7 +11,7 @@ steps g c =
     let inside = subst (λ (own : World). c.args.tenant < length own.tenants) (sym c.self.view_is) c.requires in
     subst (λ (own : World). IfSome c.ask_briefly.result (λ reply. StepsOne own c.args.tenant c.args.request.now reply own)) c.self.view_is
     (StepsOne-stays world c.args.tenant c.index.result.now c.args.request.now c.ask_briefly.result
-    (slice_get-get_or world.tenants c.args.tenant c.index.result.now inside ∙ ap Some (sym c.index.ensures)) c.ask_briefly.ensures)
+    (slice_get-get_or world.tenants c.args.tenant c.index.result.now inside ∙ ap Some (sym c.index.ensures)) c.ask_briefly.ensures.steps)
 
 pub returns-clause-step : goal.returns-clause-step
 returns-clause-step g c = steps g c
