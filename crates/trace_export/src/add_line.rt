@@ -1,9 +1,9 @@
 //! One line of an export is judged.
-ghost use Rattle.std.specs.Prelude.{◌≡◌, ℕ, suc, ◌<◌, ◌≤◌, ◌++◌, ◌∷◌, ◌↔◌, [], IfOk, IfSome, IfNone, IsTrue, length};
+ghost use Rattle.std.specs.Prelude.{◌≡◌, ◌<◌, ◌≤◌, ◌++◌, ◌∷◌, ◌↔◌, [], IfOk, IfSome, IfNone, IsTrue, length};
 ghost use Rattle.trace_types.specs.clock.EventTree.{EventTree};
 ghost use Rattle.trace_export.specs.declared.placed.Placed.{Placed};
 ghost use Rattle.trace_export.specs.Graph.{IsKeptGraph};
-ghost use Rattle.trace_export.specs.Listing.{Listed, listed_of};
+ghost use Rattle.trace_export.specs.Listing.{listed_of};
 ghost use Rattle.trace_export.specs.Verdict.{IsFaulty, IsRightNext, IsRefusedFor, ComesNext, IsOrderedNext, AreIncreasingBefore, IsStampTree};
 
 use crate::Reason;

@@ -1,9 +1,8 @@
 //! What a line of an export lists.
-ghost use Rattle.std.specs.Prelude.{◌≡◌, ◌≢◌, ◌≤◌, IfSome, IsSomeAnd, string_bytes, IfNone, Option, List, ℕ, Some, None, MatchOption, IsTrue, map, length};
-ghost use Rattle.trace_types.specs.text.Name.{Text, is_name};
+ghost use Rattle.std.specs.Prelude.{◌≡◌, ◌≢◌, ◌≤◌, IfSome, IsSomeAnd, string_bytes, Option, List, ℕ, Some, None, MatchOption, map, length};
+ghost use Rattle.trace_types.specs.text.Name.{Text};
 ghost use Rattle.trace_types.specs.text.Text.{kind_text, name_text};
 ghost use Rattle.serde_json.specs.View.{view, items_of};
-ghost use Rattle.serde_json.specs.Data.{Data, array};
 ghost use Rattle.trace_export.specs.Listing.{Listed, IsJsonOf, listed_of, FitsKind, numbers_json};
 
 use serde_json::Value;

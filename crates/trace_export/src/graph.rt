@@ -1,5 +1,5 @@
 //! What is kept of right lines, to compare the next one with.
-ghost use Rattle.std.specs.Prelude.{◌≡◌, ℕ, suc, ◌+◌, ◌*◌, ◌<◌, ◌≤◌, ◌≢◌, ◌++◌, ◌∷◌, ◌↔◌, ◌⊎◌, ◌-◌, [], IfOk, OnErr, OnOk, IsTrue, length, map, vec_len, vec_capacity, All, Contains, false};
+ghost use Rattle.std.specs.Prelude.{◌≡◌, ℕ, suc, ◌+◌, ◌*◌, ◌<◌, ◌≤◌, ◌++◌, ◌∷◌, ◌↔◌, ◌⊎◌, ◌-◌, [], IfOk, IsTrue, length, vec_len, vec_capacity, All, Contains, false};
 ghost use Rattle.event_tree.specs.Comparison.{IsBelow};
 ghost use Rattle.trace_export.specs.Bits.{HasBit};
 ghost use Rattle.trace_export.specs.Edges.{IsPlaced, AreOrderedAlike, listed_preds, listed_tree, placed_at};
@@ -10,7 +10,7 @@ use crate::bits::{add_bit, add_bits, has_bit, no_bits};
 use crate::placed::Placed;
 use event_tree::EvTree;
 use std::alloc::{AllocError, Global};
-use trace_types::{Memory, Preds};
+use trace_types::Preds;
 
 /// What is kept of right lines.
 #[derive(Drop)]
