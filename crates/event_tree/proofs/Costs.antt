@@ -1,5 +1,5 @@
 -- Which side of a node is grown, from the sides' costs and a price.
-use Rattle.std.proofs.Common.{◌≡◌, ℕ, ◌+◌, ◌⊎◌, true, false, is_some, Option, Some, None, inl, inr, refl, ap, arith}
+use Rattle.std.proofs.Common.{◌≡◌, ℕ, ◌+◌, ◌<◌, ◌⊎◌, true, false, is_some, Option, Some, None, inl, inr, refl, ap, arith}
 use Rattle.std.proofs.lemmas.Bool.{cases_Bool}
 use Rattle.trace_types.specs.clock.Grow.{Cost}
 use Rattle.trace_types.specs.clock.Grow.{is_less, is_cheaper, cheaper, dearer}
@@ -37,6 +37,14 @@ module _ (more : ℕ) (p q : Cost) (expansions : p.expansions ≡ q.expansions +
   pub costs-further : (x : Option Cost) → costs p (dearer more 1 x) ≡ costs q x
   costs-further None = refl
   costs-further (Some a) = costs_further more a p q expansions steps
+
+-- nothing that takes a step more costs a price that a step uses up
+costs_spent : (more : ℕ) (a p : Cost) → (p.expansions < more) ⊎ (p.steps ≡ 0) → costs p (Some (record { expansions = a.expansions + more; steps = a.steps + 1 })) ≡ false
+costs_spent more a p spent = grind arith
+
+pub costs-spent : (p : Cost) (more : ℕ) (x : Option Cost) → (p.expansions < more) ⊎ (p.steps ≡ 0) → costs p (dearer more 1 x) ≡ false
+costs-spent p more None spent = refl
+costs-spent p more (Some a) spent = costs_spent more a p spent
 
 -- what is not below the price, while the cheaper is not
 pub first_not_cheaper : (a b : Option Cost) (q : Cost) → is_cheaper (cheaper a b) (Some q) ≡ false → is_cheaper a (Some q) ≡ false

@@ -56,7 +56,7 @@ pub record Raises (id : Id) (before after : EventTree) : Type 0 where
   pub rises : RisesSomewhere before after
   pub bounded : maximum after ≤ maximum before + 1
 
-raises_grown : (id : Id) (tree : EventTree) → ids.IsNormalId id → id ≢ Zero → Raises id tree (normalised (grown id tree))
+pub raises_grown : (id : Id) (tree : EventTree) → ids.IsNormalId id → id ≢ Zero → Raises id tree (normalised (grown id tree))
 raises_grown id tree id_normal some =
     let raised = raised_grown id tree in
     let risen = rises_grown id tree (cost-some id tree id_normal some) in

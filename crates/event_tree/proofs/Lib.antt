@@ -4,6 +4,7 @@ pub mod Costs
 pub mod Decided
 pub mod Events
 pub mod Filled
+pub mod Growing
 pub mod Grown
 pub mod Joined
 pub mod Lifts

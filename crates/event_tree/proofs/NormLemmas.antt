@@ -44,7 +44,7 @@ least_sunk left right left_normal right_normal =
     omega (arith, minimum-lowered m left left_normal (omega arith), minimum-lowered m right right_normal (omega arith))
 
 -- two different numbers are their own normal form but for what is drawn out
-norm-leaves : (n l r : ℕ) → l ≢ r → norm n (Leaf l) (Leaf r) ≡ sunk n (Leaf l) (Leaf r)
+pub norm-leaves : (n l r : ℕ) → l ≢ r → norm n (Leaf l) (Leaf r) ≡ sunk n (Leaf l) (Leaf r)
 norm-leaves n l r differ = rw (ne_eqb l r differ) refl
 
 norm-leaf : (n l r : ℕ) → l ≡ r → norm n (Leaf l) (Leaf r) ≡ Leaf (n + l)

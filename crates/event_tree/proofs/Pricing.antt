@@ -1,5 +1,5 @@
 -- The tree that is grown at a price: on the right if it is to be had there, else on the left.
-use Rattle.std.proofs.Common.{◌≡◌, ◌+◌, ◌≤◌, Bool, true, false, Some, None, if◌then◌else◌, refl, sym, ◌∙◌, arith}
+use Rattle.std.proofs.Common.{◌≡◌, ◌+◌, ◌<◌, ◌≤◌, ◌⊎◌, Bool, true, false, Some, None, if◌then◌else◌, refl, sym, ◌∙◌, arith}
 use Rattle.trace_types.specs.clock.Id.{Id, Pair}
 use Rattle.trace_types.specs.clock.Grow.{Cost}
 use Rattle.trace_types.specs.clock.EventTree.{EventTree, maximum, IsNormal}
@@ -7,8 +7,8 @@ use Rattle.trace_types.specs.clock.Norm.{norm}
 use Rattle.trace_types.specs.clock.Grow.{root_number, left_of, right_of, expansion, is_cheaper, cheaper, cost, grown}
 use Rattle.trace_types.specs.clock.Event.{normalised}
 use Rattle.event_tree.specs.GrownFor.{costs, grown_for}
-use Rattle.event_tree.proofs.Costs.{is_cheaper-further, costs-further, first_not_cheaper, second_not_cheaper, costs-itself, second_taken, first_taken, neither_taken}
-use Rattle.event_tree.proofs.Grown.{maximum-grown-le, maximum-normalised-le, normalised-normal}
+use Rattle.event_tree.proofs.Costs.{is_cheaper-further, costs-further, costs-spent, first_not_cheaper, second_not_cheaper, costs-itself, second_taken, first_taken, neither_taken}
+use Rattle.event_tree.proofs.Grown.{maximum-grown-le, maximum-normalised-le, normalised-normal, normal_normalised}
 
 -- what is given on a test, and is given, has passed it
 given_some : {A : Type 0} (b : Bool) (x t : A) → (if b then Some x else None) ≡ Some t → (b ≡ true) × (t ≡ x)
@@ -60,3 +60,13 @@ module _ (il ir : Id) (tree : EventTree) (p q : Cost) (expansions : p.expansions
       let right = given_none (costs q (cost ir (right_of tree))) (normalised (grown ir (right_of tree))) not_right in
       let left = given_none (costs q (cost il (left_of tree))) (normalised (grown il (left_of tree))) not_left in
       rw (costs_here, neither_taken (cost il (left_of tree)) (cost ir (right_of tree)) q left right) refl
+
+-- what was grown is normal
+pub normal-grown_for : (price : Cost) (id : Id) (tree t : EventTree) → grown_for price id tree ≡ Some t → IsNormal t
+normal-grown_for price id tree t found =
+    let is = given_some (costs price (cost id tree)) (normalised (grown id tree)) t found in
+    rw is.1 (normal_normalised (grown id tree))
+
+-- a price that no step leaves anything of buys nothing
+pub spent_none : (il ir : Id) (tree : EventTree) (price : Cost) → (price.expansions < expansion tree) ⊎ (price.steps ≡ 0) → None ≡ grown_for price (Pair il ir) tree
+spent_none il ir tree price spent = rw (costs-spent price (expansion tree) (cheaper (cost il (left_of tree)) (cost ir (right_of tree))) spent) refl

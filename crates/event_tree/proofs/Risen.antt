@@ -11,6 +11,7 @@ use Rattle.event_tree.specs.Height.{height}
 use Rattle.event_tree.specs.PointCode.{halves_of}
 use Rattle.event_tree.specs.Raised.{StaysOutside, RisesSomewhere}
 use Rattle.event_tree.specs.Risen.{left_id_of, right_id_of, IsRisenAt, RisesWithin, NoneRisen, IsRaisedAt}
+use Rattle.event_tree.specs.declared.point.RaisedPoint.{RaisedPoint}
 use Rattle.event_tree.proofs.Bounds.{minimum-le-value, value-le-maximum}
 use Rattle.event_tree.proofs.Grown.{value-opened}
 use Rattle.event_tree.proofs.Walk.{below_from_sides}
@@ -104,18 +105,23 @@ doubles levels halves bound some small =
 
 module _ (id : Id) (before after : EventTree) (outside : StaysOutside id before after) where
   -- a point that is raised is owned, where no other is raised
-  pub raised_at : (found : Option Point) → IfSome found (λ point. value before point < value after point) → IfSome found (λ point. IsRaisedAt id before after point)
-  raised_at None risen = tt
-  raised_at (Some point) risen =
+  pub raised_at : (point : Point) → value before point < value after point → IsRaisedAt id before after point
+  raised_at point risen =
       elim (cases_Bool (owns id point)) [
         | inl is ↦ record { owned = is; raised = risen }
         | inr is_not ↦ absurd (omega (arith, outside point is_not, risen))
       ]
 
+  -- so is one that was found
+  pub found_at : (found : Option RaisedPoint) → IfSome found (λ raised. value before raised.point < value after raised.point)
+      → IfSome found (λ raised. IsRaisedAt id before after raised.point)
+  found_at None risen = tt
+  found_at (Some raised) risen = raised_at raised.point risen
+
   -- where some point is raised and none was found, a tree is too high
-  pub found_unless_deep : RisesSomewhere before after → (found : Option Point) → (RisesWithin id 0 before 0 after → IfNone found (NoneRisen 128 0 before 0 after))
+  pub found_unless_deep : RisesSomewhere before after → (found : Option RaisedPoint) → (RisesWithin id 0 before 0 after → IfNone found (NoneRisen 128 0 before 0 after))
       → IfNone found (128 < max (height before) (height after))
-  found_unless_deep rises (Some point) none = tt
+  found_unless_deep rises (Some raised) none = tt
   found_unless_deep rises None none =
       elim (none (λ point free. omega (arith, outside point free))) [
         | inl below ↦ absurd (omega (arith, below rises.0, rises.1))

@@ -1,6 +1,7 @@
 pub mod Comparison
 pub mod EventTreeCode
 pub mod Filled
+pub mod Grew
 pub mod GrownFor
 pub mod Height
 pub mod Joins

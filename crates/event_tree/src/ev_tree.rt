@@ -11,7 +11,7 @@ ghost use Rattle.event_tree.specs.Leaves.{IsLeafTree};
 ghost use Rattle.event_tree.specs.Risen.{IsRaisedAt};
 ghost use Rattle.event_tree.specs.Parts.{tree_of_parts};
 
-use crate::Point;
+use crate::{Point, RaisedPoint};
 use comparison::{compare, is_below};
 use id_tree::IdTree;
 use joining::joined;
@@ -227,41 +227,36 @@ impl EvTree {
         ensures exact { IfOk result (λ after. after ≡ event id.now tree.now) }
         ensures whole { id.now ≡ One → IsOk result }
     {
-        tree.normal();
-        id_tree::laws::each_tree_is_normal(id);
         if let Some(filled) = tree.filled(alloc, id)? {
             return Ok(filled);
         }
-        let zero = EvTree::leaf(0);
-        let Some(price) = tree.growth_cost(id, &zero)? else {
-            unreachable!();
-        };
-        let Some(after) = tree.grown_for(alloc, id, price, &zero)? else {
-            unreachable!();
-        };
-        Ok(after)
+        let (grown, _) = tree.grown(alloc, id)?;
+        Ok(grown)
     }
 
-    /// The tree after the event, as [`EvTree::event`] gives it, and a point of the id that the event raised. Finding it takes
-    /// no memory. There is none only where one of the two trees is higher than the 128 levels of a [`Point`] and each raised
-    /// point that was found lies below them.
+    /// The tree after the event, as [`EvTree::event`] gives it, and a point of the id that the event raised, with the value
+    /// there. Finding it takes no memory. There is none only where one of the two trees is higher than the 128 levels of a
+    /// [`Point`] and each raised point that was found lies below them.
     pub fn event_with_point(
         alloc: Global,
         id: &IdTree,
         tree: &EvTree,
-    ) -> Result<(EvTree, Option<Point>), Memory>
+    ) -> Result<(EvTree, Option<RaisedPoint>), Memory>
         requires some { id.now ≢ Zero }
         requires fits { maximum tree.now + 1 < 2 ^ 64 }
         ensures exact { IfOk result (λ found. found.0 ≡ event id.now tree.now) }
-        ensures raised { IfOk result (λ found. IfSome found.1 (λ point. IsRaisedAt id.now tree.now found.0 point)) }
+        ensures raised { IfOk result (λ found. IfSome found.1 (λ raised. IsRaisedAt id.now tree.now found.0 raised.point)) }
+        ensures value { IfOk result (λ found. IfSome found.1 (λ raised. raised.value ≡ value found.0 raised.point)) }
         ensures deep { IfOk result (λ found. IfNone found.1 (128 < max (height tree.now) (height found.0))) }
         ensures whole { id.now ≡ One → IsOk result }
     {
         tree.normal();
         id_tree::laws::each_tree_is_normal(id);
-        let after = EvTree::event(alloc, id, tree)?;
-        let point = tree.risen_point(id, &after);
-        Ok((after, point))
+        let Some(filled) = tree.filled(alloc, id)? else {
+            return tree.grown(alloc, id);
+        };
+        let raised = tree.risen_point(id, &filled);
+        Ok((filled, raised))
     }
 
     /// The least value at any point.

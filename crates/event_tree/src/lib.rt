@@ -12,4 +12,4 @@ pub mod laws;
 mod point;
 
 pub use ev_tree::{EvTree, Parts};
-pub use point::Point;
+pub use point::{Point, RaisedPoint};

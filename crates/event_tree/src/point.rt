@@ -14,6 +14,16 @@ pub struct Point {
     lower: u64,
 }
 
+/// A point that an event raised, and the value there after it.
+#[derive(Debug, Drop)]
+pub struct RaisedPoint {
+    pub point: Point,
+    pub value: u64,
+}
+
+/// How many levels a point has.
+pub(crate) const LEVELS: u64 = 128;
+
 /// How many values a word has.
 const WORD: u128 = 1 << 64;
 

@@ -1,11 +1,17 @@
 //! Growing a tree below an id at the least cost.
-ghost use Rattle.std.specs.Prelude.{◌≡◌, ◌+◌, ◌^◌, ◌<◌, ◌⊎◌, false, Some, IfOk, IfSome, IfNone, IsOk};
-ghost use Rattle.trace_types.specs.clock.Id.{One, Pair};
-ghost use Rattle.trace_types.specs.clock.EventTree.{Leaf, maximum, IsNormal};
-ghost use Rattle.trace_types.specs.clock.Grow.{root_number, left_of, right_of, expansion, is_less, is_cheaper, cheaper, dearer, cost};
-ghost use Rattle.event_tree.specs.GrownFor.{grown_for};
+ghost use Rattle.std.specs.Prelude.{◌≡◌, ◌≢◌, ◌+◌, ◌*◌, ◌%◌, ◌^◌, ◌<◌, ◌≤◌, ◌↔◌, ◌⊎◌, max, false, Some, IfOk, IfSome, IfNone, IsOk, IsTrue};
+ghost use Rattle.trace_types.specs.clock.Id.{Zero, One, Pair};
+ghost use Rattle.trace_types.specs.clock.EventTree.{Leaf, value, maximum, IsNormal};
+ghost use Rattle.trace_types.specs.clock.Grow.{root_number, left_of, right_of, expansion, is_less, is_cheaper, cheaper, dearer, cost, grown};
+ghost use Rattle.trace_types.specs.clock.Event.{normalised};
+ghost use Rattle.event_tree.specs.GrownFor.{grown_for, tree_grown};
+ghost use Rattle.event_tree.specs.Height.{height};
+ghost use Rattle.event_tree.specs.Grew.{GrewAt};
+ghost use Rattle.event_tree.specs.Risen.{IsRaisedAt};
 
 use super::{EvTree, Node};
+use crate::point::LEVELS;
+use crate::{Point, RaisedPoint};
 use id_tree::{IdTree, Parts as IdParts};
 use std::alloc::Global;
 use std::marker::Model;
@@ -33,6 +39,12 @@ impl Cost {
         expansions: 0,
         steps: 0,
     };
+
+    fn is_nothing(self) -> bool
+        ensures { IsTrue result ↔ (self.expansions ≡ 0) × (self.steps ≡ 0) }
+    {
+        self.expansions == 0 && self.steps == 0
+    }
 
     fn is_less(self, other: Cost) -> bool
         ensures { result ≡ is_less self other }
@@ -77,6 +89,40 @@ impl Cost {
             })
         }
     }
+}
+
+/// Where a tree grew, and the value there.
+#[derive(Clone, Copy)]
+struct Place {
+    /// The halves on the way down, as the bits of a number, the uppermost the lowest. Those below the uppermost 128 are left
+    /// out.
+    halves: u128,
+    value: u64,
+}
+
+/// How many numbers of halves leave room for one half more.
+const WITH_ROOM: u128 = 1 << 127;
+
+impl Place {
+    /// This place of one half, 0 the left one and 1 the right one, as a place of the node with the number `root`.
+    fn in_half(self, half: u128, root: u64) -> Place
+        requires half { half ≤ 1 }
+        requires fits { root + self.value < 2 ^ 64 }
+        ensures halves { result.halves ≡ 2 * (self.halves % 2 ^ 127) + half }
+        ensures value { result.value ≡ root + self.value }
+    {
+        Place {
+            halves: 2 * (self.halves % WITH_ROOM) + half,
+            value: root + self.value,
+        }
+    }
+}
+
+/// A grown tree, and where it grew.
+#[derive(Drop)]
+struct Grown {
+    tree: EvTree,
+    place: Place,
 }
 
 /// A tree as a node: a number counts as a node over 0 and 0, and takes an expansion.
@@ -147,31 +193,72 @@ impl EvTree {
         }
     }
 
+    /// The tree grown at the least cost, in normal form, and a point of the id that was raised. There is none only where what
+    /// grew lies below the levels of a point.
+    pub(super) fn grown(
+        &self,
+        alloc: Global,
+        id: &IdTree,
+    ) -> Result<(EvTree, Option<RaisedPoint>), Memory>
+        requires some { id.now ≢ Zero }
+        requires fits { maximum self.now + 1 < 2 ^ 64 }
+        ensures exact { IfOk result (λ found. found.0 ≡ normalised (grown id.now self.now)) }
+        ensures raised { IfOk result (λ found. IfSome found.1 (λ raised. IsRaisedAt id.now self.now found.0 raised.point)) }
+        ensures value { IfOk result (λ found. IfSome found.1 (λ raised. raised.value ≡ value found.0 raised.point)) }
+        ensures deep { IfOk result (λ found. IfNone found.1 (128 < max (height self.now) (height found.0))) }
+        ensures whole { id.now ≡ One → IsOk result }
+    {
+        id_tree::laws::each_tree_is_normal(id);
+        let zero = EvTree::leaf(0);
+        let Some(price) = self.growth_cost(id, &zero)? else {
+            unreachable!();
+        };
+        let Some(grown) = self.grown_for(alloc, id, price, &zero)? else {
+            unreachable!();
+        };
+        let raised = if price.steps <= LEVELS {
+            Some(RaisedPoint {
+                point: Point::of(grown.place.halves),
+                value: grown.place.value,
+            })
+        } else {
+            None
+        };
+        Ok((grown.tree, raised))
+    }
+
+    /// The tree grown at its root, below an id that owns everything.
+    fn grown_whole(&self) -> Grown
+        requires { maximum self.now + 1 < 2 ^ 64 }
+        ensures tree { result.tree ≡ Leaf (maximum self.now + 1) }
+        ensures place { GrewAt 0 self.now result.tree result.place }
+    {
+        let value = self.max() + 1;
+        Grown {
+            tree: EvTree::leaf(value),
+            place: Place { halves: 0, value },
+        }
+    }
+
     /// The grown tree in normal form, if it costs exactly `price`; it is to be had for no less.
     /// Below a number stands `zero`.
-    pub(super) fn grown_for(
+    fn grown_for(
         &self,
         alloc: Global,
         id: &IdTree,
         price: Cost,
         zero: &EvTree,
-    ) -> Result<Option<EvTree>, Memory>
+    ) -> Result<Option<Grown>, Memory>
         requires least { is_cheaper (cost id.now self.now) (Some price) ≡ false }
         requires fits { maximum self.now + 1 < 2 ^ 64 }
         requires zero { zero.now ≡ Leaf 0 }
-        ensures exact { IfOk result (λ found. found ≡ grown_for price id.now self.now) }
+        ensures exact { IfOk result (λ found. tree_grown found ≡ grown_for price id.now self.now) }
+        ensures place { IfOk result (λ found. IfSome found (λ grown. GrewAt price.steps self.now grown.tree grown.place)) }
         ensures whole { id.now ≡ One → IsOk result }
     {
         let (left_id, right_id) = match id.parts() {
-            IdParts::Zero => return Ok(None),
-            IdParts::One => {
-                let is_free = price.expansions == 0 && price.steps == 0;
-                return Ok(if is_free {
-                    Some(EvTree::leaf(self.max() + 1))
-                } else {
-                    None
-                });
-            }
+            IdParts::One if price.is_nothing() => return Ok(Some(self.grown_whole())),
+            IdParts::Zero | IdParts::One => return Ok(None),
             IdParts::Pair(left_id, right_id) => (left_id, right_id),
         };
         let opened = self.opened(zero);
@@ -180,12 +267,18 @@ impl EvTree {
         };
         if let Some(right) = opened.right.grown_for(alloc, right_id, price, zero)? {
             let left = opened.left.share(alloc)?;
-            return Ok(Some(EvTree::fork(alloc, opened.root, left, right)?));
+            return Ok(Some(Grown {
+                tree: EvTree::fork(alloc, opened.root, left, right.tree)?,
+                place: right.place.in_half(1, opened.root),
+            }));
         }
         let Some(left) = opened.left.grown_for(alloc, left_id, price, zero)? else {
             return Ok(None);
         };
         let right = opened.right.share(alloc)?;
-        Ok(Some(EvTree::fork(alloc, opened.root, left, right)?))
+        Ok(Some(Grown {
+            tree: EvTree::fork(alloc, opened.root, left.tree, right)?,
+            place: left.place.in_half(0, opened.root),
+        }))
     }
 }

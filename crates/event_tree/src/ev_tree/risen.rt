@@ -6,23 +6,27 @@ ghost use Rattle.event_tree.specs.Height.{height};
 ghost use Rattle.event_tree.specs.Risen.{left_id_of, right_id_of, IsRisenAt, RisesWithin, NoneRisen};
 
 use super::{EvTree, Node};
-use crate::Point;
+use crate::point::LEVELS;
+use crate::{Point, RaisedPoint};
 use id_tree::{IdTree, Parts as IdParts};
 
-/// How many levels a point has.
-const LEVELS: u32 = 128;
-
 impl EvTree {
-    /// A point at which `after` is above this tree. Parts of the trees that the id does not own are not looked at.
-    pub(super) fn risen_point(&self, id: &IdTree, after: &EvTree) -> Option<Point>
-        ensures risen { IfSome result (λ point. value self.now point < value after.now point) }
+    /// A point at which `after` is above this tree, and the value there. Parts of the trees that the id does not own are not
+    /// looked at.
+    pub(super) fn risen_point(&self, id: &IdTree, after: &EvTree) -> Option<RaisedPoint>
+        ensures risen { IfSome result (λ raised. value self.now raised.point < value after.now raised.point) }
+        ensures value { IfSome result (λ raised. raised.value ≡ value after.now raised.point) }
         ensures none { RisesWithin id.now 0 self.now 0 after.now → IfNone result (NoneRisen 128 0 self.now 0 after.now) }
     {
         self.normal();
         after.normal();
         let zero = EvTree::leaf(0);
         let halves = risen_halves(id, self, 0, after, 0, &zero, LEVELS)?;
-        Some(Point::of(halves))
+        let point = Point::of(halves);
+        Some(RaisedPoint {
+            value: after.value_at(&point),
+            point,
+        })
     }
 
     fn is_leaf(&self) -> bool
@@ -43,7 +47,7 @@ fn risen_halves(
     after: &EvTree,
     after_lift: u64,
     zero: &EvTree,
-    levels: u32,
+    levels: u64,
 ) -> Option<u128>
     requires before_fits { before_lift + maximum before.now < 2 ^ 64 }
     requires after_fits { after_lift + maximum after.now < 2 ^ 64 }
@@ -70,7 +74,7 @@ fn risen_below(
     after: &EvTree,
     after_lift: u64,
     zero: &EvTree,
-    levels: u32,
+    levels: u64,
 ) -> Option<u128>
     requires before_fits { before_lift + maximum before.now < 2 ^ 64 }
     requires after_fits { after_lift + maximum after.now < 2 ^ 64 }

@@ -223,10 +223,10 @@ fn event_with_point(
     ensures raised { IfOk result (λ found. IfSome found.1 (λ deciding. IsRaisedAt id.now known.now found.0 deciding.point)) }
     ensures own { IfOk result (λ found. IfSome found.1 (λ deciding. deciding.value ≡ value found.0 deciding.point)) }
 {
-    let (tree, point) = EvTree::event_with_point(alloc, id, known)?;
-    let deciding = point.map(|point| Deciding {
-        value: tree.value_at(&point),
-        point,
+    let (tree, raised) = EvTree::event_with_point(alloc, id, known)?;
+    let deciding = raised.map(|raised| Deciding {
+        point: raised.point,
+        value: raised.value,
     });
     Ok((tree, deciding))
 }
