@@ -225,8 +225,8 @@ fn event_with_point(
 {
     let (tree, raised) = EvTree::event_with_point(alloc, id, known)?;
     let deciding = raised.map(|raised| Deciding {
-        point: raised.point,
         value: raised.value,
+        point: raised.point,
     });
     Ok((tree, deciding))
 }
