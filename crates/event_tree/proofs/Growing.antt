@@ -1,5 +1,5 @@
 -- Where a tree grows, a step further up.
-use Rattle.std.proofs.Common.{◌≡◌, ◌≢◌, ℕ, suc, ◌+◌, ◌-◌, ◌*◌, ◌/◌, ◌%◌, ◌^◌, ◌<◌, ◌≤◌, max, ◌∷◌, refl, sym, ◌∙◌, arith}
+use Rattle.std.proofs.Common.{◌≡◌, ◌≢◌, ℕ, suc, ◌+◌, ◌-◌, ◌*◌, ◌/◌, ◌%◌, ◌^◌, ◌<◌, ◌≤◌, max, ◌∷◌, refl, sym, arith}
 use Rattle.std.proofs.Math.Nat.{pow-suc, pow-le-pow_right}
 use Rattle.trace_types.specs.clock.Points.{Half, Left, Right, Point, at_half}
 use Rattle.trace_types.specs.clock.EventTree.{EventTree, Leaf, Node, value, maximum, IsNormal}

@@ -1,7 +1,6 @@
-use Rattle.std.proofs.Common.{◌≡◌, ◌≤◌, sym, ◌∙◌, ap, arith}
+use Rattle.std.proofs.Common.{◌≡◌, ◌≤◌, sym, ◌∙◌, arith}
 use Rattle.trace_types.specs.clock.Grow.{grown}
 use Rattle.trace_types.specs.clock.Event.{normalised}
-use Rattle.event_tree.specs.GrownFor.{tree_grown}
 use Rattle.event_tree.proofs.Events.{raises_grown}
 use Rattle.event_tree.proofs.Grown.{cost-some}
 use Rattle.event_tree.proofs.Pricing.{grown_for-cost}
