@@ -159,27 +159,28 @@ def write(name, words, lines):
     print(name, words)
 
 
-random.seed(1)
-without_messages, with_messages = list(churn(EVENTS, TASKS, 0)), list(churn(EVENTS, TASKS, MESSAGES))
-long_lived, built = list(talk(64)), list(build(64, MOST_EVENTS))
-chain = list(zip(["root", *NAMES], NAMES))
-fan = [("root", name) for name in NAMES]
-after = list(orders(4 * len(NAMES), 4_000))
-write("counts", "x", addressed("x", ["count"] * 1_000_000))
-write("orders", "x", addressed("x", ["local root"] * EVENTS, orders(EVENTS, 1_000_000)))
-write("churn", "x", addressed("x", without_messages, orders(EVENTS, 4_000)))
-write("churn_and_orders", "x", addressed("x", without_messages, orders(EVENTS, 1_000_000)))
-write("messages", "x", addressed("x", with_messages, queries(with_messages, 300_000)))
-write("lists", "x", addressed("x", with_messages, lists(200)))
-write("long_lived", "x", addressed("x", long_lived, queries(long_lived, 300_000)))
-tenants = [f"tenant_{number}" for number in range(16)]
-write("many_tenants", " ".join(tenants), interleaved(list(of_many(tenants))))
-write("build", GREATEST, addressed("x", built, orders(MOST_EVENTS, 300_000)))
-write("chain", GREATEST, addressed("x", grown(["root", *NAMES], reversed(chain)), after))
-write("chain_joined_by_root", GREATEST, addressed("x", grown(["root", *NAMES], fan), after))
-write("fan_first_made_first", GREATEST, addressed("x", grown(["root"] * len(NAMES), fan), after))
-write("fan_last_made_first", GREATEST, addressed("x", grown(["root"] * len(NAMES), reversed(fan)), after))
-write("growing", f"--messages {MOST_EVENTS} {GREATEST}", addressed("x", growing(churn(MOST_EVENTS, MOST_TASKS, MOST_EVENTS))))
-for events in (1024, 2048, 4096, 8192, 16384):
-    write(f"live64_{events}", GREATEST, addressed("x", build(64, events)))
-write("lists_of_build", GREATEST, addressed("x", with_lists(list(build(64, MOST_EVENTS)), 200)))
+if __name__ == "__main__":
+    random.seed(1)
+    without_messages, with_messages = list(churn(EVENTS, TASKS, 0)), list(churn(EVENTS, TASKS, MESSAGES))
+    long_lived, built = list(talk(64)), list(build(64, MOST_EVENTS))
+    chain = list(zip(["root", *NAMES], NAMES))
+    fan = [("root", name) for name in NAMES]
+    after = list(orders(4 * len(NAMES), 4_000))
+    write("counts", "x", addressed("x", ["count"] * 1_000_000))
+    write("orders", "x", addressed("x", ["local root"] * EVENTS, orders(EVENTS, 1_000_000)))
+    write("churn", "x", addressed("x", without_messages, orders(EVENTS, 4_000)))
+    write("churn_and_orders", "x", addressed("x", without_messages, orders(EVENTS, 1_000_000)))
+    write("messages", "x", addressed("x", with_messages, queries(with_messages, 300_000)))
+    write("lists", "x", addressed("x", with_messages, lists(200)))
+    write("long_lived", "x", addressed("x", long_lived, queries(long_lived, 300_000)))
+    tenants = [f"tenant_{number}" for number in range(16)]
+    write("many_tenants", " ".join(tenants), interleaved(list(of_many(tenants))))
+    write("build", GREATEST, addressed("x", built, orders(MOST_EVENTS, 300_000)))
+    write("chain", GREATEST, addressed("x", grown(["root", *NAMES], reversed(chain)), after))
+    write("chain_joined_by_root", GREATEST, addressed("x", grown(["root", *NAMES], fan), after))
+    write("fan_first_made_first", GREATEST, addressed("x", grown(["root"] * len(NAMES), fan), after))
+    write("fan_last_made_first", GREATEST, addressed("x", grown(["root"] * len(NAMES), reversed(fan)), after))
+    write("growing", f"--messages {MOST_EVENTS} {GREATEST}", addressed("x", growing(churn(MOST_EVENTS, MOST_TASKS, MOST_EVENTS))))
+    for events in (1024, 2048, 4096, 8192, 16384):
+        write(f"live64_{events}", GREATEST, addressed("x", build(64, events)))
+    write("lists_of_build", GREATEST, addressed("x", with_lists(list(build(64, MOST_EVENTS)), 200)))

@@ -1,0 +1,125 @@
+#!/usr/bin/env python3
+"""Changes a good export in one place: `spoil.py SEED` reads it from standard input and writes the changed one.
+
+With the same seed it makes the same change: to one byte, one key, one value, one number or one edge, or to how JSON is
+laid out; now and then to nothing. Some changes leave an export that is good.
+"""
+import json
+import random
+import re
+import sys
+
+BYTES = b'0123456789,;:()[]{}"\\-+.eEtnu_a \t\r\n\x00\x1f\x7f\x80\xc3\xff'
+NUMBERS = ["0", "-0", "-1", "1.0", "1e0", "01", "16384", "16385", "18446744073709551615", "18446744073709551616",
+           "9223372036854775807", "9223372036854775808", "1e400", "1" + "0" * 400, "NaN", "Infinity"]
+TEXTS = ["", "-", "root", "local", "spawn", "a-b", "a" * 24, "a" * 25, "[1;1]", "[(1,0);(1,0,1)]", "\u00e9",
+         r"\u0061", r"\ud800", r"\ud83d\ude00"]
+OTHERS = ["null", "true", "{}", "[]", "[0]", "[1]", "[1,1]", "[1,2,3]", '["1"]',
+          *("[" * levels + "]" * levels for levels in (126, 127, 1000, 20000))]
+VALUES = [*NUMBERS, *(f'"{text}"' for text in TEXTS), *OTHERS]
+WORDS = ["local", "spawn", "send", "recv", "end", "join", "-", "root", "task_1", "message_1", "Local", "", "a b", "\u00e9"]
+
+
+def members_of(line):
+    """The members of the line, each as its key and its value in JSON."""
+    return [[json.dumps(key), json.dumps(value, separators=(",", ":"))] for key, value in json.loads(line).items()]
+
+
+def line_of(members, colon=":", comma=","):
+    return "{" + comma.join(key + colon + value for key, value in members) + "}"
+
+
+def at_some_line(change):
+    """The change of a list of members, as one of a whole export."""
+    def change_export(export, choose):
+        lines = export.decode().splitlines()
+        place = choose.randrange(len(lines))
+        members = members_of(lines[place])
+        lines[place] = change(members, choose, place + 1) or line_of(members)
+        return "".join(line + "\n" for line in lines).encode()
+    return change_export
+
+
+def nothing(export, choose):
+    return export
+
+
+def some_byte(export, choose):
+    place = choose.randrange(len(export))
+    new = bytes([choose.choice(BYTES)])
+    rest = export[place + choose.randrange(2):]
+    return export[:place] + choose.choice([b"", new, new]) + rest
+
+
+def some_end(export, choose):
+    """Another end of a line, or of all of them; or fewer lines."""
+    some_line = choose.randrange(export.count(b"\n"))
+    front = b"\n".join(export.split(b"\n")[:some_line])
+    return choose.choice([export.replace(b"\n", b"\r\n"), export[:-1], export + b"\r", export + b"\n", front, front + b"\n"])
+
+
+@at_some_line
+def some_key(members, choose, number):
+    """A key less, one more, one twice, or another one."""
+    place = choose.randrange(6)
+    key, value = members[place]
+    again = [key, choose.choice(VALUES)]
+    before, after = members[:place], members[place + 1:]
+    another = choose.choice([key.upper(), key[:-2] + '"', choose.choice(members)[0], r'"\u0073tamp"'])
+    more = [[*members, again], [again, *members], [*members, ['"more"', value]]]
+    members[:] = choose.choice([before + after, *more, [*before, [another, value], *after]])
+
+
+@at_some_line
+def some_value(members, choose, number):
+    choose.choice(members)[1] = choose.choice(VALUES)
+
+
+@at_some_line
+def some_word(members, choose, number):
+    """The kind, the name or the task is another."""
+    choose.choice([members[1], members[2], members[5]])[1] = json.dumps(choose.choice(WORDS))
+
+
+@at_some_line
+def some_number(members, choose, number):
+    """A number of the line, mostly one of its stamp, is another."""
+    member = choose.choice([members[0], members[3], members[4], members[4], members[4], members[4]])
+    parts = re.split("([0-9]+)", member[1])
+    if len(parts) > 1:
+        place = choose.randrange(1, len(parts), 2)
+        near = [str(max(0, int(parts[place]) + by)) for by in (-2, -1, 1, 2)]
+        parts[place] = choose.choice([*near, *near, choose.choice(NUMBERS)])
+        member[1] = "".join(parts)
+
+
+@at_some_line
+def some_edge(members, choose, number):
+    """One edge more, one less or another one; or the edges stand in another order."""
+    preds = json.loads(members[3][1])
+    one = choose.randrange(1, number + 1)
+    less = preds[:-1] if choose.randrange(2) else preds[1:]
+    others = [sorted({*preds, one}), sorted({*less, one}), less, preds[::-1], [*preds, *preds], [*preds, one]]
+    members[3][1] = json.dumps(choose.choice(others))
+
+
+@at_some_line
+def layout(members, choose, number):
+    """The same, or not quite, with blanks, with other keys first, or just as long as a line may be."""
+    choose.shuffle(members)
+    blank = choose.choice(["", " ", "\t ", "\r", "\x0c"])
+    line = line_of(members, colon=blank + ":" + blank, comma=blank + "," + blank)
+    length = choose.choice([0, 0, 65535, 65536, 65537])
+    return blank + line + blank + " " * (length - len(line) - 2 * len(blank))
+
+
+CHANGES = [nothing, some_byte, some_byte, some_end, some_key, some_value, some_word,
+           some_number, some_number, some_edge, some_edge, layout]
+
+
+def spoiled(export, choose):
+    return choose.choice(CHANGES)(export, choose)
+
+
+if __name__ == "__main__":
+    sys.stdout.buffer.write(spoiled(sys.stdin.buffer.read(), random.Random(int(sys.argv[1]))))
