@@ -1,8 +1,8 @@
 #!/usr/bin/env python3
 """Changes a good export in one place: `spoil.py SEED` reads it from standard input and writes the changed one.
 
-With the same seed it makes the same change: to one byte, one key, one value, one number or one edge, or to how JSON is
-laid out; now and then to nothing. Some changes leave an export that is good.
+With the same seed it makes the same change: to one byte, key, value, number, edge or stamp, to two of them in one line, or
+to how JSON is laid out; now and then to nothing. Some changes leave an export that is good.
 """
 import json
 import random
@@ -17,7 +17,10 @@ TEXTS = ["", "-", "root", "local", "spawn", "a-b", "a" * 24, "a" * 25, "[1;1]", 
 OTHERS = ["null", "true", "{}", "[]", "[0]", "[1]", "[1,1]", "[1,2,3]", '["1"]',
           *("[" * levels + "]" * levels for levels in (126, 127, 1000, 20000))]
 VALUES = [*NUMBERS, *(f'"{text}"' for text in TEXTS), *OTHERS]
-WORDS = ["local", "spawn", "send", "recv", "end", "join", "-", "root", "task_1", "message_1", "Local", "", "a b", "\u00e9"]
+WORDS = ["local", "spawn", "send", "recv", "end", "join", "-", "root", "task_1", "Local", "", "a b", "a" * 24, "a" * 25]
+STAMPS = ["1;(1,0,0)", "1;(0,1,2)", "(1,1);1", "0;1", "1;9223372036854775807", "1;9223372036854775808",
+          "1;(1,0,9223372036854775806)", "1;(1,0,9223372036854775807)", "1;(9223372036854775808,0,1)", "1;01",
+          f"1;{'(0,0,' * 2049}1{')' * 2049}", *(f"{'(0,' * levels}1{')' * levels};1" for levels in (1, 2048, 2049))]
 
 
 def members_of(line):
@@ -58,7 +61,6 @@ def some_end(export, choose):
     return choose.choice([export.replace(b"\n", b"\r\n"), export[:-1], export + b"\r", export + b"\n", front, front + b"\n"])
 
 
-@at_some_line
 def some_key(members, choose, number):
     """A key less, one more, one twice, or another one."""
     place = choose.randrange(6)
@@ -70,18 +72,15 @@ def some_key(members, choose, number):
     members[:] = choose.choice([before + after, *more, [*before, [another, value], *after]])
 
 
-@at_some_line
 def some_value(members, choose, number):
     choose.choice(members)[1] = choose.choice(VALUES)
 
 
-@at_some_line
 def some_word(members, choose, number):
     """The kind, the name or the task is another."""
     choose.choice([members[1], members[2], members[5]])[1] = json.dumps(choose.choice(WORDS))
 
 
-@at_some_line
 def some_number(members, choose, number):
     """A number of the line, mostly one of its stamp, is another."""
     member = choose.choice([members[0], members[3], members[4], members[4], members[4], members[4]])
@@ -93,7 +92,6 @@ def some_number(members, choose, number):
         member[1] = "".join(parts)
 
 
-@at_some_line
 def some_edge(members, choose, number):
     """One edge more, one less or another one; or the edges stand in another order."""
     preds = json.loads(members[3][1])
@@ -103,18 +101,32 @@ def some_edge(members, choose, number):
     members[3][1] = json.dumps(choose.choice(others))
 
 
-@at_some_line
+def some_stamp(members, choose, number):
+    members[4][1] = f'"[{choose.choice(STAMPS)}]"'
+
+
+def some_event(members, choose, number):
+    members[0][1] = str(number + choose.choice([-1, 1, number]))
+
+
+def two_at_once(members, choose, number):
+    """Two changes of one line, of which the least reason is to be told."""
+    for change in choose.sample([some_event, some_edge, some_stamp], 2):
+        change(members, choose, number)
+
+
 def layout(members, choose, number):
-    """The same, or not quite, with blanks, with other keys first, or just as long as a line may be."""
+    """The same, or not quite: with blanks, with other keys first, or as long as a line may be."""
     choose.shuffle(members)
     blank = choose.choice(["", " ", "\t ", "\r", "\x0c"])
     line = line_of(members, colon=blank + ":" + blank, comma=blank + "," + blank)
     length = choose.choice([0, 0, 65535, 65536, 65537])
-    return blank + line + blank + " " * (length - len(line) - 2 * len(blank))
+    return blank + line + blank + " " * (length - len(line) - 2 * len(blank)) + choose.choice(["", "", "\r", "\r\r"])
 
 
-CHANGES = [nothing, some_byte, some_byte, some_end, some_key, some_value, some_word,
-           some_number, some_number, some_edge, some_edge, layout]
+CHANGES = [nothing, some_byte, some_byte, some_end,
+           *map(at_some_line, [some_key, some_value, some_word, some_number, some_number, some_edge, some_edge, some_stamp,
+                               two_at_once, layout])]
 
 
 def spoiled(export, choose):
