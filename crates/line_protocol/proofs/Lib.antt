@@ -9,4 +9,5 @@ pub mod GatherLemmas
 pub mod PatienceLemmas
 mod CallLemmas
 mod PatientTexts
+pub mod TextsInTurn
 pub mod NextLineLemmas

@@ -10,4 +10,5 @@ pub mod LineReading
 pub mod Ends
 pub mod Words
 pub mod Writing
+pub mod TextsInTurn
 pub mod Answer

@@ -1,5 +1,5 @@
 -- What a check leaves, of what its reader gave before and after.
-use Rattle.std.specs.Prelude.{◌≡◌, ℕ, ◌<◌, ◌≤◌, IsTrue, List, [], ◌∷◌, ◌++◌, length, Option, Some, None}
+use Rattle.std.specs.Prelude.{◌≡◌, ℕ, suc, ◌<◌, ◌≤◌, IsTrue, List, [], ◌∷◌, ◌++◌, length, Option, Some, None}
 use Rattle.trace_types.specs.text.Name.{Text}
 use Rattle.line_protocol.specs.declared.line.Line.{Line}
 use Rattle.line_protocol.specs.declared.line.Line.TheVariants.{Whole, TooLong as TooLongLine, End}
@@ -10,7 +10,6 @@ use Rattle.trace_export.specs.Graph.{IsKeptGraph}
 use Rattle.trace_export.specs.Verdict.{IsVerdict, IsRightNext, IsFaulty}
 use Rattle.trace_export.specs.declared.graph.Graph.{Graph}
 use Rattle.trace_export.specs.declared.placed.Placed.{Placed}
-use Rattle.trace_export.specs.declared.reason.Reason.{Reason}
 use Rattle.trace_export.specs.declared.check_fault.CheckFault.{CheckFault}
 use Rattle.trace_export.specs.declared.check_fault.CheckFault.TheVariants.{Read, TooLong}
 use Rattle.trace_export.specs.declared.verdict.Verdict.{Verdict}
@@ -39,8 +38,14 @@ IsTextFound Whole line text = (text ≡ line) × (length line ≤ 65536)
 IsTextFound TooLongLine line text = 65536 < length text
 IsTextFound End line text = ⊥
 
--- the line is right and its event is kept, or it is faulty and nothing is
-abbrev pub IsJudged : Option Reason → Graph → Graph → Text → Type 0
-IsJudged None old new text =
+-- A line with this text is right, and its event is kept; or it is faulty, and the verdict says so.
+abbrev pub IsJudgedAs : Option Verdict → Graph → Graph → Text → Type 0
+IsJudgedAs None old new text =
     (placed : Placed) × IsRightNext old.placed.items text placed × (new.placed.items ≡ old.placed.items ++ placed ∷ []) × IsKeptGraph new
-IsJudged (Some reason) old new text = IsFaulty reason old.placed.items text × (new.placed.items ≡ old.placed.items)
+IsJudgedAs (Some (Yes count)) old new text = ⊥
+IsJudgedAs (Some (No number reason)) old new text = (number ≡ suc (length old.placed.items)) × IsFaulty reason old.placed.items text
+
+-- What is answered where this was found: at the end that all lines were right.
+abbrev pub IsJudged : Line → Text → Option Verdict → Graph → Graph → Type 0
+IsJudged End line verdict old new = verdict ≡ Some (Yes (length old.placed.items))
+IsJudged found line verdict old new = (text : Text) → IsTextFound found line text → IsJudgedAs verdict old new text

@@ -1,6 +1,7 @@
 pub mod Bits
 pub mod Checked
 pub mod Edges
+pub mod Export
 pub mod Graph
 pub mod Laws
 pub mod Listing

@@ -1,8 +1,7 @@
 //! The check of an export.
 ghost use Rattle.std.specs.Prelude.{◌≡◌, ◌+◌, ◌<◌, ◌≤◌, ◌↔◌, ◌^◌, IfOk, IsErrOf, length};
 ghost use Rattle.line_protocol.specs.Source.{StopsAtEnd};
-ghost use Rattle.trace_types.specs.text.Name.{Text};
-ghost use Rattle.trace_export.specs.Checked.{Judges, IsTextFound, IsJudged};
+ghost use Rattle.trace_export.specs.Checked.{Judges, IsJudged};
 ghost use Rattle.trace_export.specs.Graph.{IsKeptGraph};
 
 use crate::add_line::add_line;
@@ -38,28 +37,32 @@ pub fn check<R: Source>(alloc: Global, reader: &mut R) -> Result<Verdict, CheckF
     let mut graph = Graph::new(alloc)?;
     loop {
         let found = lines.next_line(reader)?;
-        if found == Line::End {
-            return Ok(Verdict::Yes(graph.len() as u64));
-        }
-        if let Some(reason) = judge(&mut graph, alloc, found, lines.line())? {
-            return Ok(Verdict::No(graph.len() as u64 + 1, reason));
+        if let Some(verdict) = judge(&mut graph, alloc, found, lines.line())? {
+            return Ok(verdict);
         }
     }
 }
 
-/// Adds the event that a line lists, where it is right; else tells why it is faulty. A line that is too long has no text.
+/// Adds the event that a line lists, where it is right; else gives the verdict, as at the end. A line that is too long has
+/// no text.
 fn judge(
     graph: &mut Graph,
     alloc: Global,
     found: Line,
     line: &[u8],
-) -> Result<Option<Reason>, Memory>
+) -> Result<Option<Verdict>, Memory>
     requires graph { IsKeptGraph graph.old }
     requires whole { found ≡ Line.Whole → length line.now ≤ 65536 }
-    ensures { IfOk result (λ fault. (text : Text) → IsTextFound found line.now text → IsJudged fault graph.old graph.new text) }
+    ensures { IfOk result (λ verdict. IsJudged found line.now verdict graph.old graph.new) }
 {
-    match found {
-        Line::Whole => add_line(graph, alloc, line),
-        Line::TooLong | Line::End => Ok(Some(Reason::NoJson)),
+    let number = graph.len() as u64 + 1;
+    let fault = match found {
+        Line::End => return Ok(Some(Verdict::Yes(graph.len() as u64))),
+        Line::Whole => add_line(graph, alloc, line)?,
+        Line::TooLong => Some(Reason::NoJson),
+    };
+    match fault {
+        Some(reason) => Ok(Some(Verdict::No(number, reason))),
+        None => Ok(None),
     }
 }

@@ -23,7 +23,7 @@ use Rattle.line_protocol.specs.Patience.{SinkCall, WritesPatiently}
 use Rattle.line_protocol.specs.Sink.{Taken}
 use Rattle.line_protocol.specs.Writing.{WritesBoth}
 use Rattle.trace_world.specs.Texts.{AreTexts, output_texts}
-use Rattle.trace_world.proofs.Patience.{WroteTexts, WroteTexts-text}
+use Rattle.line_protocol.proofs.TextsInTurn.{WroteTexts, WroteTexts-text}
 use Rattle.trace_world.specs.Replayed.{counts_of, LeadsTo, DoesLine}
 
 -- The lines that were found were replayed.

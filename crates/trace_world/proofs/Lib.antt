@@ -4,8 +4,9 @@ mod Isolation
 mod Leading
 mod Places
 mod Fronts
-mod Patience
 mod Answering
 mod Following
 mod Parts
 mod Standing
+mod StampTexts
+mod TakingIn

@@ -30,7 +30,7 @@ use Rattle.line_protocol.specs.declared.read_fault.ReadFault.{ReadFault}
 use Rattle.line_protocol.specs.declared.read_fault.ReadFault.TheVariants as read
 use Rattle.trace_world.specs.Faults.{replay_fault_of}
 use Rattle.trace_world.specs.Texts.{AreTexts, WritesInPart}
-use Rattle.trace_world.proofs.Patience.{WroteTexts, WroteTexts-flush, BreaksTexts-text, BreaksTexts-flush}
+use Rattle.line_protocol.proofs.TextsInTurn.{WroteTexts, WroteTexts-flush, BreaksTexts-text, BreaksTexts-flush}
 use Rattle.line_protocol.proofs.LineReadingLemmas.{HasRead-line, HasRead-end, HasRead-none, has_told_end}
 use Rattle.trace_world.specs.declared.counts.Counts.{Counts}
 use Rattle.trace_world.specs.declared.replay_fault.ReplayFault.{ReplayFault}
@@ -59,7 +59,7 @@ pub answered_whole : (given given' : List ℕ) (held held' : Held) (old : World)
 answered_whole given given' held held' old to reply new finds answers = record { line = held'.line; gives = finds.0; answers = answers }
 
 -- the lines that were found are first, however the input goes on
-pub AreFirstLines-from : {start given given' : List ℕ} {held : Held} {found : List Text} (has_ended : Bool) (gave : List ℕ) → HasRead start given held found
+unfoldable pub AreFirstLines-from : {start given given' : List ℕ} {held : Held} {found : List Text} (has_ended : Bool) (gave : List ℕ) → HasRead start given held found
     → given' ≡ given ++ gave → (IsTrue held.is_ended → (gave ≡ []) × IsTrue has_ended) → AreFirstLines start given' has_ended found
 AreFirstLines-from {start = start} {held = held} {found = found} has_ended gave read grows at_end = record {
   came = read.came ++ gave;
@@ -292,7 +292,7 @@ in_part_none before taken world = record {
 }
 
 -- what was given until all was given is all that was known
-gave_known : (known known' : Option (List ℕ)) (given came : List ℕ) → Keeps known known' → IfSome known' (λ whole. given ≡ whole) → given ≡ came → IfSome known (λ whole. whole ≡ came)
+pub gave_known : (known known' : Option (List ℕ)) (given came : List ℕ) → Keeps known known' → IfSome known' (λ whole. given ≡ whole) → given ≡ came → IfSome known (λ whole. whole ≡ came)
 gave_known None known' given came kept gave is = tt
 gave_known (Some whole) None given came kept gave is = absurd kept
 gave_known (Some whole) (Some whole') given came kept gave is = sym kept ∙ (sym gave ∙ is)

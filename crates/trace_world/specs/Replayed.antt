@@ -10,7 +10,8 @@ use Rattle.trace_types.specs.declared.reply.Reply.{Reply}
 use Rattle.line_protocol.specs.Ends.{end_count}
 use Rattle.line_protocol.specs.Source.{Given}
 use Rattle.line_protocol.specs.Sink.{Taken}
-use Rattle.trace_world.specs.Texts.{AreTexts, WritesTexts, WritesInPart}
+use Rattle.line_protocol.specs.TextsInTurn.{WritesTexts}
+use Rattle.trace_world.specs.Texts.{AreTexts, WritesInPart}
 use Rattle.trace_world.specs.declared.counts.Counts.{Counts}
 use Rattle.trace_world.specs.declared.replay_fault.ReplayFault.{ReplayFault}
 use Rattle.trace_world.specs.declared.replay_fault.ReplayFault.TheVariants.{Read, Write, TooLong, Memory}

@@ -7,13 +7,16 @@
 
 mod answer;
 mod counts;
+mod exporting;
 pub mod laws;
+mod ledger_stamps;
 mod replay_fault;
 mod replaying;
 mod replaying_bytes;
 mod world;
 
 pub use counts::Counts;
+pub use exporting::replay_export;
 pub use replay_fault::ReplayFault;
 pub use replaying::replay;
 pub use replaying_bytes::replay_bytes;

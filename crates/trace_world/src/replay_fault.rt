@@ -2,10 +2,11 @@
 ghost use Rattle.std.specs.Prelude.{◌≡◌};
 ghost use Rattle.trace_world.specs.declared.replay_fault.ReplayFault.{ReplayFault};
 ghost use Rattle.trace_world.specs.declared.replay_fault.ReplayFault.TheVariants as variants;
-ghost use Rattle.trace_world.specs.Faults.{replay_fault_of};
+ghost use Rattle.trace_world.specs.Faults.{replay_fault_of, replay_fault_of_export};
 
 use line_protocol::{ReadFault, WriteFault};
 use thiserror::Error;
+use trace_export::ExportFault;
 use trace_types::Memory;
 
 /// Why a replay stops before the end of its input.
@@ -41,6 +42,17 @@ impl From<WriteFault> for ReplayFault {
 
     fn from(_fault: WriteFault) -> ReplayFault {
         ReplayFault::Write
+    }
+}
+
+impl From<ExportFault> for ReplayFault {
+    ghost from_gives = { λ fault replay_fault. replay_fault ≡ replay_fault_of_export fault };
+
+    fn from(fault: ExportFault) -> ReplayFault {
+        match fault {
+            ExportFault::Write => ReplayFault::Write,
+            ExportFault::Memory => ReplayFault::Memory,
+        }
     }
 }
 

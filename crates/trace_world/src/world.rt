@@ -78,6 +78,14 @@ impl World {
         place_of(&self.names, name)
     }
 
+    /// The ledger of the tenant at this place.
+    pub(crate) fn ledger(&self, tenant: usize) -> &Ledger
+        requires { tenant < length self.now.tenants }
+        ensures { slice_get self.now.tenants tenant ≡ Some result.now }
+    {
+        &self.ledgers[tenant]
+    }
+
     /// Does one request of the tenant at this place. It answers 507 only where memory was refused.
     ///
     /// Nothing waits on `rt` while the tenants share nothing.

@@ -12,7 +12,7 @@ use Rattle.std.proofs.KnownBytes.{Keeps-refl, Keeps-trans}
 use Rattle.trace_world.proofs.Fronts.{IfErr-equal, WritesBoth-began}
 use Rattle.trace_world.proofs.Following.{Follows, LeadsTo-none, Follows-line, WroteTexts-line}
 use Rattle.trace_world.proofs.Parts.{in_part_none, in_part_read, in_part_held_back, in_part_unflushed, in_part_last, replays_all, HandsOn-flushed, HandsOn-fault, Answered, answered_where_too_long, answered_where_whole, Follows-as, Follows-flushed, is_no_write_fault, one_if-le}
-use Rattle.trace_world.proofs.Patience.{WroteTexts-none}
+use Rattle.line_protocol.proofs.TextsInTurn.{WroteTexts-none}
 use Rattle.trace_world.proofs.replaying.replay.Goals as goal
 use Rattle.trace_world.proofs.replaying.replay.Given.{Over}
 use Rattle.trace_world.proofs.replaying.replay.Goals.{After-next_line, After-write, After-flush, in-TooLong, in-Whole}

@@ -7,7 +7,7 @@ use Rattle.std.proofs.lemmas.List.Folds.{concat-append}
 use Rattle.trace_types.specs.text.Name.{Text}
 use Rattle.line_protocol.specs.Patience.{SinkCall, Took, WriteInterrupted, FlushInterrupted, FlushDone, CallFailed, bytes_taken_by, failed_calls, write_waits, flush_waits, last_flush_waits, waits_since_bytes, is_last_failed, HasFailed, is_inside, waits_between, EachPatiently, WritesPatiently, GivesUpWriting, FlushesPatiently, GivesUpFlushing}
 use Rattle.line_protocol.proofs.PatienceLemmas.{bytes_taken_by-append, failed_calls-append}
-use Rattle.trace_world.specs.Texts.{BreaksOffAt}
+use Rattle.line_protocol.specs.TextsInTurn.{BreaksOffAt}
 
 -- Each interrupted write came when fewer bytes had been taken.
 abbrev WaitsBefore : ℕ → List SinkCall → Type 0

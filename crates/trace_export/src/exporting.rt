@@ -1,0 +1,152 @@
+//! The writing of an export.
+ghost use Rattle.std.specs.Prelude.{◌≡◌, ◌<◌, ◌≤◌, IfOk, IfErr, IsErrOf, length, string_bytes};
+ghost use Rattle.std.specs.Str.{IsUtf8};
+ghost use Rattle.line_protocol.specs.Writing.{EndsInFault, WritesPart, WritesWhole};
+ghost use Rattle.serde_json.specs.View.{view, items_view};
+ghost use Rattle.trace_types.specs.text.Text.{kind_text, name_text};
+ghost use Rattle.trace_export.specs.Export.{export_lines, listed_row, stamp_at, WritesLines, BreaksLines};
+ghost use Rattle.trace_export.specs.Listing.{listed_json, listed_line, numbers_json};
+
+use crate::{ExportFault, StampTexts};
+use line_protocol::{Sink, write_bytes};
+use serde_json::{Map, Value, put};
+use std::alloc::Global;
+use trace_types::{Kind, Memory, Name, Preds, Row};
+
+/// Writes the export of these rows, whose stamps have these texts: a line for each, with its end. It gives the number of
+/// rows, and flushes nothing.
+///
+/// `Write` comes where a write failed or 1048576 writes of one line were interrupted, and `Memory` where a request for
+/// memory was refused.
+pub fn export_rows<T: StampTexts, W: Sink>(
+    alloc: Global,
+    rows: &[Row],
+    stamps: &T,
+    writer: &mut W,
+) -> Result<u64, ExportFault>
+    requires { length (T.texts stamps.now) ≡ length rows.now }
+    ensures count { IfOk result (λ count. count ≡ length rows.now) }
+    ensures whole { IfOk result (λ _. WritesLines (W.seen writer.old) (W.seen writer.new) (export_lines rows.now (T.texts stamps.now))) }
+    ensures fault { IfErr result (λ fault. BreaksLines fault (W.seen writer.old) (W.seen writer.new) (export_lines rows.now (T.texts stamps.now))) }
+    ensures write { IsErrOf result ExportFault.Write → EndsInFault (W.seen writer.old) (W.seen writer.new) }
+    ensures write_failed { (W.seen writer.old).failures < (W.seen writer.new).failures → IsErrOf result ExportFault.Write }
+{
+    let mut count = 0;
+    for row in rows {
+        count += 1;
+        write_row(alloc, count, row, stamps, writer)?;
+    }
+    Ok(count)
+}
+
+/// Writes the line of one row.
+fn write_row<T: StampTexts, W: Sink>(
+    alloc: Global,
+    event: u64,
+    row: &Row,
+    stamps: &T,
+    writer: &mut W,
+) -> Result<(), ExportFault>
+    requires { (0 < event) × (event ≤ length (T.texts stamps.now)) }
+    ensures whole { IfOk result (λ _. WritesWhole (W.seen writer.old) (W.seen writer.new) (listed_line (listed_row event row.now (stamp_at (T.texts stamps.now) event)))) }
+    ensures part { IsErrOf result ExportFault.Write → WritesPart (W.seen writer.old) (W.seen writer.new) (listed_line (listed_row event row.now (stamp_at (T.texts stamps.now) event))) }
+    ensures unchanged { IsErrOf result ExportFault.Memory → writer.new ≡ writer.old }
+{
+    let stamp = stamps.text(event)?;
+    let line = line_of(alloc, event, row, stamp)?;
+    write_bytes(writer, &line)?;
+    Ok(())
+}
+
+/// The line of a row, with its end.
+fn line_of(alloc: Global, event: u64, row: &Row, stamp: Vec<u8>) -> Result<Vec<u8>, Memory>
+    requires { IsUtf8 stamp.items }
+    ensures { IfOk result (λ line. line.items ≡ listed_line (listed_row event row.now stamp.items)) }
+{
+    let Ok(stamp) = String::from_utf8(stamp) else {
+        unreachable!();
+    };
+    let json = json_of(alloc, event, row, stamp)?;
+    let mut line = json.to_vec(alloc)?;
+    line.push(b'\n')?;
+    Ok(line)
+}
+
+/// The row as JSON.
+fn json_of(alloc: Global, event: u64, row: &Row, stamp: String) -> Result<Value, Memory>
+    ensures { IfOk result (λ json. view json ≡ listed_json (listed_row event row.now (string_bytes stamp))) }
+{
+    let mut members = Map::new(alloc);
+    put(&mut members, alloc, "event", Value::from(event))?;
+    put(
+        &mut members,
+        alloc,
+        "kind",
+        Value::try_from_str(alloc, kind_word(row.kind))?,
+    )?;
+    put(
+        &mut members,
+        alloc,
+        "name",
+        Value::try_from_str(alloc, name_word(&row.name))?,
+    )?;
+    put(
+        &mut members,
+        alloc,
+        "preds",
+        Value::from(preds_json(alloc, &row.preds)?),
+    )?;
+    put(&mut members, alloc, "stamp", Value::from(stamp))?;
+    put(
+        &mut members,
+        alloc,
+        "task",
+        Value::try_from_str(alloc, as_str(&row.task))?,
+    )?;
+    Ok(Value::Object(members))
+}
+
+/// The predecessors as JSON.
+fn preds_json(alloc: Global, preds: &Preds) -> Result<Vec<Value>, Memory>
+    ensures { IfOk result (λ json. items_view json.items ≡ numbers_json preds.now) }
+{
+    let mut items = Vec::with_capacity(alloc, 2)?;
+    for event in preds.as_slice() {
+        items.push(Value::from(*event))?;
+    }
+    Ok(items)
+}
+
+/// The word for the kind of a report.
+fn kind_word(kind: Kind) -> &'static str
+    ensures { result.now ≡ kind_text kind }
+{
+    match kind {
+        Kind::Local => "local",
+        Kind::Spawn => "spawn",
+        Kind::Send => "send",
+        Kind::Recv => "recv",
+        Kind::End => "end",
+        Kind::Join => "join",
+    }
+}
+
+/// The name, or `-` where there is none.
+fn name_word(name: &Option<Name>) -> &str
+    ensures { result.now ≡ name_text name.now }
+{
+    match name {
+        Some(name) => as_str(name),
+        None => "-",
+    }
+}
+
+/// The name's text.
+fn as_str(name: &Name) -> &str
+    ensures { result.now ≡ name.now }
+{
+    let Ok(text) = str::from_utf8(name.as_bytes()) else {
+        unreachable!();
+    };
+    text
+}

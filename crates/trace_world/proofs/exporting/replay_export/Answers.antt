@@ -1,0 +1,64 @@
+use Rattle.std.proofs.Common.{◌<◌, ◌∙◌, ap, sym, length, inr, rules}
+use Rattle.trace_types.specs.text.Lines.{lines}
+use Rattle.trace_export.specs.Export.{BreaksLines, WritesLines}
+use Rattle.trace_world.specs.Exported.{AreRowsLeft, export_of}
+use Rattle.trace_world.proofs.Fronts.{IfErr-equal}
+use Rattle.trace_world.proofs.StampTexts.{length-stamp_texts}
+use Rattle.trace_world.proofs.TakingIn.{ends_held_back, of_ledger, rows_left, stops_export}
+use Rattle.trace_world.proofs.exporting.replay_export.Goals as goal
+use Rattle.trace_world.proofs.exporting.replay_export.Given.{Over}
+use Rattle.trace_world.proofs.exporting.replay_export.Goals.{After-export_rows, In_ok-count}
+
+pub export_rows-requires : goal.export_rows-requires
+export_rows-requires g c = length-stamp_texts c.ledger-ledger.result.now.rows ∙ ap length (sym c.rows.ensures.rows)
+
+-- the rows that are exported
+left : (g : Over) (c : After-export_rows g) → AreRowsLeft c.args.world.now (lines c.in_ok-take_in.ensures.ok.came) c.in_ok-take_in.ensures.ok.marks c.args.tenant c.ledger-ledger.result.now.rows
+left g c =
+    let within : c.args.tenant < length c.take_in.new.world.tenants = search rules in
+    rows_left c.in_ok-take_in.ensures.ok c.args.tenant c.ledger-ledger.result.now within c.ledger-ledger.ensures
+
+-- all of them were written
+wrote : (g : Over) (c : In_ok-count g) → WritesLines (g.W.Sink.seen c.args.writer.now) (g.W.Sink.seen c.export_rows.new.writer) (export_of c.ledger-ledger.result.now.rows)
+wrote g c = of_ledger (WritesLines (g.W.Sink.seen c.args.writer.now) (g.W.Sink.seen c.export_rows.new.writer)) c.rows.result.now c.ledger-ledger.result.now.rows c.rows.ensures.rows c.in_ok-count.ensures.whole
+
+pub returns-in_err-count-clause-fault : goal.returns-in_err-count-clause-fault
+returns-in_err-count-clause-fault g c =
+    let at = goal.at.returns-in_err-count-clause-fault g c in
+    IfErr-equal _ _ _ c.from_residual-in_err-count.ensures.1
+    (inr (record {
+      takes = c.in_ok-take_in.ensures.ok;
+      rows = c.ledger-ledger.result.now.rows;
+      left = left g at.After-export_rows;
+      stops = stops_export c.in_err-count.field-0.0
+          (of_ledger (BreaksLines c.in_err-count.field-0.0 (g.W.Sink.seen c.args.writer.now) (g.W.Sink.seen c.export_rows.new.writer)) c.rows.result.now c.ledger-ledger.result.now.rows c.rows.ensures.rows c.in_err-count.ensures.fault);
+    }))
+
+pub returns-in_err-flush-clause-fault : goal.returns-in_err-flush-clause-fault
+returns-in_err-flush-clause-fault g c =
+    let at = goal.at.returns-in_err-flush-clause-fault g c in
+    IfErr-equal _ _ _ c.from_residual-in_err-flush.ensures.1
+    (inr (record {
+      takes = c.in_ok-take_in.ensures.ok;
+      rows = c.ledger-ledger.result.now.rows;
+      left = left g at.After-export_rows;
+      stops = inr (g.W.Sink.seen c.export_rows.new.writer, wrote g at.In_ok-count, c.in_err-flush.ensures);
+    }))
+
+pub returns-in_err-flush-clause-write : goal.returns-in_err-flush-clause-write
+returns-in_err-flush-clause-write g c =
+    let at = goal.at.returns-in_err-flush-clause-write g c in
+    λ _. ends_held_back (wrote g at.In_ok-count) c.in_err-flush.ensures
+
+pub returns-clause-ok : goal.returns-clause-ok
+returns-clause-ok g c =
+    let at = goal.at.returns-clause-ok g c in
+    record {
+      takes = c.in_ok-take_in.ensures.ok;
+      rows = c.ledger-ledger.result.now.rows;
+      left = left g at.After-export_rows;
+      counted = c.in_ok-count.ensures.count ∙ ap length c.rows.ensures.rows;
+      between = g.W.Sink.seen c.export_rows.new.writer;
+      writes = wrote g at.In_ok-count;
+      hands_on = c.in_ok-flush.ensures;
+    }

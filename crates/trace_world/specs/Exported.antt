@@ -1,0 +1,99 @@
+-- What a replay did that writes an export in place of replies.
+use Rattle.std.specs.Prelude.{◌≡◌, ◌≢◌, ℕ, ◌⊎◌, Bool, IsTrue, List, ◌++◌, length, map, IfSome}
+use Rattle.std.specs.Io.KnownBytes.{Keeps}
+use Rattle.trace_types.specs.text.Name.{Text}
+use Rattle.trace_types.specs.text.Lines.{lines}
+use Rattle.trace_types.specs.tenant.Rows.{events, history_of}
+use Rattle.trace_types.specs.clock.Stamps.{stamp_text_of}
+use Rattle.trace_types.specs.world.Interleaving.{Call, tenant_after}
+use Rattle.trace_types.specs.world.World.{World, IsAfter}
+use Rattle.trace_types.specs.world.Replay.{calls_by, entries}
+use Rattle.trace_types.specs.declared.row.Row.{Row}
+use Rattle.line_protocol.specs.Ends.{end_count}
+use Rattle.line_protocol.specs.Source.{Given}
+use Rattle.line_protocol.specs.Sink.{Taken}
+use Rattle.line_protocol.specs.Writing.{GoesWell, GoesWrong}
+use Rattle.line_protocol.specs.Patience.{FlushesPatiently, GivesUpFlushing}
+use Rattle.trace_export.specs.Export.{BreaksLines, WritesLines, export_lines}
+use Rattle.trace_export.specs.declared.export_fault.ExportFault.TheVariants as export
+use Rattle.trace_world.specs.Replayed.{AreFirstLines, LeadsTo}
+use Rattle.trace_world.specs.declared.counts.Counts.{Counts}
+use Rattle.trace_world.specs.declared.replay_fault.ReplayFault.{ReplayFault}
+use Rattle.trace_world.specs.declared.replay_fault.ReplayFault.TheVariants.{Write, Memory}
+
+-- the texts of the stamps of all events of these rows, the first first
+abbrev pub stamp_texts : List Row → List Text
+stamp_texts rows = map (stamp_text_of (history_of rows)) (events (history_of rows))
+
+-- the lines of the export of these rows
+abbrev pub export_of : List Row → List Text
+export_of rows = export_lines rows (stamp_texts rows)
+
+-- These lines of all tenants, with these marks, lead from the old world to the new one, whatever was to be answered.
+abbrev pub LeadsThere : World → List Text → List Bool → World → Type 0
+LeadsThere old found marks new = (text : Text) × (counts : Counts) × LeadsTo old found marks text counts new
+
+-- All that the reader had was done, where it can tell its bytes, else all that it gave until it told the end, for some
+-- marks that may stand.
+pub record TakesAll (before after : Given) (old new : World) : Type 0 where
+  pub came : List ℕ
+  pub marks : List Bool
+  pub reads : after.bytes ≡ before.bytes ++ came
+  pub ends : IsTrue after.has_ended
+  pub all : IfSome before.whole (λ whole. whole ≡ before.bytes ++ came)
+  pub leads : LeadsThere old (lines came) marks new
+
+-- The first lines were done, as many as ends of line came.
+pub record TakesFirst (before after : Given) (old new : World) : Type 0 where
+  pub found : List Text
+  pub marks : List Bool
+  pub first : AreFirstLines before.bytes after.bytes after.has_ended found
+  pub kept : Keeps before.whole after.whole
+  pub none_lost : length found ≡ end_count first.came
+  pub leads : LeadsThere old found marks new
+
+-- These are the rows that the tenant's own requests among the lines leave, which are not marked, after its own calls that
+-- led to the old world.
+abbrev pub AreRowsLeft : (old : World) (found : List Text) (marks : List Bool) (tenant : ℕ) (rows : List Row) → Type 0
+AreRowsLeft old found marks tenant rows = (calls : List Call) → IsAfter old calls
+    → rows ≡ (tenant_after old.limits (calls ++ calls_by (entries old.names found marks)) tenant).rows
+
+-- What was written was handed on.
+abbrev pub HandsOnAll : Taken → Taken → Type 0
+HandsOnAll before after =
+    (after.bytes ≡ before.bytes) × IsTrue after.is_flushed × GoesWell before after × FlushesPatiently before.calls after.calls
+
+-- It was not, and a fault came.
+abbrev pub HoldsBack : Taken → Taken → Type 0
+HoldsBack before after = (after.bytes ≡ before.bytes) × GoesWrong before after × GivesUpFlushing before.calls after.calls
+
+-- All lines were done, and then the export of the rows was written that the tenant's requests among them leave.
+pub record Exports (before after : Given) (taken taken' : Taken) (old : World) (tenant count : ℕ) (new : World) : Type 0 where
+  pub takes : TakesAll before after old new
+  pub rows : List Row
+  pub left : AreRowsLeft old (lines takes.came) takes.marks tenant rows
+  pub counted : count ≡ length rows
+  pub between : Taken
+  pub writes : WritesLines taken between (export_of rows)
+  pub hands_on : HandsOnAll between taken'
+
+-- how the fault came while the lines were written
+abbrev pub StopsExport : ReplayFault → Taken → Taken → List Text → Type 0
+StopsExport Write taken taken' these =
+    BreaksLines export.Write taken taken' these
+    ⊎ ((between : Taken) × WritesLines taken between these × HoldsBack between taken')
+StopsExport Memory taken taken' these = BreaksLines export.Memory taken taken' these
+StopsExport fault taken taken' these = ⊥
+
+-- All lines were done, and the fault came while the export was written: a front of it was, or all of it and the flush failed.
+pub record ExportsInPart (fault : ReplayFault) (before after : Given) (taken taken' : Taken) (old : World) (tenant : ℕ) (new : World) : Type 0 where
+  pub takes : TakesAll before after old new
+  pub rows : List Row
+  pub left : AreRowsLeft old (lines takes.came) takes.marks tenant rows
+  pub stops : StopsExport fault taken taken' (export_of rows)
+
+-- A fault came: while the lines were read, and then nothing was written; or afterwards.
+abbrev pub BreaksExport : ReplayFault → (before after : Given) (taken taken' : Taken) → World → ℕ → World → Type 0
+BreaksExport fault before after taken taken' old tenant new =
+    ((taken' ≡ taken) × (fault ≢ Write) × TakesFirst before after old new)
+    ⊎ ExportsInPart fault before after taken taken' old tenant new

@@ -1,0 +1,74 @@
+//! The replay that ends in the export of one tenant.
+ghost use Rattle.std.specs.Prelude.{◌≡◌, ◌≢◌, ◌↔◌, ◌+◌, ◌<◌, ◌≤◌, ◌^◌, IfOk, IfErr, IsErrOf, OnOk, OnErr, length};
+ghost use Rattle.line_protocol.specs.Source.{StopsAtEnd};
+ghost use Rattle.line_protocol.specs.Writing.{EndsInFault};
+ghost use Rattle.trace_world.specs.Exported.{BreaksExport, Exports, TakesAll, TakesFirst};
+
+use crate::answer::Answer;
+use crate::ledger_stamps::LedgerStamps;
+use crate::{ReplayFault, World};
+use line_protocol::{Buffer, Line, Sink, Source, flush};
+use std::alloc::Global;
+use trace_export::export_rows;
+
+/// Reads lines of all tenants and does what they ask, as [`crate::replay`] does, but writes no reply; at the end of the
+/// input it writes the export of the tenant at this place. It gives the number of its rows.
+///
+/// `Read` and `TooLong` come before anything is written. `Memory` comes before anything is read or written, or while the
+/// export is written; `Write` comes while it is written.
+pub fn replay_export<T, R: Source, W: Sink>(
+    rt: &T,
+    alloc: Global,
+    world: &mut World,
+    tenant: usize,
+    reader: &mut R,
+    writer: &mut W,
+) -> Result<u64, ReplayFault>
+    requires { tenant < length world.old.tenants }
+    ensures ok { IfOk result (λ count. Exports (R.seen reader.old) (R.seen reader.new)
+        (W.seen writer.old) (W.seen writer.new) world.old tenant count world.new) }
+    ensures fault { IfErr result (λ fault. BreaksExport fault (R.seen reader.old) (R.seen reader.new)
+        (W.seen writer.old) (W.seen writer.new) world.old tenant world.new) }
+
+    // How much is read.
+    ensures reads { (R.seen reader.new).reads ≤ (R.seen reader.old).reads + 2 ^ 30 }
+    ensures ends { StopsAtEnd (R.seen reader.old) (R.seen reader.new) }
+
+    // When each fault comes. A failed read or write is never passed over.
+    ensures read { IsErrOf result ReplayFault.Read ↔ ((R.seen reader.old).failures < (R.seen reader.new).failures) }
+    ensures too_long { IsErrOf result ReplayFault.TooLong → (R.seen reader.new).reads ≡ (R.seen reader.old).reads + 2 ^ 30 }
+    ensures write { IsErrOf result ReplayFault.Write → EndsInFault (W.seen writer.old) (W.seen writer.new) }
+    ensures write_failed { (W.seen writer.old).failures < (W.seen writer.new).failures → IsErrOf result ReplayFault.Write }
+{
+    take_in(rt, alloc, world, reader)?;
+    let ledger = world.ledger(tenant);
+    let stamps = LedgerStamps { alloc, ledger };
+    let count = export_rows(alloc, ledger.rows(), &stamps, writer)?;
+    flush(writer)?;
+    Ok(count)
+}
+
+/// Does what all lines ask.
+fn take_in<T, R: Source>(
+    rt: &T,
+    alloc: Global,
+    world: &mut World,
+    reader: &mut R,
+) -> Result<(), ReplayFault>
+    ensures ok { OnOk result (TakesAll (R.seen reader.old) (R.seen reader.new) world.old world.new) }
+    ensures fault { OnErr result (TakesFirst (R.seen reader.old) (R.seen reader.new) world.old world.new) }
+    ensures reads { (R.seen reader.new).reads ≤ (R.seen reader.old).reads + 2 ^ 30 }
+    ensures ends { StopsAtEnd (R.seen reader.old) (R.seen reader.new) }
+    ensures read { IsErrOf result ReplayFault.Read ↔ ((R.seen reader.old).failures < (R.seen reader.new).failures) }
+    ensures too_long { IsErrOf result ReplayFault.TooLong → (R.seen reader.new).reads ≡ (R.seen reader.old).reads + 2 ^ 30 }
+    ensures no_write { IfErr result (λ fault. fault ≢ ReplayFault.Write) }
+{
+    let mut lines = Buffer::new(alloc)?;
+    loop {
+        match lines.next_line(reader)? {
+            Line::End => return Ok(()),
+            Line::TooLong => {}
+            Line::Whole => drop(Answer::to_line(rt, world, lines.line())),
+        }
+    }
+}

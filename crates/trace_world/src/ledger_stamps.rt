@@ -1,0 +1,31 @@
+//! The stamps of a ledger's events.
+ghost use Rattle.std.specs.Prelude.{◌≡◌};
+
+use std::alloc::Global;
+use tenant_ledger::{Ledger, laws};
+use trace_export::StampTexts;
+use trace_query::Plain;
+use trace_types::{Code, Memory, Reply, Request};
+
+/// The texts of the stamps of a ledger's events, which it is asked for.
+#[derive(Drop)]
+pub(crate) struct LedgerStamps<'a> {
+    pub(crate) alloc: Global,
+    pub(crate) ledger: &'a Ledger,
+}
+
+impl StampTexts for LedgerStamps<'_> {
+    ghost use Rattle.trace_world.specs.Exported.{stamp_texts};
+
+    ghost texts = { λ stamps. stamp_texts stamps.ledger.now.rows };
+
+    fn text(&self, event: u64) -> Result<Vec<u8>, Memory> {
+        laws::greatest_value();
+        let _ = self.ledger.rows();
+        match self.ledger.ask(&Plain, &Request::Stamp(event)) {
+            Reply::Stamp(text) => Ok(text.as_bytes().to_vec(self.alloc)?),
+            Reply::Refused(Code::NoMemory) => Err(Memory),
+            _ => unreachable!(),
+        }
+    }
+}
