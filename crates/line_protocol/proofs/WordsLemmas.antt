@@ -1,9 +1,7 @@
 -- Words and numbers, from the front.
 use Rattle.std.proofs.Common.{◌≡◌, ℕ, suc, ◌+◌, ◌-◌, ◌*◌, ◌^◌, ◌≤◌, ◌<◌, Bool, true, false, cond, List, [], ◌∷◌, ◌++◌, ◌==◌, length, take, drop, get_or, Option, None, Some, refl, sym, ap, ◌∙◌, arith, add-one, subst, ◌&&◌, leb-true}
 use Rattle.std.specs.Prelude.{nat_le}
-use Rattle.std.proofs.lemmas.List.Elements.{All-get_or}
-use Rattle.std.proofs.lemmas.List.Sums.{AllPass-from_list_all}
-use Rattle.std.specs.List.{position, position_from, list_all}
+use Rattle.std.specs.List.{position, position_from}
 use Rattle.std.proofs.lemmas.Iterator.Adapters.{position_from-zero}
 use Rattle.std.proofs.lemmas.Grind.{pow_more}
 use Rattle.std.proofs.Math.Nat.{pow-le-pow_right}
@@ -56,14 +54,10 @@ both_true true true h = (refl, refl)
 both_true true false h = (refl, h)
 both_true false b h = (h, absurd (cc))
 
-bounds : (byte : ℕ) → is_digit byte ≡ true → (48 ≤ byte) × (byte ≤ 57)
-bounds byte is =
+-- a digit lies between the first and the last
+pub digit_bounds : (byte : ℕ) → is_digit byte ≡ true → (48 ≤ byte) × (byte ≤ 57)
+digit_bounds byte is =
     let both = both_true (nat_le 48 byte) (nat_le byte 57) is in (leb-true 48 byte both.0, leb-true byte 57 both.1)
-
--- a digit among digits
-pub digit_at : (digits : Text) (i : ℕ) → list_all is_digit digits ≡ true → i < length digits → (48 ≤ get_or digits i 0) × (get_or digits i 0 ≤ 57)
-digit_at digits i all within =
-    bounds (get_or digits i 0) (All-get_or (λ byte. is_digit byte ≡ true) digits i 0 within (AllPass-from_list_all is_digit digits all))
 
 -- the number stays small
 pub number_fits : (n digit i : ℕ) → n < 10 ^ i → digit ≤ 9 → i < 9 → (10 * n + digit < 10 ^ (i + 1)) × (10 * n + digit < 2 ^ 64)

@@ -1,10 +1,10 @@
 //! Requests, read in place.
-ghost use Rattle.std.specs.Prelude.{◌≡◌, ◌≤◌, ◌∷◌, true, length, position, ◌==◌};
+ghost use Rattle.std.specs.Prelude.{◌≡◌, ◌≤◌, ◌∷◌, IfSome, is_some, length, position, ◌==◌};
 ghost use Rattle.std.specs.Option.{option_copied};
 ghost use Rattle.std.specs.List.{list_all};
 ghost use Rattle.trace_types.specs.text.Name.{is_same};
-ghost use Rattle.trace_types.specs.text.Reading.{request_of, addressed_by, words, number_of, is_digit, is_number, number_onto, name_of, only, only_two, request_of_words};
-ghost use Rattle.line_protocol.specs.Words.{words_after};
+ghost use Rattle.trace_types.specs.text.Reading.{request_of, addressed_by, words, number_of, is_digit, number_onto, name_of, only, only_two, request_of_words, with_names};
+ghost use Rattle.line_protocol.specs.Words.{may_be_number, words_after};
 
 use trace_types::{Name, Request};
 
@@ -27,19 +27,19 @@ fn read_arguments(keyword: &[u8], arguments: &[u8]) -> Option<Request>
         return Some(Request::Local(only_name(arguments)?));
     }
     if is_word(keyword, b"spawn") {
-        return two_names(arguments).map(|(task, child)| Request::Spawn(task, child));
+        return read_spawn(arguments);
     }
     if is_word(keyword, b"send") {
-        return two_names(arguments).map(|(task, message)| Request::Send(task, message));
+        return read_send(arguments);
     }
     if is_word(keyword, b"recv") {
-        return two_names(arguments).map(|(task, message)| Request::Recv(task, message));
+        return read_recv(arguments);
     }
     if is_word(keyword, b"end") {
         return Some(Request::End(only_name(arguments)?));
     }
     if is_word(keyword, b"join") {
-        return two_names(arguments).map(|(task, child)| Request::Join(task, child));
+        return read_join(arguments);
     }
     if is_word(keyword, b"order") {
         return two_numbers(arguments).map(|(first, second)| Request::Order(first, second));
@@ -63,6 +63,38 @@ fn read_arguments(keyword: &[u8], arguments: &[u8]) -> Option<Request>
         return Some(Request::Message(only_name(arguments)?));
     }
     None
+}
+
+/// The arguments of a spawn.
+#[inline(never)]
+fn read_spawn(arguments: &[u8]) -> Option<Request>
+    ensures { result ≡ with_names Request.Spawn (words arguments.now) }
+{
+    two_names(arguments).map(|(task, child)| Request::Spawn(task, child))
+}
+
+/// The arguments of a send.
+#[inline(never)]
+fn read_send(arguments: &[u8]) -> Option<Request>
+    ensures { result ≡ with_names Request.Send (words arguments.now) }
+{
+    two_names(arguments).map(|(task, message)| Request::Send(task, message))
+}
+
+/// The arguments of a receive.
+#[inline(never)]
+fn read_recv(arguments: &[u8]) -> Option<Request>
+    ensures { result ≡ with_names Request.Recv (words arguments.now) }
+{
+    two_names(arguments).map(|(task, message)| Request::Recv(task, message))
+}
+
+/// The arguments of a join.
+#[inline(never)]
+fn read_join(arguments: &[u8]) -> Option<Request>
+    ensures { result ≡ with_names Request.Join (words arguments.now) }
+{
+    two_names(arguments).map(|(task, child)| Request::Join(task, child))
 }
 
 /// The tenant that the line names first, and the request that the rest of it spells; `None` where the first word is
@@ -149,43 +181,37 @@ fn is_word(word: &[u8], other: &[u8]) -> bool
 fn read_number(word: &[u8]) -> Option<u64>
     ensures { result ≡ number_of word.now }
 {
-    if is_number(word) {
-        Some(value_of(word))
+    if may_be_number(word) {
+        value_of(word)
     } else {
         None
     }
 }
 
-fn is_number(word: &[u8]) -> bool
-    ensures { result ≡ is_number word.now }
+fn may_be_number(word: &[u8]) -> bool
+    ensures { result ≡ may_be_number word.now }
 {
-    1 <= word.len()
-        && word.len() <= 9
-        && has_only_digits(word)
-        && (word.len() == 1 || word[0] != b'0')
+    1 <= word.len() && word.len() <= 9 && (word.len() == 1 || word[0] != b'0')
 }
 
-fn has_only_digits(word: &[u8]) -> bool
-    ensures { result ≡ list_all is_digit word.now }
+/// The number whose digits these are, if all are digits.
+fn value_of(word: &[u8]) -> Option<u64>
+    requires { length word.now ≤ 9 }
+    ensures digits { IfSome result (λ number. number ≡ number_onto 0 word.now) }
+    ensures number { is_some result ≡ list_all is_digit word.now }
 {
-    word.iter().all(|byte| is_digit(*byte))
+    let mut number = 0;
+    for byte in word {
+        if !is_digit(*byte) {
+            return None;
+        }
+        number = 10 * number + u64::from(*byte - b'0');
+    }
+    Some(number)
 }
 
 fn is_digit(byte: u8) -> bool
     ensures { result ≡ is_digit byte }
 {
     matches!(byte, b'0'..=b'9')
-}
-
-/// The number whose digits these are.
-fn value_of(word: &[u8]) -> u64
-    requires digits { list_all is_digit word.now ≡ true }
-    requires few { length word.now ≤ 9 }
-    ensures { result ≡ number_onto 0 word.now }
-{
-    let mut number = 0;
-    for byte in word {
-        number = 10 * number + u64::from(*byte - b'0');
-    }
-    number
 }
