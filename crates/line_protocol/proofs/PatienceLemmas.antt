@@ -1,5 +1,5 @@
 -- Calls of a sink, one after another.
-use Rattle.std.proofs.Common.{◌≡◌, ℕ, ◌+◌, ◌≤◌, Bool, true, false, List, [], ◌∷◌, ◌++◌, length, take, Result, Ok, Err, refl, sym, ap, ◌∙◌, append_assoc, arith, length-append, eqb-true, ◌==◌}
+use Rattle.std.proofs.Common.{◌≡◌, ℕ, ◌+◌, ◌<◌, ◌≤◌, ◌⊎◌, Bool, true, false, subst, List, [], ◌∷◌, ◌++◌, length, take, Result, Ok, Err, refl, sym, ap, ◌∙◌, append_assoc, arith, length-append, eqb-true, ◌==◌}
 use Rattle.std.proofs.lemmas.Bool.{and_parts}
 use Rattle.std.proofs.lemmas.List.{length-take-le}
 use Rattle.std.specs.Prelude.{if◌then◌else◌, IfOk, nat_lt, ◌&&◌}
@@ -8,7 +8,7 @@ use Rattle.std.proofs.KnownBytes.{Keeps-refl, Keeps-trans}
 use Rattle.line_protocol.specs.declared.stop.Stop.{Stop}
 use Rattle.line_protocol.specs.declared.stop.Stop.TheVariants as stop
 use Rattle.line_protocol.specs.Sink.{Taken, WritesOnce}
-use Rattle.line_protocol.specs.Writing.{OnlyWrites}
+use Rattle.line_protocol.specs.Writing.{OnlyWrites, TriesToWrite}
 use Rattle.line_protocol.specs.Patience.{SinkCall, Took, WriteInterrupted, FlushInterrupted, FlushDone, CallFailed, bytes_taken_by, failed_calls, write_waits, flush_waits}
 
 -- the counts over two stretches of calls
@@ -112,4 +112,38 @@ OnlyWrites-then {before = before} {middle = middle} {after = after} first second
   interruptions = omega (arith, first.interruptions, second.interruptions, write_waits-append second.more first.more);
   no_flush = omega (arith, first.no_flush, second.no_flush, flush_waits-append second.more first.more);
   began = Keeps-trans before.began middle.began after.began first.began second.began;
+}
+
+-- nothing was tried yet
+pub TriesToWrite-none : {A E : Type 0} (done : A) (taken : Taken) (patience : ℕ) → 0 < patience → TriesToWrite {E = E} taken taken patience patience (Ok done)
+TriesToWrite-none done taken patience some = record { only = OnlyWrites-none taken; spent = (refl, omega arith, refl, some); failed = tt }
+
+-- what a success or a fault gives does not matter
+pub TriesToWrite-ok : {A B E F : Type 0} {before after : Taken} {patience patience' : ℕ} {done : A} (other : B) → TriesToWrite {E = E} before after patience patience' (Ok done) → TriesToWrite {E = F} before after patience patience' (Ok other)
+TriesToWrite-ok other tries = record { only = tries.only; spent = tries.spent; failed = tt }
+
+pub TriesToWrite-err : {A B E F : Type 0} {before after : Taken} {patience patience' : ℕ} {fault : E} (other : F) → TriesToWrite {A = A} before after patience patience' (Err fault) → TriesToWrite {A = B} before after patience patience' (Err other)
+TriesToWrite-err other tries = record { only = tries.only; spent = tries.spent; failed = tries.failed }
+
+-- what was tried, and more after it
+pub TriesToWrite-then : {A B E F : Type 0} {before middle after : Taken} {patience patience' patience'' : ℕ} {done : A} {result : Result B F}
+    → TriesToWrite {E = E} before middle patience patience' (Ok done) → TriesToWrite middle after patience' patience'' result → TriesToWrite before after patience patience'' result
+TriesToWrite-then {result = Ok value} first second = record {
+  only = OnlyWrites-then first.only second.only;
+  spent = (
+    second.spent.0 ∙ first.spent.0,
+    omega (arith, first.spent.1, second.spent.1),
+    omega (arith, first.spent.2, second.spent.2),
+    second.spent.3,
+  );
+  failed = tt;
+}
+TriesToWrite-then {after = after} {patience'' = patience''} {result = Err fault} first second = record {
+  only = OnlyWrites-then first.only second.only;
+  spent = (
+    omega (arith, first.spent.1, second.spent.0),
+    omega (arith, first.spent.2, second.spent.1),
+    subst (λ failures. ((after.failures ≡ failures + 1) × (0 < patience'')) ⊎ ((after.failures ≡ failures) × (patience'' ≡ 0))) first.spent.0 second.spent.2,
+  );
+  failed = second.failed;
 }

@@ -1,12 +1,12 @@
 -- A text that is written, and a flush, with patience of their own.
-use Rattle.std.proofs.Common.{◌≡◌, ℕ, zero, suc, ◌+◌, ◌<◌, ◌≤◌, ◌⊎◌, inl, inr, IsTrue, List, [], ◌∷◌, ◌++◌, length, take, drop, Result, Ok, Err, OnOk, OnErr, refl, sym, ap, ◌∙◌, append_assoc, append-nil, arith, length-append, subst}
+use Rattle.std.proofs.Common.{◌≡◌, ℕ, zero, suc, ◌+◌, ◌<◌, ◌≤◌, ◌⊎◌, inl, inr, IsTrue, List, [], ◌∷◌, ◌++◌, length, take, drop, Result, Ok, Err, OnOk, refl, sym, ap, ◌∙◌, append_assoc, append-nil, arith, length-append, subst}
 use Rattle.std.proofs.lemmas.List.{take-append-drop}
 use Rattle.std.proofs.Math.Seq.{take-append_seam, drop-append_seam}
 use Rattle.std.specs.Io.KnownBytes.{Keeps}
 use Rattle.trace_types.specs.text.Name.{Text}
 use Rattle.line_protocol.specs.declared.stop.Stop.TheVariants as stop
 use Rattle.line_protocol.specs.Sink.{Taken, TakesBoth, FlushesOnce}
-use Rattle.line_protocol.specs.Writing.{OnlyWrites, WritesText, WritesFront, Writes, WritesWhole, WritesBoth, Spends, GathersText, Gathers, GoesWrong}
+use Rattle.line_protocol.specs.Writing.{OnlyWrites, WritesText, WritesFront, Writes, WritesWhole, WritesBoth, TriesToWrite, GathersText, Gathers, GoesWrong}
 use Rattle.line_protocol.specs.Patience.{SinkCall, Took, WriteInterrupted, FlushInterrupted, FlushDone, CallFailed, bytes_taken_by, failed_calls, write_waits, flush_waits, last_flush_waits, waits_since_bytes, is_last_failed, HasFailed, FlushesPatiently, GivesUpFlushing, WritesPatiently}
 use Rattle.line_protocol.proofs.WritingLemmas.{WritesFront-later}
 use Rattle.line_protocol.proofs.GatherLemmas.{Gathers-front}
@@ -72,31 +72,31 @@ goes_wrong before after patience' more spent began (inl failed) = record { more 
 goes_wrong before after patience' more spent began (inr none) = record { more = more; fault = inr (none.0, omega (arith, spent, none.1)); began = began }
 
 -- a text is written with the whole patience
-pub Writes-patiently : {A E : Type 0} (before after : Taken) (patience' : ℕ) (text : Text) (result : Result A E) → WritesText before after result text → Spends before after 1048576 patience' result → OnlyWrites before after
-    → OnErr result (0 < patience' → IsTrue (is_last_failed after.calls)) → OnOk result (0 < length text → waits_since_bytes after.calls ≡ 0) → Writes before after result text
-Writes-patiently before after patience' text (Ok done) wrote spent only last no_wait = (
+pub Writes-patiently : {A E : Type 0} (before after : Taken) (patience' : ℕ) (text : Text) (result : Result A E) → WritesText before after result text → TriesToWrite before after 1048576 patience' result
+    → OnOk result (0 < length text → waits_since_bytes after.calls ≡ 0) → Writes before after result text
+Writes-patiently before after patience' text (Ok done) wrote tries no_wait = (
   wrote,
-  record { failures = spent.0; more = spent.1; few = omega (arith, spent.2, spent.3); began = only.began },
+  record { failures = tries.spent.0; more = tries.spent.1; few = omega (arith, tries.spent.2, tries.spent.3); began = tries.only.began },
   record {
-    more = only.more;
-    calls = only.calls;
-    taken = omega (arith, ap length wrote, length-append before.bytes text, only.taken);
-    none_failed = omega (arith, only.failures, spent.0);
-    few = omega (arith, only.interruptions, spent.2, spent.3);
+    more = tries.only.more;
+    calls = tries.only.calls;
+    taken = omega (arith, ap length wrote, length-append before.bytes text, tries.only.taken);
+    none_failed = omega (arith, tries.only.failures, tries.spent.0);
+    few = omega (arith, tries.only.interruptions, tries.spent.2, tries.spent.3);
     none_idle = λ some.
-        let none : waits_since_bytes (only.more ++ before.calls) ≡ 0 = subst (λ calls. waits_since_bytes calls ≡ 0) only.calls (no_wait some) in
-        omega (arith, waits_since_bytes-front only.more before.calls, none);
-    no_flush = only.no_flush;
+        let none : waits_since_bytes (tries.only.more ++ before.calls) ≡ 0 = subst (λ calls. waits_since_bytes calls ≡ 0) tries.only.calls (no_wait some) in
+        omega (arith, waits_since_bytes-front tries.only.more before.calls, none);
+    no_flush = tries.only.no_flush;
   },
 )
-Writes-patiently before after patience' text (Err fault) front spent only last no_wait = (
+Writes-patiently before after patience' text (Err fault) front tries no_wait = (
   front,
-  goes_wrong before after patience' spent.0 spent.1 only.began spent.2,
+  goes_wrong before after patience' tries.spent.0 tries.spent.1 tries.only.began tries.spent.2,
   record {
-    more = only.more;
-    calls = only.calls;
-    taken = omega (arith, ap length front.grows, length-append before.bytes front.written, ap length front.front, length-append front.written front.rest, front.some_left, only.taken);
-    fault = gives_up before after patience' only spent.1 last spent.2;
+    more = tries.only.more;
+    calls = tries.only.calls;
+    taken = omega (arith, ap length front.grows, length-append before.bytes front.written, ap length front.front, length-append front.written front.rest, front.some_left, tries.only.taken);
+    fault = gives_up before after patience' tries.only tries.spent.1 tries.failed tries.spent.2;
   },
 )
 

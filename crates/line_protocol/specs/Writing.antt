@@ -1,8 +1,8 @@
 -- What calls that write leave, at a fault too.
-use Rattle.std.specs.Prelude.{◌≡◌, ℕ, ◌+◌, ◌≤◌, ◌<◌, Result, Ok, Err, IsTrue, List, ◌++◌, ◌⊎◌, length}
+use Rattle.std.specs.Prelude.{◌≡◌, ℕ, ◌+◌, ◌≤◌, ◌<◌, Result, Ok, Err, OnErr, IsTrue, List, ◌++◌, ◌⊎◌, length}
 use Rattle.trace_types.specs.text.Name.{Text}
 use Rattle.std.specs.Io.KnownBytes.{Keeps}
-use Rattle.line_protocol.specs.Patience.{SinkCall, bytes_taken_by, failed_calls, write_waits, flush_waits, WritesPatiently, GivesUpWriting, FlushesPatiently, GivesUpFlushing}
+use Rattle.line_protocol.specs.Patience.{SinkCall, bytes_taken_by, failed_calls, write_waits, flush_waits, is_last_failed, WritesPatiently, GivesUpWriting, FlushesPatiently, GivesUpFlushing}
 use Rattle.line_protocol.specs.Sink.{Taken}
 
 -- Of the text a front was written, and not all of it.
@@ -96,6 +96,12 @@ pub record OnlyWrites (before after : Taken) : Type 0 where
   pub interruptions : after.interruptions ≡ before.interruptions + write_waits more
   pub no_flush : flush_waits more ≡ 0
   pub began : Keeps before.began after.began
+
+-- In between only writes were made, with so much patience, of which this is left. A failure came last.
+pub record TriesToWrite {A E : Type 0} (before after : Taken) (patience patience' : ℕ) (result : Result A E) : Type 0 where
+  pub only : OnlyWrites before after
+  pub spent : Spends before after patience patience' result
+  pub failed : OnErr result (0 < patience' → IsTrue (is_last_failed after.calls))
 
 -- Over several pieces: the last call failed, and none before it; or none failed, and 1048576 or more were interrupted.
 abbrev pub EndsInFault : Taken → Taken → Type 0

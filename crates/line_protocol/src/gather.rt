@@ -1,8 +1,7 @@
 //! Numbers and texts, gathered on the stack and written in chunks.
 ghost use Rattle.std.specs.Prelude.{◌≡◌, ◌<◌, ◌≤◌, [], ◌++◌, IsTrue, OnErr, OnOk, decimal, codes, length};
 ghost use Rattle.trace_types.specs.text.Text.{numbers_text};
-ghost use Rattle.line_protocol.specs.Patience.{is_last_failed};
-ghost use Rattle.line_protocol.specs.Writing.{GathersText, OnlyWrites, Spends};
+ghost use Rattle.line_protocol.specs.Writing.{GathersText, TriesToWrite};
 
 use crate::pieces::write_piece;
 use crate::reply_text::ReplyText;
@@ -19,9 +18,7 @@ pub(crate) fn gather_numbers<W: Sink>(
     requires patience { 0 < patience.old }
     ensures gathered { GathersText (W.seen writer.old) (W.seen writer.new) text.old text.new result (numbers_text numbers.now) }
     ensures room { OnOk result (length text.new ≤ 127) }
-    ensures spent { Spends (W.seen writer.old) (W.seen writer.new) patience.old patience.new result }
-    ensures only { OnlyWrites (W.seen writer.old) (W.seen writer.new) }
-    ensures failed { OnErr result (0 < patience.new → IsTrue (is_last_failed (W.seen writer.new).calls)) }
+    ensures tries { TriesToWrite (W.seen writer.old) (W.seen writer.new) patience.old patience.new result }
 {
     for number in numbers {
         gather_number(writer, patience, text, *number)?;
@@ -40,9 +37,7 @@ fn gather_number<W: Sink>(
     requires { 0 < patience.old }
     ensures gathered { GathersText (W.seen writer.old) (W.seen writer.new) text.old text.new result (codes " " ++ decimal number) }
     ensures room { OnOk result (length text.new ≤ 127) }
-    ensures spent { Spends (W.seen writer.old) (W.seen writer.new) patience.old patience.new result }
-    ensures only { OnlyWrites (W.seen writer.old) (W.seen writer.new) }
-    ensures failed { OnErr result (0 < patience.new → IsTrue (is_last_failed (W.seen writer.new).calls)) }
+    ensures tries { TriesToWrite (W.seen writer.old) (W.seen writer.new) patience.old patience.new result }
 {
     if text.len() > ReplyText::ROOM - 24 {
         write_gathered(writer, patience, text)?;
@@ -62,9 +57,7 @@ pub(crate) fn gather_bytes<W: Sink>(
     requires patience { 0 < patience.old }
     ensures gathered { GathersText (W.seen writer.old) (W.seen writer.new) text.old text.new result bytes.now }
     ensures room { OnOk result (length text.new ≤ 127) }
-    ensures spent { Spends (W.seen writer.old) (W.seen writer.new) patience.old patience.new result }
-    ensures only { OnlyWrites (W.seen writer.old) (W.seen writer.new) }
-    ensures failed { OnErr result (0 < patience.new → IsTrue (is_last_failed (W.seen writer.new).calls)) }
+    ensures tries { TriesToWrite (W.seen writer.old) (W.seen writer.new) patience.old patience.new result }
 {
     if bytes.len() < ReplyText::ROOM - text.len() {
         text.push(bytes);
@@ -84,9 +77,7 @@ fn write_gathered<W: Sink>(
     requires { 0 < patience.old }
     ensures gathered { GathersText (W.seen writer.old) (W.seen writer.new) text.old text.new result [] }
     ensures none { OnOk result (text.new ≡ []) }
-    ensures spent { Spends (W.seen writer.old) (W.seen writer.new) patience.old patience.new result }
-    ensures only { OnlyWrites (W.seen writer.old) (W.seen writer.new) }
-    ensures failed { OnErr result (0 < patience.new → IsTrue (is_last_failed (W.seen writer.new).calls)) }
+    ensures tries { TriesToWrite (W.seen writer.old) (W.seen writer.new) patience.old patience.new result }
 {
     write_piece(writer, patience, text.as_bytes())?;
     text.clear();

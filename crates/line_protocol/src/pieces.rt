@@ -1,7 +1,7 @@
 //! Texts, written piece by piece.
 ghost use Rattle.std.specs.Prelude.{◌≡◌, ◌+◌, ◌<◌, ◌≤◌, ◌++◌, IfOk, IsTrue, OnErr, OnOk, length, take};
-ghost use Rattle.line_protocol.specs.Patience.{is_last_failed, waits_since_bytes};
-ghost use Rattle.line_protocol.specs.Writing.{OnlyWrites, WritesText, Spends};
+ghost use Rattle.line_protocol.specs.Patience.{waits_since_bytes};
+ghost use Rattle.line_protocol.specs.Writing.{TriesToWrite, WritesText};
 
 use crate::{Sink, Stop, WriteFault};
 
@@ -15,9 +15,7 @@ pub(crate) fn write_pieces<W: Sink>(
 ) -> Result<(), WriteFault>
     requires { 0 < patience.old }
     ensures written { WritesText (W.seen writer.old) (W.seen writer.new) result (first.now ++ second.now) }
-    ensures spent { Spends (W.seen writer.old) (W.seen writer.new) patience.old patience.new result }
-    ensures only { OnlyWrites (W.seen writer.old) (W.seen writer.new) }
-    ensures failed { OnErr result (0 < patience.new → IsTrue (is_last_failed (W.seen writer.new).calls)) }
+    ensures tries { TriesToWrite (W.seen writer.old) (W.seen writer.new) patience.old patience.new result }
     ensures no_wait { OnOk result (0 < length second.now → waits_since_bytes (W.seen writer.new).calls ≡ 0) }
 {
     write_piece(writer, patience, first)?;
@@ -33,9 +31,7 @@ pub(crate) fn write_piece<W: Sink>(
 ) -> Result<(), WriteFault>
     requires { 0 < patience.old }
     ensures written { WritesText (W.seen writer.old) (W.seen writer.new) result piece.now }
-    ensures spent { Spends (W.seen writer.old) (W.seen writer.new) patience.old patience.new result }
-    ensures only { OnlyWrites (W.seen writer.old) (W.seen writer.new) }
-    ensures failed { OnErr result (0 < patience.new → IsTrue (is_last_failed (W.seen writer.new).calls)) }
+    ensures tries { TriesToWrite (W.seen writer.old) (W.seen writer.new) patience.old patience.new result }
     ensures no_wait { OnOk result (0 < length piece.now → waits_since_bytes (W.seen writer.new).calls ≡ 0) }
 {
     if piece.is_empty() {
@@ -54,9 +50,7 @@ pub(crate) fn write_piece<W: Sink>(
 fn write_rest<W: Sink>(writer: &mut W, patience: &mut u64, piece: &[u8]) -> Result<(), WriteFault>
     requires { 0 < patience.old }
     ensures written { WritesText (W.seen writer.old) (W.seen writer.new) result piece.now }
-    ensures spent { Spends (W.seen writer.old) (W.seen writer.new) patience.old patience.new result }
-    ensures only { OnlyWrites (W.seen writer.old) (W.seen writer.new) }
-    ensures failed { OnErr result (0 < patience.new → IsTrue (is_last_failed (W.seen writer.new).calls)) }
+    ensures tries { TriesToWrite (W.seen writer.old) (W.seen writer.new) patience.old patience.new result }
     ensures no_wait { OnOk result (0 < length piece.now → waits_since_bytes (W.seen writer.new).calls ≡ 0) }
 {
     let mut rest = piece;
@@ -79,9 +73,7 @@ fn write_once<W: Sink>(
     ensures ok { IfOk result (λ n. (W.seen writer.new).bytes ≡ (W.seen writer.old).bytes ++ take n piece.now) }
     ensures err { OnErr result ((W.seen writer.new).bytes ≡ (W.seen writer.old).bytes) }
     ensures progress { IfOk result (λ n. 0 < length piece.now → patience.new < patience.old + n) }
-    ensures spent { Spends (W.seen writer.old) (W.seen writer.new) patience.old patience.new result }
-    ensures only { OnlyWrites (W.seen writer.old) (W.seen writer.new) }
-    ensures failed { OnErr result (0 < patience.new → IsTrue (is_last_failed (W.seen writer.new).calls)) }
+    ensures tries { TriesToWrite (W.seen writer.old) (W.seen writer.new) patience.old patience.new result }
     ensures no_wait { IfOk result (λ n. 0 < n → waits_since_bytes (W.seen writer.new).calls ≡ 0) }
 {
     match writer.write_some(piece) {

@@ -3,8 +3,8 @@ ghost use Rattle.std.specs.Prelude.{◌≡◌, ◌+◌, ◌<◌, ◌≤◌, [], 
 ghost use Rattle.trace_types.specs.text.Text.{reply_text, order_text, state_text, kind_text, name_text};
 ghost use Rattle.trace_types.specs.tenant.Code.{code_text};
 ghost use Rattle.line_protocol.specs.Answer.{addressee_text, reply_head, reply_tail};
-ghost use Rattle.line_protocol.specs.Patience.{is_last_failed, waits_since_bytes};
-ghost use Rattle.line_protocol.specs.Writing.{Writes, WritesBoth, Flushes, OnlyWrites, WritesText, GathersText, Spends};
+ghost use Rattle.line_protocol.specs.Patience.{waits_since_bytes};
+ghost use Rattle.line_protocol.specs.Writing.{Writes, WritesBoth, Flushes, WritesText, GathersText, TriesToWrite};
 
 use crate::gather::{gather_bytes, gather_numbers};
 use crate::pieces::{write_piece, write_pieces};
@@ -136,9 +136,7 @@ fn write_behind<W: Sink>(
     requires room { length text.old ≤ 25 }
     requires patience { 0 < patience.old }
     ensures written { WritesText (W.seen writer.old) (W.seen writer.new) result (text.old ++ (reply_text reply.now ++ codes "\n")) }
-    ensures spent { Spends (W.seen writer.old) (W.seen writer.new) patience.old patience.new result }
-    ensures only { OnlyWrites (W.seen writer.old) (W.seen writer.new) }
-    ensures failed { OnErr result (0 < patience.new → IsTrue (is_last_failed (W.seen writer.new).calls)) }
+    ensures tries { TriesToWrite (W.seen writer.old) (W.seen writer.new) patience.old patience.new result }
     ensures no_wait { OnOk result (waits_since_bytes (W.seen writer.new).calls ≡ 0) }
 {
     push_head(text, reply);
@@ -158,9 +156,7 @@ fn gather_tail<W: Sink>(
     requires patience { 0 < patience.old }
     ensures gathered { GathersText (W.seen writer.old) (W.seen writer.new) text.old text.new result (reply_tail reply.now) }
     ensures room { OnOk result (length text.new ≤ 127) }
-    ensures spent { Spends (W.seen writer.old) (W.seen writer.new) patience.old patience.new result }
-    ensures only { OnlyWrites (W.seen writer.old) (W.seen writer.new) }
-    ensures failed { OnErr result (0 < patience.new → IsTrue (is_last_failed (W.seen writer.new).calls)) }
+    ensures tries { TriesToWrite (W.seen writer.old) (W.seen writer.new) patience.old patience.new result }
 {
     match reply {
         Reply::List(events) => gather_numbers(writer, patience, text, events.as_slice()),

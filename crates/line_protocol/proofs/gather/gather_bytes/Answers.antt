@@ -1,4 +1,4 @@
-use Rattle.line_protocol.proofs.PatienceLemmas.{OnlyWrites-then}
+use Rattle.line_protocol.proofs.PatienceLemmas.{TriesToWrite-then}
 use Rattle.line_protocol.proofs.PatientTexts.{GathersText-written}
 use Rattle.line_protocol.proofs.gather.gather_bytes.Goals as goal
 
@@ -8,5 +8,5 @@ returns-clause-gathered g c =
     c.args.text.now c.write_gathered.new.text c.args.bytes.now c.write_piece.result
     c.in_ok-write_gathered.ensures.gathered c.in_ok-write_gathered.ensures.none c.write_piece.ensures.written
 
-pub returns-clause-only : goal.returns-clause-only
-returns-clause-only g c = OnlyWrites-then c.write_gathered.ensures.only c.write_piece.ensures.only
+pub returns-clause-tries : goal.returns-clause-tries
+returns-clause-tries g c = TriesToWrite-then c.in_ok-write_gathered.ensures.tries c.write_piece.ensures.tries

@@ -1,17 +1,14 @@
-use Rattle.std.proofs.Common.{◌≡◌, ◌+◌, ◌<◌, ◌≤◌, length}
+use Rattle.std.proofs.Common.{◌≡◌, ◌+◌, ◌<◌, length, Ok}
+use Rattle.line_protocol.specs.declared.write_fault.WriteFault.{WriteFault}
 use Rattle.line_protocol.specs.Patience.{waits_since_bytes}
-use Rattle.line_protocol.specs.Writing.{OnlyWrites}
+use Rattle.line_protocol.specs.Writing.{TriesToWrite}
 use Rattle.line_protocol.proofs.WritingLemmas.{Wrote}
 use Rattle.line_protocol.proofs.pieces.write_rest.Given as goal
 
 abbrev pub invariant-loop-rest : goal.invariant-loop-rest
 invariant-loop-rest g l = record {
   wrote : Wrote (g.W.Sink.seen l.fn.writer).bytes (g.W.Sink.seen l.writer).bytes l.fn.piece l.rest;
-  failures : (g.W.Sink.seen l.writer).failures ≡ (g.W.Sink.seen l.fn.writer).failures;
-  interruptions : (g.W.Sink.seen l.writer).interruptions + l.patience ≡ (g.W.Sink.seen l.fn.writer).interruptions + l.fn.patience;
-  more : (g.W.Sink.seen l.fn.writer).interruptions ≤ (g.W.Sink.seen l.writer).interruptions;
-  patient : 0 < l.patience;
-  only : OnlyWrites (g.W.Sink.seen l.fn.writer) (g.W.Sink.seen l.writer);
+  tries : TriesToWrite {A = Unit {0}} {E = WriteFault} (g.W.Sink.seen l.fn.writer) (g.W.Sink.seen l.writer) l.fn.patience l.patience (Ok tt);
   no_wait : length l.rest ≡ 0 → 0 < length l.fn.piece → waits_since_bytes (g.W.Sink.seen l.writer).calls ≡ 0;
 }
 

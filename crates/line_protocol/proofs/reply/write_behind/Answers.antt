@@ -2,7 +2,7 @@ use Rattle.std.proofs.Common.{codes}
 use Rattle.std.proofs.lemmas.Result.{err_from_is_err_and}
 use Rattle.line_protocol.specs.Answer.{reply_tail}
 use Rattle.line_protocol.proofs.GatherLemmas.{WritesFront-held, WritesText-gathered, behind-parts}
-use Rattle.line_protocol.proofs.PatienceLemmas.{OnlyWrites-then}
+use Rattle.line_protocol.proofs.PatienceLemmas.{TriesToWrite-then}
 use Rattle.line_protocol.proofs.reply.write_behind.Goals as goal
 
 pub returns-in_err-gather_tail-clause-written : goal.returns-in_err-gather_tail-clause-written
@@ -18,5 +18,5 @@ returns-clause-written g c =
     (reply_tail c.args.reply.now) (codes "\n") c.write_piece.result c.in_ok-gather_tail.ensures.gathered
     (rw (c.as_bytes.ensures.text, c.push.ensures) at c.write_piece.ensures.written))
 
-pub returns-clause-only : goal.returns-clause-only
-returns-clause-only g c = OnlyWrites-then c.gather_tail.ensures.only c.write_piece.ensures.only
+pub returns-clause-tries : goal.returns-clause-tries
+returns-clause-tries g c = TriesToWrite-then c.in_ok-gather_tail.ensures.tries c.write_piece.ensures.tries

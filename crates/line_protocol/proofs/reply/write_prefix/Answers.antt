@@ -5,4 +5,4 @@ use Rattle.line_protocol.proofs.reply.write_prefix.Goals as goal
 pub returns : goal.returns
 returns g c =
     Writes-patiently (g.W.Sink.seen c.args.writer.now) (g.W.Sink.seen c.write_pieces.new.writer) c.write_pieces.new.patience (c.args.addressee.now ++ codes " ") c.write_pieces.result
-    c.write_pieces.ensures.written c.write_pieces.ensures.spent c.write_pieces.ensures.only c.write_pieces.ensures.failed (OnOk-under _ _ _ c.write_pieces.result (omega arith) c.write_pieces.ensures.no_wait)
+    c.write_pieces.ensures.written c.write_pieces.ensures.tries (OnOk-under _ _ _ c.write_pieces.result (omega arith) c.write_pieces.ensures.no_wait)
