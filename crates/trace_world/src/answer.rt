@@ -1,9 +1,8 @@
 //! The answer to one line.
-ghost use Rattle.std.specs.Prelude.{◌≡◌, ◌<◌, ◌≤◌, ◌++◌, codes, false, length, None, Some, OnOk, OnErr};
+ghost use Rattle.std.specs.Prelude.{◌≡◌, ◌≤◌, ◌++◌, codes, false, None, OnOk, OnErr};
 ghost use Rattle.trace_types.specs.text.Lines.{is_too_long};
 ghost use Rattle.trace_types.specs.text.Text.{reply_text};
 ghost use Rattle.line_protocol.specs.Writing.{WritesText, WritesBoth, EndsInFault};
-ghost use Rattle.trace_types.specs.world.World.{StepsOne, IsDue};
 ghost use Rattle.trace_world.specs.Replayed.{DoesLine};
 ghost use Rattle.line_protocol.specs.Answer.{addressee_text, answer_text};
 
@@ -26,45 +25,26 @@ impl Answer {
         requires { is_too_long line.now ≡ false }
         ensures { DoesLine world.old line.now (addressee_text result.tenant) result.reply world.new }
     {
-        let addressed = read_addressed(line);
-        let Some((name, request)) = &addressed else {
+        let Some(addressed) = read_addressed(line) else {
             return Answer::to_nobody(Code::Line);
         };
-        let Some(tenant) = world.find(name) else {
+        let (name, request) = addressed;
+        let Some(tenant) = world.find(&name) else {
             return Answer::to_nobody(Code::NoTenant);
         };
-        match request {
-            Some(request) => {
-                if let Some(reply) = world.step_briefly(rt, tenant, request) {
-                    return Answer {
-                        tenant: Some(*name),
-                        reply,
-                    };
-                }
-                Answer::to_request(rt, world, *name, tenant, request)
-            }
-            None => Answer {
-                tenant: Some(*name),
+        let Some(request) = request else {
+            return Answer {
+                tenant: Some(name),
                 reply: Reply::Refused(Code::Line),
-            },
+            };
+        };
+        if let Some(reply) = world.step_briefly(rt, tenant, &request) {
+            return Answer {
+                tenant: Some(name),
+                reply,
+            };
         }
-    }
-
-    /// Does a request of the tenant of this name, which stands at this place.
-    #[inline(never)]
-    fn to_request<R>(
-        rt: &R,
-        world: &mut World,
-        name: Name,
-        tenant: usize,
-        request: &Request,
-    ) -> Answer
-        requires { tenant < length world.old.tenants }
-        ensures tenant { result.tenant ≡ Some name }
-        ensures step { StepsOne world.old tenant request.now result.reply world.new }
-        ensures due { IsDue world.old tenant request.now result.reply world.new }
-    {
-        let reply = world.step(rt, tenant, request);
+        let reply = world.step_apart(rt, tenant, request);
         Answer {
             tenant: Some(name),
             reply,
