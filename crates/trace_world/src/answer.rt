@@ -33,10 +33,7 @@ impl Answer {
             return Answer::to_nobody(Code::NoTenant);
         };
         let Some(request) = request else {
-            return Answer {
-                tenant: Some(name),
-                reply: Reply::Refused(Code::Line),
-            };
+            return Answer::refusal(Some(name), Code::Line);
         };
         if let Some(reply) = world.step_briefly(rt, tenant, &request) {
             return Answer {
@@ -55,8 +52,15 @@ impl Answer {
     pub(crate) fn to_nobody(code: Code) -> Answer
         ensures { result ≡ record { tenant = None; reply = Reply.Refused code } }
     {
+        Answer::refusal(None, code)
+    }
+
+    /// A refusal to a line that belongs to this tenant, or to none.
+    fn refusal(tenant: Option<Name>, code: Code) -> Answer
+        ensures { result ≡ record { tenant = tenant; reply = Reply.Refused code } }
+    {
         Answer {
-            tenant: None,
+            tenant,
             reply: Reply::Refused(code),
         }
     }

@@ -14,5 +14,6 @@ returns g c =
 
 pub returns-in_default-request : goal.returns-in_default-request
 returns-in_default-request g c =
-    answers_no_request c.args.world.now c.args.line.now _ c.in-Some-find.tenant c.requires
-    (sym c.read_addressed.ensures ∙ c.in-Some.is) c.in_default-request.is (sym c.find.ensures.place ∙ c.in-Some-find.is)
+    rw c.refusal.ensures
+    (answers_no_request c.args.world.now c.args.line.now _ c.in-Some-find.tenant c.requires
+    (sym c.read_addressed.ensures ∙ c.in-Some.is) c.in_default-request.is (sym c.find.ensures.place ∙ c.in-Some-find.is))
