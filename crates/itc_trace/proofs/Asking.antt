@@ -1,4 +1,4 @@
--- Words that ask for a replay are spelled by their parts, and what is asked for is found.
+-- Words that ask for a replay are spelled by their parts, those that ask for a check are `check`, and what is asked for is found.
 use Rattle.std.proofs.Common.{◌≡◌, ◌∙◌, ℕ, suc, ◌≤◌, Bool, true, false, List, [], ◌∷◌, length, Option, Some, None, option_map, option_and_then, refl, sym, ap, ap₂, subst, codes, arith, IfSome, if◌then◌else◌}
 use Rattle.std.specs.Prelude.{unwrap_or}
 use Rattle.std.specs.List.{list_all}
@@ -6,13 +6,14 @@ use Rattle.std.proofs.lemmas.Bool.{and_from}
 use Rattle.std.proofs.lemmas.Slice.Eq.{bytes_eq-Decides}
 use Rattle.clap.specs.Words.{App, HasMatchesOf, Row, is_simple, subcommand_of, subcommand_rows_of, takes}
 use Rattle.clap.specs.Lexer.{usize_max}
+use Rattle.clap.proofs.OnLiterals.{clap_on_literals}
 use Rattle.clap.specs.Walk.{row_text}
 use Rattle.clap.specs.declared.parser.ArgMatches.{ArgMatches}
 use Rattle.trace_types.specs.tenant.Limits.{Limits, are_limits}
 use Rattle.trace_types.specs.text.Name.{Text, is_between, is_same}
 use Rattle.trace_types.specs.text.Reading.{number_of}
-use Rattle.itc_trace.specs.CommandLine.{AskedReplay, Role, Tenant, Events, Tasks, Messages, Part, replay_asked_by, asked_in, asked_with, is_plain, is_role, limit_by, limits_by, limits_of, number_up_to, option_named, parts_after, words_for}
-use Rattle.itc_trace.specs.Reading.{Has, amount_in, limits_found, limits_in, program_app, tenants_found}
+use Rattle.itc_trace.specs.CommandLine.{AskedReplay, Demand, ToReplay, ToCheck, Role, Tenant, Events, Tasks, Messages, Part, replay_asked_by, replay_asked_in, check_asked_in, asked_in, asked_with, is_plain, is_role, limit_by, limits_by, limits_of, number_up_to, option_named, parts_after, words_for}
+use Rattle.itc_trace.specs.Reading.{Has, amount_in, limits_found, limits_in, program_app, tenants_found, work_found}
 use Rattle.itc_trace.proofs.CommandLine.{Fits, FitsOnce, finds, id_of, row_of, simple, spelled, spelled_with, takes_parts}
 use Rattle.itc_trace.proofs.Rows.{row_in}
 
@@ -182,12 +183,12 @@ asks_with [] limits asked e = cc
 asks_with (first ∷ others) limits asked e =
     let is = some_same e in (first, others, refl, sym (ap (λ (a : AskedReplay). a.tenants) is), ap (λ (a : AskedReplay). a.limits) is)
 
-asks_for : (first : Text) (words : List Text) (asked : AskedReplay) → asked_in (first ∷ words) ≡ Some asked → AsksFor (first ∷ words) asked
-asks_for first words asked e = go (is_same first (codes "replay")) refl e
+replay_asks_for : (first : Text) (words : List Text) (asked : AskedReplay) → first ≡ codes "replay" → replay_asked_in words ≡ Some asked → AsksFor (first ∷ words) asked
+replay_asks_for first words asked is_first e = read (parts_after None words) refl e
   where
-    by_limits : (parts : List Part) → first ≡ codes "replay" → Spelled words parts → (limits : Limits) → limits_by parts ≡ Some limits
+    by_limits : (parts : List Part) → Spelled words parts → (limits : Limits) → limits_by parts ≡ Some limits
         → asked_with (words_for Tenant parts) limits ≡ Some asked → AsksFor (first ∷ words) asked
-    by_limits parts is_first is limits by e =
+    by_limits parts is limits by e =
         let with = asks_with (words_for Tenant parts) limits asked e in
         let each = three (limit_by 4096 16384 (words_for Events parts)) (limit_by 512 2048 (words_for Tasks parts)) (limit_by 2048 16384 (words_for Messages parts))
         asked.limits (by ∙ ap Some with.4) in
@@ -204,25 +205,47 @@ asks_for first words asked e = go (is_same first (codes "replay")) refl e
           messages = each.2;
         }
 
-    by_parts : (parts : List Part) → first ≡ codes "replay" → Spelled words parts → (limits : Option Limits) → limits_by parts ≡ limits
+    by_parts : (parts : List Part) → Spelled words parts → (limits : Option Limits) → limits_by parts ≡ limits
         → option_and_then (asked_with (words_for Tenant parts)) limits ≡ Some asked → AsksFor (first ∷ words) asked
-    by_parts parts is_first is None by e = cc
-    by_parts parts is_first is (Some limits) by e = by_limits parts is_first is limits by e
+    by_parts parts is None by e = cc
+    by_parts parts is (Some limits) by e = by_limits parts is limits by e
 
-    read : (after : Option (List Part)) → parts_after None words ≡ after → first ≡ codes "replay" → option_and_then replay_asked_by after ≡ Some asked → AsksFor (first ∷ words) asked
-    read None of is_first e = cc
-    read (Some parts) of is_first e = by_parts parts is_first (spelled_by None words parts tt of) (limits_by parts) refl e
+    read : (after : Option (List Part)) → parts_after None words ≡ after → option_and_then replay_asked_by after ≡ Some asked → AsksFor (first ∷ words) asked
+    read None of e = cc
+    read (Some parts) of e = by_parts parts (spelled_by None words parts tt of) (limits_by parts) refl e
 
-    go : (b : Bool) → is_same first (codes "replay") ≡ b → (if b then option_and_then replay_asked_by (parts_after None words) else None) ≡ Some asked → AsksFor (first ∷ words) asked
-    go true same e = read (parts_after None words) refl ((bytes_eq-Decides first (codes "replay")).0 same) e
-    go false same e = cc
+-- how words ask for this
+abbrev pub Asks : List Text → Demand → Type 0
+Asks words (ToReplay asked) = AsksFor words asked
+Asks words ToCheck = words ≡ codes "check" ∷ []
 
--- words that ask for a replay
-pub asks : (words : List Text) (P : AskedReplay → Type 0) → ((asked : AskedReplay) → AsksFor words asked → P asked) → IfSome (asked_in words) P
+asks_for : (first : Text) (words : List Text) (asked : Demand) → asked_in (first ∷ words) ≡ Some asked → Asks (first ∷ words) asked
+asks_for first words asked e = go (is_same first (codes "replay")) refl e
+  where
+    replay : (one : Option AskedReplay) → first ≡ codes "replay" → replay_asked_in words ≡ one → option_map ToReplay one ≡ Some asked → Asks (first ∷ words) asked
+    replay None is_first of e = cc
+    replay (Some one) is_first of e = subst (Asks (first ∷ words)) (some_same e) (replay_asks_for first words one is_first of)
+
+    check : (rest : List Text) → first ≡ codes "check" → check_asked_in rest ≡ Some asked → Asks (first ∷ rest) asked
+    check [] is_first e = subst (Asks (first ∷ [])) (some_same e) (ap (λ word. word ∷ []) is_first)
+    check (word ∷ rest) is_first e = cc
+
+    other : (b : Bool) → is_same first (codes "check") ≡ b → (if b then check_asked_in words else None) ≡ Some asked → Asks (first ∷ words) asked
+    other true same e = check words ((bytes_eq-Decides first (codes "check")).0 same) e
+    other false same e = cc
+
+    go : (b : Bool) → is_same first (codes "replay") ≡ b
+        → (if b then option_map ToReplay (replay_asked_in words) else if is_same first (codes "check") then check_asked_in words else None) ≡ Some asked
+        → Asks (first ∷ words) asked
+    go true same e = replay (replay_asked_in words) ((bytes_eq-Decides first (codes "replay")).0 same) refl e
+    go false same e = other (is_same first (codes "check")) refl e
+
+-- words that ask for something
+pub asks : (words : List Text) (P : Demand → Type 0) → ((asked : Demand) → Asks words asked → P asked) → IfSome (asked_in words) P
 asks [] P holds = tt
 asks (first ∷ words) P holds = go (asked_in (first ∷ words)) refl
   where
-    go : (o : Option AskedReplay) → asked_in (first ∷ words) ≡ o → IfSome o P
+    go : (o : Option Demand) → asked_in (first ∷ words) ≡ o → IfSome o P
     go None is = tt
     go (Some asked) is = holds asked (asks_for first words asked is)
 
@@ -250,10 +273,11 @@ few_of words asked asks bound =
     omega arith
 
 -- it is found
-found : (words : List Text) (asked : AskedReplay) → AsksFor words asked → length words ≤ usize_max → Has (subcommand_of program_app words) asked
-found words asked asks bound =
+found_replay : (words : List Text) (asked : AskedReplay) → AsksFor words asked → length words ≤ usize_max → Has (subcommand_of program_app words) (ToReplay asked)
+found_replay words asked asks bound =
     let is = finds asks.parts (fits_of words asked asks) (few_of words asked asks bound) in
     let found_is = ap (subcommand_of program_app) asks.words_are ∙ is.1 in (
+      ap work_found found_is,
       ap tenants_found found_is ∙ (ap (λ row. option_map (λ (r : Row). r.values) row) (is.2 Tenant ∙ ap (row_of Tenant) asks.tenants_are)
           ∙ ap Some (sym (asks.asked_are ∙ asks.tenants_are))),
       ap limits_found found_is ∙ (ap (λ limits. option_and_then (λ (l : Limits). if are_limits l.events l.tasks l.messages then Some l else None) limits)
@@ -273,14 +297,35 @@ found words asked asks bound =
         (limit_within 512 2048 (words_for Tasks asks.parts) asked.limits.tasks refl asks.tasks))
         (limit_within 2048 16384 (words_for Messages asks.parts) asked.limits.messages refl asks.messages)
 
+found_check : Has (subcommand_of program_app (codes "check" ∷ [])) ToCheck
+unfolding clap_on_literals
+found_check = refl
+
+found : (words : List Text) (asked : Demand) → Asks words asked → length words ≤ usize_max → Has (subcommand_of program_app words) asked
+found words (ToReplay asked) asks bound = found_replay words asked asks bound
+found words ToCheck asks bound = ap (λ ws. work_found (subcommand_of program_app ws)) asks ∙ found_check
+
+-- what a parse found is what the model finds
+pub found_is : (app : App) (words : List Text) (matches : ArgMatches) → app ≡ program_app → HasMatchesOf app words matches
+    → subcommand_rows_of matches ≡ subcommand_of program_app words
+found_is app words matches app_is has = (has (ap is_simple app_is ∙ simple)).1 ∙ ap (λ a. subcommand_of a words) app_is
+
 -- the matches of a parse have what is asked for
-pub has_asked : (app : App) (words : List Text) (matches : ArgMatches) (asked : AskedReplay) → app ≡ program_app → AsksFor words asked → length words ≤ usize_max
+pub has_asked : (app : App) (words : List Text) (matches : ArgMatches) (asked : Demand) → app ≡ program_app → Asks words asked → length words ≤ usize_max
     → HasMatchesOf app words matches → Has (subcommand_rows_of matches) asked
 has_asked app words matches asked app_is asks bound has =
-    subst (λ rows. Has rows asked) (sym ((has (ap is_simple app_is ∙ simple)).1 ∙ ap (λ a. subcommand_of a words) app_is)) (found words asked asks bound)
+    subst (λ rows. Has rows asked) (sym (found_is app words matches app_is has)) (found words asked asks bound)
+
+takes_check : takes program_app (codes "check" ∷ []) ≡ true
+unfolding clap_on_literals
+takes_check = refl
 
 -- and the words are taken
-pub takes_asked : (app : App) (words : List Text) (asked : AskedReplay) → app ≡ program_app → AsksFor words asked → length words ≤ usize_max → takes app words ≡ true
-takes_asked app words asked app_is asks bound =
-    ap₂ takes app_is asks.words_are
+takes_replay : (words : List Text) (asked : AskedReplay) → AsksFor words asked → length words ≤ usize_max → takes program_app words ≡ true
+takes_replay words asked asks bound =
+    ap (takes program_app) asks.words_are
     ∙ takes_parts asks.parts asks.tenant asks.tenants asks.tenants_are (fits_of words asked asks) (few_of words asked asks bound)
+
+pub takes_asked : (app : App) (words : List Text) (asked : Demand) → app ≡ program_app → Asks words asked → length words ≤ usize_max → takes app words ≡ true
+takes_asked app words (ToReplay asked) app_is asks bound = ap (λ a. takes a words) app_is ∙ takes_replay words asked asks bound
+takes_asked app words ToCheck app_is asks bound = ap₂ takes app_is asks ∙ takes_check

@@ -23,3 +23,11 @@ an_option_is_unknown = refl
 a_number_is_written_behind_its_option : kinds_of (codes "replay" ∷ codes "--events=5" ∷ codes "x" ∷ []) ≡ []
 unfolding clap_on_literals
 a_number_is_written_behind_its_option = refl
+
+a_check_is_taken : kinds_of (codes "check" ∷ []) ≡ []
+unfolding clap_on_literals
+a_check_is_taken = refl
+
+a_check_takes_no_word : kinds_of (codes "check" ∷ codes "x" ∷ []) ≡ UnknownArgument ∷ []
+unfolding clap_on_literals
+a_check_takes_no_word = refl

@@ -3,3 +3,4 @@ mod Asking
 mod CommandLine
 mod KindsOfWords
 mod Rows
+mod Works

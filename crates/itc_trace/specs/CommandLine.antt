@@ -11,6 +11,11 @@ pub record AskedReplay : Type 0 where
   pub limits : Limits
   pub tenants : List Text
 
+-- what the program is asked to do
+pub data Demand : Type 0 where
+  ToReplay : AskedReplay → Demand
+  ToCheck : Demand
+
 -- what a word is: a tenant, or the number of an option
 pub data Role : Type 0 where
   Tenant : Role
@@ -92,11 +97,28 @@ asked_with tenants limits = Some (record { limits = limits; tenants = tenants })
 abbrev pub replay_asked_by : List Part → Option AskedReplay
 replay_asked_by parts = option_and_then (asked_with (words_for Tenant parts)) (limits_by parts)
 
--- what the words ask for, where they are `replay` and then options, each with its number, and tenants
-abbrev pub asked_in : List Text → Option AskedReplay
+-- the replay that the words after `replay` ask for, where they are options, each with its number, and tenants
+abbrev pub replay_asked_in : List Text → Option AskedReplay
+replay_asked_in words = option_and_then replay_asked_by (parts_after None words)
+
+-- the check that the words after `check` ask for, where there are none
+abbrev pub check_asked_in : List Text → Option Demand
+check_asked_in [] = Some ToCheck
+check_asked_in (word ∷ words) = None
+
+-- what the words ask for, by the first of them
+abbrev pub asked_in : List Text → Option Demand
 asked_in [] = None
-asked_in (first ∷ words) = if is_same first (codes "replay") then option_and_then replay_asked_by (parts_after None words) else None
+asked_in (first ∷ words) =
+    if is_same first (codes "replay") then option_map ToReplay (replay_asked_in words)
+    else if is_same first (codes "check") then check_asked_in words
+    else None
 
 -- whether these tenants are taken: they can be those of a world, and each is a name
 abbrev pub are_taken : List Text → Bool
 are_taken tenants = can_be_tenants tenants && list_all is_name tenants
+
+-- whether what is asked for is taken: a check always is
+abbrev pub is_taken : Demand → Bool
+is_taken (ToReplay asked) = are_taken asked.tenants
+is_taken ToCheck = true

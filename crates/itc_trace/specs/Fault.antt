@@ -6,6 +6,8 @@ use Rattle.trace_types.specs.declared.world_fault.WorldFault.{WorldFault}
 use Rattle.trace_types.specs.declared.world_fault.WorldFault.TheVariants as world
 use Rattle.trace_world.specs.declared.replay_fault.ReplayFault.{ReplayFault}
 use Rattle.trace_world.specs.declared.replay_fault.ReplayFault.TheVariants as replay
+use Rattle.trace_export.specs.declared.check_fault.CheckFault.{CheckFault}
+use Rattle.trace_export.specs.declared.check_fault.CheckFault.TheVariants as check
 use Rattle.itc_trace.specs.declared.fault.Fault.{Fault}
 use Rattle.itc_trace.specs.declared.fault.Fault.TheVariants.{Words, Tenants, Read, Write, TooLong, Memory}
 
@@ -38,6 +40,12 @@ fault_of_replay replay.Read = Read
 fault_of_replay replay.Write = Write
 fault_of_replay replay.TooLong = TooLong
 fault_of_replay replay.Memory = Memory
+
+-- the program's fault where a check stops
+abbrev pub fault_of_check : CheckFault → Fault
+fault_of_check check.Read = Read
+fault_of_check check.TooLong = TooLong
+fault_of_check check.Memory = Memory
 
 -- the program's fault where its words cannot be had
 abbrev pub fault_of_words : ErrorKind → Fault

@@ -1,5 +1,5 @@
 -- What the program did.
-use Rattle.std.specs.Prelude.{◌≡◌, ◌≢◌, ℕ, ◌+◌, ◌<◌, ◌^◌, Bool, true, false, IsTrue, List, ◌++◌, ◌⊎◌, length, map, Option, IfSome}
+use Rattle.std.specs.Prelude.{◌≡◌, ◌≢◌, ℕ, ◌+◌, ◌<◌, ◌^◌, Bool, true, false, IsTrue, List, ◌++◌, ◌⊎◌, codes, decimal, length, map, Option, IfSome}
 use Rattle.trace_types.specs.text.Name.{Text}
 use Rattle.trace_types.specs.tenant.Limits.{Limits, are_limits}
 use Rattle.trace_types.specs.tenant.Tenant.{fresh}
@@ -7,11 +7,16 @@ use Rattle.trace_types.specs.world.World.{World}
 use Rattle.line_protocol.specs.Source.{Given}
 use Rattle.line_protocol.specs.Sink.{Taken}
 use Rattle.line_protocol.specs.Writing.{EndsInFault}
+use Rattle.trace_export.specs.Checked.{Judges}
+use Rattle.trace_export.specs.Reasons.{reason_number}
+use Rattle.trace_export.specs.declared.verdict.Verdict.{Verdict}
+use Rattle.trace_export.specs.declared.verdict.Verdict.TheVariants.{Yes, No}
 use Rattle.trace_world.specs.Replayed.{Replays, ReplaysInPart}
 use Rattle.trace_world.specs.declared.counts.Counts.{Counts}
 use Rattle.trace_world.specs.declared.replay_fault.ReplayFault.{ReplayFault}
-use Rattle.itc_trace.specs.CommandLine.{AskedReplay, are_taken}
+use Rattle.itc_trace.specs.CommandLine.{Demand, ToReplay, ToCheck, are_taken}
 use Rattle.itc_trace.specs.Fault.{line_of_fault, fault_of_replay}
+use Rattle.itc_trace.specs.Reading.{Work, Replaying, Checking}
 use Rattle.itc_trace.specs.declared.fault.Fault.{Fault}
 use Rattle.itc_trace.specs.declared.fault.Fault.TheVariants.{Tenants, Read, Write, TooLong}
 
@@ -95,7 +100,62 @@ abbrev pub RefusesTenants : Bool → Taken → Taken → ℕ → Type 0
 RefusesTenants true before after status = status ≢ 2
 RefusesTenants false before after status = ((status ≡ 2) × TellsFault before after Tenants) ⊎ (status ≡ 4)
 
--- What a run that fails leaves: the fault's cause, and in part the replay that is asked for.
-abbrev pub BreaksOff : (before after : Given) (taken taken' : Taken) → Option AskedReplay → Fault → Type 0
+-- the line that tells a verdict
+abbrev pub line_of_verdict : Verdict → Text
+line_of_verdict (Yes events) = codes "yes " ++ decimal events ++ codes "\n"
+line_of_verdict (No line reason) = codes "no " ++ decimal line ++ codes " " ++ decimal (reason_number reason) ++ codes "\n"
+
+-- the status that tells it
+abbrev pub status_of_verdict : Verdict → ℕ
+status_of_verdict (Yes events) = 0
+status_of_verdict (No line reason) = 1
+
+-- A verdict on what the reader gave was told, by its line and by the status.
+pub record TellsVerdict (before after : Given) (taken taken' : Taken) (status : ℕ) : Type 0 where
+  pub verdict : Verdict
+  pub judges : Judges before after verdict
+  pub line : ShowsAll taken taken' (line_of_verdict verdict)
+  pub status_is : status ≡ status_of_verdict verdict
+
+-- Of the line of such a verdict a front was written.
+pub record TellsFrontOfVerdict (before after : Given) (taken taken' : Taken) : Type 0 where
+  pub verdict : Verdict
+  pub judges : Judges before after verdict
+  pub line : ShowsFront taken.bytes taken'.bytes (line_of_verdict verdict)
+
+-- A check was broken off by this fault: nothing was written, unless the fault is one of writing.
+abbrev pub ChecksInPart : (fault : Fault) (before after : Given) (taken taken' : Taken) → Type 0
+ChecksInPart Write before after taken taken' = TellsFrontOfVerdict before after taken taken'
+ChecksInPart fault before after taken taken' = taken' ≡ taken
+
+-- What is asked for was done, and this status tells it.
+abbrev pub Does : (asked : Demand) (before after : Given) (taken taken' : Taken) (status : ℕ) → Type 0
+Does (ToReplay asked) before after taken taken' status =
+    (status ≡ 0) × ReplaysFresh asked.limits asked.tenants before after taken taken'
+Does ToCheck before after taken taken' status = TellsVerdict before after taken taken' status
+
+-- What is asked for was broken off by this fault.
+abbrev pub DoesInPart : (asked : Demand) (fault : Fault) (before after : Given) (taken taken' : Taken) → Type 0
+DoesInPart (ToReplay asked) fault before after taken taken' =
+    ReplaysFreshInPart fault asked.limits asked.tenants before after taken taken'
+DoesInPart ToCheck fault before after taken taken' = ChecksInPart fault before after taken taken'
+
+-- Such work was done, and this status tells it.
+abbrev pub DoesSome : (work : Work) (before after : Given) (taken taken' : Taken) (status : ℕ) → Type 0
+DoesSome Replaying before after taken taken' status = (status ≡ 0) × ReplaysSome before after taken taken'
+DoesSome Checking before after taken taken' status = TellsVerdict before after taken taken' status
+
+-- Such work was broken off by this fault.
+abbrev pub DoesSomeInPart : (work : Work) (fault : Fault) (before after : Given) (taken taken' : Taken) → Type 0
+DoesSomeInPart Replaying fault before after taken taken' = ReplaysSomeInPart fault before after taken taken'
+DoesSomeInPart Checking fault before after taken taken' = ChecksInPart fault before after taken taken'
+
+-- What want of memory leaves: nothing was written on the output; and nothing was read, unless by a check.
+abbrev pub LacksMemory : (work : Work) {R W : Type 0} → R → R → W → W → Type 0
+LacksMemory Replaying reader reader' writer writer' = IsUntouched reader reader' writer writer'
+LacksMemory Checking reader reader' writer writer' = writer' ≡ writer
+
+-- What a run that fails leaves: the fault's cause, and in part what is asked for.
+abbrev pub BreaksOff : (before after : Given) (taken taken' : Taken) → Option Demand → Fault → Type 0
 BreaksOff before after taken taken' asked fault = IsFailure before after taken taken' fault
-    × IfSome asked (λ wanted. ReplaysFreshInPart fault wanted.limits wanted.tenants before after taken taken')
+    × IfSome asked (λ wanted. DoesInPart wanted fault before after taken taken')

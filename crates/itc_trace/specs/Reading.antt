@@ -1,7 +1,7 @@
 -- The command line as it is built, and what is read of it.
 use Rattle.std.specs.Prelude.{◌≡◌, ℕ, true, List, Option, Some, None, Result, Ok, Err, ◌⊎◌, [], codes, option_and_then, if◌then◌else◌, map, string_bytes}
 use Rattle.std.specs.Option.{option_map_or}
-use Rattle.clap.specs.Words.{App, Row, Rule, Text, all_of, one_of, new_app, new_rule, with_rule, with_subcommand}
+use Rattle.clap.specs.Words.{App, Row, Rule, Text, all_of, one_of, new_app, new_rule, subcommand_of, with_rule, with_subcommand}
 use Rattle.clap.specs.Faults.{fault_of}
 use Rattle.clap.specs.Kinds.{IsAmong}
 use Rattle.clap.specs.declared.error.kind.ErrorKind.{ErrorKind}
@@ -9,10 +9,11 @@ use Rattle.clap.specs.declared.error.kind.ErrorKind.TheVariants.{DisplayHelp, Di
 use Rattle.clap.specs.declared.builder.ArgAction.TheVariants.{Append, Set}
 use Rattle.clap.specs.declared.builder.value_parser.ValueParser.TheVariants as parser
 use Rattle.trace_types.specs.tenant.Limits.{Limits, are_limits, default_limits}
+use Rattle.trace_types.specs.text.Name.{is_same}
 use Rattle.trace_types.specs.text.Reading.{number_of}
-use Rattle.itc_trace.specs.CommandLine.{AskedReplay as Wanted, limits_of}
+use Rattle.itc_trace.specs.CommandLine.{AskedReplay as Wanted, Demand, ToReplay, ToCheck, limits_of}
 use Rattle.itc_trace.specs.declared.words.Asked.{Asked}
-use Rattle.itc_trace.specs.declared.words.Asked.TheVariants.{Replay, Show}
+use Rattle.itc_trace.specs.declared.words.Asked.TheVariants.{Replay, Check, Show}
 use Rattle.itc_trace.specs.declared.words.Replay.{Replay as Replays}
 use Rattle.itc_trace.specs.declared.words.Refusal.{Refusal}
 use Rattle.itc_trace.specs.declared.words.Refusal.TheVariants.{Words, Memory}
@@ -39,6 +40,9 @@ replay_app =
     with_rule (with_rule (with_rule (with_rule (new_app (codes "replay")) (limit_rule (codes "events") 16384))
     (limit_rule (codes "tasks") 2048)) (limit_rule (codes "messages") 16384)) tenant_rule
 
+abbrev pub check_app : App
+check_app = new_app (codes "check")
+
 abbrev pub bare_app : App
 bare_app = record (new_app (codes "itc_trace")) {
   top = record (new_app (codes "itc_trace")).top { has_version = true; no_binary_name = true; subcommand_required = true };
@@ -46,11 +50,25 @@ bare_app = record (new_app (codes "itc_trace")) {
 
 -- the whole command line
 abbrev pub program_app : App
-program_app = with_subcommand bare_app replay_app.top
+program_app = with_subcommand (with_subcommand bare_app replay_app.top) check_app.top
 
 -- why the command line does not take the words: the kinds of fault that may come, and none where it takes them
 abbrev pub kinds_of : List (List ℕ) → List ErrorKind
 kinds_of words = fault_of program_app words
+
+-- what a command line that is taken asks for
+pub data Work : Type 0 where
+  Replaying : Work
+  Checking : Work
+
+-- by the command that was found
+abbrev pub work_found : Option (Text × List Row) → Work
+work_found None = Replaying
+work_found (Some found) = if is_same found.0 (codes "check") then Checking else Replaying
+
+-- the work that the words name, where the command line takes them
+abbrev pub work_of : List Text → Work
+work_of words = work_found (subcommand_of program_app words)
 
 -- A fault of this kind is no mistake: help or the version was asked for.
 abbrev pub IsShown : ErrorKind → Type 0
@@ -67,16 +85,18 @@ MayBeRefused kinds = (kinds ≡ []) ⊎ ((kind : ErrorKind) × IsAmong kind kind
 -- what is made of a fault of this kind
 abbrev pub IsToldOf : ErrorKind → Result Asked Refusal → Type 0
 IsToldOf kind (Ok (Replay replay)) = ⊥
+IsToldOf kind (Ok Check) = ⊥
 IsToldOf kind (Ok (Show text)) = IsShown kind
 IsToldOf kind (Err (Words text)) = IsShown kind → ⊥
 IsToldOf kind (Err Memory) = Unit {0}
 
--- what is made of words for which these kinds of fault may come
-abbrev pub IsAnswer : List ErrorKind → Result Asked Refusal → Type 0
-IsAnswer kinds (Ok (Replay replay)) = kinds ≡ []
-IsAnswer kinds (Ok (Show text)) = AsksForHelp kinds
-IsAnswer kinds (Err (Words text)) = MayBeRefused kinds
-IsAnswer kinds (Err Memory) = Unit {0}
+-- what is made of words for which these kinds of fault may come, and which name this work
+abbrev pub IsAnswer : List ErrorKind → Work → Result Asked Refusal → Type 0
+IsAnswer kinds work (Ok (Replay replay)) = (kinds ≡ []) × (work ≡ Replaying)
+IsAnswer kinds work (Ok Check) = (kinds ≡ []) × (work ≡ Checking)
+IsAnswer kinds work (Ok (Show text)) = AsksForHelp kinds
+IsAnswer kinds work (Err (Words text)) = MayBeRefused kinds
+IsAnswer kinds work (Err Memory) = Unit {0}
 
 -- the tenants among what was found of a subcommand
 abbrev pub tenants_found : Option (Text × List Row) → Option (List Text)
@@ -105,16 +125,19 @@ abbrev pub FindsLimits : Option (Text × List Row) → Option Limits → Type 0
 FindsLimits found result = (limits : Limits) → limits_found found ≡ Some limits → result ≡ Some limits
 
 -- What was found is what is asked for.
-abbrev pub Has : Option (Text × List Row) → Wanted → Type 0
-Has found asked = (tenants_found found ≡ Some asked.tenants) × (limits_found found ≡ Some asked.limits)
+abbrev pub Has : Option (Text × List Row) → Demand → Type 0
+Has found (ToReplay asked) =
+    (work_found found ≡ Replaying) × (tenants_found found ≡ Some asked.tenants) × (limits_found found ≡ Some asked.limits)
+Has found ToCheck = work_found found ≡ Checking
 
 -- what a replay that was read is asked for
 abbrev pub wanted_of : Replays → Wanted
 wanted_of replay = record { limits = replay.limits; tenants = map string_bytes replay.tenants.items }
 
 -- What is asked for was read, if there was memory.
-abbrev pub ReadsWords : Wanted → Result Asked Refusal → Type 0
-ReadsWords asked (Ok (Replay replay)) = wanted_of replay ≡ asked
+abbrev pub ReadsWords : Demand → Result Asked Refusal → Type 0
+ReadsWords asked (Ok (Replay replay)) = asked ≡ ToReplay (wanted_of replay)
+ReadsWords asked (Ok Check) = asked ≡ ToCheck
 ReadsWords asked (Ok (Show text)) = ⊥
 ReadsWords asked (Err (Words text)) = ⊥
 ReadsWords asked (Err Memory) = Unit {0}

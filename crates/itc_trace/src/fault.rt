@@ -1,9 +1,10 @@
 //! Why the program does not do what it was asked.
 ghost use Rattle.std.specs.Prelude.{◌≡◌};
-ghost use Rattle.itc_trace.specs.Fault.{status_of, line_of_fault, fault_of_world, fault_of_replay};
+ghost use Rattle.itc_trace.specs.Fault.{status_of, line_of_fault, fault_of_world, fault_of_replay, fault_of_check};
 ghost use Rattle.itc_trace.specs.Program.{TellsFault};
 
 use line_protocol::{Sink, flush, write_bytes};
+use trace_export::CheckFault;
 use trace_types::WorldFault;
 use trace_world::ReplayFault;
 
@@ -78,6 +79,18 @@ impl From<ReplayFault> for Fault {
             ReplayFault::Write => Fault::Write,
             ReplayFault::TooLong => Fault::TooLong,
             ReplayFault::Memory => Fault::Memory,
+        }
+    }
+}
+
+impl From<CheckFault> for Fault {
+    ghost from_gives = { λ fault gives. gives ≡ fault_of_check fault };
+
+    fn from(fault: CheckFault) -> Fault {
+        match fault {
+            CheckFault::Read => Fault::Read,
+            CheckFault::TooLong => Fault::TooLong,
+            CheckFault::Memory => Fault::Memory,
         }
     }
 }

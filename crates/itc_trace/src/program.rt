@@ -1,19 +1,20 @@
 //! What the program does.
-ghost use Rattle.std.specs.Prelude.{◌≡◌, ◌≢◌, ◌<◌, ◌≤◌, ◌++◌, ◌⊎◌, List, [], length, map, true, false, IsTrue, OnOk, IfOk, IfErr, IfSome, IsErr, IsErrAnd, string_bytes};
+ghost use Rattle.std.specs.Prelude.{◌≡◌, ◌≢◌, ◌<◌, ◌≤◌, ◌++◌, ◌⊎◌, List, [], length, map, true, false, IsTrue, OnOk, IfOk, IfErr, IfSome, IsErr, IsErrAnd, IsErrOf, string_bytes};
 ghost use Rattle.line_protocol.specs.Writing.{EndsInFault};
 ghost use Rattle.std.specs.List.{list_all};
 ghost use Rattle.trace_types.specs.text.Name.{Text, is_name};
 ghost use Rattle.trace_types.specs.tenant.Limits.{Limits as Bounds, are_limits};
 ghost use Rattle.itc_trace.specs.CommandLine.{are_taken};
 ghost use Rattle.itc_trace.specs.Fault.{status_of};
-ghost use Rattle.itc_trace.specs.Program.{IsFailure, ReplaysFresh, ReplaysFreshInPart, Shows, ShowsAll, ShowsSome, ShowsSomeAll};
+ghost use Rattle.itc_trace.specs.Program.{ChecksInPart, GoesThrough, TellsFault, TellsVerdict, line_of_verdict, status_of_verdict, IsFailure, ReplaysFresh, ReplaysFreshInPart, Shows, ShowsAll, ShowsSome, ShowsSomeAll};
 ghost use Rattle.itc_trace.specs.Runs.{Runs};
 
 use crate::fault::Fault;
 use crate::words::{Asked, Refusal, Replay, read_words};
 use line_protocol::{Sink, Source, flush, write_bytes};
-use std::alloc::Global;
+use std::alloc::{AllocError, Global};
 use std::convert::AsStr;
+use trace_export::{Verdict, check};
 use trace_types::Name;
 use trace_world::{World, replay};
 
@@ -21,9 +22,9 @@ use trace_world::{World, replay};
 ///
 /// Taken are `replay` and then, in any order, 1 to 16 tenants, none twice, and each of these options once at most:
 /// `--events N` with N from 1 to 16384 (4096 where it is left out), `--tasks N` with N from 1 to 2048 (512) and
-/// `--messages N` with N from 1 to 16384 (2048). The status is 0 where all lines were replayed or all of the help was
-/// shown, 2 where the words or the tenants are refused, 3 for a failed read or write or too long an input, and 4 for want
-/// of memory.
+/// `--messages N` with N from 1 to 16384 (2048); or `check` alone. The status is 0 where all lines were replayed, the
+/// export is right or all of the help was shown, 1 where the export is faulty, 2 where the words or the tenants are
+/// refused, 3 for a failed read or write or too long an input, and 4 for want of memory.
 pub fn run<T: AllocGlobal, S: AsStr, R: Source, W: Sink, E: Sink>(
     rt: &T,
     words: &[S],
@@ -36,6 +37,7 @@ pub fn run<T: AllocGlobal, S: AsStr, R: Source, W: Sink, E: Sink>(
     let alloc = rt.alloc();
     let done = match read_words(alloc, words) {
         Ok(Asked::Replay(wanted)) => replay_tenants(rt, alloc, &wanted, reader, writer),
+        Ok(Asked::Check) => return check_input(alloc, reader, writer, errors),
         Ok(Asked::Show(text)) => show_help(writer, text.as_str()),
         Err(Refusal::Words(text)) => return refuse(errors, text.as_str()),
         Err(Refusal::Memory) => Err(Fault::Memory),
@@ -96,6 +98,72 @@ fn replay_tenants<T, R: Source, W: Sink>(
     match replay(rt, alloc, &mut world, reader, writer) {
         Ok(_) => Ok(()),
         Err(fault) => Err(Fault::from(fault)),
+    }
+}
+
+/// Checks the export that the reader gives, tells the verdict, and answers the status.
+fn check_input<R: Source, W: Sink, E: Sink>(
+    alloc: Global,
+    reader: &mut R,
+    writer: &mut W,
+    errors: &mut E,
+) -> u8
+    ensures done { result < 2 → (errors.new ≡ errors.old)
+        × GoesThrough (R.seen reader.old) (R.seen reader.new) (W.seen writer.old) (W.seen writer.new)
+        × TellsVerdict (R.seen reader.old) (R.seen reader.new) (W.seen writer.old) (W.seen writer.new) result }
+    ensures taken { result ≢ 2 }
+    ensures memory { result ≡ 4 → (writer.new ≡ writer.old) × TellsFault (E.seen errors.old) (E.seen errors.new) Fault.Memory }
+    ensures broken_off { 2 < result → result ≢ 4 → (result ≡ 3) × (fault : Fault)
+        × IsFailure (R.seen reader.old) (R.seen reader.new) (W.seen writer.old) (W.seen writer.new) fault
+        × ChecksInPart fault (R.seen reader.old) (R.seen reader.new) (W.seen writer.old) (W.seen writer.new)
+        × TellsFault (E.seen errors.old) (E.seen errors.new) fault }
+{
+    match tell_verdict(alloc, reader, writer) {
+        Ok(status) => status,
+        Err(cause) => cause.tell(errors),
+    }
+}
+
+/// Checks the export that the reader gives, writes the verdict, and answers the status that tells it too.
+fn tell_verdict<R: Source, W: Sink>(
+    alloc: Global,
+    reader: &mut R,
+    writer: &mut W,
+) -> Result<u8, Fault>
+    ensures told { IfOk result (TellsVerdict (R.seen reader.old) (R.seen reader.new) (W.seen writer.old) (W.seen writer.new)) }
+    ensures through { OnOk result (GoesThrough (R.seen reader.old) (R.seen reader.new) (W.seen writer.old) (W.seen writer.new)) }
+    ensures taken { IfErr result (λ fault. status_of fault ≢ 2) }
+    ensures memory { IsErrOf result Fault.Memory → writer.new ≡ writer.old }
+    ensures in_part { IfErr result (λ fault. fault ≢ Fault.Memory →
+        IsFailure (R.seen reader.old) (R.seen reader.new) (W.seen writer.old) (W.seen writer.new) fault
+        × ChecksInPart fault (R.seen reader.old) (R.seen reader.new) (W.seen writer.old) (W.seen writer.new)) }
+{
+    let verdict = check(alloc, reader)?;
+    let line = verdict_line(alloc, verdict).map_err(|_| Fault::Memory)?;
+    show(writer, line.as_str())?;
+    Ok(verdict_status(verdict))
+}
+
+/// The line that tells the verdict.
+fn verdict_line(alloc: Global, verdict: Verdict) -> Result<String, AllocError>
+    ensures { IfOk result (λ line. string_bytes line ≡ line_of_verdict verdict) }
+{
+    match verdict {
+        Verdict::Yes(events) => format!(in alloc; "yes {events}\n"),
+        Verdict::No(line, reason) => {
+            let reason = reason.number();
+            format!(in alloc; "no {line} {reason}\n")
+        }
+    }
+}
+
+/// The status that tells the verdict.
+fn verdict_status(verdict: Verdict) -> u8
+    ensures { result ≡ status_of_verdict verdict }
+{
+    match verdict {
+        Verdict::Yes(_) => 0,
+        Verdict::No(..) => 1,
     }
 }
 

@@ -1,9 +1,9 @@
 //! The words of the command line.
-ghost use Rattle.std.specs.Prelude.{◌≡◌, ℕ, false, [], Some, Err, map, IfOk, IfErr, IfSome, string_bytes};
+ghost use Rattle.std.specs.Prelude.{◌≡◌, ◌↔◌, IsTrue, ℕ, false, [], Some, Err, map, IfOk, IfErr, IfSome, string_bytes};
 ghost use Rattle.clap.specs.Words.{app_of, found_of, kind_of, rows_of, rule_of, subcommand_rows_of};
 ghost use Rattle.clap.specs.declared.builder.Command.TheViews.{out-Command as fields_of};
-ghost use Rattle.itc_trace.specs.CommandLine.{AskedReplay as Wanted, asked_in};
-ghost use Rattle.itc_trace.specs.Reading.{FindsTenants, FindsLimits, Has, IsAnswer, IsToldOf, ReadsWords, amount_in, kinds_of, limit_rule, program_app, replay_app, tenant_rule};
+ghost use Rattle.itc_trace.specs.CommandLine.{Demand, asked_in};
+ghost use Rattle.itc_trace.specs.Reading.{Checking, FindsTenants, FindsLimits, Has, IsAnswer, IsToldOf, ReadsWords, amount_in, check_app, kinds_of, limit_rule, program_app, replay_app, tenant_rule, work_found, work_of};
 
 use clap::builder::ValueParser;
 use clap::error::ErrorKind;
@@ -15,12 +15,13 @@ use trace_types::Limits;
 /// What help says after the commands.
 const HELP: &str = "\
 A tenant is a group of tasks whose events are ordered among themselves. Its requests report
-events, as `local root` and `send root m`, and ask about them, as `order 1 2`.
+events, as `local root` and `send root m`, and ask about them, as `order 1 2`. An export is a trace
+as lines of JSON, one for each event, with its stamp and the events that it follows.
 
 Example:
   printf 'x local root\\nx local root\\nx order 1 2\\n' | itc_trace replay x
 
-`itc_trace help replay` tells of the lines and the options.";
+`itc_trace help replay` tells of the lines and the options, `itc_trace help check` of the answers.";
 
 /// What help on `replay` says after the options.
 const REPLAY_HELP: &str = "\
@@ -40,6 +41,23 @@ Example:
   y 201 1
   x 200 [1;1]";
 
+/// What help on `check` says after the options.
+const CHECK_HELP: &str = "\
+Standard input is an export. The answer is `yes N` where each of its N lines is right, with status
+0; else `no LINE REASON` with the first faulty line, from 1, and the number of the first of these
+reasons, with status 1:
+  1 it is no JSON, or has more than 65536 bytes
+  2 it is no object of the keys event, kind, name, preds, stamp and task, with their kinds of values
+  3 its event is not the number of the line, or is above 16384
+  4 its preds do not increase, or are no earlier events
+  5 its stamp is none
+  6 the trees of an earlier event and of this one do not compare as the preds say
+
+Example:
+  printf '{\"event\":1,\"kind\":\"local\",\"name\":\"-\",\"preds\":[],\"stamp\":\"[1;1]\",\"task\":\"root\"}\\n' |
+    itc_trace check
+  yes 1";
+
 const EVENTS_HELP: &str = "The most events of each tenant: 1 to 16384 [default: 4096]";
 
 const TASKS_HELP: &str =
@@ -51,6 +69,8 @@ const MESSAGES_HELP: &str = "The most messages of each tenant: 1 to 16384 [defau
 #[derive(Drop)]
 pub(crate) enum Asked {
     Replay(Replay),
+    /// The check of an export.
+    Check,
     /// To show this text: help.
     Show(String),
 }
@@ -102,7 +122,8 @@ fn command<'a>(alloc: Global) -> Result<Command<'a>, AllocError>
         .after_help(HELP)
         .no_binary_name(true)
         .subcommand_required(true)
-        .subcommand(replay_command(alloc)?)
+        .subcommand(replay_command(alloc)?)?
+        .subcommand(check_command(alloc))
 }
 
 /// The command `replay`.
@@ -117,6 +138,16 @@ fn replay_command<'a>(alloc: Global) -> Result<Command<'a>, AllocError>
         .arg(limit(alloc, "tasks", TASKS_HELP, Limits::MOST_TASKS))?
         .arg(limit(alloc, "messages", MESSAGES_HELP, Limits::MOST_MESSAGES))?
         .arg(tenants(alloc))
+}
+
+/// The command `check`.
+fn check_command<'a>(alloc: Global) -> Command<'a>
+    ensures app { app_of result ≡ check_app }
+    ensures local { (fields_of result).has_globals ≡ false }
+{
+    Command::new(alloc, "check")
+        .about("Checks an export from standard input, and writes one line: yes, or no and why")
+        .after_help(CHECK_HELP)
 }
 
 /// The argument for tenants.
@@ -147,12 +178,12 @@ fn limit<'a>(alloc: Global, name: &'a str, help: &'a str, most: u64) -> Arg<'a>
 /// What the words after the program's name ask for.
 ///
 /// Taken are `replay` and then, in any order, 1 or more tenants and each of the options `--events N`, `--tasks N` and
-/// `--messages N` once at most, with a whole number in its range.
+/// `--messages N` once at most, with a whole number in its range; or `check` alone.
 pub(crate) fn read_words<S: AsStr>(alloc: Global, words: &[S]) -> Result<Asked, Refusal>
     // Limits and tenants are read as they stand, and want of memory alone prevents it.
     ensures asked { IfSome (asked_in (map S.text words.now)) (λ asked. ReadsWords asked result) }
     // Whatever the words are, help is shown only where it is asked for.
-    ensures kinds { IsAnswer (kinds_of (map S.text words.now)) result }
+    ensures kinds { IsAnswer (kinds_of (map S.text words.now)) (work_of (map S.text words.now)) result }
 {
     match command(alloc)?.try_get_matches_from(words) {
         Ok(matches) => asked_of(alloc, &matches),
@@ -162,14 +193,24 @@ pub(crate) fn read_words<S: AsStr>(alloc: Global, words: &[S]) -> Result<Asked, 
 
 /// What was found.
 fn asked_of(alloc: Global, matches: &ArgMatches) -> Result<Asked, Refusal>
-    ensures asked { (asked : Wanted) → Has (subcommand_rows_of matches.now) asked → ReadsWords asked result }
-    ensures kinds { IsAnswer [] result }
+    ensures asked { (asked : Demand) → Has (subcommand_rows_of matches.now) asked → ReadsWords asked result }
+    ensures kinds { IsAnswer [] (work_found (subcommand_rows_of matches.now)) result }
 {
+    if is_check(matches) {
+        return Ok(Asked::Check);
+    }
     let tenants = tenants_of(alloc, matches)?;
     match limits_of(matches) {
         Some(limits) => Ok(Asked::Replay(Replay { limits, tenants })),
         None => Err(Refusal::Words(String::new(alloc))),
     }
+}
+
+/// Whether the command `check` was found.
+fn is_check(matches: &ArgMatches) -> bool
+    ensures { IsTrue result ↔ (work_found (subcommand_rows_of matches.now) ≡ Checking) }
+{
+    matches.subcommand_matches("check").is_some()
 }
 
 /// The tenants that were found.

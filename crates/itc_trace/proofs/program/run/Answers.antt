@@ -1,17 +1,17 @@
-use Rattle.std.proofs.Common.{rules, ◌≡◌, ◌∙◌, inl, inr, Bool, true, false, Option, Some, None, Result, Ok, Err, IfSome, IfErr, OnOk, ◌≢◌, map, refl, sym, ap, subst, arith}
-use Rattle.itc_trace.specs.CommandLine.{AskedReplay, are_taken}
+use Rattle.std.proofs.Common.{rules, ◌≡◌, ◌∙◌, inl, inr, Bool, true, false, Option, Some, None, Result, Ok, Err, IfSome, IfErr, OnOk, ◌≢◌, ◌<◌, ◌≤◌, map, refl, sym, ap, subst, arith}
+use Rattle.itc_trace.specs.CommandLine.{Demand, ToReplay, ToCheck, is_taken}
 use Rattle.itc_trace.specs.Fault.{status_of}
-use Rattle.itc_trace.specs.Program.{RefusesTenants, ReplaysFresh, ReplaysFreshInPart, TellsFault}
+use Rattle.itc_trace.specs.Program.{Does, DoesInPart, DoesSome, DoesSomeInPart, IsUntouched, LacksMemory, RefusesTenants, TellsFault}
 use Rattle.line_protocol.specs.Sink.{Taken}
 use Rattle.itc_trace.specs.declared.fault.Fault.{Fault}
 use Rattle.itc_trace.specs.declared.fault.Fault.TheVariants.{Words, Tenants, Read, Write, TooLong, Memory}
-use Rattle.itc_trace.specs.Reading.{IsAnswer, ReadsWords, kinds_of, wanted_of}
-use Rattle.itc_trace.specs.declared.words.Asked.TheVariants.{Replay, Show}
+use Rattle.itc_trace.specs.Reading.{IsAnswer, ReadsWords, Work, Replaying, Checking, kinds_of, wanted_of, work_of}
+use Rattle.itc_trace.specs.declared.words.Asked.TheVariants.{Replay, Check, Show}
 use Rattle.itc_trace.specs.declared.words.Refusal.TheVariants as refusal
 use Rattle.itc_trace.proofs.program.run.Goals as goal
 use Rattle.itc_trace.proofs.program.run.Goals.{in-Ok-Replay, in-Ok-Show, in-Err-Memory}
 
-on_asked : (option : Option AskedReplay) (P Q : AskedReplay → Type 0) → IfSome option P → ((asked : AskedReplay) → P asked → Q asked) → IfSome option Q
+on_asked : (option : Option Demand) (P Q : Demand → Type 0) → IfSome option P → ((asked : Demand) → P asked → Q asked) → IfSome option Q
 on_asked None P Q holds then_holds = tt
 on_asked (Some asked) P Q holds then_holds = then_holds asked holds
 
@@ -47,27 +47,87 @@ memory_taken : (before after : Taken) (taken : Bool) → RefusesTenants taken be
 memory_taken before after true = λ e. omega arith
 memory_taken before after false = inr refl
 
-three_only : (fault : Fault) → status_of fault ≢ 0 → status_of fault ≢ 2 → status_of fault ≢ 4 → status_of fault ≡ 3
-three_only Words zero two four = absurd (two refl)
-three_only Tenants zero two four = absurd (two refl)
-three_only Read zero two four = refl
-three_only Write zero two four = refl
-three_only TooLong zero two four = refl
-three_only Memory zero two four = absurd (four refl)
+three_only : (fault : Fault) → 2 < status_of fault → status_of fault ≢ 4 → status_of fault ≡ 3
+three_only Words more four = absurd (omega arith)
+three_only Tenants more four = absurd (omega arith)
+three_only Read more four = refl
+three_only Write more four = refl
+three_only TooLong more four = refl
+three_only Memory more four = absurd (four refl)
+
+two_at_least : (fault : Fault) → 2 ≤ status_of fault
+two_at_least Words = omega arith
+two_at_least Tenants = omega arith
+two_at_least Read = omega arith
+two_at_least Write = omega arith
+two_at_least TooLong = omega arith
+two_at_least Memory = omega arith
+
+lacks : {R W : Type 0} (work : Work) (reader reader' : R) (writer writer' : W) → IsUntouched reader reader' writer writer' → LacksMemory work reader reader' writer writer'
+lacks Replaying reader reader' writer writer' untouched = untouched
+lacks Checking reader reader' writer writer' untouched = untouched.1
 
 pub returns-in-Err-Words : goal.returns-in-Err-Words
 returns-in-Err-Words g c = record {
   words_refused = λ two.
+      let words = map g.S.AsStr.text c.args.words.now in
       let field : c.in-Err-Words.field-0 ≡ refusal.Words c.in-Err-Words.text = search rules in
-      (subst (λ one. IsAnswer (kinds_of (map g.S.AsStr.text c.args.words.now)) (Err one)) field c.in-Err-Words.ensures.kinds, search rules, search rules);
+      (subst (λ one. IsAnswer (kinds_of words) (work_of words) (Err one)) field c.in-Err-Words.ensures.kinds, search rules, search rules);
   tenants_refused = on_asked _ (λ asked. ReadsWords asked (Err c.in-Err-Words.field-0)) _ c.in-Err-Words.ensures.asked (λ asked read.
       let field : c.in-Err-Words.field-0 ≡ refusal.Words c.in-Err-Words.text = search rules in
       absurd (subst (λ one. ReadsWords asked (Err one)) field read));
   memory = search rules;
   done = search rules;
-  replayed = search rules;
+  did = search rules;
   broken_off = search rules;
 }
+
+pub returns-in-Ok-Check : goal.returns-in-Ok-Check
+returns-in-Ok-Check g c =
+    let words = map g.S.AsStr.text c.args.words.now in
+    let field : c.in-Ok-Check.field-0 ≡ Check = search rules in
+    let answer = subst (λ one. IsAnswer (kinds_of words) (work_of words) (Ok one)) field c.in-Ok-Check.ensures.kinds in
+    let read = on_asked _ (λ asked. ReadsWords asked (Ok c.in-Ok-Check.field-0)) (λ asked. asked ≡ ToCheck) c.in-Ok-Check.ensures.asked
+    (λ asked read. subst (λ one. ReadsWords asked (Ok one)) field read) in
+    record {
+      words_refused = λ two. absurd (c.check_input.ensures.taken two);
+      tenants_refused = on_asked _ (λ asked. asked ≡ ToCheck) _ read (λ asked is.
+          subst (λ one. RefusesTenants (is_taken one) (g.E.Sink.seen c.args.errors.now) (g.E.Sink.seen c.check_input.new.errors) c.check_input.result) (sym is)
+          c.check_input.ensures.taken);
+      memory = λ four.
+          let lacked = c.check_input.ensures.memory four in
+          (subst (λ work. LacksMemory work c.args.reader.now c.check_input.new.reader c.args.writer.now c.check_input.new.writer) (sym answer.1) lacked.0, lacked.1);
+      done = λ few.
+          let did = c.check_input.ensures.done few in (
+            did.0,
+            did.1,
+            inr (
+              answer.0,
+              subst (λ work. DoesSome work (g.R.Source.seen c.args.reader.now) (g.R.Source.seen c.check_input.new.reader)
+                  (g.W.Sink.seen c.args.writer.now) (g.W.Sink.seen c.check_input.new.writer) c.check_input.result) (sym answer.1) did.2,
+            ),
+          );
+      did = λ few. on_asked _ (λ asked. asked ≡ ToCheck) _ read (λ asked is.
+          subst (λ one. Does one (g.R.Source.seen c.args.reader.now) (g.R.Source.seen c.check_input.new.reader)
+          (g.W.Sink.seen c.args.writer.now) (g.W.Sink.seen c.check_input.new.writer) c.check_input.result) (sym is) (c.check_input.ensures.done few).2);
+      broken_off = λ others.
+          let broken = c.check_input.ensures.broken_off others.0 others.1 in (
+            broken.0,
+            broken.1,
+            (
+              broken.2,
+              on_asked _ (λ asked. asked ≡ ToCheck) _ read (λ asked is.
+                  subst (λ one. DoesInPart one broken.1 (g.R.Source.seen c.args.reader.now) (g.R.Source.seen c.check_input.new.reader)
+                  (g.W.Sink.seen c.args.writer.now) (g.W.Sink.seen c.check_input.new.writer)) (sym is) broken.3),
+            ),
+            broken.4,
+            inr (
+              answer.0,
+              subst (λ work. DoesSomeInPart work broken.1 (g.R.Source.seen c.args.reader.now) (g.R.Source.seen c.check_input.new.reader)
+                  (g.W.Sink.seen c.args.writer.now) (g.W.Sink.seen c.check_input.new.writer)) (sym answer.1) broken.3,
+            ),
+          );
+    }
 
 pub returns-in-Ok : goal.returns-in-Ok
 returns-in-Ok g c = record {
@@ -75,42 +135,49 @@ returns-in-Ok g c = record {
   tenants_refused = elim c.match-read_words.branch [
     | in-Ok-Replay w ↦ on_asked _ (λ asked. ReadsWords asked (Ok w.in-Ok-Replay.field-0)) _ w.in-Ok-Replay.ensures.asked (λ asked read.
         let field : w.in-Ok-Replay.field-0 ≡ Replay w.in-Ok-Replay.wanted = search rules in
-        let is : wanted_of w.in-Ok-Replay.wanted ≡ asked = subst (λ one. ReadsWords asked (Ok one)) field read in
+        let is : asked ≡ ToReplay (wanted_of w.in-Ok-Replay.wanted) = subst (λ one. ReadsWords asked (Ok one)) field read in
         let taken = at_ok w.replay_tenants-done.result c.in-Ok.field-0 _ (sym w.done-is ∙ c.in-Ok.is) w.replay_tenants-done.ensures.taken in
-        done_taken _ _ (are_taken asked.tenants) (ap (λ (one : AskedReplay). are_taken one.tenants) (sym is) ∙ taken))
+        done_taken _ _ (is_taken asked) (ap is_taken is ∙ taken))
     | in-Ok-Show w ↦ on_asked _ (λ asked. ReadsWords asked (Ok w.in-Ok-Show.field-0)) _ w.in-Ok-Show.ensures.asked (λ asked read.
         let field : w.in-Ok-Show.field-0 ≡ Show w.in-Ok-Show.text = search rules in
         absurd (subst (λ one. ReadsWords asked (Ok one)) field read))
     | in-Err-Memory w ↦ let no = sym w.done-is ∙ c.in-Ok.is in cc
   ];
   memory = search rules;
-  done = λ zero. (
+  done = λ few. (
     search rules,
     search rules,
     elim c.match-read_words.branch [
       | in-Ok-Replay w ↦
+          let words = map g.S.AsStr.text c.args.words.now in
           let field : w.in-Ok-Replay.field-0 ≡ Replay w.in-Ok-Replay.wanted = search rules in
+          let answer = subst (λ one. IsAnswer (kinds_of words) (work_of words) (Ok one)) field w.in-Ok-Replay.ensures.kinds in
+          let some : DoesSome Replaying (g.R.Source.seen c.args.reader.now) (g.R.Source.seen c.match-read_words.reader)
+          (g.W.Sink.seen c.args.writer.now) (g.W.Sink.seen c.match-read_words.writer) 0 = search rules in
           inr (
-            subst (λ one. IsAnswer (kinds_of (map g.S.AsStr.text c.args.words.now)) (Ok one)) field w.in-Ok-Replay.ensures.kinds,
-            search rules,
+            answer.0,
+            subst (λ work. DoesSome work (g.R.Source.seen c.args.reader.now) (g.R.Source.seen c.match-read_words.reader)
+                (g.W.Sink.seen c.args.writer.now) (g.W.Sink.seen c.match-read_words.writer) 0) (sym answer.1) some,
           )
       | in-Ok-Show w ↦
+          let words = map g.S.AsStr.text c.args.words.now in
           let field : w.in-Ok-Show.field-0 ≡ Show w.in-Ok-Show.text = search rules in
           inl (
-            subst (λ one. IsAnswer (kinds_of (map g.S.AsStr.text c.args.words.now)) (Ok one)) field w.in-Ok-Show.ensures.kinds,
+            refl,
+            subst (λ one. IsAnswer (kinds_of words) (work_of words) (Ok one)) field w.in-Ok-Show.ensures.kinds,
             search rules,
             search rules,
           )
       | in-Err-Memory w ↦ let no = sym w.done-is ∙ c.in-Ok.is in cc
     ],
   );
-  replayed = λ zero. elim c.match-read_words.branch [
+  did = λ few. elim c.match-read_words.branch [
     | in-Ok-Replay w ↦ on_asked _ (λ asked. ReadsWords asked (Ok w.in-Ok-Replay.field-0)) _ w.in-Ok-Replay.ensures.asked (λ asked read.
         let field : w.in-Ok-Replay.field-0 ≡ Replay w.in-Ok-Replay.wanted = search rules in
-        let is : wanted_of w.in-Ok-Replay.wanted ≡ asked = subst (λ one. ReadsWords asked (Ok one)) field read in
+        let is : asked ≡ ToReplay (wanted_of w.in-Ok-Replay.wanted) = subst (λ one. ReadsWords asked (Ok one)) field read in
         let fresh = at_ok w.replay_tenants-done.result c.in-Ok.field-0 _ (sym w.done-is ∙ c.in-Ok.is) w.replay_tenants-done.ensures.ok in
-        subst (λ (one : AskedReplay). ReplaysFresh one.limits one.tenants (g.R.Source.seen c.args.reader.now) (g.R.Source.seen c.match-read_words.reader)
-        (g.W.Sink.seen c.args.writer.now) (g.W.Sink.seen c.match-read_words.writer)) is (rw (w.reader-is, w.writer-is) fresh))
+        subst (λ one. Does one (g.R.Source.seen c.args.reader.now) (g.R.Source.seen c.match-read_words.reader)
+        (g.W.Sink.seen c.args.writer.now) (g.W.Sink.seen c.match-read_words.writer) 0) (sym is) (refl, rw (w.reader-is, w.writer-is) fresh))
     | in-Ok-Show w ↦ on_asked _ (λ asked. ReadsWords asked (Ok w.in-Ok-Show.field-0)) _ w.in-Ok-Show.ensures.asked (λ asked read.
         let field : w.in-Ok-Show.field-0 ≡ Show w.in-Ok-Show.text = search rules in
         absurd (subst (λ one. ReadsWords asked (Ok one)) field read))
@@ -124,8 +191,9 @@ returns-in-Err g c = record {
   words_refused = λ two. (
     elim c.match-read_words.branch [
       | in-Ok-Replay w ↦
+          let words = map g.S.AsStr.text c.args.words.now in
           let field : w.in-Ok-Replay.field-0 ≡ Replay w.in-Ok-Replay.wanted = search rules in
-          inl (subst (λ one. IsAnswer (kinds_of (map g.S.AsStr.text c.args.words.now)) (Ok one)) field w.in-Ok-Replay.ensures.kinds)
+          inl (subst (λ one. IsAnswer (kinds_of words) (work_of words) (Ok one)) field w.in-Ok-Replay.ensures.kinds).0
       | in-Ok-Show w ↦
           let fault = at_err w.show_help-done.result c.in-Err.fault _ (sym w.done-is ∙ c.in-Err.is) w.show_help-done.ensures.err in
           let no : 3 ≡ 2 = sym (c.tell.ensures.status ∙ ap status_of fault.0) ∙ two in
@@ -141,26 +209,28 @@ returns-in-Err g c = record {
   tenants_refused = elim c.match-read_words.branch [
     | in-Ok-Replay w ↦ on_asked _ (λ asked. ReadsWords asked (Ok w.in-Ok-Replay.field-0)) _ w.in-Ok-Replay.ensures.asked (λ asked read.
         let field : w.in-Ok-Replay.field-0 ≡ Replay w.in-Ok-Replay.wanted = search rules in
-        let is : wanted_of w.in-Ok-Replay.wanted ≡ asked = subst (λ one. ReadsWords asked (Ok one)) field read in
-        let same = ap (λ (one : AskedReplay). are_taken one.tenants) (sym is) in
+        let is : asked ≡ ToReplay (wanted_of w.in-Ok-Replay.wanted) = subst (λ one. ReadsWords asked (Ok one)) field read in
+        let same = ap is_taken is in
         let err = sym w.done-is ∙ c.in-Err.is in
         let refused = at_err w.replay_tenants-done.result c.in-Err.fault _ err w.replay_tenants-done.ensures.refused in
         let in_part = at_err w.replay_tenants-done.result c.in-Err.fault _ err w.replay_tenants-done.ensures.in_part in
-        subst (λ status. RefusesTenants (are_taken asked.tenants) (g.E.Sink.seen c.args.errors.now) (g.E.Sink.seen c.tell.new.errors) status) (sym c.tell.ensures.status)
-        (status_taken _ _ c.in-Err.fault (are_taken asked.tenants) c.tell.ensures.told (λ two. ((refused two).0, same ∙ (refused two).1)) (λ three. same ∙ (in_part three).0)))
+        subst (λ status. RefusesTenants (is_taken asked) (g.E.Sink.seen c.args.errors.now) (g.E.Sink.seen c.tell.new.errors) status) (sym c.tell.ensures.status)
+        (status_taken _ _ c.in-Err.fault (is_taken asked) c.tell.ensures.told (λ two. ((refused two).0, same ∙ (refused two).1)) (λ three. same ∙ (in_part three).0)))
     | in-Ok-Show w ↦ on_asked _ (λ asked. ReadsWords asked (Ok w.in-Ok-Show.field-0)) _ w.in-Ok-Show.ensures.asked (λ asked read.
         let field : w.in-Ok-Show.field-0 ≡ Show w.in-Ok-Show.text = search rules in
         absurd (subst (λ one. ReadsWords asked (Ok one)) field read))
     | in-Err-Memory w ↦ on_asked _ (λ asked. ReadsWords asked (Err w.in-Err-Memory.field-0)) _ w.in-Err-Memory.ensures.asked (λ asked read.
         let fault_is = same_err c.match-read_words.done c.in-Err.fault Memory c.in-Err.is w.done-is in
-        subst (λ status. RefusesTenants (are_taken asked.tenants) (g.E.Sink.seen c.args.errors.now) (g.E.Sink.seen c.tell.new.errors) status) (sym (c.tell.ensures.status ∙ ap status_of fault_is)) (memory_taken _ _ (are_taken asked.tenants)))
+        subst (λ status. RefusesTenants (is_taken asked) (g.E.Sink.seen c.args.errors.now) (g.E.Sink.seen c.tell.new.errors) status) (sym (c.tell.ensures.status ∙ ap status_of fault_is)) (memory_taken _ _ (is_taken asked)))
   ];
-  memory = search rules;
-  done = search rules;
-  replayed = search rules;
+  memory = λ four.
+      let untouched : IsUntouched c.args.reader.now c.match-read_words.reader c.args.writer.now c.match-read_words.writer = search rules in
+      (lacks (work_of (map g.S.AsStr.text c.args.words.now)) _ _ _ _ untouched, search rules);
+  done = λ few. absurd (omega (arith, two_at_least c.in-Err.fault, c.tell.ensures.status));
+  did = λ few. absurd (omega (arith, two_at_least c.in-Err.fault, c.tell.ensures.status));
   broken_off = λ others.
       let is = c.tell.ensures.status in
-      let three : c.tell.result ≡ 3 = is ∙ three_only c.in-Err.fault (λ e. others.0 (is ∙ e)) (λ e. others.1 (is ∙ e)) (λ e. others.2 (is ∙ e)) in (
+      let three : c.tell.result ≡ 3 = is ∙ three_only c.in-Err.fault (subst (λ n. 2 < n) is others.0) (λ e. others.1 (is ∙ e)) in (
         three,
         c.in-Err.fault,
         (
@@ -168,10 +238,10 @@ returns-in-Err g c = record {
           elim c.match-read_words.branch [
             | in-Ok-Replay w ↦ on_asked _ (λ asked. ReadsWords asked (Ok w.in-Ok-Replay.field-0)) _ w.in-Ok-Replay.ensures.asked (λ asked read.
                 let field : w.in-Ok-Replay.field-0 ≡ Replay w.in-Ok-Replay.wanted = search rules in
-                let is : wanted_of w.in-Ok-Replay.wanted ≡ asked = subst (λ one. ReadsWords asked (Ok one)) field read in
+                let is : asked ≡ ToReplay (wanted_of w.in-Ok-Replay.wanted) = subst (λ one. ReadsWords asked (Ok one)) field read in
                 let in_part = at_err w.replay_tenants-done.result c.in-Err.fault _ (sym w.done-is ∙ c.in-Err.is) w.replay_tenants-done.ensures.in_part in
-                subst (λ (one : AskedReplay). ReplaysFreshInPart c.in-Err.fault one.limits one.tenants (g.R.Source.seen c.args.reader.now) (g.R.Source.seen c.match-read_words.reader)
-                (g.W.Sink.seen c.args.writer.now) (g.W.Sink.seen c.match-read_words.writer)) is
+                subst (λ one. DoesInPart one c.in-Err.fault (g.R.Source.seen c.args.reader.now) (g.R.Source.seen c.match-read_words.reader)
+                (g.W.Sink.seen c.args.writer.now) (g.W.Sink.seen c.match-read_words.writer)) (sym is)
                 (rw (w.reader-is, w.writer-is) (in_part (sym c.tell.ensures.status ∙ three)).1))
             | in-Ok-Show w ↦ on_asked _ (λ asked. ReadsWords asked (Ok w.in-Ok-Show.field-0)) _ w.in-Ok-Show.ensures.asked (λ asked read.
                 let field : w.in-Ok-Show.field-0 ≡ Show w.in-Ok-Show.text = search rules in
@@ -185,13 +255,22 @@ returns-in-Err g c = record {
         search rules,
         elim c.match-read_words.branch [
           | in-Ok-Replay w ↦
+              let words = map g.S.AsStr.text c.args.words.now in
               let field : w.in-Ok-Replay.field-0 ≡ Replay w.in-Ok-Replay.wanted = search rules in
-              inr (subst (λ one. IsAnswer (kinds_of (map g.S.AsStr.text c.args.words.now)) (Ok one)) field w.in-Ok-Replay.ensures.kinds, search rules)
+              let answer = subst (λ one. IsAnswer (kinds_of words) (work_of words) (Ok one)) field w.in-Ok-Replay.ensures.kinds in
+              let some : DoesSomeInPart Replaying c.in-Err.fault (g.R.Source.seen c.args.reader.now) (g.R.Source.seen c.match-read_words.reader)
+              (g.W.Sink.seen c.args.writer.now) (g.W.Sink.seen c.match-read_words.writer) = search rules in
+              inr (
+                answer.0,
+                subst (λ work. DoesSomeInPart work c.in-Err.fault (g.R.Source.seen c.args.reader.now) (g.R.Source.seen c.match-read_words.reader)
+                    (g.W.Sink.seen c.args.writer.now) (g.W.Sink.seen c.match-read_words.writer)) (sym answer.1) some,
+              )
           | in-Ok-Show w ↦
+              let words = map g.S.AsStr.text c.args.words.now in
               let field : w.in-Ok-Show.field-0 ≡ Show w.in-Ok-Show.text = search rules in
               let fault = at_err w.show_help-done.result c.in-Err.fault _ (sym w.done-is ∙ c.in-Err.is) w.show_help-done.ensures.err in
               inl (
-                subst (λ one. IsAnswer (kinds_of (map g.S.AsStr.text c.args.words.now)) (Ok one)) field w.in-Ok-Show.ensures.kinds,
+                subst (λ one. IsAnswer (kinds_of words) (work_of words) (Ok one)) field w.in-Ok-Show.ensures.kinds,
                 search rules,
                 fault.0,
                 search rules,

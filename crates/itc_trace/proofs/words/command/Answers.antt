@@ -7,5 +7,7 @@ use Rattle.itc_trace.proofs.words.command.Goals as goal
 pub returns : goal.returns
 returns c =
     let bare_is : app_of c.subcommand_required.result ≡ bare_app = search rules in
-    IfOk-weaker c.subcommand.result _ _ (λ command adds. adds.shape c.in_ok-replay_command.ensures.local
-    ∙ ap₂ with_subcommand bare_is (ap (λ app. app.top) c.in_ok-replay_command.ensures.app)) c.subcommand.ensures
+    let replay_is = c.in_ok-subcommand.ensures.shape c.in_ok-replay_command.ensures.local
+    ∙ ap₂ with_subcommand bare_is (ap (λ app. app.top) c.in_ok-replay_command.ensures.app) in
+    IfOk-weaker c.subcommand-2.result _ _ (λ command adds. adds.shape c.check_command.ensures.local
+    ∙ ap₂ with_subcommand replay_is (ap (λ app. app.top) c.check_command.ensures.app)) c.subcommand-2.ensures
