@@ -1,9 +1,11 @@
-//! Exports, checked.
+//! Exports, written and checked.
 
-use line_protocol::FromReader;
+use line_protocol::{FromReader, IntoWriter};
 use std::alloc::Global;
 use std::test::Fail;
 use trace_export::{Reason, Verdict, check};
+use trace_types::{Limits, Name};
+use trace_world::{World, replay_export};
 
 /// The lines of a small trace, with LF between them.
 const LINES: [&str; 8] = [
@@ -17,17 +19,22 @@ const LINES: [&str; 8] = [
     r#"{"event":8,"kind":"join","name":"a","preds":[6,7],"stamp":"[1;5]","task":"root"}"#,
 ];
 
-/// The verdict on the first so many lines, with another one in the place of the line of this number.
-fn verdict(alloc: Global, count: usize, number: usize, line: &str) -> Result<Verdict, Fail> {
+/// The requests that these lines list, and one of another tenant and a query, which change nothing of them.
+const REQUESTS: &[u8] =
+    b"x local root\nx spawn root a\ny local root\nx local a\nx local root\nx order 3 4\nx send a m\nx recv root m\nx end a\nx join root a\n";
+
+fn name(text: &[u8]) -> Result<Name, Fail> {
+    Ok(Name::read(text).ok_or("no name")?)
+}
+
+/// The lines as they are written.
+fn export_text(alloc: Global) -> Result<Vec<u8>, Fail> {
     let mut text = Vec::new(alloc);
-    for (place, own) in LINES.iter().enumerate() {
-        if place < count {
-            let this = if place + 1 == number { line } else { own };
-            text.extend_from_slice(this.as_bytes())?;
-            text.push(b'\n')?;
-        }
+    for line in LINES {
+        text.extend_from_slice(line.as_bytes())?;
+        text.push(b'\n')?;
     }
-    verdict_of(alloc, &text)
+    Ok(text)
 }
 
 fn verdict_of(alloc: Global, text: &[u8]) -> Result<Verdict, Fail> {
@@ -36,59 +43,30 @@ fn verdict_of(alloc: Global, text: &[u8]) -> Result<Verdict, Fail> {
 }
 
 #[test]
-fn check_answers(rt: HostRuntime) -> Result<(), Fail> {
+fn export_has_every_row(rt: HostRuntime) -> Result<(), Fail> {
     let alloc = rt.alloc();
-    assert_eq!(rt; verdict_of(alloc, b"")?, Verdict::Yes(0));
-    assert_eq!(rt; verdict(alloc, 8, 0, "")?, Verdict::Yes(8));
-    assert_eq!(rt; verdict(alloc, 3, 0, "")?, Verdict::Yes(3));
+    let names = [name(b"x")?, name(b"y")?];
+    let mut world = World::new(alloc, &names, Limits::default())?;
+    let mut reader = FromReader::new(REQUESTS);
+    let mut writer = IntoWriter::new(Vec::new(alloc));
+    let count = replay_export(&rt, alloc, &mut world, 0, &mut reader, &mut writer)?;
+    assert_eq!(rt; count, 8);
+    assert_eq!(rt;
+        writer.into_inner().as_slice(),
+        export_text(alloc)?.as_slice()
+    );
     Ok(())
 }
 
 #[test]
-fn each_fault_has_its_line_and_its_reason(rt: HostRuntime) -> Result<(), Fail> {
+fn check_answers(rt: HostRuntime) -> Result<(), Fail> {
     let alloc = rt.alloc();
-    for (number, line, reason) in [
-        (2, "", Reason::NoJson),
-        (
-            3,
-            r#"{"event":3,"kind":"local","name":"-","preds":[2],"stamp":"[(0,1);(2,0,1)]"}"#,
-            Reason::NoEvent,
-        ),
-        (
-            4,
-            r#"{"event":5,"kind":"local","name":"-","preds":[2],"stamp":"[(1,0);(2,1,0)]","task":"root"}"#,
-            Reason::Number,
-        ),
-        (
-            6,
-            r#"{"event":6,"kind":"recv","name":"m","preds":[5,4],"stamp":"[(1,0);4]","task":"root"}"#,
-            Reason::Preds,
-        ),
-        (
-            5,
-            r#"{"event":5,"kind":"send","name":"m","preds":[5],"stamp":"[(0,1);(2,0,2)]","task":"a"}"#,
-            Reason::Preds,
-        ),
-        (
-            2,
-            r#"{"event":2,"kind":"spawn","name":"a","preds":[1],"stamp":"[(0,0);2]","task":"root"}"#,
-            Reason::Stamp,
-        ),
-        (
-            6,
-            r#"{"event":6,"kind":"recv","name":"m","preds":[4,5],"stamp":"[(1,0);3]","task":"root"}"#,
-            Reason::Order,
-        ),
-        (
-            6,
-            r#"{"event":6,"kind":"recv","name":"m","preds":[4],"stamp":"[(1,0);4]","task":"root"}"#,
-            Reason::Order,
-        ),
-    ] {
-        assert_eq!(rt;
-            verdict(alloc, 8, number, line)?,
-            Verdict::No(number as u64, reason)
-        );
-    }
+    let text = export_text(alloc)?;
+    assert_eq!(rt; verdict_of(alloc, b"")?, Verdict::Yes(0));
+    assert_eq!(rt; verdict_of(alloc, &text)?, Verdict::Yes(8));
+    assert_eq!(rt;
+        verdict_of(alloc, &text[LINES[0].len() + 1..])?,
+        Verdict::No(1, Reason::Number)
+    );
     Ok(())
 }
