@@ -1,10 +1,10 @@
 -- Words that ask for a replay are spelled by their parts, those that ask for a check are `check`, and what is asked for is found.
 use Rattle.std.proofs.Common.{◌≡◌, ◌∙◌, ℕ, suc, ◌≤◌, Bool, true, false, List, [], ◌∷◌, length, Option, Some, None, option_map, option_and_then, refl, sym, ap, ap₂, subst, codes, arith, IfSome, if◌then◌else◌}
-use Rattle.std.specs.Prelude.{unwrap_or}
+use Rattle.std.specs.Prelude.{slice_get, unwrap_or}
 use Rattle.std.specs.List.{list_all}
 use Rattle.std.proofs.lemmas.Bool.{and_from}
 use Rattle.std.proofs.lemmas.Slice.Eq.{bytes_eq-Decides}
-use Rattle.clap.specs.Words.{App, HasMatchesOf, Row, is_simple, subcommand_of, subcommand_rows_of, takes}
+use Rattle.clap.specs.Words.{App, HasMatchesOf, Row, first_of, is_simple, subcommand_of, subcommand_rows_of, takes}
 use Rattle.clap.specs.Lexer.{usize_max}
 use Rattle.clap.proofs.OnLiterals.{clap_on_literals}
 use Rattle.clap.specs.Walk.{row_text}
@@ -12,9 +12,9 @@ use Rattle.clap.specs.declared.parser.ArgMatches.{ArgMatches}
 use Rattle.trace_types.specs.tenant.Limits.{Limits, are_limits}
 use Rattle.trace_types.specs.text.Name.{Text, is_between, is_same}
 use Rattle.trace_types.specs.text.Reading.{number_of}
-use Rattle.itc_trace.specs.CommandLine.{AskedReplay, Demand, ToReplay, ToCheck, Role, Tenant, Events, Tasks, Messages, Part, replay_asked_by, replay_asked_in, check_asked_in, asked_in, asked_with, is_plain, is_role, limit_by, limits_by, limits_of, number_up_to, option_named, parts_after, words_for}
-use Rattle.itc_trace.specs.Reading.{Has, amount_in, limits_found, limits_in, program_app, tenants_found, work_found}
-use Rattle.itc_trace.proofs.CommandLine.{Fits, FitsOnce, finds, id_of, row_of, simple, spelled, spelled_with, takes_parts}
+use Rattle.itc_trace.specs.CommandLine.{AskedReplay, Demand, ToReplay, ToCheck, Role, Tenant, Events, Tasks, Messages, Export, Part, replay_asked_by, asked_by_options, export_by, replay_asked_in, check_asked_in, asked_in, asked_with, is_plain, is_role, limit_by, limits_by, limits_of, number_up_to, option_named, parts_after, words_for}
+use Rattle.itc_trace.specs.Reading.{Has, amount_in, limits_found, limits_in, program_app, tenants_found, work_found, work_with, export_found}
+use Rattle.itc_trace.proofs.CommandLine.{Fits, FitsOnce, PlainOnce, finds, id_of, row_of, simple, spelled, spelled_with, takes_parts}
 use Rattle.itc_trace.proofs.Rows.{row_in}
 
 some_same : {X : Type 0} {a b : X} → Some a ≡ Some b → a ≡ b
@@ -26,26 +26,30 @@ option_of Tenant = []
 option_of Events = codes "--events"
 option_of Tasks = codes "--tasks"
 option_of Messages = codes "--messages"
+option_of Export = codes "--export"
 
 named : (word : Text) (role : Role) → option_named word ≡ Some role → (word ≡ option_of role) × (is_role Tenant role ≡ false)
-named word role is = go (is_same word (codes "--events")) (is_same word (codes "--tasks")) (is_same word (codes "--messages")) refl refl refl is
+named word role is = go (is_same word (codes "--events")) (is_same word (codes "--tasks")) (is_same word (codes "--messages")) (is_same word (codes "--export")) refl refl refl refl is
   where
     chosen : (one : Role) → word ≡ option_of one → is_role Tenant one ≡ false → Some one ≡ Some role → (word ≡ option_of role) × (is_role Tenant role ≡ false)
     chosen one word_is limit e = subst (λ r. (word ≡ option_of r) × (is_role Tenant r ≡ false)) (some_same e) (word_is, limit)
 
-    go : (events tasks messages : Bool) → is_same word (codes "--events") ≡ events → is_same word (codes "--tasks") ≡ tasks → is_same word (codes "--messages") ≡ messages
-        → (if events then Some Events else if tasks then Some Tasks else if messages then Some Messages else None) ≡ Some role
+    go : (events tasks messages export : Bool) → is_same word (codes "--events") ≡ events → is_same word (codes "--tasks") ≡ tasks → is_same word (codes "--messages") ≡ messages
+        → is_same word (codes "--export") ≡ export
+        → (if events then Some Events else if tasks then Some Tasks else if messages then Some Messages else if export then Some Export else None) ≡ Some role
         → (word ≡ option_of role) × (is_role Tenant role ≡ false)
-    go true tasks messages a b c e = chosen Events ((bytes_eq-Decides word (codes "--events")).0 a) refl e
-    go false true messages a b c e = chosen Tasks ((bytes_eq-Decides word (codes "--tasks")).0 b) refl e
-    go false false true a b c e = chosen Messages ((bytes_eq-Decides word (codes "--messages")).0 c) refl e
-    go false false false a b c e = cc
+    go true tasks messages export a b c d e = chosen Events ((bytes_eq-Decides word (codes "--events")).0 a) refl e
+    go false true messages export a b c d e = chosen Tasks ((bytes_eq-Decides word (codes "--tasks")).0 b) refl e
+    go false false true export a b c d e = chosen Messages ((bytes_eq-Decides word (codes "--messages")).0 c) refl e
+    go false false false true a b c d e = chosen Export ((bytes_eq-Decides word (codes "--export")).0 d) refl e
+    go false false false false a b c d e = cc
 
 spelled_limit : (role : Role) (word : Text) (words : List Text) → is_role Tenant role ≡ false → option_of role ∷ word ∷ words ≡ spelled_with role word words
 spelled_limit Tenant word words limit = cc
 spelled_limit Events word words limit = refl
 spelled_limit Tasks word words limit = refl
 spelled_limit Messages word words limit = refl
+spelled_limit Export word words limit = refl
 
 -- the words with the option before them
 abbrev before : Option Role → List Text → List Text
@@ -131,6 +135,30 @@ amount_found role default most words number rows row e =
     go (word ∷ []) e = (in_range most word number e).0
     go (word ∷ other ∷ words) e = cc
 
+-- the name of an export is plain, and stands once
+export_fits : (words : List Text) (export : Option Text) → export_by words ≡ Some export → PlainOnce words
+export_fits [] export e = tt
+export_fits (word ∷ []) export e = go (is_plain word) refl e
+  where
+    go : (b : Bool) → is_plain word ≡ b → (if b then Some (Some word) else None) ≡ Some export → is_plain word ≡ true
+    go true is e = is
+    go false is e = cc
+export_fits (word ∷ other ∷ words) export e = cc
+
+-- and it is found
+export_is : (words : List Text) (export : Option Text) (rows : List Row) → row_in (id_of Export) rows ≡ row_of Export words
+    → export_by words ≡ Some export → first_of (id_of Export) rows ≡ export
+export_is words export rows row e = ap (λ found. option_and_then (λ (r : Row). slice_get r.values 0) found) row ∙ go words e
+  where
+    go : (words : List Text) → export_by words ≡ Some export → option_and_then (λ (r : Row). slice_get r.values 0) (row_of Export words) ≡ export
+    go [] e = some_same e
+    go (word ∷ []) e = plain (is_plain word) e
+      where
+        plain : (b : Bool) → (if b then Some (Some word) else None) ≡ Some export → Some word ≡ export
+        plain true e = some_same e
+        plain false e = cc
+    go (word ∷ other ∷ words) e = cc
+
 three : (events tasks messages : Option ℕ) (limits : Limits) → limits_of events tasks messages ≡ Some limits
     → (events ≡ Some limits.events) × (tasks ≡ Some limits.tasks) × (messages ≡ Some limits.messages)
 three (Some events) (Some tasks) (Some messages) limits e =
@@ -176,20 +204,23 @@ pub record AsksFor (words : List Text) (asked : AskedReplay) : Type 0 where
   pub events : limit_by 4096 16384 (words_for Events parts) ≡ Some asked.limits.events
   pub tasks : limit_by 512 2048 (words_for Tasks parts) ≡ Some asked.limits.tasks
   pub messages : limit_by 2048 16384 (words_for Messages parts) ≡ Some asked.limits.messages
+  pub export : export_by (words_for Export parts) ≡ Some asked.export
 
-asks_with : (tenants : List Text) (limits : Limits) (asked : AskedReplay) → asked_with tenants limits ≡ Some asked
-    → (first : Text) × (others : List Text) × (tenants ≡ first ∷ others) × (asked.tenants ≡ tenants) × (limits ≡ asked.limits)
-asks_with [] limits asked e = cc
-asks_with (first ∷ others) limits asked e =
-    let is = some_same e in (first, others, refl, sym (ap (λ (a : AskedReplay). a.tenants) is), ap (λ (a : AskedReplay). a.limits) is)
+asks_with : (tenants : List Text) (limits : Limits) (export : Option Text) (asked : AskedReplay) → asked_with tenants limits export ≡ Some asked
+    → (first : Text) × (others : List Text) × (tenants ≡ first ∷ others) × (asked.tenants ≡ tenants) × (limits ≡ asked.limits) × (export ≡ asked.export)
+asks_with [] limits export asked e = cc
+asks_with (first ∷ others) limits export asked e =
+    let is = some_same e in
+    (first, others, refl, sym (ap (λ (a : AskedReplay). a.tenants) is), ap (λ (a : AskedReplay). a.limits) is, ap (λ (a : AskedReplay). a.export) is)
 
 replay_asks_for : (first : Text) (words : List Text) (asked : AskedReplay) → first ≡ codes "replay" → replay_asked_in words ≡ Some asked → AsksFor (first ∷ words) asked
 replay_asks_for first words asked is_first e = read (parts_after None words) refl e
   where
-    by_limits : (parts : List Part) → Spelled words parts → (limits : Limits) → limits_by parts ≡ Some limits
-        → asked_with (words_for Tenant parts) limits ≡ Some asked → AsksFor (first ∷ words) asked
-    by_limits parts is limits by e =
-        let with = asks_with (words_for Tenant parts) limits asked e in
+    by_options : (parts : List Part) → Spelled words parts → (limits : Limits) → limits_by parts ≡ Some limits
+        → (export : Option Text) → export_by (words_for Export parts) ≡ Some export
+        → asked_with (words_for Tenant parts) limits export ≡ Some asked → AsksFor (first ∷ words) asked
+    by_options parts is limits by export exports e =
+        let with = asks_with (words_for Tenant parts) limits export asked e in
         let each = three (limit_by 4096 16384 (words_for Events parts)) (limit_by 512 2048 (words_for Tasks parts)) (limit_by 2048 16384 (words_for Messages parts))
         asked.limits (by ∙ ap Some with.4) in
         record {
@@ -203,16 +234,19 @@ replay_asks_for first words asked is_first e = read (parts_after None words) ref
           events = each.0;
           tasks = each.1;
           messages = each.2;
+          export = exports ∙ ap Some with.5;
         }
 
     by_parts : (parts : List Part) → Spelled words parts → (limits : Option Limits) → limits_by parts ≡ limits
-        → option_and_then (asked_with (words_for Tenant parts)) limits ≡ Some asked → AsksFor (first ∷ words) asked
-    by_parts parts is None by e = cc
-    by_parts parts is (Some limits) by e = by_limits parts is limits by e
+        → (export : Option (Option Text)) → export_by (words_for Export parts) ≡ export
+        → asked_by_options (words_for Tenant parts) limits export ≡ Some asked → AsksFor (first ∷ words) asked
+    by_parts parts is None by export exports e = cc
+    by_parts parts is (Some limits) by None exports e = cc
+    by_parts parts is (Some limits) by (Some export) exports e = by_options parts is limits by export exports e
 
     read : (after : Option (List Part)) → parts_after None words ≡ after → option_and_then replay_asked_by after ≡ Some asked → AsksFor (first ∷ words) asked
     read None of e = cc
-    read (Some parts) of e = by_parts parts (spelled_by None words parts tt of) (limits_by parts) refl e
+    read (Some parts) of e = by_parts parts (spelled_by None words parts tt of) (limits_by parts) refl (export_by (words_for Export parts)) refl e
 
 -- how words ask for this
 abbrev pub Asks : List Text → Demand → Type 0
@@ -253,6 +287,7 @@ fits_of : (words : List Text) (asked : AskedReplay) (asks : AsksFor words asked)
 fits_of words asked asks Tenant = asks.plain
 fits_of words asked asks Events = limit_fits 4096 16384 (words_for Events asks.parts) asked.limits.events asks.events
 fits_of words asked asks Tasks = limit_fits 512 2048 (words_for Tasks asks.parts) asked.limits.tasks asks.tasks
+fits_of words asked asks Export = export_fits (words_for Export asks.parts) asked.export asks.export
 fits_of words asked asks Messages = limit_fits 2048 16384 (words_for Messages asks.parts) asked.limits.messages asks.messages
 
 -- a part has a word at least
@@ -265,6 +300,7 @@ few_parts (part ∷ parts) = go part.role (few_parts parts)
     go Events rest = omega arith
     go Tasks rest = omega arith
     go Messages rest = omega arith
+    go Export rest = omega arith
 
 few_of : (words : List Text) (asked : AskedReplay) (asks : AsksFor words asked) → length words ≤ usize_max → length asks.parts ≤ usize_max
 few_of words asked asks bound =
@@ -276,12 +312,14 @@ few_of words asked asks bound =
 found_replay : (words : List Text) (asked : AskedReplay) → AsksFor words asked → length words ≤ usize_max → Has (subcommand_of program_app words) (ToReplay asked)
 found_replay words asked asks bound =
     let is = finds asks.parts (fits_of words asked asks) (few_of words asked asks bound) in
-    let found_is = ap (subcommand_of program_app) asks.words_are ∙ is.1 in (
-      ap work_found found_is,
+    let found_is = ap (subcommand_of program_app) asks.words_are ∙ is.1 in
+    let export = export_is (words_for Export asks.parts) asked.export is.0 (is.2 Export) asks.export in (
+      ap work_found found_is ∙ ap work_with export,
       ap tenants_found found_is ∙ (ap (λ row. option_map (λ (r : Row). r.values) row) (is.2 Tenant ∙ ap (row_of Tenant) asks.tenants_are)
           ∙ ap Some (sym (asks.asked_are ∙ asks.tenants_are))),
       ap limits_found found_is ∙ (ap (λ limits. option_and_then (λ (l : Limits). if are_limits l.events l.tasks l.messages then Some l else None) limits)
           (limits_are is.0 is.2) ∙ ap (λ b. if b then Some asked.limits else None) ranges),
+      ap export_found found_is ∙ export,
     )
   where
     limits_are : (rows : List Row) → ((role : Role) → row_in (id_of role) rows ≡ row_of role (words_for role asks.parts))

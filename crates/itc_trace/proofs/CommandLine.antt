@@ -16,7 +16,7 @@ use Rattle.clap.specs.Simple.{Shape, built, built_leaf, inherited, marked_built,
 use Rattle.clap.specs.Takes.{walk_passes, turn_passes, word_passes, step_passes, values_pass, settle_passes, default_passes, is_given, is_valid, level_passes, entered_passes, use_passes}
 use Rattle.clap.specs.Walk.{Walk, Held, Waiting, walked, walk_from, nothing_held, idle, option, positional, positional_held, after_step, plain_word, subcommand_or_other, finished, has_row, settled, settled_rows, stop_after, values_or_missing, walk, with_default, with_values, without}
 use Rattle.clap.proofs.WalkLemmas.{both as and_is_true, walk_stopped}
-use Rattle.itc_trace.specs.CommandLine.{Role, Tenant, Events, Tasks, Messages, Part, is_plain, is_role, words_for}
+use Rattle.itc_trace.specs.CommandLine.{Role, Tenant, Events, Tasks, Messages, Export, Part, is_plain, is_role, words_for}
 use Rattle.itc_trace.specs.Reading.{program_app, replay_app, tenant_rule}
 use Rattle.itc_trace.proofs.Amounts.{passes, spells}
 use Rattle.itc_trace.proofs.Rows.{grown, row_beside, row_in, row_with, twice, unfound}
@@ -39,12 +39,14 @@ id_of Tenant = codes "TENANT"
 id_of Events = codes "events"
 id_of Tasks = codes "tasks"
 id_of Messages = codes "messages"
+id_of Export = codes "export"
 
 abbrev pub most_of : Role → ℕ
 most_of Tenant = 0
 most_of Events = 16384
 most_of Tasks = 2048
 most_of Messages = 16384
+most_of Export = 0
 
 -- the words of a part, and those after it
 abbrev pub spelled_with : Role → Text → List Text → List Text
@@ -52,6 +54,7 @@ spelled_with Tenant word words = word ∷ words
 spelled_with Events word words = codes "--events" ∷ word ∷ words
 spelled_with Tasks word words = codes "--tasks" ∷ word ∷ words
 spelled_with Messages word words = codes "--messages" ∷ word ∷ words
+spelled_with Export word words = codes "--export" ∷ word ∷ words
 
 abbrev pub spelled : List Part → List Text
 spelled [] = []
@@ -79,12 +82,14 @@ itself Tenant = refl
 itself Events = refl
 itself Tasks = refl
 itself Messages = refl
+itself Export = refl
 
 same_role : (a b : Role) → is_role a b ≡ true → a ≡ b
 same_role Tenant Tenant e = refl
 same_role Events Events e = refl
 same_role Tasks Tasks e = refl
 same_role Messages Messages e = refl
+same_role Export Export e = refl
 same_role a b e = cc
 
 apart : (a b : Role) → is_role a b ≡ false → bytes_eq (id_of b) (id_of a) ≡ false
@@ -92,6 +97,7 @@ apart Tenant Tenant e = cc
 apart Events Events e = cc
 apart Tasks Tasks e = cc
 apart Messages Messages e = cc
+apart Export Export e = cc
 apart a b e = refl
 
 grown_is : (role : Role) (word : Text) (words : List Text) → Some (grown (id_of role) AsWritten (word ∷ []) (row_of role words)) ≡ row_of role (words ++ word ∷ [])
@@ -118,6 +124,7 @@ met Tenant word held = positional_held rules tenant_built word held
 met Events word held = record (settled rules held) { pending = Some (codes "events", word ∷ []) }
 met Tasks word held = record (settled rules held) { pending = Some (codes "tasks", word ∷ []) }
 met Messages word held = record (settled rules held) { pending = Some (codes "messages", word ∷ []) }
+met Export word held = record (settled rules held) { pending = Some (codes "export", word ∷ []) }
 
 abbrev pending_length : Option (Text × List Text) → ℕ
 pending_length None = 0
@@ -132,6 +139,7 @@ record Holds (seen : Seen) (count : ℕ) (held : Held) : Type 0 where
 -- what is asked of a word in its role
 abbrev FitsNow : Role → List Text → Text → Type 0
 FitsNow Tenant before word = is_plain word ≡ true
+FitsNow Export before word = (before ≡ []) × (is_plain word ≡ true)
 FitsNow role before word = (before ≡ []) × (is_plain word ≡ true) × (is_unsigned_in 1 (most_of role) word ≡ true)
 
 no_values : (words : List Text) → values_or_missing tenant_built words ≡ words
@@ -209,6 +217,10 @@ keeps seen count Messages word held holds fits few =
     let rows = settled_rows rules held.pending held.rows in
     let fresh = fresh_rows seen Messages word rows holds.rows fits.0 in
     record { rows = fresh.0; settles = ap₂ ◌&&◌ (ap (λ b. not b || false) fresh.1) (ap (λ b. b && true) fits.2); pending = omega arith }
+keeps seen count Export word held holds fits few =
+    let rows = settled_rows rules held.pending held.rows in
+    let fresh = fresh_rows seen Export word rows holds.rows fits.0 in
+    record { rows = fresh.0; settles = ap₂ ◌&&◌ (ap (λ b. not b || false) fresh.1) refl; pending = omega arith }
 
 -- ---- the walk
 
@@ -222,9 +234,9 @@ at held after_tenant = record {
   stopped = None;
 }
 
--- the walk after an option, before its number
-abbrev before_number : Role → Held → Walk
-before_number role held = record {
+-- the walk after an option, before its value
+abbrev before_value : Role → Held → Walk
+before_value role held = record {
   held = record (settled rules held) { pending = Some (id_of role, []) };
   waiting = option (id_of role);
   position = 1;
@@ -266,19 +278,20 @@ tenant_turn false word held plain settles =
     let passes_word : word_passes replay_shape [] false idle word held ≡ true = rw (no_dashes word plain, not_long word plain, not_short word plain) refl in
     ap₂ ◌&&◌ passes_word (ap (λ step. step_passes replay_shape 1 step.0 step.1) (plain_met idle word held plain) ∙ or_right _ _ settles)
 
-number_step : (role : Role) (word : Text) (held : Held) → is_role Tenant role ≡ false → is_plain word ≡ true → walked rules [] (before_number role held) word ≡ at (met role word held) false
+value_step : (role : Role) (word : Text) (held : Held) → is_role Tenant role ≡ false → is_plain word ≡ true → walked rules [] (before_value role held) word ≡ at (met role word held) false
 unfolding walked
-number_step Tenant word held limit plain = cc
-number_step Events word held limit plain = ap (λ step. after_step rules word (before_number Events held) step.0 step.1) (plain_met (option (codes "events")) word (before_number Events held).held plain)
-number_step Tasks word held limit plain = ap (λ step. after_step rules word (before_number Tasks held) step.0 step.1) (plain_met (option (codes "tasks")) word (before_number Tasks held).held plain)
-number_step Messages word held limit plain = ap (λ step. after_step rules word (before_number Messages held) step.0 step.1) (plain_met (option (codes "messages")) word (before_number Messages held).held plain)
+value_step Tenant word held limit plain = cc
+value_step Events word held limit plain = ap (λ step. after_step rules word (before_value Events held) step.0 step.1) (plain_met (option (codes "events")) word (before_value Events held).held plain)
+value_step Tasks word held limit plain = ap (λ step. after_step rules word (before_value Tasks held) step.0 step.1) (plain_met (option (codes "tasks")) word (before_value Tasks held).held plain)
+value_step Messages word held limit plain = ap (λ step. after_step rules word (before_value Messages held) step.0 step.1) (plain_met (option (codes "messages")) word (before_value Messages held).held plain)
+value_step Export word held limit plain = ap (λ step. after_step rules word (before_value Export held) step.0 step.1) (plain_met (option (codes "export")) word (before_value Export held).held plain)
 
-number_turn : (role : Role) (word : Text) (held : Held) → is_role Tenant role ≡ false → is_plain word ≡ true → turn_passes replay_shape [] (before_number role held) word ≡ true
-number_turn role word held limit plain =
-    let passes_word : word_passes replay_shape [] false (option (id_of role)) word (before_number role held).held ≡ true =
+value_turn : (role : Role) (word : Text) (held : Held) → is_role Tenant role ≡ false → is_plain word ≡ true → turn_passes replay_shape [] (before_value role held) word ≡ true
+value_turn role word held limit plain =
+    let passes_word : word_passes replay_shape [] false (option (id_of role)) word (before_value role held).held ≡ true =
     rw (no_dashes word plain, not_long word plain, not_short word plain) refl
     in
-    ap₂ ◌&&◌ passes_word (ap (λ step. step_passes replay_shape 1 step.0 step.1) (plain_met (option (id_of role)) word (before_number role held).held plain))
+    ap₂ ◌&&◌ passes_word (ap (λ step. step_passes replay_shape 1 step.0 step.1) (plain_met (option (id_of role)) word (before_value role held).held plain))
 
 -- whether the words pass from here on, and where they lead
 abbrev Same : Walk → List Text → Walk → List Text → Type 0
@@ -297,28 +310,36 @@ option_step : (after_tenant : Bool) (held : Held) (words : List Text) (role : Ro
 unfolding walked
 option_step after_tenant held words Tenant word limit settles plain = cc
 option_step true held words Events word limit settles plain =
-    let first = one_more (at held true) (before_number Events held) (codes "--events") (word ∷ words) (ap (λ b. b && true) settles) refl in
-    let second = one_more (before_number Events held) (at (met Events word held) false) word words (number_turn Events word held refl plain) (number_step Events word held refl plain) in
+    let first = one_more (at held true) (before_value Events held) (codes "--events") (word ∷ words) (ap (λ b. b && true) settles) refl in
+    let second = one_more (before_value Events held) (at (met Events word held) false) word words (value_turn Events word held refl plain) (value_step Events word held refl plain) in
     (first.0 ∙ second.0, first.1 ∙ second.1)
 option_step false held words Events word limit settles plain =
-    let first = one_more (at held false) (before_number Events held) (codes "--events") (word ∷ words) (ap (λ b. b && true) settles) refl in
-    let second = one_more (before_number Events held) (at (met Events word held) false) word words (number_turn Events word held refl plain) (number_step Events word held refl plain) in
+    let first = one_more (at held false) (before_value Events held) (codes "--events") (word ∷ words) (ap (λ b. b && true) settles) refl in
+    let second = one_more (before_value Events held) (at (met Events word held) false) word words (value_turn Events word held refl plain) (value_step Events word held refl plain) in
     (first.0 ∙ second.0, first.1 ∙ second.1)
 option_step true held words Tasks word limit settles plain =
-    let first = one_more (at held true) (before_number Tasks held) (codes "--tasks") (word ∷ words) (ap (λ b. b && true) settles) refl in
-    let second = one_more (before_number Tasks held) (at (met Tasks word held) false) word words (number_turn Tasks word held refl plain) (number_step Tasks word held refl plain) in
+    let first = one_more (at held true) (before_value Tasks held) (codes "--tasks") (word ∷ words) (ap (λ b. b && true) settles) refl in
+    let second = one_more (before_value Tasks held) (at (met Tasks word held) false) word words (value_turn Tasks word held refl plain) (value_step Tasks word held refl plain) in
     (first.0 ∙ second.0, first.1 ∙ second.1)
 option_step false held words Tasks word limit settles plain =
-    let first = one_more (at held false) (before_number Tasks held) (codes "--tasks") (word ∷ words) (ap (λ b. b && true) settles) refl in
-    let second = one_more (before_number Tasks held) (at (met Tasks word held) false) word words (number_turn Tasks word held refl plain) (number_step Tasks word held refl plain) in
+    let first = one_more (at held false) (before_value Tasks held) (codes "--tasks") (word ∷ words) (ap (λ b. b && true) settles) refl in
+    let second = one_more (before_value Tasks held) (at (met Tasks word held) false) word words (value_turn Tasks word held refl plain) (value_step Tasks word held refl plain) in
     (first.0 ∙ second.0, first.1 ∙ second.1)
 option_step true held words Messages word limit settles plain =
-    let first = one_more (at held true) (before_number Messages held) (codes "--messages") (word ∷ words) (ap (λ b. b && true) settles) refl in
-    let second = one_more (before_number Messages held) (at (met Messages word held) false) word words (number_turn Messages word held refl plain) (number_step Messages word held refl plain) in
+    let first = one_more (at held true) (before_value Messages held) (codes "--messages") (word ∷ words) (ap (λ b. b && true) settles) refl in
+    let second = one_more (before_value Messages held) (at (met Messages word held) false) word words (value_turn Messages word held refl plain) (value_step Messages word held refl plain) in
     (first.0 ∙ second.0, first.1 ∙ second.1)
 option_step false held words Messages word limit settles plain =
-    let first = one_more (at held false) (before_number Messages held) (codes "--messages") (word ∷ words) (ap (λ b. b && true) settles) refl in
-    let second = one_more (before_number Messages held) (at (met Messages word held) false) word words (number_turn Messages word held refl plain) (number_step Messages word held refl plain) in
+    let first = one_more (at held false) (before_value Messages held) (codes "--messages") (word ∷ words) (ap (λ b. b && true) settles) refl in
+    let second = one_more (before_value Messages held) (at (met Messages word held) false) word words (value_turn Messages word held refl plain) (value_step Messages word held refl plain) in
+    (first.0 ∙ second.0, first.1 ∙ second.1)
+option_step true held words Export word limit settles plain =
+    let first = one_more (at held true) (before_value Export held) (codes "--export") (word ∷ words) (ap (λ b. b && true) settles) refl in
+    let second = one_more (before_value Export held) (at (met Export word held) false) word words (value_turn Export word held refl plain) (value_step Export word held refl plain) in
+    (first.0 ∙ second.0, first.1 ∙ second.1)
+option_step false held words Export word limit settles plain =
+    let first = one_more (at held false) (before_value Export held) (codes "--export") (word ∷ words) (ap (λ b. b && true) settles) refl in
+    let second = one_more (before_value Export held) (at (met Export word held) false) word words (value_turn Export word held refl plain) (value_step Export word held refl plain) in
     (first.0 ∙ second.0, first.1 ∙ second.1)
 
 abbrev is_tenant : Role → Bool
@@ -331,6 +352,7 @@ part_step after_tenant held words before Tenant word settles fits =
 part_step after_tenant held words before Events word settles fits = option_step after_tenant held words Events word refl settles fits.1
 part_step after_tenant held words before Tasks word settles fits = option_step after_tenant held words Tasks word refl settles fits.1
 part_step after_tenant held words before Messages word settles fits = option_step after_tenant held words Messages word refl settles fits.1
+part_step after_tenant held words before Export word settles fits = option_step after_tenant held words Export word refl settles fits.1
 
 -- ---- all the parts
 
@@ -353,11 +375,18 @@ FitsOnce most [] = Unit {0}
 FitsOnce most (word ∷ []) = (number : ℕ) × (number_of word ≡ Some number) × (is_between 1 most number ≡ true)
 FitsOnce most (word ∷ other ∷ words) = ⊥
 
+-- the name of an option is plain, and stands once
+abbrev pub PlainOnce : List Text → Type 0
+PlainOnce [] = Unit {0}
+PlainOnce (word ∷ []) = is_plain word ≡ true
+PlainOnce (word ∷ other ∷ words) = ⊥
+
 abbrev pub Fits : Role → List Text → Type 0
 Fits Tenant words = list_all is_plain words ≡ true
 Fits Events words = FitsOnce 16384 words
 Fits Tasks words = FitsOnce 2048 words
 Fits Messages words = FitsOnce 16384 words
+Fits Export words = PlainOnce words
 
 once : (most : ℕ) (before : List Text) (word : Text) (words : List Text) → FitsOnce most (before ++ word ∷ words)
     → (before ≡ []) × (is_plain word ≡ true) × (is_unsigned_in 1 most word ≡ true)
@@ -368,6 +397,12 @@ once most [] word (other ∷ words) fits = absurd fits
 once most (first ∷ []) word words fits = absurd fits
 once most (first ∷ second ∷ before) word words fits = absurd fits
 
+plain_once : (before : List Text) (word : Text) (words : List Text) → PlainOnce (before ++ word ∷ words) → (before ≡ []) × (is_plain word ≡ true)
+plain_once [] word [] fits = (refl, fits)
+plain_once [] word (other ∷ words) fits = absurd fits
+plain_once (first ∷ []) word words fits = absurd fits
+plain_once (first ∷ second ∷ before) word words fits = absurd fits
+
 last_plain : (before : List Text) (word : Text) (words : List Text) → list_all is_plain (before ++ word ∷ words) ≡ true → is_plain word ≡ true
 last_plain [] word words plain = (and_is_true _ _ plain).0
 last_plain (first ∷ before) word words plain = last_plain before word words (and_is_true _ _ plain).1
@@ -377,6 +412,7 @@ fits_now Tenant before word words fits = last_plain before word words fits
 fits_now Events before word words fits = once 16384 before word words fits
 fits_now Tasks before word words fits = once 2048 before word words fits
 fits_now Messages before word words fits = once 16384 before word words fits
+fits_now Export before word words fits = plain_once before word words fits
 
 first_word : (part : Part) (parts : List Part) → words_for part.role (part ∷ parts) ≡ part.word ∷ words_for part.role parts
 first_word part parts = rw (itself_role part.role) refl
@@ -386,6 +422,7 @@ first_word part parts = rw (itself_role part.role) refl
     itself_role Events = refl
     itself_role Tasks = refl
     itself_role Messages = refl
+    itself_role Export = refl
 
 -- where the words of the parts lead
 record Leads (start : Held) (after_tenant : Bool) (seen : Seen) (count : ℕ) (parts : List Part) : Type 0 where
@@ -439,8 +476,9 @@ no_defaults rows =
     ap (λ left. fold with_default left (Rattle.std.specs.Prelude.drop 1 rules)) (same_either (has_row (codes "events") rows) rows)
     ∙ (ap (λ left. fold with_default left (Rattle.std.specs.Prelude.drop 2 rules)) (same_either (has_row (codes "tasks") rows) rows)
     ∙ (ap (λ left. fold with_default left (Rattle.std.specs.Prelude.drop 3 rules)) (same_either (has_row (codes "messages") rows) rows)
-    ∙ (ap (λ left. fold with_default left (Rattle.std.specs.Prelude.drop 4 rules)) (same_either (has_row (codes "TENANT") rows) rows)
-    ∙ same_either (has_row (codes "help") rows) rows)))
+    ∙ (ap (λ left. fold with_default left (Rattle.std.specs.Prelude.drop 4 rules)) (same_either (has_row (codes "export") rows) rows)
+    ∙ (ap (λ left. fold with_default left (Rattle.std.specs.Prelude.drop 5 rules)) (same_either (has_row (codes "TENANT") rows) rows)
+    ∙ same_either (has_row (codes "help") rows) rows))))
 
 -- the rows in the end
 rows_end : (parts : List Part) (leads : Leads nothing_held false nothing_seen 0 parts) (role : Role)

@@ -3,13 +3,13 @@ use Rattle.std.proofs.Common.{◌≡◌, ◌∙◌, ◌↔◌, Bool, true, false
 use Rattle.std.specs.Prelude.{Box, unwrap_or}
 use Rattle.std.specs.Box.{box_value}
 use Rattle.std.proofs.lemmas.Slice.Eq.{bytes_eq-Decides}
-use Rattle.clap.specs.Words.{Row, subcommand_rows, subcommand_rows_of}
+use Rattle.clap.specs.Words.{Row, first_of, subcommand_rows, subcommand_rows_of}
 use Rattle.clap.specs.Matches.{subcommand_name_of}
 use Rattle.clap.specs.declared.parser.matches.ArgMatches.{ArgMatches}
 use Rattle.clap.specs.declared.parser.matches.ArgMatches.TheViews.{out-ArgMatches, out-SubCommand}
 use Rattle.clap.specs.declared.parser.matches.SubCommand.{SubCommand}
 use Rattle.trace_types.specs.text.Name.{Text, is_same}
-use Rattle.itc_trace.specs.Reading.{Replaying, Checking, work_found}
+use Rattle.itc_trace.specs.Reading.{Checking, work_found, work_with}
 
 some_same : {X : Type 0} {a b : X} → Some a ≡ Some b → a ≡ b
 some_same {X} {a} e = ap (λ o. unwrap_or o a) e
@@ -19,16 +19,20 @@ name_of : {Z : Type 0} (sub : Option (Box SubCommand Z))
 name_of None = refl
 name_of (Some b) = refl
 
+replay_is_no_check : (export : Option Text) → work_with export ≡ Checking → ⊥
+replay_is_no_check None e = cc
+replay_is_no_check (Some name) e = cc
+
 by_name : (found : Option (Text × List Row)) → (option_map (λ named. named.0) found ≡ Some (codes "check")) ↔ (work_found found ≡ Checking)
 by_name None = (λ e. cc, λ e. cc)
 by_name (Some found) = (to, from)
   where
     to : Some found.0 ≡ Some (codes "check") → work_found (Some found) ≡ Checking
-    to e = ap (λ b. if b then Checking else Replaying) ((bytes_eq-Decides found.0 (codes "check")).1 (some_same e))
+    to e = ap (λ b. if b then Checking else work_with (first_of (codes "export") found.1)) ((bytes_eq-Decides found.0 (codes "check")).1 (some_same e))
 
-    go : (b : Bool) → is_same found.0 (codes "check") ≡ b → (if b then Checking else Replaying) ≡ Checking → Some found.0 ≡ Some (codes "check")
+    go : (b : Bool) → is_same found.0 (codes "check") ≡ b → (if b then Checking else work_with (first_of (codes "export") found.1)) ≡ Checking → Some found.0 ≡ Some (codes "check")
     go true is e = ap Some ((bytes_eq-Decides found.0 (codes "check")).0 is)
-    go false is e = cc
+    go false is e = absurd (replay_is_no_check (first_of (codes "export") found.1) e)
 
     from : work_found (Some found) ≡ Checking → Some found.0 ≡ Some (codes "check")
     from e = go (is_same found.0 (codes "check")) refl e

@@ -1,27 +1,31 @@
 -- What the words of the command line ask for.
-use Rattle.std.specs.Prelude.{ℕ, Bool, true, false, not, ◌==◌, List, [], ◌∷◌, map, Option, Some, None, option_map, option_and_then, ◌&&◌, if◌then◌else◌, codes}
+use Rattle.std.specs.Prelude.{ℕ, Bool, true, false, not, ◌==◌, List, [], ◌∷◌, map, Option, Some, None, is_some, option_map, option_and_then, ◌&&◌, if◌then◌else◌, codes}
 use Rattle.std.specs.List.{filter, list_all}
 use Rattle.trace_types.specs.tenant.Limits.{Limits, default_limits}
 use Rattle.trace_types.specs.text.Name.{Text, is_same, is_between, is_name}
 use Rattle.trace_types.specs.text.Reading.{number_of}
+use Rattle.trace_types.specs.world.Replay.{place_of}
 use Rattle.trace_world.specs.Tenants.{can_be_tenants}
 
--- what a replay is asked for: the limits that each tenant has, and the tenants
+-- what a replay is asked for: the limits that each tenant has, the tenants, and the one whose export is asked for in
+-- place of replies
 pub record AskedReplay : Type 0 where
   pub limits : Limits
   pub tenants : List Text
+  pub export : Option Text
 
 -- what the program is asked to do
 pub data Demand : Type 0 where
   ToReplay : AskedReplay → Demand
   ToCheck : Demand
 
--- what a word is: a tenant, or the number of an option
+-- what a word is: a tenant, or the number or the name of an option
 pub data Role : Type 0 where
   Tenant : Role
   Events : Role
   Tasks : Role
   Messages : Role
+  Export : Role
 
 -- whether two roles are the same
 abbrev pub is_role : Role → Role → Bool
@@ -29,6 +33,7 @@ is_role Tenant Tenant = true
 is_role Events Events = true
 is_role Tasks Tasks = true
 is_role Messages Messages = true
+is_role Export Export = true
 is_role a b = false
 
 -- a word and its role
@@ -47,6 +52,7 @@ option_named word =
     if is_same word (codes "--events") then Some Events
     else if is_same word (codes "--tasks") then Some Tasks
     else if is_same word (codes "--messages") then Some Messages
+    else if is_same word (codes "--export") then Some Export
     else None
 
 -- the parts, and one before them
@@ -54,7 +60,7 @@ abbrev pub with_part : Role → Text → Option (List Part) → Option (List Par
 with_part role word = option_map (λ parts. record { role = role; word = word } ∷ parts)
 
 -- The parts of the words, where the word before them was this option. A plain word is a tenant, and the word after an
--- option is its number. Of words with `-` in front that are no such option, as those that ask for help, nothing is said
+-- option is its number or its name. Of words with `-` in front that are no such option, as those that ask for help, nothing is said
 -- here.
 abbrev pub parts_after : Option Role → List Text → Option (List Part)
 parts_after None [] = Some []
@@ -88,16 +94,27 @@ abbrev pub limits_by : List Part → Option Limits
 limits_by parts = limits_of (limit_by default_limits.events 16384 (words_for Events parts))
     (limit_by default_limits.tasks 2048 (words_for Tasks parts)) (limit_by default_limits.messages 16384 (words_for Messages parts))
 
--- what these limits and tenants ask for, where there is a tenant
-abbrev pub asked_with : List Text → Limits → Option AskedReplay
-asked_with [] limits = None
-asked_with tenants limits = Some (record { limits = limits; tenants = tenants })
+-- the tenant to be exported, if any, by the words of its option, which is used once at most
+abbrev pub export_by : List Text → Option (Option Text)
+export_by [] = Some None
+export_by (word ∷ []) = if is_plain word then Some (Some word) else None
+export_by words = None
+
+-- what these tenants, limits and export ask for, where there is a tenant
+abbrev pub asked_with : List Text → Limits → Option Text → Option AskedReplay
+asked_with [] limits export = None
+asked_with tenants limits export = Some (record { limits = limits; tenants = tenants; export = export })
+
+-- what these tenants ask for with these limits and this export, where each is there
+abbrev pub asked_by_options : List Text → Option Limits → Option (Option Text) → Option AskedReplay
+asked_by_options tenants (Some limits) (Some export) = asked_with tenants limits export
+asked_by_options tenants limits export = None
 
 -- what the parts ask for
 abbrev pub replay_asked_by : List Part → Option AskedReplay
-replay_asked_by parts = option_and_then (asked_with (words_for Tenant parts)) (limits_by parts)
+replay_asked_by parts = asked_by_options (words_for Tenant parts) (limits_by parts) (export_by (words_for Export parts))
 
--- the replay that the words after `replay` ask for, where they are options, each with its number, and tenants
+-- the replay that the words after `replay` ask for, where they are options, each with its number or name, and tenants
 abbrev pub replay_asked_in : List Text → Option AskedReplay
 replay_asked_in words = option_and_then replay_asked_by (parts_after None words)
 
@@ -118,7 +135,12 @@ asked_in (first ∷ words) =
 abbrev pub are_taken : List Text → Bool
 are_taken tenants = can_be_tenants tenants && list_all is_name tenants
 
+-- whether the tenant to be exported, if any, is one of these
+abbrev pub can_export : Option Text → List Text → Bool
+can_export None tenants = true
+can_export (Some name) tenants = is_some (place_of tenants name)
+
 -- whether what is asked for is taken: a check always is
 abbrev pub is_taken : Demand → Bool
-is_taken (ToReplay asked) = are_taken asked.tenants
+is_taken (ToReplay asked) = are_taken asked.tenants && can_export asked.export asked.tenants
 is_taken ToCheck = true

@@ -1,8 +1,9 @@
 -- What the program did.
-use Rattle.std.specs.Prelude.{◌≡◌, ◌≢◌, ℕ, ◌+◌, ◌<◌, ◌^◌, Bool, true, false, IsTrue, List, ◌++◌, ◌⊎◌, codes, decimal, length, map, Option, IfSome}
+use Rattle.std.specs.Prelude.{◌≡◌, ◌≢◌, ℕ, ◌+◌, ◌<◌, ◌^◌, Bool, true, false, IsTrue, List, ◌++◌, ◌⊎◌, codes, decimal, length, map, Option, Some, None, is_some, IfSome}
 use Rattle.trace_types.specs.text.Name.{Text}
 use Rattle.trace_types.specs.tenant.Limits.{Limits, are_limits}
 use Rattle.trace_types.specs.tenant.Tenant.{fresh}
+use Rattle.trace_types.specs.world.Replay.{place_of}
 use Rattle.trace_types.specs.world.World.{World}
 use Rattle.line_protocol.specs.Source.{Given}
 use Rattle.line_protocol.specs.Sink.{Taken}
@@ -11,14 +12,15 @@ use Rattle.trace_export.specs.Checked.{Judges}
 use Rattle.trace_export.specs.Reasons.{reason_number}
 use Rattle.trace_export.specs.declared.verdict.Verdict.{Verdict}
 use Rattle.trace_export.specs.declared.verdict.Verdict.TheVariants.{Yes, No}
+use Rattle.trace_world.specs.Exported.{BreaksExport, Exports}
 use Rattle.trace_world.specs.Replayed.{Replays, ReplaysInPart}
 use Rattle.trace_world.specs.declared.counts.Counts.{Counts}
 use Rattle.trace_world.specs.declared.replay_fault.ReplayFault.{ReplayFault}
 use Rattle.itc_trace.specs.CommandLine.{Demand, ToReplay, ToCheck, are_taken}
 use Rattle.itc_trace.specs.Fault.{line_of_fault, fault_of_replay}
-use Rattle.itc_trace.specs.Reading.{Work, Replaying, Checking}
+use Rattle.itc_trace.specs.Reading.{Work, Replaying, Exporting, Checking}
 use Rattle.itc_trace.specs.declared.fault.Fault.{Fault}
-use Rattle.itc_trace.specs.declared.fault.Fault.TheVariants.{Tenants, Read, Write, TooLong}
+use Rattle.itc_trace.specs.declared.fault.Fault.TheVariants.{Tenants, Read, Write, TooLong, Memory}
 
 -- tenants of these names that have these limits and have reported nothing
 abbrev pub fresh_world : Limits → List Text → World
@@ -48,6 +50,40 @@ abbrev pub ReplaysSomeInPart : (fault : Fault) (before after : Given) (taken tak
 ReplaysSomeInPart fault before after taken taken' = (limits : Limits) × (tenants : List Text)
     × IsTrue (are_limits limits.events limits.tasks limits.messages) × IsTrue (are_taken tenants)
     × ReplaysFreshInPart fault limits tenants before after taken taken'
+
+-- This is the place of the tenant to be exported, if any.
+abbrev pub IsExportPlace : Option Text → List Text → Option ℕ → Type 0
+IsExportPlace None names place = place ≡ None
+IsExportPlace (Some name) names place = (place ≡ place_of names name) × IsTrue (is_some place)
+
+-- All that the reader gave was done, from such tenants, and then the export of the one of this name was written.
+pub record ExportsFresh (name : Text) (limits : Limits) (names : List Text) (before after : Given) (taken taken' : Taken) : Type 0 where
+  pub place : ℕ
+  pub there : place_of names name ≡ Some place
+  pub count : ℕ
+  pub later : World
+  pub exports : Exports before after taken taken' (fresh_world limits names) place count later
+
+-- Such an export was broken off by this fault.
+pub record ExportsFreshInPart (fault : Fault) (name : Text) (limits : Limits) (names : List Text) (before after : Given) (taken taken' : Taken) : Type 0 where
+  pub place : ℕ
+  pub there : place_of names name ≡ Some place
+  pub cause : ReplayFault
+  pub told : fault_of_replay cause ≡ fault
+  pub later : World
+  pub breaks : BreaksExport cause before after taken taken' (fresh_world limits names) place later
+
+-- Some tenant was exported so, of some that are taken, with limits in their ranges.
+abbrev pub ExportsSome : (before after : Given) (taken taken' : Taken) → Type 0
+ExportsSome before after taken taken' = (name : Text) × (limits : Limits) × (tenants : List Text)
+    × IsTrue (are_limits limits.events limits.tasks limits.messages) × IsTrue (are_taken tenants)
+    × ExportsFresh name limits tenants before after taken taken'
+
+-- Such an export was broken off by this fault.
+abbrev pub ExportsSomeInPart : (fault : Fault) (before after : Given) (taken taken' : Taken) → Type 0
+ExportsSomeInPart fault before after taken taken' = (name : Text) × (limits : Limits) × (tenants : List Text)
+    × IsTrue (are_limits limits.events limits.tasks limits.messages) × IsTrue (are_taken tenants)
+    × ExportsFreshInPart fault name limits tenants before after taken taken'
 
 -- Nothing was read, and nothing written on the output.
 abbrev pub IsUntouched : {R W : Type 0} → R → R → W → W → Type 0
@@ -128,32 +164,46 @@ abbrev pub ChecksInPart : (fault : Fault) (before after : Given) (taken taken' :
 ChecksInPart Write before after taken taken' = TellsFrontOfVerdict before after taken taken'
 ChecksInPart fault before after taken taken' = taken' ≡ taken
 
+-- The replay was done, or where the name of a tenant is given its export.
+abbrev pub DoesReplay : (export : Option Text) (limits : Limits) (names : List Text) (before after : Given) (taken taken' : Taken) → Type 0
+DoesReplay None limits names before after taken taken' = ReplaysFresh limits names before after taken taken'
+DoesReplay (Some name) limits names before after taken taken' = ExportsFresh name limits names before after taken taken'
+
+-- It was broken off by this fault.
+abbrev pub DoesReplayInPart : (export : Option Text) (fault : Fault) (limits : Limits) (names : List Text) (before after : Given) (taken taken' : Taken) → Type 0
+DoesReplayInPart None fault limits names before after taken taken' = ReplaysFreshInPart fault limits names before after taken taken'
+DoesReplayInPart (Some name) fault limits names before after taken taken' = ExportsFreshInPart fault name limits names before after taken taken'
+
 -- What is asked for was done, and this status tells it.
 abbrev pub Does : (asked : Demand) (before after : Given) (taken taken' : Taken) (status : ℕ) → Type 0
 Does (ToReplay asked) before after taken taken' status =
-    (status ≡ 0) × ReplaysFresh asked.limits asked.tenants before after taken taken'
+    (status ≡ 0) × DoesReplay asked.export asked.limits asked.tenants before after taken taken'
 Does ToCheck before after taken taken' status = TellsVerdict before after taken taken' status
 
 -- What is asked for was broken off by this fault.
 abbrev pub DoesInPart : (asked : Demand) (fault : Fault) (before after : Given) (taken taken' : Taken) → Type 0
 DoesInPart (ToReplay asked) fault before after taken taken' =
-    ReplaysFreshInPart fault asked.limits asked.tenants before after taken taken'
+    DoesReplayInPart asked.export fault asked.limits asked.tenants before after taken taken'
 DoesInPart ToCheck fault before after taken taken' = ChecksInPart fault before after taken taken'
 
 -- Such work was done, and this status tells it.
 abbrev pub DoesSome : (work : Work) (before after : Given) (taken taken' : Taken) (status : ℕ) → Type 0
 DoesSome Replaying before after taken taken' status = (status ≡ 0) × ReplaysSome before after taken taken'
+DoesSome Exporting before after taken taken' status = (status ≡ 0) × ExportsSome before after taken taken'
 DoesSome Checking before after taken taken' status = TellsVerdict before after taken taken' status
 
 -- Such work was broken off by this fault.
 abbrev pub DoesSomeInPart : (work : Work) (fault : Fault) (before after : Given) (taken taken' : Taken) → Type 0
 DoesSomeInPart Replaying fault before after taken taken' = ReplaysSomeInPart fault before after taken taken'
+DoesSomeInPart Exporting fault before after taken taken' = ExportsSomeInPart fault before after taken taken'
 DoesSomeInPart Checking fault before after taken taken' = ChecksInPart fault before after taken taken'
 
--- What want of memory leaves: nothing was written on the output; and nothing was read, unless by a check.
-abbrev pub LacksMemory : (work : Work) {R W : Type 0} → R → R → W → W → Type 0
-LacksMemory Replaying reader reader' writer writer' = IsUntouched reader reader' writer writer'
-LacksMemory Checking reader reader' writer writer' = writer' ≡ writer
+-- What want of memory leaves: nothing was read or written, unless an export was broken off, or a check before its verdict.
+abbrev pub LacksMemory : {R W : Type 0} (given : R → Given) (taken : W → Taken) (work : Work) → R → R → W → W → Type 0
+LacksMemory given taken Replaying reader reader' writer writer' = IsUntouched reader reader' writer writer'
+LacksMemory given taken Exporting reader reader' writer writer' = IsUntouched reader reader' writer writer'
+    ⊎ ExportsSomeInPart Memory (given reader) (given reader') (taken writer) (taken writer')
+LacksMemory given taken Checking reader reader' writer writer' = writer' ≡ writer
 
 -- What a run that fails leaves: the fault's cause, and in part what is asked for.
 abbrev pub BreaksOff : (before after : Given) (taken taken' : Taken) → Option Demand → Fault → Type 0

@@ -1,7 +1,7 @@
 -- The command line as it is built, and what is read of it.
-use Rattle.std.specs.Prelude.{◌≡◌, ℕ, true, List, Option, Some, None, Result, Ok, Err, ◌⊎◌, [], codes, option_and_then, if◌then◌else◌, map, string_bytes}
+use Rattle.std.specs.Prelude.{◌≡◌, ℕ, true, List, Option, Some, None, Result, Ok, Err, ◌⊎◌, [], codes, option_map, option_and_then, if◌then◌else◌, map, string_bytes}
 use Rattle.std.specs.Option.{option_map_or}
-use Rattle.clap.specs.Words.{App, Row, Rule, Text, all_of, one_of, new_app, new_rule, subcommand_of, with_rule, with_subcommand}
+use Rattle.clap.specs.Words.{App, Row, Rule, Text, all_of, first_of, one_of, new_app, new_rule, subcommand_of, with_rule, with_subcommand}
 use Rattle.clap.specs.Faults.{fault_of}
 use Rattle.clap.specs.Kinds.{IsAmong}
 use Rattle.clap.specs.declared.error.kind.ErrorKind.{ErrorKind}
@@ -35,10 +35,14 @@ limit_rule name most = record (new_rule name) {
   parser = Some (parser.Unsigned 1 most);
 }
 
+-- the option for the tenant to be exported
+abbrev pub export_rule : Rule
+export_rule = record (new_rule (codes "export")) { long = Some (codes "export"); action = Some Set; value_names = 1 }
+
 abbrev pub replay_app : App
 replay_app =
-    with_rule (with_rule (with_rule (with_rule (new_app (codes "replay")) (limit_rule (codes "events") 16384))
-    (limit_rule (codes "tasks") 2048)) (limit_rule (codes "messages") 16384)) tenant_rule
+    with_rule (with_rule (with_rule (with_rule (with_rule (new_app (codes "replay")) (limit_rule (codes "events") 16384))
+    (limit_rule (codes "tasks") 2048)) (limit_rule (codes "messages") 16384)) export_rule) tenant_rule
 
 abbrev pub check_app : App
 check_app = new_app (codes "check")
@@ -59,12 +63,22 @@ kinds_of words = fault_of program_app words
 -- what a command line that is taken asks for
 pub data Work : Type 0 where
   Replaying : Work
+  Exporting : Work
   Checking : Work
 
--- by the command that was found
+-- the tenant to be exported, if any, among what was found of a subcommand
+abbrev pub export_found : Option (Text × List Row) → Option Text
+export_found = option_and_then (λ found. first_of (codes "export") found.1)
+
+-- the work of a replay, by the tenant to be exported, if any
+abbrev pub work_with : Option Text → Work
+work_with None = Replaying
+work_with (Some name) = Exporting
+
+-- the work by what was found of a subcommand
 abbrev pub work_found : Option (Text × List Row) → Work
 work_found None = Replaying
-work_found (Some found) = if is_same found.0 (codes "check") then Checking else Replaying
+work_found (Some found) = if is_same found.0 (codes "check") then Checking else work_with (first_of (codes "export") found.1)
 
 -- the work that the words name, where the command line takes them
 abbrev pub work_of : List Text → Work
@@ -92,7 +106,7 @@ IsToldOf kind (Err Memory) = Unit {0}
 
 -- what is made of words for which these kinds of fault may come, and which name this work
 abbrev pub IsAnswer : List ErrorKind → Work → Result Asked Refusal → Type 0
-IsAnswer kinds work (Ok (Replay replay)) = (kinds ≡ []) × (work ≡ Replaying)
+IsAnswer kinds work (Ok (Replay replay)) = (kinds ≡ []) × (work ≡ work_with (option_map string_bytes replay.export))
 IsAnswer kinds work (Ok Check) = (kinds ≡ []) × (work ≡ Checking)
 IsAnswer kinds work (Ok (Show text)) = AsksForHelp kinds
 IsAnswer kinds work (Err (Words text)) = MayBeRefused kinds
@@ -126,13 +140,17 @@ FindsLimits found result = (limits : Limits) → limits_found found ≡ Some lim
 
 -- What was found is what is asked for.
 abbrev pub Has : Option (Text × List Row) → Demand → Type 0
-Has found (ToReplay asked) =
-    (work_found found ≡ Replaying) × (tenants_found found ≡ Some asked.tenants) × (limits_found found ≡ Some asked.limits)
+Has found (ToReplay asked) = (work_found found ≡ work_with asked.export) × (tenants_found found ≡ Some asked.tenants)
+    × (limits_found found ≡ Some asked.limits) × (export_found found ≡ asked.export)
 Has found ToCheck = work_found found ≡ Checking
 
 -- what a replay that was read is asked for
 abbrev pub wanted_of : Replays → Wanted
-wanted_of replay = record { limits = replay.limits; tenants = map string_bytes replay.tenants.items }
+wanted_of replay = record {
+  limits = replay.limits;
+  tenants = map string_bytes replay.tenants.items;
+  export = option_map string_bytes replay.export;
+}
 
 -- What is asked for was read, if there was memory.
 abbrev pub ReadsWords : Demand → Result Asked Refusal → Type 0

@@ -13,7 +13,7 @@ use trace_world::ReplayFault;
 pub(crate) enum Fault {
     /// The words are no text.
     Words,
-    /// A tenant's name is no name, a tenant stands twice, or there are more than 16.
+    /// A tenant's name is no name, a tenant stands twice, there are more than 16, or the one to be exported is none of them.
     Tenants,
     Read,
     Write,

@@ -1,12 +1,14 @@
 //! What the program does.
-ghost use Rattle.std.specs.Prelude.{◌≡◌, ◌≢◌, ◌<◌, ◌≤◌, ◌++◌, ◌⊎◌, List, [], length, map, true, false, IsTrue, OnOk, IfOk, IfErr, IfSome, IsErr, IsErrAnd, IsErrOf, string_bytes};
+ghost use Rattle.std.specs.Prelude.{◌≡◌, ◌≢◌, ◌<◌, ◌≤◌, ◌++◌, ◌⊎◌, List, [], length, map, true, false, IsTrue, OnOk, IfOk, IfErr, IfSome, IsErr, IsErrAnd, IsErrOf, IsSomeAnd, option_map, string_bytes};
 ghost use Rattle.line_protocol.specs.Writing.{EndsInFault};
 ghost use Rattle.std.specs.List.{list_all};
 ghost use Rattle.trace_types.specs.text.Name.{Text, is_name};
+ghost use Rattle.trace_types.specs.world.Replay.{place_of};
 ghost use Rattle.trace_types.specs.tenant.Limits.{Limits as Bounds, are_limits};
-ghost use Rattle.itc_trace.specs.CommandLine.{are_taken};
+ghost use Rattle.itc_trace.specs.CommandLine.{ToReplay, are_taken, can_export, is_taken};
 ghost use Rattle.itc_trace.specs.Fault.{status_of};
-ghost use Rattle.itc_trace.specs.Program.{ChecksInPart, GoesThrough, TellsFault, TellsVerdict, line_of_verdict, status_of_verdict, IsFailure, ReplaysFresh, ReplaysFreshInPart, Shows, ShowsAll, ShowsSome, ShowsSomeAll};
+ghost use Rattle.itc_trace.specs.Program.{ChecksInPart, DoesReplay, DoesReplayInPart, ExportsFreshInPart, GoesThrough, IsExportPlace, IsUntouched, TellsFault, TellsVerdict, line_of_verdict, status_of_verdict, IsFailure, Shows, ShowsAll, ShowsSome, ShowsSomeAll};
+ghost use Rattle.itc_trace.specs.Reading.{wanted_of};
 ghost use Rattle.itc_trace.specs.Runs.{Runs};
 
 use crate::fault::Fault;
@@ -16,14 +18,14 @@ use std::alloc::{AllocError, Global};
 use std::convert::AsStr;
 use trace_export::{Verdict, check};
 use trace_types::Name;
-use trace_world::{World, replay};
+use trace_world::{World, replay, replay_export};
 
 /// Does what the words after the program's name ask, and answers the status with which the program ends.
 ///
 /// Taken are `replay` and then, in any order, 1 to 16 tenants, none twice, and each of these options once at most:
-/// `--events N` with N from 1 to 16384 (4096 where it is left out), `--tasks N` with N from 1 to 2048 (512) and
-/// `--messages N` with N from 1 to 16384 (2048); or `check` alone. The status is 0 where all lines were replayed, the
-/// export is right or all of the help was shown, 1 where the export is faulty, 2 where the words or the tenants are
+/// `--events N` with N from 1 to 16384 (4096 where it is left out), `--tasks N` with N from 1 to 2048 (512),
+/// `--messages N` with N from 1 to 16384 (2048) and `--export NAME` with the name of one of the tenants; or `check` alone.
+/// The status is 0 where all lines were replayed, the export was written or is right, or all of the help was shown, 1 where the export is faulty, 2 where the words or the tenants are
 /// refused, 3 for a failed read or write or too long an input, and 4 for want of memory.
 pub fn run<T: AllocGlobal, S: AsStr, R: Source, W: Sink, E: Sink>(
     rt: &T,
@@ -36,7 +38,12 @@ pub fn run<T: AllocGlobal, S: AsStr, R: Source, W: Sink, E: Sink>(
 {
     let alloc = rt.alloc();
     let done = match read_words(alloc, words) {
-        Ok(Asked::Replay(wanted)) => replay_tenants(rt, alloc, &wanted, reader, writer),
+        Ok(Asked::Replay(wanted)) => {
+            let done = replay_tenants(rt, alloc, &wanted, reader, writer);
+            // Dropped by a call, so that there is one way on, whether an export is asked for or not.
+            drop(wanted);
+            done
+        }
         Ok(Asked::Check) => return check_input(alloc, reader, writer, errors),
         Ok(Asked::Show(text)) => show_help(writer, text.as_str()),
         Err(Refusal::Words(text)) => return refuse(errors, text.as_str()),
@@ -73,7 +80,7 @@ fn show_help<W: Sink>(writer: &mut W, text: &str) -> Result<(), Fault>
     show(writer, text)
 }
 
-/// Replays the lines of the tenants.
+/// Replays the lines of the tenants, or does them and writes the export of one.
 fn replay_tenants<T, R: Source, W: Sink>(
     rt: &T,
     alloc: Global,
@@ -81,24 +88,62 @@ fn replay_tenants<T, R: Source, W: Sink>(
     reader: &mut R,
     writer: &mut W,
 ) -> Result<(), Fault>
-    ensures ok { OnOk result (ReplaysFresh wanted.now.limits (map string_bytes wanted.now.tenants.items) (R.seen reader.old) (R.seen reader.new) (W.seen writer.old) (W.seen writer.new)) }
-    ensures taken { OnOk result (are_taken (map string_bytes wanted.now.tenants.items) ≡ true) }
+    ensures ok { OnOk result (DoesReplay (option_map string_bytes wanted.now.export) wanted.now.limits (map string_bytes wanted.now.tenants.items)
+        (R.seen reader.old) (R.seen reader.new) (W.seen writer.old) (W.seen writer.new)) }
+    ensures taken { OnOk result (is_taken (ToReplay (wanted_of wanted.now)) ≡ true) }
     ensures ranges { OnOk result (IsTrue (are_limits wanted.now.limits.events wanted.now.limits.tasks wanted.now.limits.messages)) }
     ensures flushed { OnOk result (IsTrue (W.seen writer.new).is_flushed) }
-    ensures refused { IfErr result (λ fault. status_of fault ≡ 2 → (fault ≡ Fault.Tenants) × (are_taken (map string_bytes wanted.now.tenants.items) ≡ false)) }
-    ensures unchanged { IfErr result (λ fault. (status_of fault ≡ 2) ⊎ (status_of fault ≡ 4) → (reader.new ≡ reader.old) × (writer.new ≡ writer.old)) }
-    ensures in_part { IfErr result (λ fault. status_of fault ≡ 3 → (are_taken (map string_bytes wanted.now.tenants.items) ≡ true)
-        × ReplaysFreshInPart fault wanted.now.limits (map string_bytes wanted.now.tenants.items) (R.seen reader.old) (R.seen reader.new) (W.seen writer.old) (W.seen writer.new)) }
+    ensures refused { IfErr result (λ fault. status_of fault ≡ 2 → (fault ≡ Fault.Tenants) × (is_taken (ToReplay (wanted_of wanted.now)) ≡ false)) }
+    ensures unchanged { IfErr result (λ fault. status_of fault ≡ 2 → (reader.new ≡ reader.old) × (writer.new ≡ writer.old)) }
+    ensures memory { IfErr result (λ fault. status_of fault ≡ 4 → IsUntouched reader.old reader.new writer.old writer.new
+        ⊎ IsSomeAnd wanted.now.export (λ name. (are_taken (map string_bytes wanted.now.tenants.items) ≡ true)
+        × ExportsFreshInPart fault (string_bytes name) wanted.now.limits (map string_bytes wanted.now.tenants.items)
+        (R.seen reader.old) (R.seen reader.new) (W.seen writer.old) (W.seen writer.new))) }
+    ensures in_part { IfErr result (λ fault. status_of fault ≡ 3 → (is_taken (ToReplay (wanted_of wanted.now)) ≡ true)
+        × DoesReplayInPart (option_map string_bytes wanted.now.export) fault wanted.now.limits (map string_bytes wanted.now.tenants.items)
+        (R.seen reader.old) (R.seen reader.new) (W.seen writer.old) (W.seen writer.new)) }
     ensures failed { IfErr result (λ fault. status_of fault ≡ 3 → IsFailure (R.seen reader.old) (R.seen reader.new) (W.seen writer.old) (W.seen writer.new) fault) }
     ensures read_failed { (R.seen reader.old).failures < (R.seen reader.new).failures → IsErrAnd result (λ fault. status_of fault ≡ 3) }
     ensures write_failed { (W.seen writer.old).failures < (W.seen writer.new).failures → IsErrAnd result (λ fault. status_of fault ≡ 3) }
 {
     let names = read_names(alloc, &wanted.tenants)?;
+    let exported = exported_place(&names, &wanted.export)?;
     let mut world = World::new(alloc, &names, wanted.limits)?;
-    match replay(rt, alloc, &mut world, reader, writer) {
-        Ok(_) => Ok(()),
-        Err(fault) => Err(Fault::from(fault)),
+    match exported {
+        Some(place) => {
+            replay_export(rt, alloc, &mut world, place, reader, writer)?;
+        }
+        None => {
+            replay(rt, alloc, &mut world, reader, writer)?;
+        }
     }
+    Ok(())
+}
+
+/// The place of the tenant to be exported, if there is to be one.
+fn exported_place(names: &[Name], export: &Option<String>) -> Result<Option<usize>, Fault>
+    ensures ok { IfOk result (λ place. IsExportPlace (option_map string_bytes export.now) names.now place) }
+    ensures err { IfErr result (λ fault. (fault ≡ Fault.Tenants) × (can_export (option_map string_bytes export.now) names.now ≡ false)) }
+{
+    match export {
+        None => Ok(None),
+        Some(name) => match place_of(names, name.as_bytes()) {
+            None => Err(Fault::Tenants),
+            place => Ok(place),
+        },
+    }
+}
+
+/// The first place of the name.
+fn place_of(names: &[Name], name: &[u8]) -> Option<usize>
+    ensures { result ≡ place_of names.now name.now }
+{
+    for (place, other) in names.iter().enumerate() {
+        if other.as_bytes() == name {
+            return Some(place);
+        }
+    }
+    None
 }
 
 /// Checks the export that the reader gives, tells the verdict, and answers the status.

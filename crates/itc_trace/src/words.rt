@@ -1,9 +1,9 @@
 //! The words of the command line.
-ghost use Rattle.std.specs.Prelude.{◌≡◌, ◌↔◌, IsTrue, ℕ, false, [], Some, Err, map, IfOk, IfErr, IfSome, string_bytes};
+ghost use Rattle.std.specs.Prelude.{◌≡◌, ◌↔◌, IsTrue, ℕ, false, [], Some, Err, map, option_map, IfOk, IfErr, IfSome, string_bytes};
 ghost use Rattle.clap.specs.Words.{app_of, found_of, kind_of, rows_of, rule_of, subcommand_rows_of};
 ghost use Rattle.clap.specs.declared.builder.Command.TheViews.{out-Command as fields_of};
 ghost use Rattle.itc_trace.specs.CommandLine.{Demand, asked_in};
-ghost use Rattle.itc_trace.specs.Reading.{Checking, FindsTenants, FindsLimits, Has, IsAnswer, IsToldOf, ReadsWords, amount_in, check_app, kinds_of, limit_rule, program_app, replay_app, tenant_rule, work_found, work_of};
+ghost use Rattle.itc_trace.specs.Reading.{Checking, FindsTenants, FindsLimits, Has, IsAnswer, IsToldOf, ReadsWords, amount_in, check_app, export_found, export_rule, kinds_of, limit_rule, program_app, replay_app, tenant_rule, work_found, work_of};
 
 use clap::builder::ValueParser;
 use clap::error::ErrorKind;
@@ -15,13 +15,13 @@ use trace_types::Limits;
 /// What help says after the commands.
 const HELP: &str = "\
 A tenant is a group of tasks whose events are ordered among themselves. Its requests report
-events, as `local root` and `send root m`, and ask about them, as `order 1 2`. An export is a trace
-as lines of JSON, one for each event, with its stamp and the events that it follows.
+events, as `local root` and `send root m`, and ask about them, as `order 1 2`. An export is a
+tenant's trace as lines of JSON, one for each event, with its stamp and the events that it follows.
 
 Example:
   printf 'x local root\\nx local root\\nx order 1 2\\n' | itc_trace replay x
 
-`itc_trace help replay` tells of the lines and the options, `itc_trace help check` of the answers.";
+`itc_trace help replay` tells of the lines and the options, `itc_trace help check` of exports.";
 
 /// What help on `replay` says after the options.
 const REPLAY_HELP: &str = "\
@@ -33,13 +33,16 @@ Requests that report, and are answered 201 with the event's number:
 Requests that ask, and are answered 200:
   order A B, past A, concurrent A, event A, stamp A, task TASK, message MESSAGE, count
 
-Each tenant starts with the task root, and has the limits for itself.
+Each tenant starts with the task root, and has the limits for itself. With --export no reply is
+written, and at the end a line of JSON for each event of that tenant.
 
-Example:
+Examples:
   printf 'x local root\\ny local root\\nx stamp 1\\n' | itc_trace replay --events 100 x y
   x 201 1
   y 201 1
-  x 200 [1;1]";
+  x 200 [1;1]
+  printf 'x local root\\n' | itc_trace replay --export x x
+  {\"event\":1,\"kind\":\"local\",\"name\":\"-\",\"preds\":[],\"stamp\":\"[1;1]\",\"task\":\"root\"}";
 
 /// What help on `check` says after the options.
 const CHECK_HELP: &str = "\
@@ -54,9 +57,8 @@ reasons, with status 1:
   6 the trees of an earlier event and of this one do not compare as the preds say
 
 Example:
-  printf '{\"event\":1,\"kind\":\"local\",\"name\":\"-\",\"preds\":[],\"stamp\":\"[1;1]\",\"task\":\"root\"}\\n' |
-    itc_trace check
-  yes 1";
+  printf 'x local root\\nx local root\\n' | itc_trace replay --export x x | itc_trace check
+  yes 2";
 
 const EVENTS_HELP: &str = "The most events of each tenant: 1 to 16384 [default: 4096]";
 
@@ -81,6 +83,8 @@ pub(crate) struct Replay {
     /// The limits that each of the tenants has.
     pub(crate) limits: Limits,
     pub(crate) tenants: Vec<String>,
+    /// The tenant whose export is to be written in place of replies.
+    pub(crate) export: Option<String>,
 }
 
 /// Why the words are not followed.
@@ -137,6 +141,7 @@ fn replay_command<'a>(alloc: Global) -> Result<Command<'a>, AllocError>
         .arg(limit(alloc, "events", EVENTS_HELP, Limits::MOST_EVENTS))?
         .arg(limit(alloc, "tasks", TASKS_HELP, Limits::MOST_TASKS))?
         .arg(limit(alloc, "messages", MESSAGES_HELP, Limits::MOST_MESSAGES))?
+        .arg(export(alloc))?
         .arg(tenants(alloc))
 }
 
@@ -175,10 +180,22 @@ fn limit<'a>(alloc: Global, name: &'a str, help: &'a str, most: u64) -> Arg<'a>
         .action(ArgAction::Set)
 }
 
+/// The option for the tenant to be exported.
+fn export<'a>(alloc: Global) -> Arg<'a>
+    ensures rule { rule_of result ≡ export_rule }
+    ensures local { result.global ≡ false }
+{
+    Arg::new(alloc, "export")
+        .long("export")
+        .value_name("NAME")
+        .help("The tenant whose export is written at the end, in place of all replies")
+        .action(ArgAction::Set)
+}
+
 /// What the words after the program's name ask for.
 ///
-/// Taken are `replay` and then, in any order, 1 or more tenants and each of the options `--events N`, `--tasks N` and
-/// `--messages N` once at most, with a whole number in its range; or `check` alone.
+/// Taken are `replay` and then, in any order, 1 or more tenants, each of the options `--events N`, `--tasks N` and
+/// `--messages N` once at most, with a whole number in its range, and `--export NAME` once at most; or `check` alone.
 pub(crate) fn read_words<S: AsStr>(alloc: Global, words: &[S]) -> Result<Asked, Refusal>
     // Limits and tenants are read as they stand, and want of memory alone prevents it.
     ensures asked { IfSome (asked_in (map S.text words.now)) (λ asked. ReadsWords asked result) }
@@ -200,8 +217,13 @@ fn asked_of(alloc: Global, matches: &ArgMatches) -> Result<Asked, Refusal>
         return Ok(Asked::Check);
     }
     let tenants = tenants_of(alloc, matches)?;
+    let export = export_of(alloc, matches)?;
     match limits_of(matches) {
-        Some(limits) => Ok(Asked::Replay(Replay { limits, tenants })),
+        Some(limits) => Ok(Asked::Replay(Replay {
+            limits,
+            tenants,
+            export,
+        })),
         None => Err(Refusal::Words(String::new(alloc))),
     }
 }
@@ -222,6 +244,20 @@ fn tenants_of(alloc: Global, matches: &ArgMatches) -> Result<Vec<String>, Refusa
         return Ok(Vec::new(alloc));
     };
     copy_texts(alloc, replay.get_strs("TENANT").unwrap_or(&[]))
+}
+
+/// The tenant to be exported, if one was found.
+fn export_of(alloc: Global, matches: &ArgMatches) -> Result<Option<String>, Refusal>
+    ensures ok { IfOk result (λ export. option_map string_bytes export ≡ export_found (subcommand_rows_of matches.now)) }
+    ensures err { IfErr result (λ refusal. refusal ≡ Refusal.Memory) }
+{
+    let Some((_, replay)) = matches.subcommand() else {
+        return Ok(None);
+    };
+    match replay.get_str("export") {
+        Some(name) => Ok(Some(String::from_str(alloc, name)?)),
+        None => Ok(None),
+    }
 }
 
 /// The limits that were found; `None` where one is out of its range.

@@ -1,11 +1,18 @@
-use Rattle.std.proofs.Common.{rules, ◌≡◌, ◌∙◌, inl, inr, Bool, true, false, Option, Some, None, Result, Ok, Err, IfSome, IfErr, OnOk, ◌≢◌, ◌<◌, ◌≤◌, map, refl, sym, ap, subst, arith}
-use Rattle.itc_trace.specs.CommandLine.{Demand, ToReplay, ToCheck, is_taken}
+use Rattle.std.proofs.Common.{rules, ◌≡◌, ◌∙◌, ◌⊎◌, inl, inr, Bool, true, false, Option, Some, None, Result, Ok, Err, IfSome, IfErr, OnOk, ◌≢◌, ◌<◌, ◌≤◌, map, refl, sym, ap, subst, arith}
+use Rattle.itc_trace.specs.CommandLine.{Demand, ToReplay, ToCheck, are_taken, is_taken}
 use Rattle.itc_trace.specs.Fault.{status_of}
-use Rattle.itc_trace.specs.Program.{Does, DoesInPart, DoesSome, DoesSomeInPart, IsUntouched, LacksMemory, RefusesTenants, TellsFault}
+use Rattle.itc_trace.specs.Program.{Does, DoesInPart, DoesReplay, DoesReplayInPart, DoesSome, DoesSomeInPart, ExportsFreshInPart, IsUntouched, LacksMemory, RefusesTenants, TellsFault}
+use Rattle.line_protocol.specs.Source.{Given}
 use Rattle.line_protocol.specs.Sink.{Taken}
+use Rattle.std.proofs.lemmas.Bool.{and_parts}
+use Rattle.std.specs.Global.{Global}
+use Rattle.std.specs.Prelude.{String, option_map, IsSomeAnd, IsTrue, List, string_bytes}
+use Rattle.trace_types.specs.tenant.Limits.{Limits, are_limits}
+use Rattle.trace_types.specs.text.Name.{Text}
+use Rattle.itc_trace.specs.declared.words.Replay.{Replay as Replays}
 use Rattle.itc_trace.specs.declared.fault.Fault.{Fault}
 use Rattle.itc_trace.specs.declared.fault.Fault.TheVariants.{Words, Tenants, Read, Write, TooLong, Memory}
-use Rattle.itc_trace.specs.Reading.{IsAnswer, ReadsWords, Work, Replaying, Checking, kinds_of, wanted_of, work_of}
+use Rattle.itc_trace.specs.Reading.{IsAnswer, ReadsWords, Work, Replaying, Exporting, Checking, kinds_of, wanted_of, work_of, work_with}
 use Rattle.itc_trace.specs.declared.words.Asked.TheVariants.{Replay, Check, Show}
 use Rattle.itc_trace.specs.declared.words.Refusal.TheVariants as refusal
 use Rattle.itc_trace.proofs.program.run.Goals as goal
@@ -55,6 +62,14 @@ three_only Write more four = refl
 three_only TooLong more four = refl
 three_only Memory more four = absurd (four refl)
 
+four_only : (fault : Fault) → status_of fault ≡ 4 → fault ≡ Memory
+four_only Words four = absurd (omega arith)
+four_only Tenants four = absurd (omega arith)
+four_only Read four = absurd (omega arith)
+four_only Write four = absurd (omega arith)
+four_only TooLong four = absurd (omega arith)
+four_only Memory four = refl
+
 two_at_least : (fault : Fault) → 2 ≤ status_of fault
 two_at_least Words = omega arith
 two_at_least Tenants = omega arith
@@ -63,9 +78,50 @@ two_at_least Write = omega arith
 two_at_least TooLong = omega arith
 two_at_least Memory = omega arith
 
-lacks : {R W : Type 0} (work : Work) (reader reader' : R) (writer writer' : W) → IsUntouched reader reader' writer writer' → LacksMemory work reader reader' writer writer'
-lacks Replaying reader reader' writer writer' untouched = untouched
-lacks Checking reader reader' writer writer' untouched = untouched.1
+untouched_lacks : {R W : Type 0} (given : R → Given) (taken : W → Taken) (work : Work) (reader reader' : R) (writer writer' : W) → IsUntouched reader reader' writer writer'
+    → LacksMemory given taken work reader reader' writer writer'
+untouched_lacks given taken Replaying reader reader' writer writer' untouched = untouched
+untouched_lacks given taken Exporting reader reader' writer writer' untouched = inl untouched
+untouched_lacks given taken Checking reader reader' writer writer' untouched = untouched.1
+
+-- what want of memory leaves of a replay
+replay_lacks : {R W : Type 0} (given : R → Given) (taken : W → Taken) (work : Work) (fault : Fault) (replay : Replays) (reader reader' : R) (writer writer' : W)
+    → fault ≡ Memory → IsTrue (are_limits replay.limits.events replay.limits.tasks replay.limits.messages) → work ≡ work_with (option_map string_bytes replay.export)
+    → IsUntouched reader reader' writer writer' ⊎ IsSomeAnd replay.export (λ name. (are_taken (map string_bytes replay.tenants.items) ≡ true)
+    × ExportsFreshInPart fault (string_bytes name) replay.limits (map string_bytes replay.tenants.items) (given reader) (given reader') (taken writer) (taken writer'))
+    → LacksMemory given taken work reader reader' writer writer'
+replay_lacks given taken work fault replay reader reader' writer writer' fault_is ranges work_is (inl untouched) = untouched_lacks given taken work reader reader' writer writer' untouched
+replay_lacks given taken work fault replay reader reader' writer writer' fault_is ranges work_is (inr part) = go replay.export work_is part
+  where
+    go : (export : Option (String Global)) → work ≡ work_with (option_map string_bytes export)
+        → IsSomeAnd export (λ name. (are_taken (map string_bytes replay.tenants.items) ≡ true)
+        × ExportsFreshInPart fault (string_bytes name) replay.limits (map string_bytes replay.tenants.items) (given reader) (given reader') (taken writer) (taken writer'))
+        → LacksMemory given taken work reader reader' writer writer'
+    go None is part = absurd part
+    go (Some name) is part = subst (λ one. LacksMemory given taken one reader reader' writer writer') (sym is)
+        (inr (
+          string_bytes name,
+          replay.limits,
+          map string_bytes replay.tenants.items,
+          ranges,
+          part.0,
+          subst (λ one. ExportsFreshInPart one (string_bytes name) replay.limits (map string_bytes replay.tenants.items) (given reader) (given reader') (taken writer) (taken writer'))
+              fault_is part.1,
+        ))
+
+-- a replay that was done, or an export
+some_done : (export : Option Text) (limits : Limits) (tenants : List Text) (before after : Given) (taken taken' : Taken)
+    → IsTrue (are_limits limits.events limits.tasks limits.messages) → are_taken tenants ≡ true
+    → DoesReplay export limits tenants before after taken taken' → DoesSome (work_with export) before after taken taken' 0
+some_done None limits tenants before after taken taken' ranges names does = (refl, (limits, tenants, ranges, names, does))
+some_done (Some name) limits tenants before after taken taken' ranges names does = (refl, (name, limits, tenants, ranges, names, does))
+
+-- and one that was broken off
+some_in_part : (export : Option Text) (fault : Fault) (limits : Limits) (tenants : List Text) (before after : Given) (taken taken' : Taken)
+    → IsTrue (are_limits limits.events limits.tasks limits.messages) → are_taken tenants ≡ true
+    → DoesReplayInPart export fault limits tenants before after taken taken' → DoesSomeInPart (work_with export) fault before after taken taken'
+some_in_part None fault limits tenants before after taken taken' ranges names does = (limits, tenants, ranges, names, does)
+some_in_part (Some name) fault limits tenants before after taken taken' ranges names does = (name, limits, tenants, ranges, names, does)
 
 pub returns-in-Err-Words : goal.returns-in-Err-Words
 returns-in-Err-Words g c = record {
@@ -96,7 +152,7 @@ returns-in-Ok-Check g c =
           c.check_input.ensures.taken);
       memory = λ four.
           let lacked = c.check_input.ensures.memory four in
-          (subst (λ work. LacksMemory work c.args.reader.now c.check_input.new.reader c.args.writer.now c.check_input.new.writer) (sym answer.1) lacked.0, lacked.1);
+          (subst (λ work. LacksMemory g.R.Source.seen g.W.Sink.seen work c.args.reader.now c.check_input.new.reader c.args.writer.now c.check_input.new.writer) (sym answer.1) lacked.0, lacked.1);
       done = λ few.
           let did = c.check_input.ensures.done few in (
             did.0,
@@ -152,8 +208,15 @@ returns-in-Ok g c = record {
           let words = map g.S.AsStr.text c.args.words.now in
           let field : w.in-Ok-Replay.field-0 ≡ Replay w.in-Ok-Replay.wanted = search rules in
           let answer = subst (λ one. IsAnswer (kinds_of words) (work_of words) (Ok one)) field w.in-Ok-Replay.ensures.kinds in
-          let some : DoesSome Replaying (g.R.Source.seen c.args.reader.now) (g.R.Source.seen c.match-read_words.reader)
-          (g.W.Sink.seen c.args.writer.now) (g.W.Sink.seen c.match-read_words.writer) 0 = search rules in
+          let done = sym w.done-is ∙ c.in-Ok.is in
+          let taken = at_ok w.replay_tenants-done.result c.in-Ok.field-0 _ done w.replay_tenants-done.ensures.taken in
+          let ranges = at_ok w.replay_tenants-done.result c.in-Ok.field-0 _ done w.replay_tenants-done.ensures.ranges in
+          let does = at_ok w.replay_tenants-done.result c.in-Ok.field-0 _ done w.replay_tenants-done.ensures.ok in
+          let some : DoesSome (work_with (option_map string_bytes w.in-Ok-Replay.wanted.export)) (g.R.Source.seen c.args.reader.now) (g.R.Source.seen c.match-read_words.reader)
+          (g.W.Sink.seen c.args.writer.now) (g.W.Sink.seen c.match-read_words.writer) 0 =
+          some_done (option_map string_bytes w.in-Ok-Replay.wanted.export) w.in-Ok-Replay.wanted.limits (map string_bytes w.in-Ok-Replay.wanted.tenants.items)
+          (g.R.Source.seen c.args.reader.now) (g.R.Source.seen c.match-read_words.reader) (g.W.Sink.seen c.args.writer.now) (g.W.Sink.seen c.match-read_words.writer) ranges (and_parts _ _ taken).0 (rw (w.reader-is, w.writer-is) does)
+          in
           inr (
             answer.0,
             subst (λ work. DoesSome work (g.R.Source.seen c.args.reader.now) (g.R.Source.seen c.match-read_words.reader)
@@ -223,9 +286,26 @@ returns-in-Err g c = record {
         let fault_is = same_err c.match-read_words.done c.in-Err.fault Memory c.in-Err.is w.done-is in
         subst (λ status. RefusesTenants (is_taken asked) (g.E.Sink.seen c.args.errors.now) (g.E.Sink.seen c.tell.new.errors) status) (sym (c.tell.ensures.status ∙ ap status_of fault_is)) (memory_taken _ _ (is_taken asked)))
   ];
-  memory = λ four.
-      let untouched : IsUntouched c.args.reader.now c.match-read_words.reader c.args.writer.now c.match-read_words.writer = search rules in
-      (lacks (work_of (map g.S.AsStr.text c.args.words.now)) _ _ _ _ untouched, search rules);
+  memory = λ four. (
+    elim c.match-read_words.branch [
+      | in-Ok-Replay w ↦
+          let words = map g.S.AsStr.text c.args.words.now in
+          let field : w.in-Ok-Replay.field-0 ≡ Replay w.in-Ok-Replay.wanted = search rules in
+          let answer = subst (λ one. IsAnswer (kinds_of words) (work_of words) (Ok one)) field w.in-Ok-Replay.ensures.kinds in
+          let lacked = at_err w.replay_tenants-done.result c.in-Err.fault _ (sym w.done-is ∙ c.in-Err.is) w.replay_tenants-done.ensures.memory (sym c.tell.ensures.status ∙ four) in
+          let ranges : IsTrue (are_limits w.in-Ok-Replay.wanted.limits.events w.in-Ok-Replay.wanted.limits.tasks w.in-Ok-Replay.wanted.limits.messages) = search rules in
+          replay_lacks g.R.Source.seen g.W.Sink.seen (work_of words) c.in-Err.fault w.in-Ok-Replay.wanted c.args.reader.now c.match-read_words.reader c.args.writer.now c.match-read_words.writer (four_only c.in-Err.fault (sym c.tell.ensures.status ∙ four)) ranges answer.1
+          (rw (w.reader-is, w.writer-is) lacked)
+      | in-Ok-Show w ↦
+          let fault = at_err w.show_help-done.result c.in-Err.fault _ (sym w.done-is ∙ c.in-Err.is) w.show_help-done.ensures.err in
+          let no : 3 ≡ 4 = sym (c.tell.ensures.status ∙ ap status_of fault.0) ∙ four in
+          absurd (omega arith)
+      | in-Err-Memory w ↦
+          let untouched : IsUntouched c.args.reader.now c.match-read_words.reader c.args.writer.now c.match-read_words.writer = search rules in
+          untouched_lacks g.R.Source.seen g.W.Sink.seen (work_of (map g.S.AsStr.text c.args.words.now)) _ _ _ _ untouched
+    ],
+    search rules,
+  );
   done = λ few. absurd (omega (arith, two_at_least c.in-Err.fault, c.tell.ensures.status));
   did = λ few. absurd (omega (arith, two_at_least c.in-Err.fault, c.tell.ensures.status));
   broken_off = λ others.
@@ -258,8 +338,13 @@ returns-in-Err g c = record {
               let words = map g.S.AsStr.text c.args.words.now in
               let field : w.in-Ok-Replay.field-0 ≡ Replay w.in-Ok-Replay.wanted = search rules in
               let answer = subst (λ one. IsAnswer (kinds_of words) (work_of words) (Ok one)) field w.in-Ok-Replay.ensures.kinds in
-              let some : DoesSomeInPart Replaying c.in-Err.fault (g.R.Source.seen c.args.reader.now) (g.R.Source.seen c.match-read_words.reader)
-              (g.W.Sink.seen c.args.writer.now) (g.W.Sink.seen c.match-read_words.writer) = search rules in
+              let in_part = at_err w.replay_tenants-done.result c.in-Err.fault _ (sym w.done-is ∙ c.in-Err.is) w.replay_tenants-done.ensures.in_part (sym c.tell.ensures.status ∙ three) in
+              let ranges : IsTrue (are_limits w.in-Ok-Replay.wanted.limits.events w.in-Ok-Replay.wanted.limits.tasks w.in-Ok-Replay.wanted.limits.messages) = search rules in
+              let some : DoesSomeInPart (work_with (option_map string_bytes w.in-Ok-Replay.wanted.export)) c.in-Err.fault (g.R.Source.seen c.args.reader.now)
+              (g.R.Source.seen c.match-read_words.reader) (g.W.Sink.seen c.args.writer.now) (g.W.Sink.seen c.match-read_words.writer) =
+              some_in_part (option_map string_bytes w.in-Ok-Replay.wanted.export) c.in-Err.fault w.in-Ok-Replay.wanted.limits (map string_bytes w.in-Ok-Replay.wanted.tenants.items)
+              (g.R.Source.seen c.args.reader.now) (g.R.Source.seen c.match-read_words.reader) (g.W.Sink.seen c.args.writer.now) (g.W.Sink.seen c.match-read_words.writer) ranges (and_parts _ _ in_part.0).0 (rw (w.reader-is, w.writer-is) in_part.1)
+              in
               inr (
                 answer.0,
                 subst (λ work. DoesSomeInPart work c.in-Err.fault (g.R.Source.seen c.args.reader.now) (g.R.Source.seen c.match-read_words.reader)

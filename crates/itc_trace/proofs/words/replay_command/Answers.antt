@@ -13,10 +13,12 @@ returns c =
     let three = c.in_ok-arg-3.ensures.shape c.limit-3.ensures.local ∙ ap₂ with_rule two c.limit-3.ensures.rule in
     let local : (out-Command c.after_help.result).has_globals ≡ false =
     ap (λ fields. fields.has_globals) c.after_help.ensures ∙ (ap (λ fields. fields.has_globals) c.about.ensures ∙ c.new.ensures.local) in
+    let four = c.in_ok-arg-4.ensures.shape c.export.ensures.local ∙ ap₂ with_rule three c.export.ensures.rule in
     let locals = c.in_ok-arg-3.ensures.globals ∙ ap₂ ◌||◌ (c.in_ok-arg-2.ensures.globals
     ∙ ap₂ ◌||◌ (c.in_ok-arg.ensures.globals ∙ ap₂ ◌||◌ local c.limit.ensures.local) c.limit-2.ensures.local) c.limit-3.ensures.local
     in
+    let locals_four = c.in_ok-arg-4.ensures.globals ∙ ap₂ ◌||◌ locals c.export.ensures.local in
     record {
-      app = IfOk-weaker c.arg-4.result _ _ (λ command adds. adds.shape c.tenants.ensures.local ∙ ap₂ with_rule three c.tenants.ensures.rule) c.arg-4.ensures;
-      local = IfOk-weaker c.arg-4.result _ _ (λ command adds. adds.globals ∙ ap₂ ◌||◌ locals c.tenants.ensures.local) c.arg-4.ensures;
+      app = IfOk-weaker c.arg-5.result _ _ (λ command adds. adds.shape c.tenants.ensures.local ∙ ap₂ with_rule four c.tenants.ensures.rule) c.arg-5.ensures;
+      local = IfOk-weaker c.arg-5.result _ _ (λ command adds. adds.globals ∙ ap₂ ◌||◌ locals_four c.tenants.ensures.local) c.arg-5.ensures;
     }
