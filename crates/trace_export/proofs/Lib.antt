@@ -7,3 +7,4 @@ pub mod Numbers
 pub mod Ordering
 pub mod Reached
 pub mod WrittenRows
+mod Vectors

@@ -10,4 +10,3 @@ mod Parts
 mod Standing
 mod StampTexts
 mod TakingIn
-mod Vectors
