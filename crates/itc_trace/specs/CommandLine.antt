@@ -60,8 +60,8 @@ abbrev pub with_part : Role → Text → Option (List Part) → Option (List Par
 with_part role word = option_map (λ parts. record { role = role; word = word } ∷ parts)
 
 -- The parts of the words, where the word before them was this option. A plain word is a tenant, and the word after an
--- option is its number or its name. Of words with `-` in front that are no such option, as those that ask for help, nothing is said
--- here.
+-- option is its number or its name. Of words with `-` in front that are no such option, as those that ask for help,
+-- nothing is said here.
 abbrev pub parts_after : Option Role → List Text → Option (List Part)
 parts_after None [] = Some []
 parts_after None (word ∷ words) =

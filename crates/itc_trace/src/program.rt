@@ -25,8 +25,9 @@ use trace_world::{World, replay, replay_export};
 /// Taken are `replay` and then, in any order, 1 to 16 tenants, none twice, and each of these options once at most:
 /// `--events N` with N from 1 to 16384 (4096 where it is left out), `--tasks N` with N from 1 to 2048 (512),
 /// `--messages N` with N from 1 to 16384 (2048) and `--export NAME` with the name of one of the tenants; or `check` alone.
-/// The status is 0 where all lines were replayed, the export was written or is right, or all of the help was shown, 1 where the export is faulty, 2 where the words or the tenants are
-/// refused, 3 for a failed read or write or too long an input, and 4 for want of memory.
+/// The status is 0 where all lines were replayed, the export was written or is right, or all of the help was shown, 1 where
+/// the export is faulty, 2 where the words or the tenants are refused, 3 for a failed read or write or too long an input,
+/// and 4 for want of memory.
 pub fn run<T: AllocGlobal, S: AsStr, R: Source, W: Sink, E: Sink>(
     rt: &T,
     words: &[S],
