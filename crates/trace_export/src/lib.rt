@@ -1,8 +1,9 @@
-//! Exports: a trace as lines of JSON, and their check.
+//! Exports: a trace as lines of JSON, written and checked.
 //!
-//! The one contract: [`check`] answers the verdict on the bytes that its reader gives, as `specs/Verdict.antt` defines it
-//! by what each line lists (`specs/Listing.antt`), the edges between events and their trees (`specs/Edges.antt`); [`laws`]
-//! says what a yes means. `specs/Graph.antt` has what is kept of the lines so far.
+//! The contracts: [`export_rows`] writes exactly the lines of its rows, or at a fault a front of them (`specs/Export.antt`).
+//! [`check`] answers the verdict on the bytes that its reader gives, as `specs/Verdict.antt` defines it by what each line
+//! lists (`specs/Listing.antt`), the edges between events and their trees (`specs/Edges.antt`); [`laws`] says what a yes
+//! means. `specs/Graph.antt` has what is kept of the lines so far.
 #![tactic(auto)]
 
 mod add_line;

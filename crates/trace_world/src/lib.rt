@@ -3,6 +3,7 @@
 //! Its one contract is tenant isolation: whatever the tenants ask in whatever interleaving, each reply is the one that
 //! the tenant's own requests alone give, on steps (`World::step`) and on bytes (`replay`). The words are defined in
 //! `Interleaving`, `Replay` and `World` of `trace_types`, and in `Replayed` here; `laws` says what they come to.
+//! `replay_export` writes the export of what one tenant's own requests leave, in place of replies (`Exported`).
 #![tactic(auto)]
 
 mod answer;
