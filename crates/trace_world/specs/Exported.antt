@@ -92,8 +92,9 @@ pub record ExportsInPart (fault : ReplayFault) (before after : Given) (taken tak
   pub left : AreRowsLeft old (lines takes.came) takes.marks tenant rows
   pub stops : StopsExport fault taken taken' (export_of rows)
 
--- A fault came: while the lines were read, and then nothing was written; or afterwards.
+-- A fault came: while the lines were read, and then nothing was written, and for want of memory nothing was read or done
+-- either; or afterwards.
 abbrev pub BreaksExport : ReplayFault → (before after : Given) (taken taken' : Taken) → World → ℕ → World → Type 0
 BreaksExport fault before after taken taken' old tenant new =
-    ((taken' ≡ taken) × (fault ≢ Write) × TakesFirst before after old new)
+    ((taken' ≡ taken) × (fault ≢ Write) × (fault ≡ Memory → (after ≡ before) × (new ≡ old)) × TakesFirst before after old new)
     ⊎ ExportsInPart fault before after taken taken' old tenant new

@@ -62,6 +62,7 @@ fn take_in<T, R: Source>(
     ensures read { IsErrOf result ReplayFault.Read ↔ ((R.seen reader.old).failures < (R.seen reader.new).failures) }
     ensures too_long { IsErrOf result ReplayFault.TooLong → (R.seen reader.new).reads ≡ (R.seen reader.old).reads + 2 ^ 30 }
     ensures no_write { IfErr result (λ fault. fault ≢ ReplayFault.Write) }
+    ensures memory { IsErrOf result ReplayFault.Memory → (reader.new ≡ reader.old) × (world.new ≡ world.old) }
 {
     let mut lines = Buffer::new(alloc)?;
     loop {
