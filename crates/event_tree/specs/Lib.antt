@@ -1,4 +1,5 @@
 pub mod Comparison
+pub mod Digest
 pub mod EventTreeCode
 pub mod Filled
 pub mod Grew

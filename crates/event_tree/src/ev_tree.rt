@@ -1,11 +1,13 @@
 //! The event tree, kept normal.
 ghost use Rattle.std.specs.Prelude.{◌≡◌, ◌≢◌, ◌+◌, ◌^◌, ◌<◌, ◌≤◌, ◌↔◌, max, IfOk, IfSome, IfNone, IsOk, IsTrue};
 ghost use Rattle.trace_types.specs.clock.Id.{Zero, One};
-ghost use Rattle.trace_types.specs.clock.EventTree.{Leaf, IsNormal, value, minimum, maximum};
+ghost use Rattle.trace_types.specs.clock.EventTree.{Leaf, Node as plain_Node, IsNormal, value, minimum, maximum};
 ghost use Rattle.event_tree.specs.Comparison.{IsBelow, StandsAs};
 ghost use Rattle.trace_types.specs.clock.Norm.{norm, lowered};
 ghost use Rattle.trace_types.specs.clock.Join.{lifted, join};
 ghost use Rattle.trace_types.specs.clock.Event.{event};
+ghost use Rattle.trace_types.specs.clock.Digest.{digest_of_both};
+ghost use Rattle.event_tree.specs.Digest.{digest as digest_of};
 ghost use Rattle.event_tree.specs.Height.{height};
 ghost use Rattle.event_tree.specs.Leaves.{IsLeafTree};
 ghost use Rattle.event_tree.specs.Risen.{IsRaisedAt};
@@ -19,7 +21,7 @@ use std::alloc::Global;
 use std::fmt;
 use std::marker::Model;
 use std::sync::Arc;
-use trace_types::{Memory, Order};
+use trace_types::{Memory, Order, digest_of_both};
 
 mod comparison;
 mod filling;
@@ -48,12 +50,13 @@ enum Node {
     },
 }
 
-/// Both children of an inner node.
+/// Both children of an inner node, and the digest of the two.
 #[cycle(ev_tree)]
 #[derive(Drop)]
 struct Children {
     left: EvTree,
     right: EvTree,
+    digest: u64,
 }
 
 /// What a tree is made of, with the children of an inner node lent.
@@ -111,14 +114,27 @@ impl EvTree {
             return Ok(EvTree::leaf(n + *one));
         }
         let common = left.min().min(right.min());
-        let spread = left.max().max(right.max()) - common;
+        let left = left.lowered(common);
+        let right = right.lowered(common);
+        EvTree::node(alloc, n + common, left, right)
+    }
+
+    /// The node with this number over the two.
+    fn node(alloc: Global, base: u64, left: EvTree, right: EvTree) -> Result<EvTree, Memory>
+        requires normal { IsNormal (plain_Node base left right) }
+        requires fits { base + max (maximum left) (maximum right) < 2 ^ 64 }
+        ensures { IfOk result (λ tree. tree ≡ plain_Node base left right) }
+    {
+        let spread = left.max().max(right.max());
+        let digest = digest_of_both(left.digest(), right.digest());
         let children = Children {
-            left: left.lowered(common),
-            right: right.lowered(common),
+            left,
+            right,
+            digest,
         };
         Ok(EvTree {
             node: Node::Fork {
-                base: n + common,
+                base,
                 spread,
                 children: Arc::new(alloc, children)?,
             },
@@ -257,6 +273,41 @@ impl EvTree {
         };
         let raised = tree.risen_point(id, &filled);
         Ok((filled, raised))
+    }
+
+    /// A number that equal trees share, in one step. Most trees that differ have others, but not all.
+    pub fn digest(&self) -> u64
+        ensures { result ≡ digest_of self.now }
+    {
+        match &self.node {
+            Node::Leaf(n) => *n,
+            Node::Fork { base, children, .. } => base.wrapping_add(children.digest),
+        }
+    }
+
+    /// Whether the two trees have the same value at each point, which as they are normal is whether they are equal. It
+    /// looks at the digests first, at each node, so that it walks two trees that differ hardly ever; two that are equal it
+    /// walks whole.
+    pub fn same(&self, other: &EvTree) -> bool
+        ensures { IsTrue result ↔ (self.now ≡ other.now) }
+    {
+        match (&self.node, &other.node) {
+            (Node::Leaf(n), Node::Leaf(other_n)) => n == other_n,
+            (
+                Node::Fork { base, children, .. },
+                Node::Fork {
+                    base: other_base,
+                    children: other_children,
+                    ..
+                },
+            ) => {
+                base == other_base
+                    && children.digest == other_children.digest
+                    && children.left.same(&other_children.left)
+                    && children.right.same(&other_children.right)
+            }
+            _ => false,
+        }
     }
 
     /// The least value at any point.

@@ -1,3 +1,4 @@
+pub mod Digest
 pub mod IdCode
 pub mod Laws
 pub mod Leaves

@@ -2,6 +2,8 @@
 ghost use Rattle.std.specs.Prelude.{◌≡◌, ◌≢◌, ◌↔◌, IfOk, IsOk, IsTrue};
 ghost use Rattle.trace_types.specs.clock.Id.{Zero, One, Pair, AreApart, AreDisjoint, IsNormalId};
 ghost use Rattle.trace_types.specs.clock.IdOperations.{norm_id, split, sum};
+ghost use Rattle.trace_types.specs.clock.Digest.{digest_of_both};
+ghost use Rattle.id_tree.specs.Digest.{digest as digest_of};
 ghost use Rattle.id_tree.specs.Leaves.{IsLeafId};
 ghost use Rattle.id_tree.specs.Parts.{id_of_parts};
 
@@ -9,7 +11,7 @@ use std::alloc::Global;
 use std::fmt;
 use std::marker::Model;
 use std::sync::Arc;
-use trace_types::Memory;
+use trace_types::{Memory, digest_of_both};
 
 /// The points that one party may count on, as a tree in normal form (Almeida, Baquero and Fonte 2008).
 ///
@@ -29,12 +31,13 @@ enum Node {
     Pair(Arc<Halves>),
 }
 
-/// Both halves of a pair.
+/// Both halves of a pair, and the digest of the pair.
 #[cycle(tree)]
 #[derive(Drop)]
 struct Halves {
     left: IdTree,
     right: IdTree,
+    digest: u64,
 }
 
 /// What an id is made of, with the halves of a pair lent.
@@ -49,18 +52,18 @@ pub enum Parts<'a> {
 }
 
 impl Model for IdTree {
-    ghost use Rattle.trace_types.specs.clock.Id.{Id, IsNormalId};
+    ghost use Rattle.trace_types.specs.clock.Id.{Id};
     ghost use Rattle.id_tree.specs.IdCode.{id_code, pair_count};
 
     ghost Value = { Id };
 
     ghost coded = { id_code };
 
-    ghost use Rattle.id_tree.specs.Node.{id_of_node};
+    ghost use Rattle.id_tree.specs.Node.{id_of_node, IsKeptNode};
 
     ghost view = { λ tree. id_of_node tree.node };
 
-    ghost invariant = { λ tree. IsNormalId (id_of_node tree.node) };
+    ghost invariant = { λ tree. IsKeptNode tree.node };
 
     ghost size = { pair_count };
 
@@ -202,6 +205,33 @@ impl IdTree {
         }
     }
 
+    /// A number that equal ids share, in one step. Most ids that differ have others, but not all.
+    pub fn digest(&self) -> u64
+        ensures { result ≡ digest_of self.now }
+    {
+        match &self.node {
+            Node::Zero => 0,
+            Node::One => 1,
+            Node::Pair(halves) => halves.digest,
+        }
+    }
+
+    /// Whether the two ids own the same points, which as they are normal is whether they are equal. It looks at the digests
+    /// first, at each pair, so that it walks two ids that differ hardly ever; two that are equal it walks whole.
+    pub fn same(&self, other: &IdTree) -> bool
+        ensures { IsTrue result ↔ (self.now ≡ other.now) }
+    {
+        match (&self.node, &other.node) {
+            (Node::Zero, Node::Zero) | (Node::One, Node::One) => true,
+            (Node::Pair(halves), Node::Pair(others)) => {
+                halves.digest == others.digest
+                    && halves.left.same(&others.left)
+                    && halves.right.same(&others.right)
+            }
+            _ => false,
+        }
+    }
+
     fn both_left(alloc: Global, first: IdTree, second: IdTree) -> Result<(IdTree, IdTree), Memory>
         requires first_some { first ≢ Zero }
         requires second_some { second ≢ Zero }
@@ -250,8 +280,14 @@ impl IdTree {
         requires { AreApart left right }
         ensures { IfOk result (λ id. id ≡ Pair left right) }
     {
+        let digest = digest_of_both(left.digest(), right.digest());
+        let halves = Halves {
+            left,
+            right,
+            digest,
+        };
         Ok(IdTree {
-            node: Node::Pair(Arc::new(alloc, Halves { left, right })?),
+            node: Node::Pair(Arc::new(alloc, halves)?),
         })
     }
 }

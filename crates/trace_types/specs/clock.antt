@@ -1,5 +1,6 @@
 -- Ids and event trees, and the clock that they make.
 pub mod Points
+pub mod Digest
 pub mod Id
 pub mod IdOperations
 pub mod EventTree

@@ -6,6 +6,7 @@
 #![tactic(auto)]
 
 mod code;
+mod digest;
 pub mod laws;
 mod limits;
 mod memory;
@@ -22,6 +23,7 @@ mod text;
 mod world_fault;
 
 pub use code::Code;
+pub use digest::digest_of_both;
 pub use limits::Limits;
 pub use memory::Memory;
 pub use name::Name;

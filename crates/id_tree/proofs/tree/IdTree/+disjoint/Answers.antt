@@ -15,7 +15,7 @@ returns-else-disjoint t c =
 
 pub returns-in-One-One : goal.returns-in-One-One
 returns-in-One-One t c =
-    let normal = rw c.in-One-One.is-0 at c.self.invariant in
+    let normal = rw c.in-One-One.is-0 at c.self.invariant.normal in
     rw (← c.self.view_is, ← c.other.view_is, c.in-One-One.is-0, c.in-One-One.is-1) (overlap-Pair-One _ _ normal)
 
 pub returns-in-One-One-2 : goal.returns-in-One-One-2
@@ -24,5 +24,5 @@ returns-in-One-One-2 t c =
 
 pub returns-in-One-One-3 : goal.returns-in-One-One-3
 returns-in-One-One-3 t c =
-    let normal = rw c.in-One-One.is-1 at c.other.invariant in
+    let normal = rw c.in-One-One.is-1 at c.other.invariant.normal in
     rw (← c.self.view_is, ← c.other.view_is, c.in-One-One.is-0, c.in-One-One.is-1) (overlap-One-Pair _ _ normal)
