@@ -1,0 +1,137 @@
+//! The table that keeps the values, and how a value is found in it.
+ghost use Rattle.std.specs.Prelude.{◌≡◌, IfOk, IfSome, length};
+ghost use Rattle.std.specs.Arc.{arc_value};
+ghost use Rattle.tree_forest.specs.Homes.{LiesIn};
+ghost use Rattle.tree_forest.specs.Kept.{IsOf};
+
+use crate::{Shape, Tree};
+use boxcar::Pushed;
+use std::alloc::Global;
+use std::collections::HashMap;
+use std::marker::Model;
+use std::sync::{Arc, Mutex, Wait};
+use trace_types::Memory;
+
+/// How many maps there are, each behind a lock of its own.
+const SHARDS: usize = 16;
+
+/// For each digest the row that was last added under it.
+type Shard = HashMap<u64, usize>;
+
+/// Keeps values for all threads, each in a row that stays.
+///
+/// A value is found by its digest, in the map of one of 16 shards. A lock is held for a step of a map only, never while
+/// values are compared, shared or added to the table.
+#[derive(Drop)]
+pub struct Forest<T> {
+    table: boxcar::Vec<Arc<T>>,
+    shards: Vec<Mutex<Shard>>,
+    alloc: Global,
+}
+
+impl<T> Model for Forest<T> {
+    ghost use Rattle.std.specs.Prelude.{◌≡◌, ℕ, List, length};
+    ghost use Rattle.tree_forest.specs.Homes.{home_of};
+
+    ghost Value = { List ℕ };
+
+    ghost view = { λ f. home_of f.table };
+
+    ghost invariant = { λ f. length f.shards.items ≡ 16 };
+}
+
+/// The maps of all digests, without rows. `Memory` where a request for memory was refused.
+fn empty_shards(alloc: Global) -> Result<Vec<Mutex<Shard>>, Memory>
+    ensures { IfOk result (λ shards. length shards.items ≡ 16) }
+{
+    let mut shards = Vec::with_capacity(alloc, SHARDS)?;
+    while shards.len() < SHARDS {
+        shards.push(Mutex::new(HashMap::new(alloc)))?;
+    }
+    Ok(shards)
+}
+
+impl<T> Forest<T> {
+    /// A row has one value.
+    pub(crate) fn agrees(&self, one: &Pushed<Arc<T>>, other: &Pushed<Arc<T>>)
+        requires one { LiesIn self.now one.now }
+        requires other { LiesIn self.now other.now }
+        requires row { one.now.index ≡ other.now.index }
+        ensures { one.now.value ≡ other.now.value }
+    {
+        self.table.agrees(one, other);
+    }
+}
+
+impl<T: Shape + Drop> Forest<T> {
+    /// A forest without rows. `Memory` where a request for memory was refused.
+    pub fn new(alloc: Global) -> Result<Forest<T>, Memory> {
+        Ok(Forest {
+            table: boxcar::Vec::new(alloc)?,
+            shards: empty_shards(alloc)?,
+            alloc,
+        })
+    }
+
+    /// The tree that keeps the value: that of the last row under its digest where it has this value, else of a new row.
+    ///
+    /// Two threads that intern equal values at once may add a row each, and so may a value whose digest another has too;
+    /// then the values are equal and the numbers are not. `Memory` where a request for memory was refused, or there is no
+    /// number left; all earlier rows stand, and one row may have been added.
+    pub fn intern<R: Wait>(&self, rt: &R, value: &T) -> Result<Tree<T>, Memory>
+        ensures value { IfOk result (λ tree. tree.value ≡ value.now) }
+        ensures home { IfOk result (λ tree. IsOf self.now tree) }
+    {
+        let digest = value.digest();
+        if let Some(index) = self.index_of(rt, digest)
+            && let Some(tree) = self.found(index, value)?
+        {
+            return Ok(tree);
+        }
+        let row = self.added(rt, value)?;
+        self.remember(rt, digest, row.index())?;
+        let kept = Arc::try_clone(self.table.value(&row))?;
+        Ok(Tree::of(self, kept, row))
+    }
+
+    /// The map that has this digest.
+    fn shard(&self, digest: u64) -> &Mutex<Shard> {
+        &self.shards[(digest % SHARDS as u64) as usize]
+    }
+
+    /// The row that was last added under the digest.
+    fn index_of<R: Wait>(&self, rt: &R, digest: u64) -> Option<usize> {
+        self.shard(digest).lock(rt).get(&digest).copied()
+    }
+
+    /// The tree of the row where it has this value, found without a lock.
+    fn found(&self, index: usize, value: &T) -> Result<Option<Tree<T>>, Memory>
+        ensures value { IfOk result (λ found. IfSome found (λ tree. tree.value ≡ value.now)) }
+        ensures home { IfOk result (λ found. IfSome found (λ tree. IsOf self.now tree)) }
+    {
+        let Some(row) = self.table.witness(index) else {
+            return Ok(None);
+        };
+        let kept = self.table.value(&row);
+        if !kept.same(value) {
+            return Ok(None);
+        }
+        let kept = Arc::try_clone(kept)?;
+        Ok(Some(Tree::of(self, kept, row)))
+    }
+
+    /// Adds a row with the value, without a lock.
+    fn added<R: Wait>(&self, rt: &R, value: &T) -> Result<Pushed<Arc<T>>, Memory>
+        ensures value { IfOk result (λ row. arc_value row.value ≡ value.now) }
+        ensures lies { IfOk result (λ row. LiesIn self.now row) }
+    {
+        let kept = Arc::new(self.alloc, value.share(self.alloc)?)?;
+        self.table.push_shown(rt, kept).map_err(|_| Memory)
+    }
+
+    /// From now on the digest leads to this row.
+    fn remember<R: Wait>(&self, rt: &R, digest: u64, index: usize) -> Result<(), Memory> {
+        self.shard(digest).lock(rt).insert(digest, index)?;
+        Ok(())
+    }
+}
