@@ -7,6 +7,7 @@
 
 mod forest;
 mod shape;
+mod stamps;
 mod tree;
 
 pub use forest::Forest;
