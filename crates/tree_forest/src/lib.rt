@@ -6,10 +6,12 @@
 #![tactic(auto)]
 
 mod forest;
+mod home;
 mod shape;
 mod stamps;
 mod tree;
 
 pub use forest::Forest;
+pub use home::Home;
 pub use shape::Shape;
 pub use tree::Tree;

@@ -4,9 +4,8 @@ ghost use Rattle.std.specs.Arc.{arc_value};
 ghost use Rattle.tree_forest.specs.Homes.{LiesIn};
 ghost use Rattle.tree_forest.specs.Kept.{IsOf};
 
-use crate::Forest;
+use crate::{Forest, Home};
 use boxcar::Pushed;
-use boxcar::tag::{Names, Tag};
 use std::marker::Model;
 use std::sync::Arc;
 use trace_types::Memory;
@@ -16,8 +15,7 @@ use trace_types::Memory;
 pub struct Tree<T> {
     value: Arc<T>,
     row: Pushed<Arc<T>>,
-    /// The home of the forest, for clauses alone. It has no bytes.
-    home: Tag,
+    home: Home,
 }
 
 impl<T> Model for Tree<T> {
@@ -30,23 +28,9 @@ impl<T> Model for Tree<T> {
 
     ghost coded = { kept_coded T.code };
 
-    ghost view = { λ t. record { value = arc_value t.value; number = t.row.index; home = t.home.numbers } };
+    ghost view = { λ t. record { value = arc_value t.value; number = t.row.index; home = t.home } };
 
-    ghost invariant = { λ t. (arc_value t.value ≡ arc_value t.row.value) × LiesIn t.home.numbers t.row };
-}
-
-/// The home of a forest, as a tag.
-struct HomeOf;
-
-impl<T> Names<Forest<T>> for HomeOf {
-    ghost numbers = { λ forest. forest };
-}
-
-/// A tag once more.
-struct Again;
-
-impl Names<Tag> for Again {
-    ghost numbers = { λ tag. tag.numbers };
+    ghost invariant = { λ t. (arc_value t.value ≡ arc_value t.row.value) × LiesIn t.home t.row };
 }
 
 impl<T> Tree<T> {
@@ -60,7 +44,7 @@ impl<T> Tree<T> {
         Tree {
             value,
             row,
-            home: Tag::of::<Forest<T>, HomeOf>(forest),
+            home: Home::of(forest),
         }
     }
 
@@ -87,7 +71,7 @@ impl<T> Tree<T> {
         Ok(Tree {
             value: Arc::try_clone(&self.value)?,
             row: self.row.again(),
-            home: Tag::of::<Tag, Again>(&self.home),
+            home: self.home.again(),
         })
     }
 

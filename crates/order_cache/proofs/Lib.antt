@@ -1,0 +1,2 @@
+pub mod HomesOfRows
+pub mod SameTrees

@@ -1,0 +1,92 @@
+//! The comparisons that are remembered.
+ghost use Rattle.std.specs.Prelude.{◌≡◌, IfOk, IfSome};
+ghost use Rattle.event_tree.specs.Comparison.{StandsAs};
+ghost use Rattle.tree_forest.specs.Kept.{IsOf};
+
+use crate::compared::Compared;
+use counted_slot::Fits;
+use event_tree::EvTree;
+use lru::LruCache;
+use std::alloc::{AllocError, Global};
+use std::marker::Model;
+use std::num::NonZeroUsize;
+use trace_types::Order;
+use tree_forest::{Forest, Home, Tree};
+
+/// The comparisons that were used last, by the numbers of their trees. A clause sees the home of their forest.
+#[derive(Drop)]
+pub(crate) struct Remembered {
+    rows: LruCache<(u64, u64), Compared>,
+    hits: u64,
+    home: Home,
+}
+
+impl Model for Remembered {
+    ghost use Rattle.std.specs.Prelude.{ℕ, List};
+    ghost use Rattle.order_cache.specs.Rows.{AreOf};
+
+    ghost Value = { List ℕ };
+
+    ghost view = { λ r. r.home };
+
+    ghost invariant = { λ r. AreOf r.home r.rows.entries };
+}
+
+impl Fits for Remembered {
+    ghost use Rattle.std.specs.Prelude.{◌≡◌};
+
+    type Tag = Home;
+
+    ghost fits = { λ home remembered. remembered ≡ home };
+}
+
+impl Remembered {
+    /// Nothing yet, with room for so many. `AllocError` where a request for memory was refused.
+    pub(crate) fn new(
+        alloc: Global,
+        capacity: NonZeroUsize,
+        home: Home,
+    ) -> Result<Remembered, AllocError>
+        ensures { IfOk result (λ remembered. remembered ≡ home) }
+    {
+        Ok(Remembered {
+            rows: LruCache::new(alloc, capacity)?,
+            hits: 0,
+            home,
+        })
+    }
+
+    /// How often a comparison was remembered.
+    pub(crate) fn hits(&self) -> u64 {
+        self.hits
+    }
+
+    /// How the two trees stand to each other, where that is remembered. It then was used last, and is counted.
+    pub(crate) fn recall(
+        &mut self,
+        forest: &Forest<EvTree>,
+        first: &Tree<EvTree>,
+        second: &Tree<EvTree>,
+    ) -> Option<Order>
+        requires cache { self.old ≡ forest.now }
+        requires first { IsOf forest.now first.now }
+        requires second { IsOf forest.now second.now }
+        ensures home { self.new ≡ self.old }
+        ensures order { IfSome result (λ order. StandsAs order first.now.value second.now.value) }
+    {
+        let key = (first.number(), second.number());
+        self.rows.promote(&key);
+        let order = self.rows.peek(&key)?.order_of(forest, first, second)?;
+        self.hits = self.hits.saturating_add(1);
+        Some(order)
+    }
+
+    /// From now on this comparison is remembered; the one that was used least lately goes where there is no room. Where
+    /// memory is refused, everything stays as it was.
+    pub(crate) fn remember(&mut self, compared: Compared)
+        requires { compared ≡ self.old }
+        ensures { self.new ≡ self.old }
+    {
+        let _ = self.rows.put(compared.key(), compared);
+    }
+}

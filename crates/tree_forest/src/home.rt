@@ -1,0 +1,51 @@
+//! Which forest it is, for clauses alone.
+ghost use Rattle.std.specs.Prelude.{◌≡◌};
+
+use crate::Forest;
+use boxcar::tag::{Names, Tag};
+use std::marker::Model;
+
+/// The home of a forest, by which clauses know what is of it. It has no bytes.
+#[derive(Drop)]
+pub struct Home {
+    tag: Tag,
+}
+
+impl Model for Home {
+    ghost use Rattle.std.specs.Prelude.{ℕ, List};
+
+    ghost Value = { List ℕ };
+
+    ghost view = { λ h. h.tag.numbers };
+}
+
+/// How a home is read off what has one.
+struct OfHome;
+
+impl<T> Names<Forest<T>> for OfHome {
+    ghost numbers = { λ forest. forest };
+}
+
+impl Names<Home> for OfHome {
+    ghost numbers = { λ home. home };
+}
+
+impl Home {
+    /// The home of this forest.
+    pub fn of<T>(forest: &Forest<T>) -> Home
+        ensures { result ≡ forest.now }
+    {
+        Home {
+            tag: Tag::of::<Forest<T>, OfHome>(forest),
+        }
+    }
+
+    /// The same home once more.
+    pub fn again(&self) -> Home
+        ensures { result ≡ self.now }
+    {
+        Home {
+            tag: Tag::of::<Home, OfHome>(self),
+        }
+    }
+}
