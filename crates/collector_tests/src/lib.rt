@@ -6,7 +6,11 @@
 #![tactic(auto)]
 
 #[cfg(test)]
+mod caches;
+#[cfg(test)]
 mod exports;
+#[cfg(test)]
+mod forests;
 #[cfg(test)]
 mod ledgers;
 #[cfg(test)]
