@@ -21,7 +21,7 @@ pub use deciding::Deciding;
 pub use meant::Meant;
 pub use plain::Plain;
 pub use queries::{
-    concurrent_by_points, concurrent_in_order, concurrent_with, order, past, past_by_points,
-    past_in_order,
+    concurrent_by_points, concurrent_in_order, concurrent_with, order, pair_of, past,
+    past_by_points, past_in_order,
 };
 pub use query_fault::QueryFault;

@@ -1,8 +1,8 @@
 //! Queries about the order of events. Event k has the k-th of the kept trees, from 1.
-ghost use Rattle.std.specs.Prelude.{◌≡◌, ◌↔◌, IfOk, IfErr, IsTrue, map, true, false};
+ghost use Rattle.std.specs.Prelude.{◌≡◌, ◌↔◌, ◌&&◌, IfOk, IfErr, IsTrue, Some, map, true, false};
 ghost use Rattle.event_tree.specs.Comparison.{IsBelow};
 ghost use Rattle.trace_query.specs.Deciding.{IsDecidedBy, DecideInOrder, point_in};
-ghost use Rattle.trace_query.specs.Queries.{has_tree, tree_at, StandInOrder, trees_before, concurrent_of, order_due, ListsExactly};
+ghost use Rattle.trace_query.specs.Queries.{has_tree, kept_at, tree_at, StandInOrder, trees_before, concurrent_of, order_due, ListsExactly};
 
 use crate::{Compare, Deciding, Meant, QueryFault};
 use std::alloc::Global;
@@ -20,9 +20,21 @@ pub fn order<C: Compare>(
 ) -> Result<Order, QueryFault>
     ensures { result ≡ order_due (map C.Kept.tree kept.now) first second }
 {
-    let first = kept_of(kept, first)?;
-    let second = kept_of(kept, second)?;
+    let (first, second) = pair_of(kept, first, second)?;
     Ok(compare.order(first, second))
+}
+
+/// What is kept for the two events, as whoever compares kept trees by other means than a [`Compare`] wants it; `Unknown`
+/// where either is no event.
+///
+/// It takes no memory, and never answers `Memory`.
+pub fn pair_of<K: Meant>(kept: &[K], first: u64, second: u64) -> Result<(&K, &K), QueryFault>
+    ensures first { IfOk result (λ pair. kept_at kept.now first ≡ Some pair.0.now) }
+    ensures second { IfOk result (λ pair. kept_at kept.now second ≡ Some pair.1.now) }
+    ensures unknown { IfErr result (λ fault. (fault ≡ QueryFault.Unknown)
+        × (has_tree (map K.tree kept.now) first && has_tree (map K.tree kept.now) second ≡ false)) }
+{
+    Ok((kept_of(kept, first)?, kept_of(kept, second)?))
 }
 
 /// The other events whose trees are before the tree of this one, increasing.
@@ -171,6 +183,7 @@ fn is_below_later<C: Compare>(
 
 /// What is kept for the event.
 fn kept_of<K: Meant>(kept: &[K], event: u64) -> Result<&K, QueryFault>
+    ensures at { IfOk result (λ one. kept_at kept.now event ≡ Some one.now) }
     ensures known { IfOk result (λ _. has_tree (map K.tree kept.now) event ≡ true) }
     ensures tree { IfOk result (λ one. K.tree one.now ≡ tree_at (map K.tree kept.now) event) }
     ensures unknown { IfErr result
