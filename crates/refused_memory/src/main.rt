@@ -77,7 +77,7 @@ fn abandoned<R>(rt: &R, ledger: Ledger, request: &Request) -> Ledger
     if !request.is_report() {
         return ledger;
     }
-    match ledger.prepare(rt, &PlainShare, request) {
+    match ledger.prepare(rt, request) {
         Ok(prepared) => prepared.abandon(),
         Err((ledger, _)) => ledger,
     }
@@ -96,7 +96,7 @@ fn answered_once<R>(rt: &R, ledger: Ledger, request: &Request) -> (Ledger, Reply
         let reply = ledger.ask(&PlainShare, request);
         return (ledger, reply);
     }
-    match ledger.prepare(rt, &PlainShare, request) {
+    match ledger.prepare(rt, request) {
         Ok(prepared) => prepared.commit(),
         Err(refused) => refused,
     }

@@ -46,6 +46,8 @@ pub record Room : Type 0 where
 
 -- What a book has: the trees and the ids as what they mean. Until the first id is kept, that of `root` stands for it.
 pub record Contents : Type 0 where
+  -- where its share keeps trees
+  pub home : List ℕ
   pub limits : Limits
   pub rows : List Row
   pub trees : List EventTree
@@ -234,6 +236,8 @@ MayRaise book report point = MayHavePoint (row_of_report book report ∷ history
 
 -- What is to be kept of an event: its row, what it knows, a point that it raised, the ids that it makes, and its tasks.
 pub record Event : Type 0 where
+  -- where its tree is kept
+  pub home : List ℕ
   pub row : Row
   pub tree : EventTree
   pub point : Option Deciding
@@ -244,6 +248,7 @@ pub record Event : Type 0 where
 -- what is to be kept of a report, with this point
 abbrev pub event_of : Contents → Report → Option Deciding → Event
 event_of book report point = record {
+  home = book.home;
   row = row_of_report book report;
   tree = tree_of_report book report;
   point = point;
@@ -300,8 +305,10 @@ abbrev pub id_left : List Id → List Id → ℕ → Option Id
 id_left kept [] place = slice_get kept place
 id_left kept (id ∷ made) place = Some id
 
--- The event can be added to the book, which has its message and room for all else; and it can be dropped.
+-- The event can be added to the book, which has its message and room for all else, and whose share keeps its tree; and it
+-- can be dropped.
 pub record IsReady (book : Contents) (event : Event) : Type 0 where
+  pub home : event.home ≡ book.home
   pub before : message_book.Book
   pub was : IsKept (record book { messages = before })
   pub notes : Notes event.row.kind event.row.name (suc (length book.rows)) before book.messages

@@ -1,5 +1,5 @@
 //! What a ledger keeps.
-ghost use Rattle.std.specs.Prelude.{◌≡◌, ◌-◌, ◌<◌, ◌≤◌, true, IfOk, OnOk, IfErr, IfSome, is_some, Some, None, length, if◌then◌else◌, slice_get, map};
+ghost use Rattle.std.specs.Prelude.{◌≡◌, ◌-◌, ◌<◌, ◌≤◌, true, IfOk, OnOk, IfErr, IfSome, is_some, Some, None, All, length, if◌then◌else◌, slice_get, map};
 ghost use Rattle.trace_types.specs.tenant.Rows.{row_of, is_event};
 ghost use Rattle.trace_types.specs.clock.Stamps.{stamp_text_of};
 ghost use Rattle.trace_types.specs.tenant.Tenant.{fresh};
@@ -32,6 +32,8 @@ use trace_types::{Code, Limits, Memory, Name, Row, TaskState, Text};
 /// Contracts see the trees and the ids as what they mean.
 #[derive(Drop)]
 pub(crate) struct Book<S: Keep> {
+    /// What keeps the trees and the ids.
+    share: S,
     limits: Limits,
     rows: Vec<Row>,
     alloc: Global,
@@ -48,7 +50,7 @@ pub(crate) struct Book<S: Keep> {
 }
 
 impl<S: Keep> Model for Book<S> {
-    ghost use Rattle.std.specs.Prelude.{◌-◌, length, map, vec_len, vec_capacity};
+    ghost use Rattle.std.specs.Prelude.{◌≡◌, ◌-◌, All, length, map, vec_len, vec_capacity};
     ghost use Rattle.std.specs.Coded.{codes};
     ghost use Rattle.indexmap.specs.IndexMap.{spare};
     ghost use Rattle.event_tree.specs.EventTreeCode.{event_tree_code};
@@ -60,6 +62,7 @@ impl<S: Keep> Model for Book<S> {
     ghost coded = { Prim.hlevel (codes, event_tree_code, id_code) };
 
     ghost view = { λ b. record {
+      home = S.home b.share;
       limits = b.limits;
       rows = b.rows.items;
       trees = map S.Kept.tree b.trees.items;
@@ -78,11 +81,14 @@ impl<S: Keep> Model for Book<S> {
         tasks = spare b.tasks;
       };
     } };
+
+    ghost invariant = { λ b. All (λ kept. S.home_of kept ≡ S.home b.share) b.trees.items };
 }
 
 impl<S: Keep> Book<S> {
-    /// The book of a tenant that has reported nothing: it has the task `root`.
-    pub(crate) fn new(alloc: Global, limits: Limits) -> Result<Book<S>, Memory>
+    /// The book of a tenant that has reported nothing: it has the task `root`. The share is dropped where memory is
+    /// refused.
+    pub(crate) fn new(alloc: Global, limits: Limits, share: S) -> Result<Book<S>, Memory>
         ensures book { IfOk result IsKept }
         ensures fresh { IfOk result (λ book. tenant_of book ≡ fresh limits) }
     {
@@ -94,6 +100,7 @@ impl<S: Keep> Book<S> {
         };
         tasks.insert(Name::root(), root)?;
         Ok(Book {
+            share,
             limits,
             rows: Vec::new(alloc),
             alloc,
@@ -152,9 +159,17 @@ impl<S: Keep> Book<S> {
         self.messages.message_count()
     }
 
-    /// What each event knows, in the order of the events.
+    /// What keeps the trees and the ids.
+    pub(crate) fn share(&self) -> &S
+        ensures { S.home result.now ≡ self.now.home }
+    {
+        &self.share
+    }
+
+    /// What each event knows, in the order of the events, as the share keeps it.
     pub(crate) fn trees(&self) -> &[S::Kept]
-        ensures { map S.Kept.tree result.now ≡ self.now.trees }
+        ensures trees { map S.Kept.tree result.now ≡ self.now.trees }
+        ensures home { All (λ kept. S.home_of kept ≡ self.now.home) result.now }
     {
         &self.trees
     }

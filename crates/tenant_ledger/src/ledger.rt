@@ -13,10 +13,12 @@ use crate::share::{Keep, MeantId, Share, Through};
 use crate::{PlainShare, Prepared, laws};
 use std::alloc::Global;
 use std::marker::Model;
-use trace_query::{Compare, Meant, QueryFault, concurrent_by_points, order, past_by_points};
+use trace_query::{
+    Compare, Meant, QueryFault, concurrent_by_points, order, pair_of, past_by_points,
+};
 use trace_types::{Code, Limits, Memory, Name, Numbers, Reply, Request, Row};
 
-/// What one tenant has reported. Its ids and trees are kept by a share, the same in each call.
+/// What one tenant has reported. Its ids and trees are kept by a share, which it owns.
 #[derive(Drop)]
 pub struct Ledger<S: Keep = PlainShare> {
     pub(crate) book: Book<S>,
@@ -33,13 +35,23 @@ impl<S: Keep> Model for Ledger<S> {
     ghost invariant = { λ l. IsKept l.book };
 }
 
+impl Ledger {
+    /// The ledger of a tenant that has reported nothing, which keeps its ids and trees as they are.
+    pub fn new(alloc: Global, limits: Limits) -> Result<Ledger, Memory>
+        ensures ledger { IfOk result (λ ledger. ledger ≡ fresh limits) }
+    {
+        Ledger::with_share(alloc, limits, PlainShare)
+    }
+}
+
 impl<S: Keep> Ledger<S> {
-    /// The ledger of a tenant that has reported nothing.
-    pub fn new(alloc: Global, limits: Limits) -> Result<Ledger<S>, Memory>
+    /// The ledger of a tenant that has reported nothing, whose ids and trees this share is to keep. It is dropped where
+    /// memory is refused.
+    pub fn with_share(alloc: Global, limits: Limits, share: S) -> Result<Ledger<S>, Memory>
         ensures ledger { IfOk result (λ ledger. ledger ≡ fresh limits) }
     {
         Ok(Ledger {
-            book: Book::new(alloc, limits)?,
+            book: Book::new(alloc, limits, share)?,
         })
     }
 
@@ -76,7 +88,7 @@ impl<S: Keep> Ledger<S> {
     /// A request is refused with the first code that applies of those that `refusals` of `trace_types` has for it, and
     /// last with `NoMemory` (507), where a request for memory was refused: a report, `past`, `concurrent` or `stamp`. A
     /// refused request changes nothing.
-    pub fn report<R>(&mut self, rt: &R, share: &S, request: &Request) -> Reply
+    pub fn report<R>(&mut self, rt: &R, request: &Request) -> Reply
     where
         S: Share<R>,
         ensures steps { Steps self.old request.now result self.new }
@@ -84,9 +96,9 @@ impl<S: Keep> Ledger<S> {
     {
         let book = &mut self.book;
         if !request.is_report() {
-            return self.ask(&Through { rt, share }, request);
+            return self.answer(rt, request);
         }
-        match book.prepare(rt, share, request) {
+        match book.prepare(rt, request) {
             Ok(draft) => Reply::Accepted(book.commit(draft)),
             Err(code) => Reply::Refused(code),
         }
@@ -95,16 +107,14 @@ impl<S: Keep> Ledger<S> {
     /// Answers `order` and `count`, whose answers are short, as [`Ledger::report`] does; `None` for any other request.
     /// It takes no memory.
     #[inline(always)]
-    pub fn ask_briefly<R>(&self, rt: &R, share: &S, request: &Request) -> Option<Reply>
+    pub fn ask_briefly<R>(&self, rt: &R, request: &Request) -> Option<Reply>
     where
         S: Share<R>,
         ensures steps { IfSome result (λ reply. Steps self.now request.now reply self.now) }
         ensures brief { is_some result ≡ is_brief request.now }
     {
         match *request {
-            Request::Order(first, second) => {
-                Some(self.order(&Through { rt, share }, first, second))
-            }
+            Request::Order(first, second) => Some(self.order_kept(rt, first, second)),
             Request::Count => Some(self.count()),
             _ => None,
         }
@@ -113,12 +123,7 @@ impl<S: Keep> Ledger<S> {
     /// Does all of a report that may be refused, and leaves the rows: what it gives is to be committed or abandoned.
     ///
     /// Where [`Ledger::report`] would refuse the report it gives that refusal, with the ledger as it was.
-    pub fn prepare<R>(
-        self,
-        rt: &R,
-        share: &S,
-        request: &Request,
-    ) -> Result<Prepared<S>, (Ledger<S>, Reply)>
+    pub fn prepare<R>(self, rt: &R, request: &Request) -> Result<Prepared<S>, (Ledger<S>, Reply)>
     where
         S: Share<R>,
         requires { is_report request.now ≡ true }
@@ -128,7 +133,7 @@ impl<S: Keep> Ledger<S> {
         ensures refused { IfErr result (λ refused. Steps self request.now refused.1 self) }
     {
         let mut book = self.book;
-        match book.prepare(rt, share, request) {
+        match book.prepare(rt, request) {
             Ok(draft) => Ok(Prepared { book, draft }),
             Err(code) => Err((Ledger { book }, Reply::Refused(code))),
         }
@@ -157,6 +162,19 @@ impl<S: Keep> Ledger<S> {
         }
     }
 
+    /// Answers a query by the ledger's own share.
+    fn answer<R>(&self, rt: &R, request: &Request) -> Reply
+    where
+        S: Share<R>,
+        ensures { Answers self.now request.now result }
+    {
+        let share = self.book.share();
+        match *request {
+            Request::Order(first, second) => self.order_kept(rt, first, second),
+            _ => self.ask(&Through { rt, share }, request),
+        }
+    }
+
     /// How many events, tasks ever and messages there are.
     #[inline(always)]
     fn count(&self) -> Reply
@@ -176,6 +194,21 @@ impl<S: Keep> Ledger<S> {
     {
         match order(compare, self.book.trees(), first, second) {
             Ok(order) => Reply::Ordering(order),
+            Err(fault) => Reply::Refused(code_of(fault)),
+        }
+    }
+
+    /// The same, by the ledger's own share.
+    #[inline(always)]
+    fn order_kept<R>(&self, rt: &R, first: u64, second: u64) -> Reply
+    where
+        S: Share<R>,
+        ensures { result ≡ reply_to_view self.now (Request.Order first second) }
+    {
+        match pair_of(self.book.trees(), first, second) {
+            Ok((first, second)) => {
+                Reply::Ordering(self.book.share().order_kept(rt, first, second))
+            }
             Err(fault) => Reply::Refused(code_of(fault)),
         }
     }

@@ -1,5 +1,5 @@
 //! Ids and trees that are kept as they are.
-ghost use Rattle.std.specs.Prelude.{◌↔◌, ◌≤◌, IsTrue};
+ghost use Rattle.std.specs.Prelude.{◌↔◌, ◌≤◌, [], IsTrue};
 ghost use Rattle.trace_types.specs.clock.EventTree.{value};
 
 use crate::{Keep, Share};
@@ -30,6 +30,10 @@ impl Compare for PlainShare {
 
 impl Keep for PlainShare {
     type Id = IdTree;
+
+    ghost home = { λ _. [] };
+
+    ghost home_of = { λ _. [] };
 
     fn id_value(kept: &IdTree) -> &IdTree {
         kept

@@ -1,5 +1,5 @@
 //! What the tenants' ledgers share.
-ghost use Rattle.std.specs.Prelude.{◌≡◌, ◌↔◌, IfOk, IsTrue};
+ghost use Rattle.std.specs.Prelude.{◌≡◌, ◌↔◌, ℕ, List, IfOk, IsTrue};
 ghost use Rattle.event_tree.specs.Comparison.{IsBelow, StandsAs};
 ghost use Rattle.trace_query.specs.Deciding.{IsDeciding};
 ghost use Rattle.trace_types.specs.clock.Id.{Id};
@@ -20,9 +20,18 @@ impl MeantId for IdTree {
 }
 
 /// What a ledger keeps of ids and event trees, and how it is read.
-pub trait Keep: Compare {
+///
+/// A share may know its trees by more than what they mean, as where it holds them. That is their home, which contracts
+/// alone see; a share that needs no such knowledge gives every tree the empty one.
+pub trait Keep: Compare + Drop {
     /// What is kept of an id.
     type Id: MeantId + Drop;
+
+    // where the trees are that it keeps
+    ghost home: { Self → List ℕ };
+
+    // where the kept tree is
+    ghost home_of: { Self.Kept → List ℕ };
 
     /// The id that is kept. It takes no memory.
     fn id_value(kept: &Self::Id) -> &IdTree
@@ -42,12 +51,15 @@ pub trait Share<R>: Keep {
     fn keep_id(&self, rt: &R, id: IdTree) -> Result<Self::Id, Memory>
         ensures { IfOk result (λ kept. Self.Id.id kept ≡ id) };
 
-    /// Keeps an event tree.
+    /// Keeps an event tree, where the share's trees are.
     fn keep_tree(&self, rt: &R, tree: EvTree) -> Result<Self::Kept, Memory>
-        ensures { IfOk result (λ kept. Self.Kept.tree kept ≡ tree) };
+        ensures tree { IfOk result (λ kept. Self.Kept.tree kept ≡ tree) }
+        ensures home { IfOk result (λ kept. Self.home_of kept ≡ Self.home self.now) };
 
-    /// How the tree of `first` stands to that of `second`. It takes no memory.
+    /// How the tree of `first` stands to that of `second`, both of which the share keeps. It takes no memory.
     fn order_kept(&self, rt: &R, first: &Self::Kept, second: &Self::Kept) -> Order
+        requires first { Self.home_of first.now ≡ Self.home self.now }
+        requires second { Self.home_of second.now ≡ Self.home self.now }
         ensures { StandsAs result (Self.Kept.tree first.now) (Self.Kept.tree second.now) };
 
     /// Whether no value of the tree of `first` is above that of `second` at the same point. It takes no memory.
@@ -69,7 +81,8 @@ pub trait Share<R>: Keep {
     }
 }
 
-/// Compares kept trees as a share does that may wait.
+/// Compares kept trees in one direction as a share does that may wait. Their order is what the share answers without
+/// waiting, since of a kept tree that is handed in nothing tells where it is.
 #[derive(Drop)]
 pub(crate) struct Through<'a, R, S> {
     pub(crate) rt: &'a R,
@@ -80,7 +93,7 @@ impl<R, S: Share<R>> Compare for Through<'_, R, S> {
     type Kept = S::Kept;
 
     fn order(&self, first: &S::Kept, second: &S::Kept) -> Order {
-        self.share.order_kept(self.rt, first, second)
+        self.share.order(first, second)
     }
 
     fn is_below(&self, first: &S::Kept, second: &S::Kept) -> bool {

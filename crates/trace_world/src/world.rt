@@ -7,7 +7,7 @@ ghost use Rattle.trace_world.specs.Tenants.{IsLedTo, IsWorld, StepsAt, are_disti
 
 use std::alloc::Global;
 use std::marker::Model;
-use tenant_ledger::{Ledger, PlainShare};
+use tenant_ledger::Ledger;
 use trace_types::{Limits, Memory, Name, Reply, Request, WorldFault};
 
 /// All tenants: their names, the limits that each of them has by itself, and what each has reported.
@@ -106,7 +106,7 @@ impl World {
         ensures step { IfSome result (λ reply. StepsOne self.now tenant request.now reply self.now) }
         ensures due { IfSome result (λ reply. IsDue self.now tenant request.now reply self.now) }
     {
-        self.ledgers[tenant].ask_briefly(rt, &PlainShare, request)
+        self.ledgers[tenant].ask_briefly(rt, request)
     }
 
     /// As [`World::step`], in a function of its own, whose places are then not set to zero for the short ones.
@@ -144,7 +144,7 @@ fn report<R>(rt: &R, ledgers: &mut [Ledger], tenant: usize, request: &Request) -
     ensures { StepsAt ledgers.old tenant request.now result ledgers.new }
 {
     let ledger = &mut ledgers[tenant];
-    ledger.report(rt, &PlainShare, request)
+    ledger.report(rt, request)
 }
 
 fn can_be_tenants(names: &[Name]) -> bool

@@ -1,5 +1,5 @@
 -- A book is kept with the event of a report that is not refused.
-use Rattle.std.proofs.Common.{◌≡◌, ℕ, suc, ◌-◌, ◌<◌, ◌≤◌, [], ◌∷◌, ◌++◌, length, map, slice_get, option_map, Option, Some, sym, ap, ◌∙◌, subst, arith}
+use Rattle.std.proofs.Common.{◌≡◌, ℕ, suc, ◌-◌, ◌<◌, ◌≤◌, [], ◌∷◌, ◌++◌, length, map, slice_get, option_map, Option, Some, refl, sym, ap, ◌∙◌, subst, arith}
 use Rattle.tenant_ledger.proofs.Words.{nat_tests, length-append, length-map, length-reverse, reverse-append, map-append, same_Some, slice_get-map, transport, Text, History, task_count, tree_clock, id_of, tree_of, row_after, Row, IsLegal, Contents, Event, IsKept, IsKeptWith, IsTask, IsReport, IsReady, HasRoom, AreMessages, ArePoints, MayRaise, Notes, history_in, task_in, of_each, id_after, event_of, with_event, tasks_with, task_count_with, Report}
 use Rattle.message_book.specs.Book as message_book
 use Rattle.trace_query.specs.declared.deciding.Deciding.{Deciding}
@@ -91,6 +91,7 @@ module _ (book : Contents) (kept : IsKept book) (report : Report) (is : IsReport
   pub report_is_ready : (after : message_book.Book) → Notes report.kind report.name (suc (length book.rows)) book.messages after → HasRoom book
       → (point : Option Deciding) → MayRaise book report point → IsReady (record book { messages = after }) (event_of book report point)
   report_is_ready after notes room point raised = record {
+    home = refl;
     before = book.messages;
     was = kept;
     notes = notes;

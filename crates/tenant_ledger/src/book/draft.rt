@@ -47,6 +47,7 @@ impl<S: Keep> Model for Draft<S> {
     ghost coded = { Prim.hlevel (codes, event_tree_code, id_code) };
 
     ghost view = { λ d. record {
+      home = S.home_of d.tree;
       row = d.row;
       tree = S.Kept.tree d.tree;
       point = d.point;
@@ -81,12 +82,7 @@ impl<S: Keep> Draft<S> {
 
 impl<S: Keep> Book<S> {
     /// Prepares a report: its draft is to be committed or abandoned.
-    pub(crate) fn prepare<R>(
-        &mut self,
-        rt: &R,
-        share: &S,
-        request: &Request,
-    ) -> Result<Draft<S>, Code>
+    pub(crate) fn prepare<R>(&mut self, rt: &R, request: &Request) -> Result<Draft<S>, Code>
     where
         S: Share<R>,
         requires book { IsKept self.old }
@@ -94,14 +90,14 @@ impl<S: Keep> Book<S> {
         ensures { Prepares result self.old request.now self.new }
     {
         let report = self.report(request)?;
-        self.make_room(rt, share)?;
-        let draft = self.draft(rt, share, &report)?;
+        self.make_room(rt)?;
+        let draft = self.draft(rt, &report)?;
         self.note(report.kind, report.name)?;
         Ok(draft)
     }
 
     /// What is to be kept of the report's event.
-    fn draft<R>(&self, rt: &R, share: &S, report: &Report) -> Result<Draft<S>, Memory>
+    fn draft<R>(&self, rt: &R, report: &Report) -> Result<Draft<S>, Memory>
     where
         S: Share<R>,
         requires book { IsKept self.now }
@@ -113,8 +109,8 @@ impl<S: Keep> Book<S> {
         let ids = self.ids_made(report)?;
         let id = ids.acting(self.id(report.acting.id));
         let (tree, point) = self.tree_after(report, id)?;
-        let tree = share.keep_tree(rt, tree)?;
-        let (first, second) = ids.keep(rt, share)?;
+        let tree = self.share.keep_tree(rt, tree)?;
+        let (first, second) = ids.keep(rt, &self.share)?;
         let event = self.event_count() + 1;
         let place = self.id_count();
         Ok(Draft {
@@ -190,7 +186,7 @@ impl<S: Keep> Book<S> {
     }
 
     /// Keeps the id of `root`, unless that was done, and makes room for one event, its ids and its tasks.
-    fn make_room<R>(&mut self, rt: &R, share: &S) -> Result<(), Memory>
+    fn make_room<R>(&mut self, rt: &R) -> Result<(), Memory>
     where
         S: Share<R>,
         ensures same { self.new ≡ record self.old { kept_ids = self.new.kept_ids; room = self.new.room } }
@@ -198,7 +194,7 @@ impl<S: Keep> Book<S> {
         ensures room { OnOk result (HasRoom self.new) }
     {
         if self.ids.is_empty() {
-            let id = share.keep_id(rt, IdTree::one())?;
+            let id = self.share.keep_id(rt, IdTree::one())?;
             self.ids.push(id)?;
         }
         self.rows.reserve(1)?;

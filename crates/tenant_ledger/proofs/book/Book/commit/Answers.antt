@@ -1,8 +1,16 @@
-use Rattle.std.proofs.Common.{◌≡◌, ◌+◌, ◌∷◌, [], ◌++◌, cond, length, map, is_some, option_to_list, Some, refl, sym, ap, ◌∙◌, arith}
+use Rattle.std.proofs.Common.{◌≡◌, ◌+◌, ◌∷◌, [], ◌++◌, All, cond, length, map, is_some, option_to_list, Some, refl, sym, ap, subst, ◌∙◌, arith}
+use Rattle.std.proofs.lemmas.List.Elements.{All-append, All-cons}
 use Rattle.tenant_ledger.proofs.Words.{map-append, append_assoc, length-append, transport, is_same, IsReady, with_seed}
 use Rattle.tenant_ledger.proofs.keeping.Kept.{added_is_kept}
 use Rattle.tenant_ledger.proofs.keeping.Lists.{seeded-append}
 use Rattle.tenant_ledger.proofs.book.Book.commit.Goals as goal
+
+pub invariant_of-self : goal.invariant_of-self
+invariant_of-self g c =
+    let at_home : g.row.S-Kept.Denot → Type 0 = λ kept. g.S.Keep.home_of kept ≡ g.S.Keep.home c.self.inside.share in
+    let ready = transport (λ i. IsReady (sym c.self.view_is i) (sym c.draft.view_is i)) c.requires in
+    let one : All at_home (c.draft.inside.tree ∷ []) = All-cons at_home c.draft.inside.tree [] ready.home (λ k d within. absurd (omega (arith, within))) in
+    subst (All at_home) (sym c.push_reserved-2.ensures.items) (All-append at_home c.self.inside.trees.items (c.draft.inside.tree ∷ []) c.self.invariant one)
 
 pub returns-clause-book : goal.returns-clause-book
 returns-clause-book g c =

@@ -6,15 +6,15 @@ use Rattle.tenant_ledger.proofs.keeping.Told.{decide_in_order, stand_in_order, c
 use Rattle.tenant_ledger.proofs.ledger.Ledger.concurrent_with.Goals as goal
 
 pub concurrent_by_points-requires-clause-in_order : goal.concurrent_by_points-requires-clause-in_order
-concurrent_by_points-requires-clause-in_order g c = subst StandInOrder (sym c.trees.ensures) (stand_in_order c.self.inside.book c.self.invariant)
+concurrent_by_points-requires-clause-in_order g c = subst StandInOrder (sym c.trees.ensures.trees) (stand_in_order c.self.inside.book c.self.invariant)
 
 pub concurrent_by_points-requires-clause-decided : goal.concurrent_by_points-requires-clause-decided
 concurrent_by_points-requires-clause-decided g c =
-    transport (λ i. DecideInOrder (sym c.trees.ensures i) (sym c.points.ensures i)) (decide_in_order c.self.inside.book c.self.invariant)
+    transport (λ i. DecideInOrder (sym c.trees.ensures.trees i) (sym c.points.ensures i)) (decide_in_order c.self.inside.book c.self.invariant)
 
 pub returns : goal.returns
 returns g c =
     let searched = c.concurrent_by_points.ensures in
     subst (λ (tenant : Tenant). Answers tenant (request.Concurrent c.args.event) c.listed.result) c.self.view_is
-    (concurrent_answered c.self.inside.book c.self.invariant c.trees.ensures c.args.event (λ v. v.items) c.listed.result
+    (concurrent_answered c.self.inside.book c.self.invariant c.trees.ensures.trees c.args.event (λ v. v.items) c.listed.result
     c.concurrent_by_points.result searched.known searched.fault c.listed.ensures.events c.listed.ensures.fault searched.events)

@@ -5,6 +5,6 @@ use Rattle.tenant_ledger.proofs.ledger.Ledger.report.Goals as goal
 
 pub returns-then-not-is_report-clause-steps : goal.returns-then-not-is_report-clause-steps
 returns-then-not-is_report-clause-steps g c =
-    let answered = subst (λ (tenant : Tenant). Answers tenant c.args.request.now c.ask.result) c.self.view_is c.ask.ensures in
-    subst (Steps c.args.self.now c.args.request.now c.ask.result) (sym c.self.view_is)
-    (query_steps c.args.self.now c.args.request.now c.ask.result (sym c.if-not-is_report.ensures) answered)
+    let answered = subst (λ (tenant : Tenant). Answers tenant c.args.request.now c.answer.result) c.self.view_is c.answer.ensures in
+    subst (Steps c.args.self.now c.args.request.now c.answer.result) (sym c.self.view_is)
+    (query_steps c.args.self.now c.args.request.now c.answer.result (sym c.if-not-is_report.ensures) answered)
