@@ -46,7 +46,7 @@ fn verdict_of(alloc: Global, text: &[u8]) -> Result<Verdict, Fail> {
 fn export_has_every_row(rt: HostRuntime) -> Result<(), Fail> {
     let alloc = rt.alloc();
     let names = [name(b"x")?, name(b"y")?];
-    let mut world = World::new(alloc, &names, Limits::default())?;
+    let mut world = World::new(alloc, &names, Limits::default(), 1024)?;
     let mut reader = FromReader::new(REQUESTS);
     let mut writer = IntoWriter::new(Vec::new(alloc));
     let count = replay_export(&rt, alloc, &mut world, 0, &mut reader, &mut writer)?;

@@ -109,16 +109,18 @@ fn agree(one: &Tree<EvTree>, other: &Tree<EvTree>) -> bool {
     one.number() != other.number() || one.value().same(other.value())
 }
 
+fn all_agree(trees: &[Tree<EvTree>]) -> bool {
+    trees
+        .iter()
+        .all(|one| trees.iter().all(|other| agree(one, other)))
+}
+
 #[test]
 fn four_threads_keep_equal_trees_under_equal_numbers(rt: HostRuntime) -> Result<(), Fail> {
     let forest = Forest::new(rt.alloc())?;
     let trees = kept_by_four(&rt, rt.alloc(), &forest)?;
     assert_eq!(rt; trees.len(), 160);
-    assert!(rt;
-        trees
-            .iter()
-            .all(|one| trees.iter().all(|other| agree(one, other)))
-    );
+    assert!(rt; all_agree(&trees));
     // Each thread adds a row for a tree once at most.
     assert!(rt; trees.iter().all(|tree| tree.number() < 20));
     Ok(())

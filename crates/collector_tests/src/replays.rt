@@ -6,6 +6,7 @@ use std::alloc::Global;
 use std::io;
 use std::io::{Error, ErrorKind, Read, Write};
 use std::process::Abort;
+use std::sync::Wait;
 use std::test::Fail;
 use trace_types::{Limits, Name};
 use trace_world::{Counts, ReplayFault, World, replay, replay_bytes};
@@ -83,11 +84,11 @@ impl Write for Output {
 /// The world of the tenant `x`.
 fn world_of_x(alloc: Global) -> Result<World, Fail> {
     let x = Name::read(b"x").ok_or("no name")?;
-    Ok(World::new(alloc, &[x], Limits::default())?)
+    Ok(World::new(alloc, &[x], Limits::default(), 1024)?)
 }
 
 /// What a replay of the input comes to, and what is written.
-fn replayed<R: AllocGlobal>(
+fn replayed<R: AllocGlobal + Wait>(
     rt: &R,
     world: &mut World,
     input: &[u8],
@@ -109,7 +110,7 @@ fn replayed<R: AllocGlobal>(
 }
 
 /// What a replay leaves that a fault cut short, and what the tenant counts afterwards.
-fn stops<R: Abort + AllocGlobal>(
+fn stops<R: Abort + AllocGlobal + Wait>(
     rt: &R,
     (reader, writer): (Pace, Pace),
     fault: ReplayFault,

@@ -163,6 +163,7 @@ fn faults_of_queries_and_worlds_tell_their_cause(rt: HostRuntime) -> Result<(), 
     }
     for (fault, want) in [
         (WorldFault::Names, "bad tenants"),
+        (WorldFault::Capacity, "bad capacity"),
         (WorldFault::from(Memory), "no memory"),
     ] {
         assert_tells(&rt, &fault, want)?;

@@ -13,11 +13,11 @@ id_of_node One = plain.One
 id_of_node (Pair halves) = plain.Pair halves.value.left halves.value.right
 
 -- a pair keeps its digest
-abbrev pub KeepsDigest : Node → Type 0
-KeepsDigest Zero = Unit {0}
-KeepsDigest One = Unit {0}
-KeepsDigest (Pair halves) = halves.value.digest ≡ digest_of_both (digest halves.value.left) (digest halves.value.right)
+abbrev pub KeepsIdDigest : Node → Type 0
+KeepsIdDigest Zero = Unit {0}
+KeepsIdDigest One = Unit {0}
+KeepsIdDigest (Pair halves) = halves.value.digest ≡ digest_of_both (digest halves.value.left) (digest halves.value.right)
 
-pub record IsKeptNode (node : Node) : Type 0 where
+pub record IsKeptId (node : Node) : Type 0 where
   pub normal : plain.IsNormalId (id_of_node node)
-  pub digest : KeepsDigest node
+  pub digest : KeepsIdDigest node

@@ -59,11 +59,11 @@ impl Model for IdTree {
 
     ghost coded = { id_code };
 
-    ghost use Rattle.id_tree.specs.Node.{id_of_node, IsKeptNode};
+    ghost use Rattle.id_tree.specs.Node.{id_of_node, IsKeptId};
 
     ghost view = { λ tree. id_of_node tree.node };
 
-    ghost invariant = { λ tree. IsKeptNode tree.node };
+    ghost invariant = { λ tree. IsKeptId tree.node };
 
     ghost size = { pair_count };
 

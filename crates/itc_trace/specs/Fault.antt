@@ -32,6 +32,7 @@ line_of_fault Memory = codes "itc_trace: no memory\n"
 -- the program's fault where no world is made
 abbrev pub fault_of_world : WorldFault → Fault
 fault_of_world world.Names = Tenants
+fault_of_world world.Capacity = Words
 fault_of_world world.Memory = Memory
 
 -- the program's fault where a replay stops

@@ -65,6 +65,7 @@ impl From<WorldFault> for Fault {
     fn from(fault: WorldFault) -> Fault {
         match fault {
             WorldFault::Names => Fault::Tenants,
+            WorldFault::Capacity => Fault::Words,
             WorldFault::Memory => Fault::Memory,
         }
     }

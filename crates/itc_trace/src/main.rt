@@ -25,6 +25,7 @@ use line_protocol::{Buffered, FromReader, IntoWriter, Sink, Source};
 use program::run;
 use std::io::ErrorKind;
 use std::process::ExitCode;
+use std::sync::Wait;
 use std::{env, io};
 
 fn main(rt: HostRuntime) -> ExitCode {
@@ -46,7 +47,7 @@ fn all_words(rt: &HostRuntime) -> io::Result<Vec<String>> {
 
 /// Runs what these words ask, of which the first is the program's own name; the status of the run is that with which the
 /// program ends.
-fn start<T: AllocGlobal, R: Source, W: Sink, E: Sink>(
+fn start<T: AllocGlobal + Wait, R: Source, W: Sink, E: Sink>(
     rt: &T,
     words: io::Result<Vec<String>>,
     reader: &mut R,

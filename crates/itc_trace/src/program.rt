@@ -16,9 +16,13 @@ use crate::words::{Asked, Refusal, Replay, read_words};
 use line_protocol::{Sink, Source, flush, write_bytes};
 use std::alloc::{AllocError, Global};
 use std::convert::AsStr;
+use std::sync::Wait;
 use trace_export::{Verdict, check};
 use trace_types::Name;
 use trace_world::{World, replay, replay_export};
+
+/// How many comparisons are remembered for all tenants together.
+const COMPARISONS: u64 = 1024;
 
 /// Does what the words after the program's name ask, and answers the status with which the program ends.
 ///
@@ -28,7 +32,7 @@ use trace_world::{World, replay, replay_export};
 /// The status is 0 where all lines were replayed, the export was written or is right, or all of the help was shown, 1 where
 /// the export is faulty, 2 where the words or the tenants are refused, 3 for a failed read or write or too long an input,
 /// and 4 for want of memory.
-pub fn run<T: AllocGlobal, S: AsStr, R: Source, W: Sink, E: Sink>(
+pub fn run<T: AllocGlobal + Wait, S: AsStr, R: Source, W: Sink, E: Sink>(
     rt: &T,
     words: &[S],
     reader: &mut R,
@@ -82,7 +86,7 @@ fn show_help<W: Sink>(writer: &mut W, text: &str) -> Result<(), Fault>
 }
 
 /// Replays the lines of the tenants, or does them and writes the export of one.
-fn replay_tenants<T, R: Source, W: Sink>(
+fn replay_tenants<T: Wait, R: Source, W: Sink>(
     rt: &T,
     alloc: Global,
     wanted: &Replay,
@@ -109,7 +113,7 @@ fn replay_tenants<T, R: Source, W: Sink>(
 {
     let names = read_names(alloc, &wanted.tenants)?;
     let exported = exported_place(&names, &wanted.export)?;
-    let mut world = World::new(alloc, &names, wanted.limits)?;
+    let mut world = World::new(alloc, &names, wanted.limits, COMPARISONS)?;
     match exported {
         Some(place) => {
             replay_export(rt, alloc, &mut world, place, reader, writer)?;

@@ -13,6 +13,7 @@ use event_tree::EvTree;
 use std::alloc::Global;
 use std::marker::Model;
 use std::num::NonZeroUsize;
+use std::sync::atomic::{AtomicU64, Ordering};
 use std::sync::{Mutex, Wait};
 use trace_types::Order;
 use tree_forest::{Forest, Home, Tree};
@@ -25,6 +26,8 @@ use tree_forest::{Forest, Home, Tree};
 pub struct OrderCache {
     turn: Mutex<()>,
     slot: Counted<Option<Remembered>>,
+    /// How many asks in a row found nothing that was remembered.
+    misses: AtomicU64,
 }
 
 impl Model for OrderCache {
@@ -37,6 +40,12 @@ impl Model for OrderCache {
 
 /// The greatest capacity.
 const MOST: u64 = 65536;
+
+/// So many asks in a row that find nothing show that pairs are not asked again.
+const MANY_MISSES: u64 = 256;
+
+/// Then one ask in so many is looked up and remembered, until one is found again.
+const SELDOM: u64 = 16;
 
 /// A capacity that can be had, as the map takes it.
 fn capacity_of(capacity: u64) -> Option<NonZeroUsize>
@@ -56,6 +65,13 @@ fn ranges_decide(first: &EvTree, second: &EvTree) -> bool
 }
 
 impl OrderCache {
+    /// Whether a cache can be asked to remember so many comparisons: 1 to 65536.
+    pub fn takes(capacity: u64) -> bool
+        ensures { IsTrue result ↔ IsCapacity capacity }
+    {
+        0 < capacity && capacity <= MOST
+    }
+
     /// A cache for trees of this forest, which remembers so many comparisons at most.
     ///
     /// `Capacity` exactly where the capacity is 0 or above 65536, `Memory` where a request for memory was refused.
@@ -73,6 +89,7 @@ impl OrderCache {
         Ok(OrderCache {
             turn: Mutex::new(()),
             slot: Counted::new(Some(remembered), &home),
+            misses: AtomicU64::new(0),
         })
     }
 
@@ -92,10 +109,11 @@ impl OrderCache {
         requires second { IsOf forest.now second.now }
         ensures { StandsAs result first.now.value second.now.value }
     {
-        if ranges_decide(first.value(), second.value()) {
+        if ranges_decide(first.value(), second.value()) || !self.is_looked_up() {
             return first.value().order(second.value());
         }
         if let Some(order) = self.recall(rt, forest, first, second) {
+            self.misses.store(0, Ordering::Relaxed);
             return order;
         }
         let order = first.value().order(second.value());
@@ -116,6 +134,13 @@ impl OrderCache {
         let hits = remembered.hits();
         self.exchange(Some(remembered));
         hits
+    }
+
+    /// Whether this ask is looked up, and counts it as one that finds nothing. Of two threads one may not be counted.
+    fn is_looked_up(&self) -> bool {
+        let misses = self.misses.load(Ordering::Relaxed);
+        self.misses.store(misses.wrapping_add(1), Ordering::Relaxed);
+        misses < MANY_MISSES || misses % SELDOM == 0
     }
 
     /// Looks the two trees up, under the lock.

@@ -4,6 +4,7 @@ ghost use Rattle.order_cache.specs.declared.cache_fault.CacheFault.TheVariants.{
 
 use std::alloc::AllocError;
 use thiserror::Error;
+use trace_types::Memory;
 
 /// Why a cache of comparisons is not made.
 #[derive(Clone, Copy, Debug, PartialEq, Eq, Error)]
@@ -20,6 +21,14 @@ impl From<AllocError> for CacheFault {
     ghost from_gives = { λ _ fault. fault ≡ OutOfMemory };
 
     fn from(_refused: AllocError) -> CacheFault {
+        CacheFault::Memory
+    }
+}
+
+impl From<Memory> for CacheFault {
+    ghost from_gives = { λ _ fault. fault ≡ OutOfMemory };
+
+    fn from(_refused: Memory) -> CacheFault {
         CacheFault::Memory
     }
 }

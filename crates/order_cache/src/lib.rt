@@ -4,7 +4,8 @@
 //! refuses: what is not remembered is compared. What is remembered is used only for the very two trees that were compared,
 //! in that order.
 //!
-//! Trees whose least and greatest values decide how they stand are compared at once, and are never remembered.
+//! Trees whose least and greatest values decide how they stand are compared at once, and are never remembered. Where many
+//! asks in a row find nothing, most are compared at once too, until one finds something again.
 #![tactic(auto)]
 
 mod cache;

@@ -10,8 +10,10 @@ mod ledger;
 mod plain_share;
 mod prepared;
 mod share;
+mod shared;
 
 pub use ledger::Ledger;
 pub use plain_share::PlainShare;
 pub use prepared::Prepared;
 pub use share::{Keep, MeantId, Share};
+pub use shared::Shared;

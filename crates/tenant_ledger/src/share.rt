@@ -6,6 +6,7 @@ ghost use Rattle.trace_types.specs.clock.Id.{Id};
 
 use event_tree::EvTree;
 use id_tree::IdTree;
+use std::sync::Arc;
 use trace_query::{Compare, Deciding, Meant};
 use trace_types::{Memory, Order};
 
@@ -102,5 +103,52 @@ impl<R, S: Share<R>> Compare for Through<'_, R, S> {
 
     fn is_below_at(&self, first: &S::Kept, deciding: &Deciding, second: &S::Kept) -> bool {
         self.share.below_kept_at(self.rt, first, deciding, second)
+    }
+}
+
+/// Keeps as what is behind it does.
+impl<S: Keep> Keep for Arc<S> {
+    ghost use Rattle.std.specs.Arc.{arc_value};
+
+    type Id = S::Id;
+
+    ghost home = { λ share. S.home (arc_value share) };
+
+    ghost home_of = { λ kept. S.home_of kept };
+
+    fn id_value(kept: &S::Id) -> &IdTree {
+        S::id_value(kept)
+    }
+
+    fn tree_value(kept: &S::Kept) -> &EvTree {
+        S::tree_value(kept)
+    }
+}
+
+impl<R, S: Share<R>> Share<R> for Arc<S> {
+    fn keep_id(&self, rt: &R, id: IdTree) -> Result<S::Id, Memory> {
+        S::keep_id(self, rt, id)
+    }
+
+    fn keep_tree(&self, rt: &R, tree: EvTree) -> Result<S::Kept, Memory> {
+        S::keep_tree(self, rt, tree)
+    }
+
+    fn order_kept(&self, rt: &R, first: &S::Kept, second: &S::Kept) -> Order {
+        S::order_kept(self, rt, first, second)
+    }
+
+    fn below_kept(&self, rt: &R, first: &S::Kept, second: &S::Kept) -> bool {
+        S::below_kept(self, rt, first, second)
+    }
+
+    fn below_kept_at(
+        &self,
+        rt: &R,
+        first: &S::Kept,
+        deciding: &Deciding,
+        second: &S::Kept,
+    ) -> bool {
+        S::below_kept_at(self, rt, first, deciding, second)
     }
 }

@@ -4,6 +4,7 @@ ghost use Rattle.event_tree.specs.Comparison.{IsBelow, StandsAs};
 ghost use Rattle.trace_query.specs.Deciding.{IsDeciding};
 
 use crate::{Deciding, Meant};
+use std::sync::Arc;
 use trace_types::Order;
 
 /// A way to compare kept trees. It may hold what it needs for that, as a cache.
@@ -27,5 +28,22 @@ pub trait Compare {
         ensures { IsTrue result ↔ IsBelow (Self.Kept.tree first.now) (Self.Kept.tree second.now) }
     {
         self.is_below(first, second)
+    }
+}
+
+/// Compares as what is behind it does.
+impl<C: Compare> Compare for Arc<C> {
+    type Kept = C::Kept;
+
+    fn order(&self, first: &C::Kept, second: &C::Kept) -> Order {
+        C::order(self, first, second)
+    }
+
+    fn is_below(&self, first: &C::Kept, second: &C::Kept) -> bool {
+        C::is_below(self, first, second)
+    }
+
+    fn is_below_at(&self, first: &C::Kept, deciding: &Deciding, second: &C::Kept) -> bool {
+        C::is_below_at(self, first, deciding, second)
     }
 }

@@ -2,6 +2,7 @@
 ghost use Rattle.trace_types.specs.clock.EventTree.{EventTree};
 
 use event_tree::EvTree;
+use tree_forest::Tree;
 
 /// A value that stands for an event tree, in whatever form that is kept.
 pub trait Meant {
@@ -11,4 +12,8 @@ pub trait Meant {
 
 impl Meant for EvTree {
     ghost tree = { λ tree. tree };
+}
+
+impl Meant for Tree<EvTree> {
+    ghost tree = { λ tree. tree.value };
 }

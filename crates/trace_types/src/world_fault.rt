@@ -11,6 +11,9 @@ pub enum WorldFault {
     /// There is no name, there are more than 16, or one stands twice.
     #[error("bad tenants")]
     Names,
+    /// The comparison cache is to remember no pair, or more than 65536.
+    #[error("bad capacity")]
+    Capacity,
     /// A request for memory was refused.
     #[error("no memory")]
     Memory,

@@ -8,6 +8,7 @@ ghost use Rattle.line_protocol.specs.Answer.{addressee_text, answer_text};
 
 use crate::World;
 use line_protocol::{Sink, WriteFault, read_addressed, write_answer};
+use std::sync::Wait;
 use trace_types::{Code, Name, Reply, Request};
 
 /// A reply, and the tenant that it names.
@@ -21,7 +22,7 @@ pub(crate) struct Answer {
 impl Answer {
     /// Does what the line asks of the tenants.
     #[inline(never)]
-    pub(crate) fn to_line<R>(rt: &R, world: &mut World, line: &[u8]) -> Answer
+    pub(crate) fn to_line<R: Wait>(rt: &R, world: &mut World, line: &[u8]) -> Answer
         requires { is_too_long line.now ≡ false }
         ensures { DoesLine world.old line.now (addressee_text result.tenant) result.reply world.new }
     {

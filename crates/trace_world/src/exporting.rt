@@ -9,6 +9,7 @@ use crate::ledger_stamps::LedgerStamps;
 use crate::{ReplayFault, World};
 use line_protocol::{Buffer, Line, Sink, Source, flush};
 use std::alloc::Global;
+use std::sync::Wait;
 use trace_export::export_rows;
 
 /// Reads lines of all tenants and does what they ask, as [`crate::replay`] does, but writes no reply; at the end of the
@@ -16,7 +17,7 @@ use trace_export::export_rows;
 ///
 /// `Read` and `TooLong` come before anything is written. `Memory` comes before anything is read or written, or while the
 /// export is written; `Write` comes while it is written.
-pub fn replay_export<T, R: Source, W: Sink>(
+pub fn replay_export<T: Wait, R: Source, W: Sink>(
     rt: &T,
     alloc: Global,
     world: &mut World,
@@ -42,14 +43,18 @@ pub fn replay_export<T, R: Source, W: Sink>(
 {
     take_in(rt, alloc, world, reader)?;
     let ledger = world.ledger(tenant);
-    let stamps = LedgerStamps { alloc, ledger };
+    let stamps = LedgerStamps {
+        alloc,
+        ledger,
+        shared: world.shared(),
+    };
     let count = export_rows(alloc, ledger.rows(), &stamps, writer)?;
     flush(writer)?;
     Ok(count)
 }
 
 /// Does what all lines ask.
-fn take_in<T, R: Source>(
+fn take_in<T: Wait, R: Source>(
     rt: &T,
     alloc: Global,
     world: &mut World,

@@ -1,17 +1,18 @@
 //! The stamps of a ledger's events.
 ghost use Rattle.std.specs.Prelude.{◌≡◌};
 
+use crate::world::SharedLedger;
 use std::alloc::Global;
-use tenant_ledger::{Ledger, laws};
+use tenant_ledger::{Shared, laws};
 use trace_export::StampTexts;
-use trace_query::Plain;
 use trace_types::{Code, Memory, Reply, Request};
 
 /// The texts of the stamps of a ledger's events, which it is asked for.
 #[derive(Drop)]
 pub(crate) struct LedgerStamps<'a> {
     pub(crate) alloc: Global,
-    pub(crate) ledger: &'a Ledger,
+    pub(crate) ledger: &'a SharedLedger,
+    pub(crate) shared: &'a Shared,
 }
 
 impl StampTexts for LedgerStamps<'_> {
@@ -22,7 +23,7 @@ impl StampTexts for LedgerStamps<'_> {
     fn text(&self, event: u64) -> Result<Vec<u8>, Memory> {
         laws::greatest_value();
         let _ = self.ledger.rows();
-        match self.ledger.ask(&Plain, &Request::Stamp(event)) {
+        match self.ledger.ask(self.shared, &Request::Stamp(event)) {
             Reply::Stamp(text) => Ok(text.as_bytes().to_vec(self.alloc)?),
             Reply::Refused(Code::NoMemory) => Err(Memory),
             _ => unreachable!(),

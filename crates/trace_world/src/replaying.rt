@@ -10,6 +10,7 @@ use crate::answer::Answer;
 use crate::{Counts, ReplayFault, World};
 use line_protocol::{Buffer, Line, ReadFault, Sink, Source, WriteFault, flush};
 use std::alloc::Global;
+use std::sync::Wait;
 use trace_types::Code;
 
 /// Reads lines of all tenants, `TENANT REQUEST`, does what they ask and writes a line for each, `TENANT REPLY`.
@@ -18,7 +19,7 @@ use trace_types::Code;
 /// It reads to the end of the input. A fault ends it: where no more can be read (`Read`, `TooLong`), each line whose end
 /// came is answered, and only an unfinished one is lost; after a write fault, lines that were read and not answered are
 /// lost. Nothing waits on `rt` while the tenants share nothing.
-pub fn replay<T, R: Source, W: Sink>(
+pub fn replay<T: Wait, R: Source, W: Sink>(
     rt: &T,
     alloc: Global,
     world: &mut World,

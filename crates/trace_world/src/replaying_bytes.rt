@@ -5,9 +5,10 @@ ghost use Rattle.trace_world.specs.Replayed.{AnswersAll};
 use crate::{ReplayFault, World, replay};
 use line_protocol::{FromReader, IntoWriter};
 use std::alloc::Global;
+use std::sync::Wait;
 
 /// Replays the lines of these bytes, and gives what is written for them. A vector that finds no memory is a write fault.
-pub fn replay_bytes<T>(
+pub fn replay_bytes<T: Wait>(
     rt: &T,
     alloc: Global,
     world: &mut World,

@@ -1,22 +1,31 @@
 //! The tenants.
-ghost use Rattle.std.specs.Prelude.{◌≡◌, ◌↔◌, ◌<◌, ℕ, false, [], length, map, Some, slice_get, IfOk, IfSome, IsErrOf};
+ghost use Rattle.std.specs.Prelude.{◌≡◌, ◌≢◌, ◌↔◌, ◌<◌, ℕ, true, false, [], length, map, Some, slice_get, IfOk, IfErr, IfSome, IsErrOf};
+ghost use Rattle.order_cache.specs.Capacity.{IsCapacity};
 ghost use Rattle.trace_types.specs.tenant.Tenant.{fresh};
 ghost use Rattle.trace_types.specs.world.Replay.{place_of};
 ghost use Rattle.trace_types.specs.world.World.{StepsOne, IsAfter, IsDue};
 ghost use Rattle.trace_world.specs.Tenants.{IsLedTo, IsWorld, StepsAt, are_distinct, can_be_tenants};
 
+use order_cache::CacheFault;
 use std::alloc::Global;
 use std::marker::Model;
-use tenant_ledger::Ledger;
+use std::sync::{Arc, Wait};
+use tenant_ledger::{Ledger, Shared};
 use trace_types::{Limits, Memory, Name, Reply, Request, WorldFault};
 
+/// The ledger of a tenant that keeps its ids and trees with all others.
+pub(crate) type SharedLedger = Ledger<Arc<Shared>>;
+
 /// All tenants: their names, the limits that each of them has by itself, and what each has reported.
+///
+/// They keep their ids and trees in one place, and have them compared there. No reply shows it.
 #[derive(Drop)]
 pub struct World {
     names: Vec<Name>,
     limits: Limits,
     /// The ledgers, in the order of the names.
-    ledgers: Vec<Ledger>,
+    ledgers: Vec<SharedLedger>,
+    shared: Arc<Shared>,
 }
 
 impl Model for World {
@@ -35,20 +44,34 @@ impl World {
     pub const MOST_TENANTS: usize = 16;
 
     /// Tenants of these names that have reported nothing. It takes 1 to 16 names, and answers `Names` for none, for
-    /// more, and where a name stands twice; want of memory comes last.
-    pub fn new(alloc: Global, names: &[Name], limits: Limits) -> Result<World, WorldFault>
+    /// more, and where a name stands twice. Their cache remembers at most this many comparisons of two trees: 1 to 65536,
+    /// else it answers `Capacity`. Want of memory comes last.
+    pub fn new(
+        alloc: Global,
+        names: &[Name],
+        limits: Limits,
+        cache: u64,
+    ) -> Result<World, WorldFault>
         ensures names { IsErrOf result WorldFault.Names ↔ (can_be_tenants names.now ≡ false) }
+        ensures capacity { IsErrOf result WorldFault.Capacity ↔ (can_be_tenants names.now ≡ true) × (IsCapacity cache → ⊥) }
         ensures world { IfOk result (λ world. world ≡ record { names = names.now; limits = limits; tenants = map (λ name. fresh limits) names.now }) }
         ensures fresh { IfOk result (λ world. IsAfter world []) }
     {
         if !can_be_tenants(names) {
             return Err(WorldFault::Names);
         }
+        let shared = shared_by_all(alloc, cache)?;
         Ok(World {
             names: copied(alloc, names)?,
             limits,
-            ledgers: fresh_ledgers(alloc, names, limits)?,
+            ledgers: fresh_ledgers(alloc, names, limits, &shared)?,
+            shared,
         })
+    }
+
+    /// What the tenants share, for the operator.
+    pub fn shared(&self) -> &Shared {
+        &self.shared
     }
 
     /// What holds of every world; and some calls of its tenants led to it.
@@ -79,17 +102,16 @@ impl World {
     }
 
     /// The ledger of the tenant at this place.
-    pub(crate) fn ledger(&self, tenant: usize) -> &Ledger
+    pub(crate) fn ledger(&self, tenant: usize) -> &SharedLedger
         requires { tenant < length self.now.tenants }
         ensures { slice_get self.now.tenants tenant ≡ Some result.now }
     {
         &self.ledgers[tenant]
     }
 
-    /// Does one request of the tenant at this place. It answers 507 only where memory was refused.
-    ///
-    /// Nothing waits on `rt` while the tenants share nothing.
-    pub fn step<R>(&mut self, rt: &R, tenant: usize, request: &Request) -> Reply
+    /// Does one request of the tenant at this place. It answers 507 only where memory was refused. It may wait where what
+    /// the tenants share is used by another thread too.
+    pub fn step<R: Wait>(&mut self, rt: &R, tenant: usize, request: &Request) -> Reply
         requires { tenant < length self.old.tenants }
         ensures step { StepsOne self.old tenant request.now result self.new }
         ensures due { IsDue self.old tenant request.now result self.new }
@@ -101,7 +123,12 @@ impl World {
 
     /// As [`World::step`], of a request that [`Ledger::ask_briefly`] answers; `None` for any other.
     #[inline(always)]
-    pub(crate) fn step_briefly<R>(&self, rt: &R, tenant: usize, request: &Request) -> Option<Reply>
+    pub(crate) fn step_briefly<R: Wait>(
+        &self,
+        rt: &R,
+        tenant: usize,
+        request: &Request,
+    ) -> Option<Reply>
         requires { tenant < length self.now.tenants }
         ensures step { IfSome result (λ reply. StepsOne self.now tenant request.now reply self.now) }
         ensures due { IfSome result (λ reply. IsDue self.now tenant request.now reply self.now) }
@@ -111,7 +138,7 @@ impl World {
 
     /// As [`World::step`], in a function of its own, whose places are then not set to zero for the short ones.
     #[inline(never)]
-    pub(crate) fn step_apart<R>(&mut self, rt: &R, tenant: usize, request: Request) -> Reply
+    pub(crate) fn step_apart<R: Wait>(&mut self, rt: &R, tenant: usize, request: Request) -> Reply
         requires { tenant < length self.old.tenants }
         ensures step { StepsOne self.old tenant request result self.new }
         ensures due { IsDue self.old tenant request result self.new }
@@ -127,19 +154,40 @@ fn copied(alloc: Global, names: &[Name]) -> Result<Vec<Name>, Memory>
     Ok(names.to_vec(alloc)?)
 }
 
+/// What the tenants are to share.
+fn shared_by_all(alloc: Global, cache: u64) -> Result<Arc<Shared>, WorldFault>
+    ensures capacity { IsErrOf result WorldFault.Capacity ↔ (IsCapacity cache → ⊥) }
+    ensures names { IfErr result (λ fault. fault ≢ WorldFault.Names) }
+{
+    match Shared::new(alloc, cache) {
+        Ok(shared) => match Arc::new(alloc, shared) {
+            Ok(shared) => Ok(shared),
+            Err(_) => Err(WorldFault::Memory),
+        },
+        Err(CacheFault::Capacity) => Err(WorldFault::Capacity),
+        Err(CacheFault::Memory) => Err(WorldFault::Memory),
+    }
+}
+
 /// The ledgers of tenants of these names that have reported nothing.
-fn fresh_ledgers(alloc: Global, names: &[Name], limits: Limits) -> Result<Vec<Ledger>, Memory>
+fn fresh_ledgers(
+    alloc: Global,
+    names: &[Name],
+    limits: Limits,
+    shared: &Arc<Shared>,
+) -> Result<Vec<SharedLedger>, Memory>
     ensures { IfOk result (λ ledgers. ledgers.items ≡ map (λ name. fresh limits) names.now) }
 {
     let mut ledgers = Vec::with_capacity(alloc, names.len())?;
     for _ in names {
-        ledgers.push(Ledger::new(alloc, limits)?)?;
+        let share = Arc::try_clone(shared)?;
+        ledgers.push(Ledger::with_share(alloc, limits, share)?)?;
     }
     Ok(ledgers)
 }
 
 /// Does one request of the tenant whose ledger stands at this place.
-fn report<R>(rt: &R, ledgers: &mut [Ledger], tenant: usize, request: &Request) -> Reply
+fn report<R: Wait>(rt: &R, ledgers: &mut [SharedLedger], tenant: usize, request: &Request) -> Reply
     requires { tenant < length ledgers.old }
     ensures { StepsAt ledgers.old tenant request.now result ledgers.new }
 {

@@ -13,7 +13,7 @@ use Rattle.trace_types.specs.world.World.{World}
 use Rattle.trace_world.specs.Exported.{BreaksExport}
 use Rattle.trace_world.specs.Replayed.{ReplaysInPart}
 use Rattle.trace_world.specs.declared.replay_fault.ReplayFault.{ReplayFault}
-use Rattle.itc_trace.specs.CommandLine.{ToReplay, are_taken, is_taken}
+use Rattle.itc_trace.specs.CommandLine.{ToReplay, are_taken, can_export, is_taken}
 use Rattle.itc_trace.specs.Fault.{fault_of_replay, status_of}
 use Rattle.itc_trace.specs.Program.{DoesReplay, DoesReplayInPart, ExportsFresh, ExportsFreshInPart, IsExportPlace, IsUntouched, ReplaysFresh, fresh_world}
 use Rattle.itc_trace.specs.declared.fault.Fault.{Fault}
@@ -45,6 +45,11 @@ there (Some name) names exported place is at = (name, refl, sym is.0 ∙ at)
 nowhere : (export : Option Text) (names : List Text) (exported : Option ℕ) → IsExportPlace export names exported → exported ≡ None → export ≡ None
 nowhere None names exported is at = refl
 nowhere (Some name) names exported is at = let differ : false ≡ true = subst (λ o. is_some o ≡ true) at is.1 in cc
+
+-- where a place was looked for and found, the tenant can be exported
+found_can : (export : Option Text) (names : List Text) (exported : Option ℕ) → IsExportPlace export names exported → can_export export names ≡ true
+found_can None names exported is = refl
+found_can (Some name) names exported is = ap is_some (sym is.0) ∙ is.1
 
 -- a replay without an export
 unexported : (export : Option Text) → export ≡ None → (result : Result Unit Fault) (cause : ReplayFault) → result ≡ Err (fault_of_replay cause)
@@ -160,6 +165,13 @@ returns-in_err-replay_export-in-Some-clause-memory g c =
     exported_lacks c.args.reader.now c.replay_export.new.reader c.args.writer.now c.replay_export.new.writer c.args.wanted.now.export found.0 found.1
     c.from_residual-in_err-replay_export-in-Some.result c.in_err-replay_export-in-Some.field-0.0 is c.args.wanted.now.limits
     (map string_bytes c.args.wanted.now.tenants.items) _ _ _ _ names part
+
+pub returns-clause-taken : goal.returns-clause-taken
+returns-clause-taken g c =
+    let names : are_taken (map string_bytes c.args.wanted.now.tenants.items) ≡ true = search rules in
+    let same : c.deref-2.result.now ≡ map string_bytes c.args.wanted.now.tenants.items = search rules in
+    let found = found_can (option_map string_bytes c.args.wanted.now.export) c.deref-2.result.now c.in_ok-exported.exported c.in_ok-exported.ensures.ok in
+    and_from _ _ names (subst (λ list. can_export (option_map string_bytes c.args.wanted.now.export) list ≡ true) same found)
 
 pub returns-clause-ok : goal.returns-clause-ok
 returns-clause-ok g c = elim c.match-exported.branch [

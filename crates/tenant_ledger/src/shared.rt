@@ -1,0 +1,119 @@
+//! Ids and trees that all tenants keep together.
+ghost use Rattle.std.specs.Prelude.{◌≡◌, ◌↔◌, IsErrOf};
+ghost use Rattle.order_cache.specs.Capacity.{IsCapacity};
+
+use crate::share::MeantId;
+use crate::{Keep, Share};
+use event_tree::EvTree;
+use id_tree::IdTree;
+use order_cache::{CacheFault, OrderCache};
+use std::alloc::Global;
+use std::sync::Wait;
+use trace_query::{Compare, Deciding};
+use trace_types::{Memory, Order};
+use tree_forest::{Forest, Tree};
+
+/// Keeps the ids and trees of all tenants, each once, and how trees stood to each other that were asked last.
+///
+/// It waits for other threads where they use the same map or the cache, for a step of either. Compared by itself, it
+/// compares the trees and waits for nobody.
+#[derive(Drop)]
+pub struct Shared {
+    ids: Forest<IdTree>,
+    trees: Forest<EvTree>,
+    orders: OrderCache,
+    ghost one_home: { orders ≡ trees },
+}
+
+impl Shared {
+    /// Without ids and trees. The cache remembers at most this many pairs of trees. It answers `Capacity` outside 1 to
+    /// 65536; want of memory comes last.
+    pub fn new(alloc: Global, capacity: u64) -> Result<Shared, CacheFault>
+        ensures { IsErrOf result CacheFault.Capacity ↔ (¬ IsCapacity capacity) }
+    {
+        if !OrderCache::takes(capacity) {
+            return Err(CacheFault::Capacity);
+        }
+        let trees = Forest::new(alloc)?;
+        let orders = OrderCache::new(alloc, capacity, &trees)?;
+        Ok(Shared {
+            ids: Forest::new(alloc)?,
+            trees,
+            orders,
+        })
+    }
+
+    /// How often a comparison was answered by the cache, for the operator alone.
+    pub fn hits<R: Wait>(&self, rt: &R) -> u64 {
+        self.orders.hits(rt)
+    }
+}
+
+impl MeantId for Tree<IdTree> {
+    ghost id = { λ tree. tree.value };
+}
+
+impl Compare for Shared {
+    type Kept = Tree<EvTree>;
+
+    fn order(&self, first: &Tree<EvTree>, second: &Tree<EvTree>) -> Order {
+        first.value().order(second.value())
+    }
+
+    fn is_below(&self, first: &Tree<EvTree>, second: &Tree<EvTree>) -> bool {
+        first.value().leq(second.value())
+    }
+
+    fn is_below_at(
+        &self,
+        _first: &Tree<EvTree>,
+        deciding: &Deciding,
+        second: &Tree<EvTree>,
+    ) -> bool {
+        deciding.value <= second.value().value_at(&deciding.point)
+    }
+}
+
+impl Keep for Shared {
+    type Id = Tree<IdTree>;
+
+    ghost home = { λ shared. shared.trees };
+
+    ghost home_of = { λ tree. tree.home };
+
+    fn id_value(kept: &Tree<IdTree>) -> &IdTree {
+        kept.value()
+    }
+
+    fn tree_value(kept: &Tree<EvTree>) -> &EvTree {
+        kept.value()
+    }
+}
+
+impl<R: Wait> Share<R> for Shared {
+    fn keep_id(&self, rt: &R, id: IdTree) -> Result<Tree<IdTree>, Memory> {
+        self.ids.intern(rt, &id)
+    }
+
+    fn keep_tree(&self, rt: &R, tree: EvTree) -> Result<Tree<EvTree>, Memory> {
+        self.trees.intern(rt, &tree)
+    }
+
+    fn order_kept(&self, rt: &R, first: &Tree<EvTree>, second: &Tree<EvTree>) -> Order {
+        self.orders.order(rt, &self.trees, first, second)
+    }
+
+    fn below_kept(&self, _rt: &R, first: &Tree<EvTree>, second: &Tree<EvTree>) -> bool {
+        self.is_below(first, second)
+    }
+
+    fn below_kept_at(
+        &self,
+        _rt: &R,
+        first: &Tree<EvTree>,
+        deciding: &Deciding,
+        second: &Tree<EvTree>,
+    ) -> bool {
+        self.is_below_at(first, deciding, second)
+    }
+}
