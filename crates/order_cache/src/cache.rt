@@ -97,6 +97,7 @@ impl OrderCache {
     ///
     /// It never refuses: where memory is refused, the comparison is answered and not remembered. Of two threads that ask
     /// for one pair at once both may compare it.
+    #[inline(always)]
     pub fn order<R: Wait>(
         &self,
         rt: &R,
@@ -112,16 +113,30 @@ impl OrderCache {
         if ranges_decide(first.value(), second.value()) || !self.is_looked_up() {
             return first.value().order(second.value());
         }
+        self.order_looked_up(rt, forest, first, second)
+    }
+
+    /// The same, by what is remembered, else by comparing the two and remembering that. It is a function of its own, whose
+    /// places are then not set to zero where nothing is looked up.
+    #[inline(never)]
+    fn order_looked_up<R: Wait>(
+        &self,
+        rt: &R,
+        forest: &Forest<EvTree>,
+        first: &Tree<EvTree>,
+        second: &Tree<EvTree>,
+    ) -> Order
+        requires cache { self.now ≡ forest.now }
+        requires first { IsOf forest.now first.now }
+        requires second { IsOf forest.now second.now }
+        ensures { StandsAs result first.now.value second.now.value }
+    {
         if let Some(order) = self.recall(rt, forest, first, second) {
             self.misses.store(0, Ordering::Relaxed);
             return order;
         }
         let order = first.value().order(second.value());
-        if let Ok(first) = first.share()
-            && let Ok(second) = second.share()
-        {
-            self.remember(rt, Compared::of(first, second, order));
-        }
+        self.remember(rt, first, second, order);
         order
     }
 
@@ -144,6 +159,7 @@ impl OrderCache {
     }
 
     /// Looks the two trees up, under the lock.
+    #[inline(never)]
     fn recall<R: Wait>(
         &self,
         rt: &R,
@@ -163,10 +179,17 @@ impl OrderCache {
         order
     }
 
-    /// Remembers the comparison, under the lock.
-    fn remember<R: Wait>(&self, rt: &R, compared: Compared)
-        requires { compared ≡ self.now }
+    /// Remembers the comparison, under the lock, if there is memory.
+    #[inline(never)]
+    fn remember<R: Wait>(&self, rt: &R, first: &Tree<EvTree>, second: &Tree<EvTree>, order: Order)
+        requires first { IsOf self.now first.now }
+        requires second { IsOf self.now second.now }
+        requires order { StandsAs order first.now.value second.now.value }
     {
+        let (Ok(first), Ok(second)) = (first.share(), second.share()) else {
+            return;
+        };
+        let compared = Compared::of(first, second, order);
         let _turn = self.turn.lock(rt);
         if let Some(mut remembered) = self.exchange(None) {
             remembered.remember(compared);
