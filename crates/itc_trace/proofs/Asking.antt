@@ -12,8 +12,8 @@ use Rattle.clap.specs.declared.parser.ArgMatches.{ArgMatches}
 use Rattle.trace_types.specs.tenant.Limits.{Limits, are_limits}
 use Rattle.trace_types.specs.text.Name.{Text, is_between, is_same}
 use Rattle.trace_types.specs.text.Reading.{number_of}
-use Rattle.itc_trace.specs.CommandLine.{AskedReplay, Demand, ToReplay, ToCheck, Role, Tenant, Events, Tasks, Messages, Export, Part, replay_asked_by, asked_by_options, export_by, replay_asked_in, check_asked_in, asked_in, asked_with, is_plain, is_role, limit_by, limits_by, limits_of, number_up_to, option_named, parts_after, words_for}
-use Rattle.itc_trace.specs.Reading.{Has, amount_in, limits_found, limits_in, program_app, tenants_found, work_found, work_with, export_found}
+use Rattle.itc_trace.specs.CommandLine.{AskedReplay, Demand, ToReplay, ToCheck, Role, Tenant, Events, Tasks, Messages, Cache, Export, Part, replay_asked_by, cache_by, asked_by_options, export_by, replay_asked_in, check_asked_in, asked_in, asked_with, is_plain, is_role, limit_by, limits_by, limits_of, number_up_to, option_named, parts_after, words_for}
+use Rattle.itc_trace.specs.Reading.{Has, amount_in, cache_found, limits_found, limits_in, program_app, tenants_found, work_found, work_with, export_found}
 use Rattle.itc_trace.proofs.CommandLine.{Fits, FitsOnce, PlainOnce, finds, id_of, row_of, simple, spelled, spelled_with, takes_parts}
 use Rattle.itc_trace.proofs.Rows.{row_in}
 
@@ -26,29 +26,32 @@ option_of Tenant = []
 option_of Events = codes "--events"
 option_of Tasks = codes "--tasks"
 option_of Messages = codes "--messages"
+option_of Cache = codes "--cache"
 option_of Export = codes "--export"
 
 named : (word : Text) (role : Role) → option_named word ≡ Some role → (word ≡ option_of role) × (is_role Tenant role ≡ false)
-named word role is = go (is_same word (codes "--events")) (is_same word (codes "--tasks")) (is_same word (codes "--messages")) (is_same word (codes "--export")) refl refl refl refl is
+named word role is = go (is_same word (codes "--events")) (is_same word (codes "--tasks")) (is_same word (codes "--messages")) (is_same word (codes "--cache")) (is_same word (codes "--export")) refl refl refl refl refl is
   where
     chosen : (one : Role) → word ≡ option_of one → is_role Tenant one ≡ false → Some one ≡ Some role → (word ≡ option_of role) × (is_role Tenant role ≡ false)
     chosen one word_is limit e = subst (λ r. (word ≡ option_of r) × (is_role Tenant r ≡ false)) (some_same e) (word_is, limit)
 
-    go : (events tasks messages export : Bool) → is_same word (codes "--events") ≡ events → is_same word (codes "--tasks") ≡ tasks → is_same word (codes "--messages") ≡ messages
-        → is_same word (codes "--export") ≡ export
-        → (if events then Some Events else if tasks then Some Tasks else if messages then Some Messages else if export then Some Export else None) ≡ Some role
+    go : (events tasks messages cache export : Bool) → is_same word (codes "--events") ≡ events → is_same word (codes "--tasks") ≡ tasks → is_same word (codes "--messages") ≡ messages
+        → is_same word (codes "--cache") ≡ cache → is_same word (codes "--export") ≡ export
+        → (if events then Some Events else if tasks then Some Tasks else if messages then Some Messages else if cache then Some Cache else if export then Some Export else None) ≡ Some role
         → (word ≡ option_of role) × (is_role Tenant role ≡ false)
-    go true tasks messages export a b c d e = chosen Events ((bytes_eq-Decides word (codes "--events")).0 a) refl e
-    go false true messages export a b c d e = chosen Tasks ((bytes_eq-Decides word (codes "--tasks")).0 b) refl e
-    go false false true export a b c d e = chosen Messages ((bytes_eq-Decides word (codes "--messages")).0 c) refl e
-    go false false false true a b c d e = chosen Export ((bytes_eq-Decides word (codes "--export")).0 d) refl e
-    go false false false false a b c d e = cc
+    go true tasks messages cache export a b c d f e = chosen Events ((bytes_eq-Decides word (codes "--events")).0 a) refl e
+    go false true messages cache export a b c d f e = chosen Tasks ((bytes_eq-Decides word (codes "--tasks")).0 b) refl e
+    go false false true cache export a b c d f e = chosen Messages ((bytes_eq-Decides word (codes "--messages")).0 c) refl e
+    go false false false true export a b c d f e = chosen Cache ((bytes_eq-Decides word (codes "--cache")).0 d) refl e
+    go false false false false true a b c d f e = chosen Export ((bytes_eq-Decides word (codes "--export")).0 f) refl e
+    go false false false false false a b c d f e = cc
 
 spelled_limit : (role : Role) (word : Text) (words : List Text) → is_role Tenant role ≡ false → option_of role ∷ word ∷ words ≡ spelled_with role word words
 spelled_limit Tenant word words limit = cc
 spelled_limit Events word words limit = refl
 spelled_limit Tasks word words limit = refl
 spelled_limit Messages word words limit = refl
+spelled_limit Cache word words limit = refl
 spelled_limit Export word words limit = refl
 
 -- the words with the option before them
@@ -190,6 +193,22 @@ amounts rows limits e = go (limits_of (amount_in (codes "events") 4096 rows) (am
         let each = three (amount_in (codes "events") 4096 rows) (amount_in (codes "tasks") 512 rows) (amount_in (codes "messages") 2048 rows) limits (of ∙ ap Some is.0) in
         (each.0, each.1, each.2, is.1)
 
+-- the number of comparisons that was found
+pub counted : (rows : List Row) (cache : ℕ)
+    → option_and_then (λ number. if is_between 1 65536 number then Some number else None) (amount_in (codes "cache") 1024 rows) ≡ Some cache
+    → (amount_in (codes "cache") 1024 rows ≡ Some cache) × (is_between 1 65536 cache ≡ true)
+counted rows cache e = go (amount_in (codes "cache") 1024 rows) refl e
+  where
+    within : (n : ℕ) (b : Bool) → is_between 1 65536 n ≡ b → (if b then Some n else None) ≡ Some cache → (n ≡ cache) × (is_between 1 65536 cache ≡ true)
+    within n true is e = (some_same e, subst (λ m. is_between 1 65536 m ≡ true) (some_same e) is)
+    within n false is e = cc
+
+    go : (o : Option ℕ) → amount_in (codes "cache") 1024 rows ≡ o
+        → option_and_then (λ number. if is_between 1 65536 number then Some number else None) o ≡ Some cache
+        → (amount_in (codes "cache") 1024 rows ≡ Some cache) × (is_between 1 65536 cache ≡ true)
+    go None of e = cc
+    go (Some n) of e = let is = within n (is_between 1 65536 n) refl e in (of ∙ ap Some is.0, is.1)
+
 -- ---- what is asked for
 
 -- how words ask for it
@@ -204,23 +223,33 @@ pub record AsksFor (words : List Text) (asked : AskedReplay) : Type 0 where
   pub events : limit_by 4096 16384 (words_for Events parts) ≡ Some asked.limits.events
   pub tasks : limit_by 512 2048 (words_for Tasks parts) ≡ Some asked.limits.tasks
   pub messages : limit_by 2048 16384 (words_for Messages parts) ≡ Some asked.limits.messages
+  pub cache : limit_by 1024 65536 (words_for Cache parts) ≡ Some asked.cache
   pub export : export_by (words_for Export parts) ≡ Some asked.export
 
-asks_with : (tenants : List Text) (limits : Limits) (export : Option Text) (asked : AskedReplay) → asked_with tenants limits export ≡ Some asked
+asks_with : (tenants : List Text) (limits : Limits) (cache : ℕ) (export : Option Text) (asked : AskedReplay) → asked_with tenants limits cache export ≡ Some asked
     → (first : Text) × (others : List Text) × (tenants ≡ first ∷ others) × (asked.tenants ≡ tenants) × (limits ≡ asked.limits) × (export ≡ asked.export)
-asks_with [] limits export asked e = cc
-asks_with (first ∷ others) limits export asked e =
-    let is = some_same e in
-    (first, others, refl, sym (ap (λ (a : AskedReplay). a.tenants) is), ap (λ (a : AskedReplay). a.limits) is, ap (λ (a : AskedReplay). a.export) is)
+    × (cache ≡ asked.cache)
+asks_with [] limits cache export asked e = cc
+asks_with (first ∷ others) limits cache export asked e =
+    let is = some_same e in (
+      first,
+      others,
+      refl,
+      sym (ap (λ (a : AskedReplay). a.tenants) is),
+      ap (λ (a : AskedReplay). a.limits) is,
+      ap (λ (a : AskedReplay). a.export) is,
+      ap (λ (a : AskedReplay). a.cache) is,
+    )
 
 replay_asks_for : (first : Text) (words : List Text) (asked : AskedReplay) → first ≡ codes "replay" → replay_asked_in words ≡ Some asked → AsksFor (first ∷ words) asked
 replay_asks_for first words asked is_first e = read (parts_after None words) refl e
   where
     by_options : (parts : List Part) → Spelled words parts → (limits : Limits) → limits_by parts ≡ Some limits
+        → (cache : ℕ) → cache_by parts ≡ Some cache
         → (export : Option Text) → export_by (words_for Export parts) ≡ Some export
-        → asked_with (words_for Tenant parts) limits export ≡ Some asked → AsksFor (first ∷ words) asked
-    by_options parts is limits by export exports e =
-        let with = asks_with (words_for Tenant parts) limits export asked e in
+        → asked_with (words_for Tenant parts) limits cache export ≡ Some asked → AsksFor (first ∷ words) asked
+    by_options parts is limits by cache counts export exports e =
+        let with = asks_with (words_for Tenant parts) limits cache export asked e in
         let each = three (limit_by 4096 16384 (words_for Events parts)) (limit_by 512 2048 (words_for Tasks parts)) (limit_by 2048 16384 (words_for Messages parts))
         asked.limits (by ∙ ap Some with.4) in
         record {
@@ -234,19 +263,22 @@ replay_asks_for first words asked is_first e = read (parts_after None words) ref
           events = each.0;
           tasks = each.1;
           messages = each.2;
+          cache = counts ∙ ap Some with.6;
           export = exports ∙ ap Some with.5;
         }
 
     by_parts : (parts : List Part) → Spelled words parts → (limits : Option Limits) → limits_by parts ≡ limits
+        → (cache : Option ℕ) → cache_by parts ≡ cache
         → (export : Option (Option Text)) → export_by (words_for Export parts) ≡ export
-        → asked_by_options (words_for Tenant parts) limits export ≡ Some asked → AsksFor (first ∷ words) asked
-    by_parts parts is None by export exports e = cc
-    by_parts parts is (Some limits) by None exports e = cc
-    by_parts parts is (Some limits) by (Some export) exports e = by_options parts is limits by export exports e
+        → asked_by_options (words_for Tenant parts) limits cache export ≡ Some asked → AsksFor (first ∷ words) asked
+    by_parts parts is None by cache counts export exports e = cc
+    by_parts parts is (Some limits) by None counts export exports e = cc
+    by_parts parts is (Some limits) by (Some cache) counts None exports e = cc
+    by_parts parts is (Some limits) by (Some cache) counts (Some export) exports e = by_options parts is limits by cache counts export exports e
 
     read : (after : Option (List Part)) → parts_after None words ≡ after → option_and_then replay_asked_by after ≡ Some asked → AsksFor (first ∷ words) asked
     read None of e = cc
-    read (Some parts) of e = by_parts parts (spelled_by None words parts tt of) (limits_by parts) refl (export_by (words_for Export parts)) refl e
+    read (Some parts) of e = by_parts parts (spelled_by None words parts tt of) (limits_by parts) refl (cache_by parts) refl (export_by (words_for Export parts)) refl e
 
 -- how words ask for this
 abbrev pub Asks : List Text → Demand → Type 0
@@ -287,6 +319,7 @@ fits_of : (words : List Text) (asked : AskedReplay) (asks : AsksFor words asked)
 fits_of words asked asks Tenant = asks.plain
 fits_of words asked asks Events = limit_fits 4096 16384 (words_for Events asks.parts) asked.limits.events asks.events
 fits_of words asked asks Tasks = limit_fits 512 2048 (words_for Tasks asks.parts) asked.limits.tasks asks.tasks
+fits_of words asked asks Cache = limit_fits 1024 65536 (words_for Cache asks.parts) asked.cache asks.cache
 fits_of words asked asks Export = export_fits (words_for Export asks.parts) asked.export asks.export
 fits_of words asked asks Messages = limit_fits 2048 16384 (words_for Messages asks.parts) asked.limits.messages asks.messages
 
@@ -300,6 +333,7 @@ few_parts (part ∷ parts) = go part.role (few_parts parts)
     go Events rest = omega arith
     go Tasks rest = omega arith
     go Messages rest = omega arith
+    go Cache rest = omega arith
     go Export rest = omega arith
 
 few_of : (words : List Text) (asked : AskedReplay) (asks : AsksFor words asked) → length words ≤ usize_max → length asks.parts ≤ usize_max
@@ -319,6 +353,9 @@ found_replay words asked asks bound =
           ∙ ap Some (sym (asks.asked_are ∙ asks.tenants_are))),
       ap limits_found found_is ∙ (ap (λ limits. option_and_then (λ (l : Limits). if are_limits l.events l.tasks l.messages then Some l else None) limits)
           (limits_are is.0 is.2) ∙ ap (λ b. if b then Some asked.limits else None) ranges),
+      ap cache_found found_is ∙ (ap (option_and_then (λ number. if is_between 1 65536 number then Some number else None))
+          (amount_found Cache 1024 65536 (words_for Cache asks.parts) asked.cache is.0 (is.2 Cache) asks.cache)
+          ∙ ap (λ b. if b then Some asked.cache else None) (limit_within 1024 65536 (words_for Cache asks.parts) asked.cache refl asks.cache)),
       ap export_found found_is ∙ export,
     )
   where

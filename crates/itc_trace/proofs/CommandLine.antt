@@ -16,7 +16,7 @@ use Rattle.clap.specs.Simple.{Shape, built, built_leaf, inherited, marked_built,
 use Rattle.clap.specs.Takes.{walk_passes, turn_passes, word_passes, step_passes, values_pass, settle_passes, default_passes, is_given, is_valid, level_passes, entered_passes, use_passes}
 use Rattle.clap.specs.Walk.{Walk, Held, Waiting, walked, walk_from, nothing_held, idle, option, positional, positional_held, after_step, plain_word, subcommand_or_other, finished, has_row, settled, settled_rows, stop_after, values_or_missing, walk, with_default, with_values, without}
 use Rattle.clap.proofs.WalkLemmas.{both as and_is_true, walk_stopped}
-use Rattle.itc_trace.specs.CommandLine.{Role, Tenant, Events, Tasks, Messages, Export, Part, is_plain, is_role, words_for}
+use Rattle.itc_trace.specs.CommandLine.{Role, Tenant, Events, Tasks, Messages, Cache, Export, Part, is_plain, is_role, words_for}
 use Rattle.itc_trace.specs.Reading.{program_app, replay_app, tenant_rule}
 use Rattle.itc_trace.proofs.Amounts.{passes, spells}
 use Rattle.itc_trace.proofs.Rows.{grown, row_beside, row_in, row_with, twice, unfound}
@@ -39,6 +39,7 @@ id_of Tenant = codes "TENANT"
 id_of Events = codes "events"
 id_of Tasks = codes "tasks"
 id_of Messages = codes "messages"
+id_of Cache = codes "cache"
 id_of Export = codes "export"
 
 abbrev pub most_of : Role → ℕ
@@ -46,6 +47,7 @@ most_of Tenant = 0
 most_of Events = 16384
 most_of Tasks = 2048
 most_of Messages = 16384
+most_of Cache = 65536
 most_of Export = 0
 
 -- the words of a part, and those after it
@@ -54,6 +56,7 @@ spelled_with Tenant word words = word ∷ words
 spelled_with Events word words = codes "--events" ∷ word ∷ words
 spelled_with Tasks word words = codes "--tasks" ∷ word ∷ words
 spelled_with Messages word words = codes "--messages" ∷ word ∷ words
+spelled_with Cache word words = codes "--cache" ∷ word ∷ words
 spelled_with Export word words = codes "--export" ∷ word ∷ words
 
 abbrev pub spelled : List Part → List Text
@@ -82,6 +85,7 @@ itself Tenant = refl
 itself Events = refl
 itself Tasks = refl
 itself Messages = refl
+itself Cache = refl
 itself Export = refl
 
 same_role : (a b : Role) → is_role a b ≡ true → a ≡ b
@@ -89,6 +93,7 @@ same_role Tenant Tenant e = refl
 same_role Events Events e = refl
 same_role Tasks Tasks e = refl
 same_role Messages Messages e = refl
+same_role Cache Cache e = refl
 same_role Export Export e = refl
 same_role a b e = cc
 
@@ -97,6 +102,7 @@ apart Tenant Tenant e = cc
 apart Events Events e = cc
 apart Tasks Tasks e = cc
 apart Messages Messages e = cc
+apart Cache Cache e = cc
 apart Export Export e = cc
 apart a b e = refl
 
@@ -124,6 +130,7 @@ met Tenant word held = positional_held rules tenant_built word held
 met Events word held = record (settled rules held) { pending = Some (codes "events", word ∷ []) }
 met Tasks word held = record (settled rules held) { pending = Some (codes "tasks", word ∷ []) }
 met Messages word held = record (settled rules held) { pending = Some (codes "messages", word ∷ []) }
+met Cache word held = record (settled rules held) { pending = Some (codes "cache", word ∷ []) }
 met Export word held = record (settled rules held) { pending = Some (codes "export", word ∷ []) }
 
 abbrev pending_length : Option (Text × List Text) → ℕ
@@ -217,6 +224,10 @@ keeps seen count Messages word held holds fits few =
     let rows = settled_rows rules held.pending held.rows in
     let fresh = fresh_rows seen Messages word rows holds.rows fits.0 in
     record { rows = fresh.0; settles = ap₂ ◌&&◌ (ap (λ b. not b || false) fresh.1) (ap (λ b. b && true) fits.2); pending = omega arith }
+keeps seen count Cache word held holds fits few =
+    let rows = settled_rows rules held.pending held.rows in
+    let fresh = fresh_rows seen Cache word rows holds.rows fits.0 in
+    record { rows = fresh.0; settles = ap₂ ◌&&◌ (ap (λ b. not b || false) fresh.1) (ap (λ b. b && true) fits.2); pending = omega arith }
 keeps seen count Export word held holds fits few =
     let rows = settled_rows rules held.pending held.rows in
     let fresh = fresh_rows seen Export word rows holds.rows fits.0 in
@@ -284,6 +295,7 @@ value_step Tenant word held limit plain = cc
 value_step Events word held limit plain = ap (λ step. after_step rules word (before_value Events held) step.0 step.1) (plain_met (option (codes "events")) word (before_value Events held).held plain)
 value_step Tasks word held limit plain = ap (λ step. after_step rules word (before_value Tasks held) step.0 step.1) (plain_met (option (codes "tasks")) word (before_value Tasks held).held plain)
 value_step Messages word held limit plain = ap (λ step. after_step rules word (before_value Messages held) step.0 step.1) (plain_met (option (codes "messages")) word (before_value Messages held).held plain)
+value_step Cache word held limit plain = ap (λ step. after_step rules word (before_value Cache held) step.0 step.1) (plain_met (option (codes "cache")) word (before_value Cache held).held plain)
 value_step Export word held limit plain = ap (λ step. after_step rules word (before_value Export held) step.0 step.1) (plain_met (option (codes "export")) word (before_value Export held).held plain)
 
 value_turn : (role : Role) (word : Text) (held : Held) → is_role Tenant role ≡ false → is_plain word ≡ true → turn_passes replay_shape [] (before_value role held) word ≡ true
@@ -329,9 +341,17 @@ option_step true held words Messages word limit settles plain =
     let first = one_more (at held true) (before_value Messages held) (codes "--messages") (word ∷ words) (ap (λ b. b && true) settles) refl in
     let second = one_more (before_value Messages held) (at (met Messages word held) false) word words (value_turn Messages word held refl plain) (value_step Messages word held refl plain) in
     (first.0 ∙ second.0, first.1 ∙ second.1)
+option_step true held words Cache word limit settles plain =
+    let first = one_more (at held true) (before_value Cache held) (codes "--cache") (word ∷ words) (ap (λ b. b && true) settles) refl in
+    let second = one_more (before_value Cache held) (at (met Cache word held) false) word words (value_turn Cache word held refl plain) (value_step Cache word held refl plain) in
+    (first.0 ∙ second.0, first.1 ∙ second.1)
 option_step false held words Messages word limit settles plain =
     let first = one_more (at held false) (before_value Messages held) (codes "--messages") (word ∷ words) (ap (λ b. b && true) settles) refl in
     let second = one_more (before_value Messages held) (at (met Messages word held) false) word words (value_turn Messages word held refl plain) (value_step Messages word held refl plain) in
+    (first.0 ∙ second.0, first.1 ∙ second.1)
+option_step false held words Cache word limit settles plain =
+    let first = one_more (at held false) (before_value Cache held) (codes "--cache") (word ∷ words) (ap (λ b. b && true) settles) refl in
+    let second = one_more (before_value Cache held) (at (met Cache word held) false) word words (value_turn Cache word held refl plain) (value_step Cache word held refl plain) in
     (first.0 ∙ second.0, first.1 ∙ second.1)
 option_step true held words Export word limit settles plain =
     let first = one_more (at held true) (before_value Export held) (codes "--export") (word ∷ words) (ap (λ b. b && true) settles) refl in
@@ -352,6 +372,7 @@ part_step after_tenant held words before Tenant word settles fits =
 part_step after_tenant held words before Events word settles fits = option_step after_tenant held words Events word refl settles fits.1
 part_step after_tenant held words before Tasks word settles fits = option_step after_tenant held words Tasks word refl settles fits.1
 part_step after_tenant held words before Messages word settles fits = option_step after_tenant held words Messages word refl settles fits.1
+part_step after_tenant held words before Cache word settles fits = option_step after_tenant held words Cache word refl settles fits.1
 part_step after_tenant held words before Export word settles fits = option_step after_tenant held words Export word refl settles fits.1
 
 -- ---- all the parts
@@ -386,6 +407,7 @@ Fits Tenant words = list_all is_plain words ≡ true
 Fits Events words = FitsOnce 16384 words
 Fits Tasks words = FitsOnce 2048 words
 Fits Messages words = FitsOnce 16384 words
+Fits Cache words = FitsOnce 65536 words
 Fits Export words = PlainOnce words
 
 once : (most : ℕ) (before : List Text) (word : Text) (words : List Text) → FitsOnce most (before ++ word ∷ words)
@@ -412,6 +434,7 @@ fits_now Tenant before word words fits = last_plain before word words fits
 fits_now Events before word words fits = once 16384 before word words fits
 fits_now Tasks before word words fits = once 2048 before word words fits
 fits_now Messages before word words fits = once 16384 before word words fits
+fits_now Cache before word words fits = once 65536 before word words fits
 fits_now Export before word words fits = plain_once before word words fits
 
 first_word : (part : Part) (parts : List Part) → words_for part.role (part ∷ parts) ≡ part.word ∷ words_for part.role parts
@@ -422,6 +445,7 @@ first_word part parts = rw (itself_role part.role) refl
     itself_role Events = refl
     itself_role Tasks = refl
     itself_role Messages = refl
+    itself_role Cache = refl
     itself_role Export = refl
 
 -- where the words of the parts lead
@@ -476,9 +500,10 @@ no_defaults rows =
     ap (λ left. fold with_default left (Rattle.std.specs.Prelude.drop 1 rules)) (same_either (has_row (codes "events") rows) rows)
     ∙ (ap (λ left. fold with_default left (Rattle.std.specs.Prelude.drop 2 rules)) (same_either (has_row (codes "tasks") rows) rows)
     ∙ (ap (λ left. fold with_default left (Rattle.std.specs.Prelude.drop 3 rules)) (same_either (has_row (codes "messages") rows) rows)
-    ∙ (ap (λ left. fold with_default left (Rattle.std.specs.Prelude.drop 4 rules)) (same_either (has_row (codes "export") rows) rows)
-    ∙ (ap (λ left. fold with_default left (Rattle.std.specs.Prelude.drop 5 rules)) (same_either (has_row (codes "TENANT") rows) rows)
-    ∙ same_either (has_row (codes "help") rows) rows))))
+    ∙ (ap (λ left. fold with_default left (Rattle.std.specs.Prelude.drop 4 rules)) (same_either (has_row (codes "cache") rows) rows)
+    ∙ (ap (λ left. fold with_default left (Rattle.std.specs.Prelude.drop 5 rules)) (same_either (has_row (codes "export") rows) rows)
+    ∙ (ap (λ left. fold with_default left (Rattle.std.specs.Prelude.drop 6 rules)) (same_either (has_row (codes "TENANT") rows) rows)
+    ∙ same_either (has_row (codes "help") rows) rows)))))
 
 -- the rows in the end
 rows_end : (parts : List Part) (leads : Leads nothing_held false nothing_seen 0 parts) (role : Role)

@@ -7,10 +7,11 @@ use Rattle.trace_types.specs.text.Reading.{number_of}
 use Rattle.trace_types.specs.world.Replay.{place_of}
 use Rattle.trace_world.specs.Tenants.{can_be_tenants}
 
--- what a replay is asked for: the limits that each tenant has, the tenants, and the one whose export is asked for in
--- place of replies
+-- what a replay is asked for: the limits that each tenant has, how many comparisons are remembered of all of them
+-- together, the tenants, and the one whose export is asked for in place of replies
 pub record AskedReplay : Type 0 where
   pub limits : Limits
+  pub cache : ℕ
   pub tenants : List Text
   pub export : Option Text
 
@@ -25,6 +26,7 @@ pub data Role : Type 0 where
   Events : Role
   Tasks : Role
   Messages : Role
+  Cache : Role
   Export : Role
 
 -- whether two roles are the same
@@ -33,6 +35,7 @@ is_role Tenant Tenant = true
 is_role Events Events = true
 is_role Tasks Tasks = true
 is_role Messages Messages = true
+is_role Cache Cache = true
 is_role Export Export = true
 is_role a b = false
 
@@ -52,6 +55,7 @@ option_named word =
     if is_same word (codes "--events") then Some Events
     else if is_same word (codes "--tasks") then Some Tasks
     else if is_same word (codes "--messages") then Some Messages
+    else if is_same word (codes "--cache") then Some Cache
     else if is_same word (codes "--export") then Some Export
     else None
 
@@ -94,25 +98,29 @@ abbrev pub limits_by : List Part → Option Limits
 limits_by parts = limits_of (limit_by default_limits.events 16384 (words_for Events parts))
     (limit_by default_limits.tasks 2048 (words_for Tasks parts)) (limit_by default_limits.messages 16384 (words_for Messages parts))
 
+-- how many comparisons the parts ask to be remembered, and the default where the option is not used
+abbrev pub cache_by : List Part → Option ℕ
+cache_by parts = limit_by 1024 65536 (words_for Cache parts)
+
 -- the tenant to be exported, if any, by the words of its option, which is used once at most
 abbrev pub export_by : List Text → Option (Option Text)
 export_by [] = Some None
 export_by (word ∷ []) = if is_plain word then Some (Some word) else None
 export_by words = None
 
--- what these tenants, limits and export ask for, where there is a tenant
-abbrev pub asked_with : List Text → Limits → Option Text → Option AskedReplay
-asked_with [] limits export = None
-asked_with tenants limits export = Some (record { limits = limits; tenants = tenants; export = export })
+-- what these tenants, limits, number of comparisons and export ask for, where there is a tenant
+abbrev pub asked_with : List Text → Limits → ℕ → Option Text → Option AskedReplay
+asked_with [] limits cache export = None
+asked_with tenants limits cache export = Some (record { limits = limits; cache = cache; tenants = tenants; export = export })
 
--- what these tenants ask for with these limits and this export, where each is there
-abbrev pub asked_by_options : List Text → Option Limits → Option (Option Text) → Option AskedReplay
-asked_by_options tenants (Some limits) (Some export) = asked_with tenants limits export
-asked_by_options tenants limits export = None
+-- what these tenants ask for with these limits, this number and this export, where each is there
+abbrev pub asked_by_options : List Text → Option Limits → Option ℕ → Option (Option Text) → Option AskedReplay
+asked_by_options tenants (Some limits) (Some cache) (Some export) = asked_with tenants limits cache export
+asked_by_options tenants limits cache export = None
 
 -- what the parts ask for
 abbrev pub replay_asked_by : List Part → Option AskedReplay
-replay_asked_by parts = asked_by_options (words_for Tenant parts) (limits_by parts) (export_by (words_for Export parts))
+replay_asked_by parts = asked_by_options (words_for Tenant parts) (limits_by parts) (cache_by parts) (export_by (words_for Export parts))
 
 -- the replay that the words after `replay` ask for, where they are options, each with its number or name, and tenants
 abbrev pub replay_asked_in : List Text → Option AskedReplay

@@ -9,12 +9,12 @@ use Rattle.clap.specs.declared.error.kind.ErrorKind.TheVariants.{DisplayHelp, Di
 use Rattle.clap.specs.declared.builder.ArgAction.TheVariants.{Append, Set}
 use Rattle.clap.specs.declared.builder.value_parser.ValueParser.TheVariants as parser
 use Rattle.trace_types.specs.tenant.Limits.{Limits, are_limits, default_limits}
-use Rattle.trace_types.specs.text.Name.{is_same}
+use Rattle.trace_types.specs.text.Name.{is_between, is_same}
 use Rattle.trace_types.specs.text.Reading.{number_of}
 use Rattle.itc_trace.specs.CommandLine.{AskedReplay as Wanted, Demand, ToReplay, ToCheck, limits_of}
 use Rattle.itc_trace.specs.declared.words.Asked.{Asked}
 use Rattle.itc_trace.specs.declared.words.Asked.TheVariants.{Replay, Check, Show}
-use Rattle.itc_trace.specs.declared.words.Replay.{Replay as Replays}
+use Rattle.itc_trace.specs.declared.wanted.Replay.{Replay as Replays}
 use Rattle.itc_trace.specs.declared.words.Refusal.{Refusal}
 use Rattle.itc_trace.specs.declared.words.Refusal.TheVariants.{Words, Memory}
 
@@ -41,8 +41,8 @@ export_rule = record (new_rule (codes "export")) { long = Some (codes "export");
 
 abbrev pub replay_app : App
 replay_app =
-    with_rule (with_rule (with_rule (with_rule (with_rule (new_app (codes "replay")) (limit_rule (codes "events") 16384))
-    (limit_rule (codes "tasks") 2048)) (limit_rule (codes "messages") 16384)) export_rule) tenant_rule
+    with_rule (with_rule (with_rule (with_rule (with_rule (with_rule (new_app (codes "replay")) (limit_rule (codes "events") 16384))
+    (limit_rule (codes "tasks") 2048)) (limit_rule (codes "messages") 16384)) (limit_rule (codes "cache") 65536)) export_rule) tenant_rule
 
 abbrev pub check_app : App
 check_app = new_app (codes "check")
@@ -138,16 +138,22 @@ limits_found = option_and_then (λ found. limits_in found.1)
 abbrev pub FindsLimits : Option (Text × List Row) → Option Limits → Type 0
 FindsLimits found result = (limits : Limits) → limits_found found ≡ Some limits → result ≡ Some limits
 
+-- how many comparisons are to be remembered, among what was found of a subcommand, where the number is in its range
+abbrev pub cache_found : Option (Text × List Row) → Option ℕ
+cache_found = option_and_then (λ found. option_and_then (λ number. if is_between 1 65536 number then Some number else None)
+    (amount_in (codes "cache") 1024 found.1))
+
 -- What was found is what is asked for.
 abbrev pub Has : Option (Text × List Row) → Demand → Type 0
 Has found (ToReplay asked) = (work_found found ≡ work_with asked.export) × (tenants_found found ≡ Some asked.tenants)
-    × (limits_found found ≡ Some asked.limits) × (export_found found ≡ asked.export)
+    × (limits_found found ≡ Some asked.limits) × (cache_found found ≡ Some asked.cache) × (export_found found ≡ asked.export)
 Has found ToCheck = work_found found ≡ Checking
 
 -- what a replay that was read is asked for
 abbrev pub wanted_of : Replays → Wanted
 wanted_of replay = record {
   limits = replay.limits;
+  cache = replay.cache;
   tenants = map string_bytes replay.tenants.items;
   export = option_map string_bytes replay.export;
 }

@@ -12,7 +12,8 @@ ghost use Rattle.itc_trace.specs.Reading.{wanted_of};
 ghost use Rattle.itc_trace.specs.Runs.{Runs};
 
 use crate::fault::Fault;
-use crate::words::{Asked, Refusal, Replay, read_words};
+use crate::wanted::Replay;
+use crate::words::{Asked, Refusal, read_words};
 use line_protocol::{Sink, Source, flush, write_bytes};
 use std::alloc::{AllocError, Global};
 use std::convert::AsStr;
@@ -21,14 +22,12 @@ use trace_export::{Verdict, check};
 use trace_types::Name;
 use trace_world::{World, replay, replay_export};
 
-/// How many comparisons are remembered for all tenants together.
-const COMPARISONS: u64 = 1024;
-
 /// Does what the words after the program's name ask, and answers the status with which the program ends.
 ///
 /// Taken are `replay` and then, in any order, 1 to 16 tenants, none twice, and each of these options once at most:
 /// `--events N` with N from 1 to 16384 (4096 where it is left out), `--tasks N` with N from 1 to 2048 (512),
-/// `--messages N` with N from 1 to 16384 (2048) and `--export NAME` with the name of one of the tenants; or `check` alone.
+/// `--messages N` with N from 1 to 16384 (2048), `--cache N` with N from 1 to 65536 (1024) and `--export NAME` with the name
+/// of one of the tenants; or `check` alone.
 /// The status is 0 where all lines were replayed, the export was written or is right, or all of the help was shown, 1 where
 /// the export is faulty, 2 where the words or the tenants are refused, 3 for a failed read or write or too long an input,
 /// and 4 for want of memory.
@@ -113,7 +112,7 @@ fn replay_tenants<T: Wait, R: Source, W: Sink>(
 {
     let names = read_names(alloc, &wanted.tenants)?;
     let exported = exported_place(&names, &wanted.export)?;
-    let mut world = World::new(alloc, &names, wanted.limits, COMPARISONS)?;
+    let mut world = World::new(alloc, &names, wanted.limits, wanted.cache)?;
     match exported {
         Some(place) => {
             replay_export(rt, alloc, &mut world, place, reader, writer)?;

@@ -2,9 +2,11 @@
 ghost use Rattle.std.specs.Prelude.{◌≡◌, ◌↔◌, IsTrue, ℕ, false, [], Some, Err, map, option_map, IfOk, IfErr, IfSome, string_bytes};
 ghost use Rattle.clap.specs.Words.{app_of, found_of, kind_of, rows_of, rule_of, subcommand_rows_of};
 ghost use Rattle.clap.specs.declared.builder.Command.TheViews.{out-Command as fields_of};
+ghost use Rattle.trace_types.specs.text.Name.{is_between};
 ghost use Rattle.itc_trace.specs.CommandLine.{Demand, asked_in};
-ghost use Rattle.itc_trace.specs.Reading.{Checking, FindsTenants, FindsLimits, Has, IsAnswer, IsToldOf, ReadsWords, amount_in, check_app, export_found, export_rule, kinds_of, limit_rule, program_app, replay_app, tenant_rule, work_found, work_of};
+ghost use Rattle.itc_trace.specs.Reading.{Checking, FindsTenants, FindsLimits, Has, IsAnswer, IsToldOf, ReadsWords, amount_in, cache_found, check_app, export_found, export_rule, kinds_of, limit_rule, program_app, replay_app, tenant_rule, work_found, work_of};
 
+use crate::wanted::Replay;
 use clap::builder::ValueParser;
 use clap::error::ErrorKind;
 use clap::{Arg, ArgAction, ArgMatches, Command, Error};
@@ -33,8 +35,9 @@ Requests that report, and are answered 201 with the event's number:
 Requests that ask, and are answered 200:
   order A B, past A, concurrent A, event A, stamp A, task TASK, message MESSAGE, count
 
-Each tenant starts with the task root, and has the limits for itself. With --export no reply is
-written, and at the end a line of JSON for each event of that tenant.
+Each tenant starts with the task root, and has the limits for itself. No reply depends on how many
+comparisons are remembered. With --export no reply is written, and at the end a line of JSON for
+each event of that tenant.
 
 Examples:
   printf 'x local root\\ny local root\\nx stamp 1\\n' | itc_trace replay --events 100 x y
@@ -67,6 +70,15 @@ const TASKS_HELP: &str =
 
 const MESSAGES_HELP: &str = "The most messages of each tenant: 1 to 16384 [default: 2048]";
 
+const CACHE_HELP: &str =
+    "How many comparisons are remembered, of all tenants together: 1 to 65536 [default: 1024]";
+
+/// How many comparisons are remembered where the words do not say it.
+const DEFAULT_CACHE: u64 = 1024;
+
+/// The most comparisons that may be remembered.
+const MOST_CACHE: u64 = 65536;
+
 /// What the words ask for.
 #[derive(Drop)]
 pub(crate) enum Asked {
@@ -75,16 +87,6 @@ pub(crate) enum Asked {
     Check,
     /// To show this text: help.
     Show(String),
-}
-
-/// A replay that is asked for.
-#[derive(Drop)]
-pub(crate) struct Replay {
-    /// The limits that each of the tenants has.
-    pub(crate) limits: Limits,
-    pub(crate) tenants: Vec<String>,
-    /// The tenant whose export is to be written in place of replies.
-    pub(crate) export: Option<String>,
 }
 
 /// Why the words are not followed.
@@ -141,6 +143,7 @@ fn replay_command<'a>(alloc: Global) -> Result<Command<'a>, AllocError>
         .arg(limit(alloc, "events", EVENTS_HELP, Limits::MOST_EVENTS))?
         .arg(limit(alloc, "tasks", TASKS_HELP, Limits::MOST_TASKS))?
         .arg(limit(alloc, "messages", MESSAGES_HELP, Limits::MOST_MESSAGES))?
+        .arg(limit(alloc, "cache", CACHE_HELP, MOST_CACHE))?
         .arg(export(alloc))?
         .arg(tenants(alloc))
 }
@@ -194,8 +197,9 @@ fn export<'a>(alloc: Global) -> Arg<'a>
 
 /// What the words after the program's name ask for.
 ///
-/// Taken are `replay` and then, in any order, 1 or more tenants, each of the options `--events N`, `--tasks N` and
-/// `--messages N` once at most, with a whole number in its range, and `--export NAME` once at most; or `check` alone.
+/// Taken are `replay` and then, in any order, 1 or more tenants, each of the options `--events N`, `--tasks N`,
+/// `--messages N` and `--cache N` once at most, with a whole number in its range, and `--export NAME` once at most; or
+/// `check` alone.
 pub(crate) fn read_words<S: AsStr>(alloc: Global, words: &[S]) -> Result<Asked, Refusal>
     // Limits and tenants are read as they stand, and want of memory alone prevents it.
     ensures asked { IfSome (asked_in (map S.text words.now)) (λ asked. ReadsWords asked result) }
@@ -218,13 +222,14 @@ fn asked_of(alloc: Global, matches: &ArgMatches) -> Result<Asked, Refusal>
     }
     let tenants = tenants_of(alloc, matches)?;
     let export = export_of(alloc, matches)?;
-    match limits_of(matches) {
-        Some(limits) => Ok(Asked::Replay(Replay {
+    match (limits_of(matches), cache_of(matches)) {
+        (Some(limits), Some(cache)) => Ok(Asked::Replay(Replay {
             limits,
+            cache,
             tenants,
             export,
         })),
-        None => Err(Refusal::Words(String::new(alloc))),
+        _ => Err(Refusal::Words(String::new(alloc))),
     }
 }
 
@@ -270,6 +275,20 @@ fn limits_of(matches: &ArgMatches) -> Option<Limits>
         amount_of(replay, "tasks", Limits::DEFAULT_TASKS),
         amount_of(replay, "messages", Limits::DEFAULT_MESSAGES),
     )
+}
+
+/// How many comparisons are to be remembered; `None` where the number is out of its range.
+fn cache_of(matches: &ArgMatches) -> Option<u64>
+    ensures found { (cache : ℕ) → cache_found (subcommand_rows_of matches.now) ≡ Some cache → result ≡ Some cache }
+    ensures in_range { IfSome result (λ cache. IsTrue (is_between 1 65536 cache)) }
+{
+    let (_, replay) = matches.subcommand()?;
+    let cache = amount_of(replay, "cache", DEFAULT_CACHE);
+    if 1 <= cache && cache <= MOST_CACHE {
+        Some(cache)
+    } else {
+        None
+    }
 }
 
 /// The number of the option of this name, or the default where it was not used.

@@ -1,10 +1,11 @@
-use Rattle.std.proofs.Common.{rules, ◌≡◌, ◌∙◌, ◌<◌, ◌⊎◌, inr, ℕ, suc, Bool, true, false, List, [], ◌∷◌, length, map, Option, Some, None, option_map, is_some, Result, Err, IfErr, refl, sym, ap, subst, arith, string_bytes, if◌then◌else◌}
+use Rattle.std.proofs.Common.{rules, ◌≡◌, ◌∙◌, ◌<◌, ◌+◌, ◌^◌, ◌⊎◌, inr, ℕ, suc, Bool, true, false, List, [], ◌∷◌, length, map, Option, Some, None, option_map, is_some, Result, Err, IfErr, refl, sym, ap, subst, arith, string_bytes, if◌then◌else◌}
 use Rattle.std.specs.Global.{Global}
 use Rattle.std.specs.Prelude.{IsSomeAnd, String, unwrap_or}
 use Rattle.std.proofs.lemmas.Bool.{and_from}
 use Rattle.std.proofs.lemmas.List.{length-map}
 use Rattle.line_protocol.specs.Source.{Given}
 use Rattle.line_protocol.specs.Sink.{Taken}
+use Rattle.line_protocol.specs.Writing.{EndsInFault}
 use Rattle.trace_types.specs.tenant.Limits.{Limits}
 use Rattle.trace_types.specs.tenant.Tenant.{fresh}
 use Rattle.trace_types.specs.text.Name.{Text, is_same}
@@ -13,9 +14,10 @@ use Rattle.trace_types.specs.world.World.{World}
 use Rattle.trace_world.specs.Exported.{BreaksExport}
 use Rattle.trace_world.specs.Replayed.{ReplaysInPart}
 use Rattle.trace_world.specs.declared.replay_fault.ReplayFault.{ReplayFault}
+use Rattle.trace_world.specs.declared.replay_fault.ReplayFault.TheVariants.{Read, Write, TooLong, Memory}
 use Rattle.itc_trace.specs.CommandLine.{ToReplay, are_taken, can_export, is_taken}
 use Rattle.itc_trace.specs.Fault.{fault_of_replay, status_of}
-use Rattle.itc_trace.specs.Program.{DoesReplay, DoesReplayInPart, ExportsFresh, ExportsFreshInPart, IsExportPlace, IsUntouched, ReplaysFresh, fresh_world}
+use Rattle.itc_trace.specs.Program.{DoesReplay, DoesReplayInPart, ExportsFresh, ExportsFreshInPart, IsExportPlace, IsFailure, IsUntouched, ReplaysFresh, fresh_world}
 use Rattle.itc_trace.specs.declared.fault.Fault.{Fault}
 use Rattle.itc_trace.proofs.program.replay_tenants.Goals as goal
 use Rattle.itc_trace.proofs.program.replay_tenants.Goals.{in-Some+in_ok-replay_export-in-Some, in-None+in_ok-replay-in-None}
@@ -53,12 +55,12 @@ found_can (Some name) names exported is = ap is_some (sym is.0) ∙ is.1
 
 -- a replay without an export
 unexported : (export : Option Text) → export ≡ None → (result : Result Unit Fault) (cause : ReplayFault) → result ≡ Err (fault_of_replay cause)
-    → (limits : Limits) (tenants : List Text) (before after : Given) (taken taken' : Taken) (old later : World) → old ≡ fresh_world limits tenants
+    → (limits : Limits) (cache : ℕ) (tenants : List Text) (before after : Given) (taken taken' : Taken) (old later : World) → old ≡ fresh_world limits tenants
     → are_taken tenants ≡ true → ReplaysInPart cause before after taken taken' old later
-    → IfErr result (λ fault. status_of fault ≡ 3 → (is_taken (ToReplay (record { limits = limits; tenants = tenants; export = export })) ≡ true)
+    → IfErr result (λ fault. status_of fault ≡ 3 → (is_taken (ToReplay (record { limits = limits; cache = cache; tenants = tenants; export = export })) ≡ true)
     × DoesReplayInPart export fault limits tenants before after taken taken')
-unexported None none result cause is limits tenants before after taken taken' old later fresh names part =
-    subst (λ r. IfErr r (λ fault. status_of fault ≡ 3 → (is_taken (ToReplay (record { limits = limits; tenants = tenants; export = None })) ≡ true)
+unexported None none result cause is limits cache tenants before after taken taken' old later fresh names part =
+    subst (λ r. IfErr r (λ fault. status_of fault ≡ 3 → (is_taken (ToReplay (record { limits = limits; cache = cache; tenants = tenants; export = None })) ≡ true)
     × DoesReplayInPart None fault limits tenants before after taken taken')) (sym is)
     (λ three. (
       and_from _ _ names refl,
@@ -69,7 +71,21 @@ unexported None none result cause is limits tenants before after taken taken' ol
         replays = subst (λ world. ReplaysInPart cause before after taken taken' world later) fresh part;
       },
     ))
-unexported (Some name) none result cause is limits tenants before after taken taken' old later fresh names part = cc
+unexported (Some name) none result cause is limits cache tenants before after taken taken' old later fresh names part = cc
+
+-- why a replay failed
+failed_as : (before after : Given) (taken taken' : Taken) (result : Result Unit Fault) (cause : ReplayFault) → result ≡ Err (fault_of_replay cause)
+    → (cause ≡ Read → before.failures < after.failures) → (cause ≡ TooLong → after.reads ≡ before.reads + 2 ^ 30) → (cause ≡ Write → EndsInFault taken taken')
+    → IfErr result (λ fault. status_of fault ≡ 3 → IsFailure before after taken taken' fault)
+failed_as before after taken taken' result cause is read long write =
+    subst (λ r. IfErr r (λ fault. status_of fault ≡ 3 → IsFailure before after taken taken' fault)) (sym is) (go cause read long write)
+  where
+    go : (one : ReplayFault) → (one ≡ Read → before.failures < after.failures) → (one ≡ TooLong → after.reads ≡ before.reads + 2 ^ 30)
+        → (one ≡ Write → EndsInFault taken taken') → status_of (fault_of_replay one) ≡ 3 → IsFailure before after taken taken' (fault_of_replay one)
+    go Read read long write three = read refl
+    go Write read long write three = write refl
+    go TooLong read long write three = long refl
+    go Memory read long write three = cc
 
 -- an export that was broken off
 exports_part : (cause : ReplayFault) (name : Text) (limits : Limits) (tenants : List Text) (place : ℕ) (before after : Given) (taken taken' : Taken) (old later : World)
@@ -85,13 +101,13 @@ exports_part cause name limits tenants place before after taken taken' old later
 }
 
 exported_in_part : (export : Option Text) (name : Text) → export ≡ Some name → (result : Result Unit Fault) (cause : ReplayFault) → result ≡ Err (fault_of_replay cause)
-    → (limits : Limits) (tenants : List Text) (place : ℕ) (before after : Given) (taken taken' : Taken) → place_of tenants name ≡ Some place → are_taken tenants ≡ true
+    → (limits : Limits) (cache : ℕ) (tenants : List Text) (place : ℕ) (before after : Given) (taken taken' : Taken) → place_of tenants name ≡ Some place → are_taken tenants ≡ true
     → ExportsFreshInPart (fault_of_replay cause) name limits tenants before after taken taken'
-    → IfErr result (λ fault. status_of fault ≡ 3 → (is_taken (ToReplay (record { limits = limits; tenants = tenants; export = export })) ≡ true)
+    → IfErr result (λ fault. status_of fault ≡ 3 → (is_taken (ToReplay (record { limits = limits; cache = cache; tenants = tenants; export = export })) ≡ true)
     × DoesReplayInPart export fault limits tenants before after taken taken')
-exported_in_part None name is result cause err limits tenants place before after taken taken' at names part = cc
-exported_in_part (Some other) name is result cause err limits tenants place before after taken taken' at names part =
-    subst (λ r. IfErr r (λ fault. status_of fault ≡ 3 → (is_taken (ToReplay (record { limits = limits; tenants = tenants; export = Some other })) ≡ true)
+exported_in_part None name is result cause err limits cache tenants place before after taken taken' at names part = cc
+exported_in_part (Some other) name is result cause err limits cache tenants place before after taken taken' at names part =
+    subst (λ r. IfErr r (λ fault. status_of fault ≡ 3 → (is_taken (ToReplay (record { limits = limits; cache = cache; tenants = tenants; export = Some other })) ≡ true)
     × DoesReplayInPart (Some other) fault limits tenants before after taken taken')) (sym err)
     (λ three. (
       and_from _ _ names (ap (λ n. is_some (place_of tenants n)) (some_same is) ∙ ap is_some at),
@@ -126,8 +142,15 @@ returns-in_err-replay-in-None-clause-in_part g c =
     let given : c.deref-3.result.now ≡ map string_bytes c.args.wanted.now.tenants.items = search rules in
     let world : c.in_ok-world.world ≡ fresh_world c.args.wanted.now.limits (map string_bytes c.args.wanted.now.tenants.items) = c.in_ok-world.ensures.world ∙ ap (fresh_world c.args.wanted.now.limits) given in
     let names : are_taken (map string_bytes c.args.wanted.now.tenants.items) ≡ true = search rules in
-    unexported _ none _ c.in_err-replay-in-None.field-0.0 is c.args.wanted.now.limits (map string_bytes c.args.wanted.now.tenants.items) _ _ _ _ c.in_ok-world.world c.replay.new.world
+    unexported _ none _ c.in_err-replay-in-None.field-0.0 is c.args.wanted.now.limits c.args.wanted.now.cache (map string_bytes c.args.wanted.now.tenants.items) _ _ _ _ c.in_ok-world.world c.replay.new.world
     world names c.in_err-replay-in-None.ensures.fault
+
+pub returns-in_err-replay-in-None-clause-failed : goal.returns-in_err-replay-in-None-clause-failed
+returns-in_err-replay-in-None-clause-failed g c =
+    let is : c.from_residual-in_err-replay-in-None.result ≡ Err (fault_of_replay c.in_err-replay-in-None.field-0.0) = search rules in
+    failed_as (g.R.Source.seen c.args.reader.now) (g.R.Source.seen c.replay.new.reader) (g.W.Sink.seen c.args.writer.now) (g.W.Sink.seen c.replay.new.writer)
+    c.from_residual-in_err-replay-in-None.result c.in_err-replay-in-None.field-0.0 is (λ e. c.in_err-replay-in-None.ensures.read.0 (ap Err e))
+    (λ e. c.in_err-replay-in-None.ensures.too_long (ap Err e)) (λ e. c.in_err-replay-in-None.ensures.write (ap Err e))
 
 pub returns-in_err-replay_export-in-Some-clause-in_part : goal.returns-in_err-replay_export-in-Some-clause-in_part
 returns-in_err-replay_export-in-Some-clause-in_part g c =
@@ -144,7 +167,7 @@ returns-in_err-replay_export-in-Some-clause-in_part g c =
     (g.R.Source.seen c.args.reader.now) (g.R.Source.seen c.replay_export.new.reader) (g.W.Sink.seen c.args.writer.now) (g.W.Sink.seen c.replay_export.new.writer)
     c.in_ok-world.world c.replay_export.new.world at world c.in_err-replay_export-in-Some.ensures.fault
     in
-    exported_in_part _ found.0 found.1 c.from_residual-in_err-replay_export-in-Some.result c.in_err-replay_export-in-Some.field-0.0 is c.args.wanted.now.limits
+    exported_in_part _ found.0 found.1 c.from_residual-in_err-replay_export-in-Some.result c.in_err-replay_export-in-Some.field-0.0 is c.args.wanted.now.limits c.args.wanted.now.cache
     (map string_bytes c.args.wanted.now.tenants.items) c.in-Some.place _ _ _ _ at names part
 
 pub returns-in_err-replay_export-in-Some-clause-memory : goal.returns-in_err-replay_export-in-Some-clause-memory

@@ -9,7 +9,7 @@ use Rattle.std.specs.Global.{Global}
 use Rattle.std.specs.Prelude.{String, option_map, IsSomeAnd, IsTrue, List, string_bytes}
 use Rattle.trace_types.specs.tenant.Limits.{Limits, are_limits}
 use Rattle.trace_types.specs.text.Name.{Text}
-use Rattle.itc_trace.specs.declared.words.Replay.{Replay as Replays}
+use Rattle.itc_trace.specs.declared.wanted.Replay.{Replay as Replays}
 use Rattle.itc_trace.specs.declared.fault.Fault.{Fault}
 use Rattle.itc_trace.specs.declared.fault.Fault.TheVariants.{Words, Tenants, Read, Write, TooLong, Memory}
 use Rattle.itc_trace.specs.Reading.{IsAnswer, ReadsWords, Work, Replaying, Exporting, Checking, kinds_of, wanted_of, work_of, work_with}
