@@ -23,7 +23,7 @@ fn asked<R: Wait>(
     let second = EvTree::fork(alloc, 0, EvTree::leaf(0), EvTree::leaf(number))?;
     let first = forest.intern(rt, &first)?;
     let second = forest.intern(rt, &second)?;
-    Ok(cache.order(rt, forest, &first, &second))
+    Ok(cache.order(forest, &first, &second))
 }
 
 /// The hits of a cache of this capacity that is asked for the pairs of these numbers.
@@ -35,7 +35,7 @@ fn hits_of<R: Wait>(rt: &R, alloc: Global, capacity: u64, numbers: &[u64]) -> Re
             return Err("wrong order".into());
         }
     }
-    Ok(cache.hits(rt))
+    Ok(cache.hits())
 }
 
 #[test]

@@ -57,6 +57,15 @@ fn tree(alloc: Global, number: u64) -> Result<EvTree, Memory> {
     EvTree::fork(alloc, 0, EvTree::leaf(number), EvTree::leaf(7))
 }
 
+#[test]
+fn equal_trees_share_a_number(rt: HostRuntime) -> Result<(), Fail> {
+    let forest = Forest::new(rt.alloc())?;
+    let one = forest.intern(&rt, &tree(rt.alloc(), 3)?)?;
+    let other = forest.intern(&rt, &tree(rt.alloc(), 3)?)?;
+    assert_eq!(rt; one.number(), other.number());
+    Ok(())
+}
+
 /// Keeps five trees again and again, in an order of the step's own.
 fn kept<R: Wait>(
     rt: &R,

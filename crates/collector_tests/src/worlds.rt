@@ -45,10 +45,10 @@ fn hits_across_tenants(rt: HostRuntime) -> Result<(), Fail> {
     let names = names_of(rt.alloc(), "xy")?;
     let mut world = World::new(rt.alloc(), &names, Limits::default(), 1)?;
     replay_bytes(&rt, rt.alloc(), &mut world, OF_X)?;
-    let before = world.shared().hits(&rt);
+    let before = world.shared().hits();
     let text = replay_bytes(&rt, rt.alloc(), &mut world, OF_Y)?;
     assert!(rt; text.ends_with(b"y 200 concurrent\n"));
-    assert!(rt; before < world.shared().hits(&rt));
+    assert!(rt; before < world.shared().hits());
     Ok(())
 }
 

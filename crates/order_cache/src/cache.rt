@@ -8,24 +8,24 @@ ghost use Rattle.order_cache.specs.Ranges.{RangesDecide};
 use crate::CacheFault;
 use crate::compared::Compared;
 use crate::remembered::Remembered;
-use counted_slot::{Counted, FREE, TAKEN};
+use counted_slot::{Counted, FREE, PRESENT, TAKEN};
 use event_tree::EvTree;
 use std::alloc::Global;
 use std::marker::Model;
 use std::num::NonZeroUsize;
 use std::sync::atomic::{AtomicU64, Ordering};
-use std::sync::{Mutex, Wait};
 use trace_types::Order;
 use tree_forest::{Forest, Home, Tree};
 
 /// Remembers how pairs of trees of one forest stand to each other. A clause sees the forest's home.
 ///
-/// A lock is held for one step of a map, never while trees are compared. The slot beside it lends what it holds out under
-/// the lock; a plain lock would forget of which forest that is.
+/// The slot lends what is remembered to one thread at a time, for a step of the map, never while trees are compared.
+/// Nobody waits: a thread that finds it lent compares the trees.
 #[derive(Drop)]
 pub struct OrderCache {
-    turn: Mutex<()>,
     slot: Counted<Option<Remembered>>,
+    /// How often a comparison was remembered. It is counted by the thread that the slot is lent to.
+    hits: AtomicU64,
     /// How many asks in a row found nothing that was remembered.
     misses: AtomicU64,
 }
@@ -37,6 +37,9 @@ impl Model for OrderCache {
 
     ghost view = { λ c. c.slot };
 }
+
+/// The state of the slot while what is remembered is lent.
+const LENT: u64 = PRESENT;
 
 /// The greatest capacity.
 const MOST: u64 = 65536;
@@ -51,7 +54,7 @@ const SELDOM: u64 = 16;
 fn capacity_of(capacity: u64) -> Option<NonZeroUsize>
     ensures { MatchOption result (¬ IsCapacity capacity) (λ _. IsCapacity capacity) }
 {
-    if capacity > MOST {
+    if !OrderCache::takes(capacity) {
         return None;
     }
     NonZeroUsize::new(capacity as usize)
@@ -87,20 +90,19 @@ impl OrderCache {
         let home = Home::of(forest);
         let remembered = Remembered::new(alloc, capacity, home.again())?;
         Ok(OrderCache {
-            turn: Mutex::new(()),
             slot: Counted::new(Some(remembered), &home),
+            hits: AtomicU64::new(0),
             misses: AtomicU64::new(0),
         })
     }
 
     /// How the first tree stands to the second.
     ///
-    /// It never refuses: where memory is refused, the comparison is answered and not remembered. Of two threads that ask
-    /// for one pair at once both may compare it.
+    /// It never refuses and never waits: where memory is refused, or another thread has what is remembered, the comparison
+    /// is answered and not remembered. Of two threads that ask for one pair at once both may compare it.
     #[inline(always)]
-    pub fn order<R: Wait>(
+    pub fn order(
         &self,
-        rt: &R,
         forest: &Forest<EvTree>,
         first: &Tree<EvTree>,
         second: &Tree<EvTree>,
@@ -113,42 +115,15 @@ impl OrderCache {
         if ranges_decide(first.value(), second.value()) || !self.is_looked_up() {
             return first.value().order(second.value());
         }
-        self.order_looked_up(rt, forest, first, second)
-    }
-
-    /// The same, by what is remembered, else by comparing the two and remembering that. It is a function of its own, whose
-    /// places are then not set to zero where nothing is looked up.
-    #[inline(never)]
-    fn order_looked_up<R: Wait>(
-        &self,
-        rt: &R,
-        forest: &Forest<EvTree>,
-        first: &Tree<EvTree>,
-        second: &Tree<EvTree>,
-    ) -> Order
-        requires cache { self.now ≡ forest.now }
-        requires first { IsOf forest.now first.now }
-        requires second { IsOf forest.now second.now }
-        ensures { StandsAs result first.now.value second.now.value }
-    {
-        if let Some(order) = self.recall(rt, forest, first, second) {
-            self.misses.store(0, Ordering::Relaxed);
-            return order;
+        match self.recall(forest, first, second) {
+            Some(order) => order,
+            None => self.compared(first, second),
         }
-        let order = first.value().order(second.value());
-        self.remember(rt, first, second, order);
-        order
     }
 
-    /// How many comparisons were answered by what was remembered, for the operator. From 2^64 - 1 on it stays.
-    pub fn hits<R: Wait>(&self, rt: &R) -> u64 {
-        let _turn = self.turn.lock(rt);
-        let Some(remembered) = self.exchange(None) else {
-            return 0;
-        };
-        let hits = remembered.hits();
-        self.exchange(Some(remembered));
-        hits
+    /// How often a comparison was answered by what was remembered, for the operator. From 2^64 - 1 on it stays.
+    pub fn hits(&self) -> u64 {
+        self.hits.load(Ordering::Relaxed)
     }
 
     /// Whether this ask is looked up, and counts it as one that finds nothing. Of two threads one may not be counted.
@@ -158,11 +133,10 @@ impl OrderCache {
         misses < MANY_MISSES || misses % SELDOM == 0
     }
 
-    /// Looks the two trees up, under the lock.
+    /// Looks the two trees up. What is found is counted.
     #[inline(never)]
-    fn recall<R: Wait>(
+    fn recall(
         &self,
-        rt: &R,
         forest: &Forest<EvTree>,
         first: &Tree<EvTree>,
         second: &Tree<EvTree>,
@@ -172,41 +146,58 @@ impl OrderCache {
         requires second { IsOf forest.now second.now }
         ensures { IfSome result (λ order. StandsAs order first.now.value second.now.value) }
     {
-        let _turn = self.turn.lock(rt);
-        let mut remembered = self.exchange(None)?;
+        let mut remembered = self.lend()?;
         let order = remembered.recall(forest, first, second);
-        self.exchange(Some(remembered));
+        if order.is_some() {
+            self.count_hit();
+        }
+        self.take_back(remembered);
         order
     }
 
-    /// Remembers the comparison, under the lock, if there is memory.
+    /// Compares the two, and remembers that if there is memory.
     #[inline(never)]
-    fn remember<R: Wait>(&self, rt: &R, first: &Tree<EvTree>, second: &Tree<EvTree>, order: Order)
+    fn compared(&self, first: &Tree<EvTree>, second: &Tree<EvTree>) -> Order
         requires first { IsOf self.now first.now }
         requires second { IsOf self.now second.now }
-        requires order { StandsAs order first.now.value second.now.value }
+        ensures { StandsAs result first.now.value second.now.value }
     {
-        let (Ok(first), Ok(second)) = (first.share(), second.share()) else {
-            return;
-        };
-        let compared = Compared::of(first, second, order);
-        let _turn = self.turn.lock(rt);
-        if let Some(mut remembered) = self.exchange(None) {
-            remembered.remember(compared);
-            self.exchange(Some(remembered));
+        let order = first.value().order(second.value());
+        if let Some(mut remembered) = self.lend() {
+            remembered.remember(Compared::of(first, second, order));
+            self.take_back(remembered);
         }
+        order
     }
 
-    /// Leaves this in the slot, and takes out what was there. Under the lock nobody else does.
-    fn exchange(&self, remembered: Option<Remembered>) -> Option<Remembered>
-        requires { IfSome remembered (λ r. r ≡ self.now) }
-        ensures { IfSome result (λ r. r ≡ self.now) }
+    /// Counts an ask that found something. Only the thread does that to which the slot is lent.
+    fn count_hit(&self) {
+        let hits = self.hits.load(Ordering::Relaxed);
+        self.hits.store(hits.saturating_add(1), Ordering::Relaxed);
+        self.misses.store(0, Ordering::Relaxed);
+    }
+
+    /// Lends what is remembered, which has to be given back; `None` where another thread has it.
+    fn lend(&self) -> Option<Remembered>
+        ensures { IfSome result (λ remembered. remembered ≡ self.now) }
     {
         let (found, claim) = self.slot.turn(FREE, TAKEN);
         if found != FREE {
             claim.done();
             return None;
         }
-        claim.put(remembered, FREE)
+        claim.put(None, LENT)
+    }
+
+    /// Takes back what was lent.
+    fn take_back(&self, remembered: Remembered)
+        requires { remembered ≡ self.now }
+    {
+        let (found, claim) = self.slot.turn(LENT, TAKEN);
+        if found != LENT {
+            claim.done();
+            return;
+        }
+        claim.put(Some(remembered), FREE);
     }
 }

@@ -6,13 +6,13 @@ ghost use Rattle.tree_forest.specs.Kept.{IsOf};
 use event_tree::EvTree;
 use std::marker::Model;
 use trace_types::Order;
-use tree_forest::{Forest, Tree};
+use tree_forest::{Forest, Mark, Tree};
 
-/// Two trees of one forest, and how the first stands to the second. A clause sees the forest's home.
+/// The marks of two trees of one forest, and how the first stands to the second. A clause sees the forest's home.
 #[derive(Drop)]
 pub(crate) struct Compared {
-    first: Tree<EvTree>,
-    second: Tree<EvTree>,
+    first: Mark<EvTree>,
+    second: Mark<EvTree>,
     order: Order,
 }
 
@@ -29,14 +29,14 @@ impl Model for Compared {
 
 impl Compared {
     /// Keeps what a comparison of two trees of one forest gave.
-    pub(crate) fn of(first: Tree<EvTree>, second: Tree<EvTree>, order: Order) -> Compared
-        requires home { second.home ≡ first.home }
-        requires order { StandsAs order first.value second.value }
-        ensures { result ≡ first.home }
+    pub(crate) fn of(first: &Tree<EvTree>, second: &Tree<EvTree>, order: Order) -> Compared
+        requires home { second.now.home ≡ first.now.home }
+        requires order { StandsAs order first.now.value second.now.value }
+        ensures { result ≡ first.now.home }
     {
         Compared {
-            first,
-            second,
+            first: first.mark().again(),
+            second: second.mark().again(),
             order,
         }
     }
@@ -61,8 +61,8 @@ impl Compared {
         if self.first.number() != first.number() || self.second.number() != second.number() {
             return None;
         }
-        self.first.same_number(forest, first);
-        self.second.same_number(forest, second);
+        self.first.same_number(forest, first.mark());
+        self.second.same_number(forest, second.mark());
         Some(self.order)
     }
 }

@@ -14,10 +14,11 @@ use trace_types::Order;
 use tree_forest::{Forest, Home, Tree};
 
 /// The comparisons that were used last, by the numbers of their trees. A clause sees the home of their forest.
+///
+/// The map is behind a pointer, so that lending it out and taking it back moves two words.
 #[derive(Drop)]
 pub(crate) struct Remembered {
-    rows: LruCache<(u64, u64), Compared>,
-    hits: u64,
+    rows: Box<LruCache<(u64, u64), Compared>>,
     home: Home,
 }
 
@@ -29,7 +30,7 @@ impl Model for Remembered {
 
     ghost view = { λ r. r.home };
 
-    ghost invariant = { λ r. AreOf r.home r.rows.entries };
+    ghost invariant = { λ r. AreOf r.home r.rows.value.entries };
 }
 
 impl Fits for Remembered {
@@ -50,18 +51,12 @@ impl Remembered {
         ensures { IfOk result (λ remembered. remembered ≡ home) }
     {
         Ok(Remembered {
-            rows: LruCache::new(alloc, capacity)?,
-            hits: 0,
+            rows: Box::new(alloc, LruCache::new(alloc, capacity)?)?,
             home,
         })
     }
 
-    /// How often a comparison was remembered.
-    pub(crate) fn hits(&self) -> u64 {
-        self.hits
-    }
-
-    /// How the two trees stand to each other, where that is remembered. It then was used last, and is counted.
+    /// How the two trees stand to each other, where that is remembered. It then was used last.
     pub(crate) fn recall(
         &mut self,
         forest: &Forest<EvTree>,
@@ -75,10 +70,7 @@ impl Remembered {
         ensures order { IfSome result (λ order. StandsAs order first.now.value second.now.value) }
     {
         let key = (first.number(), second.number());
-        self.rows.promote(&key);
-        let order = self.rows.peek(&key)?.order_of(forest, first, second)?;
-        self.hits = self.hits.saturating_add(1);
-        Some(order)
+        self.rows.get(&key)?.order_of(forest, first, second)
     }
 
     /// From now on this comparison is remembered; the one that was used least lately goes where there is no room. Where

@@ -15,8 +15,8 @@ use tree_forest::{Forest, Tree};
 
 /// Keeps the ids and trees of all tenants, each once, and how trees stood to each other that were asked last.
 ///
-/// It waits for other threads where they use the same map or the cache, for a step of either. Compared by itself, it
-/// compares the trees and waits for nobody.
+/// To keep one it waits for other threads where they use the same map, for a step of it. To compare two it waits for
+/// nobody; compared by itself, and not as a share, it passes the cache by.
 #[derive(Drop)]
 pub struct Shared {
     ids: Forest<IdTree>,
@@ -44,8 +44,8 @@ impl Shared {
     }
 
     /// How often a comparison was answered by the cache, for the operator alone.
-    pub fn hits<R: Wait>(&self, rt: &R) -> u64 {
-        self.orders.hits(rt)
+    pub fn hits(&self) -> u64 {
+        self.orders.hits()
     }
 }
 
@@ -99,8 +99,8 @@ impl<R: Wait> Share<R> for Shared {
         self.trees.intern(rt, &tree)
     }
 
-    fn order_kept(&self, rt: &R, first: &Tree<EvTree>, second: &Tree<EvTree>) -> Order {
-        self.orders.order(rt, &self.trees, first, second)
+    fn order_kept(&self, _rt: &R, first: &Tree<EvTree>, second: &Tree<EvTree>) -> Order {
+        self.orders.order(&self.trees, first, second)
     }
 
     fn below_kept(&self, _rt: &R, first: &Tree<EvTree>, second: &Tree<EvTree>) -> bool {

@@ -1,6 +1,5 @@
 //! The table that keeps the values, and how a value is found in it.
 ghost use Rattle.std.specs.Prelude.{◌≡◌, IfOk, IfSome, length};
-ghost use Rattle.std.specs.Arc.{arc_value};
 ghost use Rattle.tree_forest.specs.Homes.{LiesIn};
 ghost use Rattle.tree_forest.specs.Kept.{IsOf};
 
@@ -9,7 +8,7 @@ use boxcar::Pushed;
 use std::alloc::Global;
 use std::collections::HashMap;
 use std::marker::Model;
-use std::sync::{Arc, Mutex, Wait};
+use std::sync::{Mutex, Wait};
 use trace_types::Memory;
 
 /// How many maps there are, each behind a lock of its own.
@@ -24,7 +23,7 @@ type Shard = HashMap<u64, usize>;
 /// values are compared, shared or added to the table.
 #[derive(Drop)]
 pub struct Forest<T> {
-    table: boxcar::Vec<Arc<T>>,
+    table: boxcar::Vec<T>,
     shards: Vec<Mutex<Shard>>,
     alloc: Global,
 }
@@ -53,7 +52,7 @@ fn empty_shards(alloc: Global) -> Result<Vec<Mutex<Shard>>, Memory>
 
 impl<T> Forest<T> {
     /// A row has one value.
-    pub(crate) fn agrees(&self, one: &Pushed<Arc<T>>, other: &Pushed<Arc<T>>)
+    pub(crate) fn agrees(&self, one: &Pushed<T>, other: &Pushed<T>)
         requires one { LiesIn self.now one.now }
         requires other { LiesIn self.now other.now }
         requires row { one.now.index ≡ other.now.index }
@@ -90,8 +89,8 @@ impl<T: Shape + Drop> Forest<T> {
         }
         let row = self.added(rt, value)?;
         self.remember(rt, digest, row.index())?;
-        let kept = Arc::try_clone(self.table.value(&row))?;
-        Ok(Tree::of(self, kept, row))
+        let kept = self.table.value(&row).share(self.alloc)?;
+        Ok(Tree::of(self, self.alloc, kept, row))
     }
 
     /// The map that has this digest.
@@ -116,16 +115,16 @@ impl<T: Shape + Drop> Forest<T> {
         if !kept.same(value) {
             return Ok(None);
         }
-        let kept = Arc::try_clone(kept)?;
-        Ok(Some(Tree::of(self, kept, row)))
+        let kept = kept.share(self.alloc)?;
+        Ok(Some(Tree::of(self, self.alloc, kept, row)))
     }
 
     /// Adds a row with the value, without a lock.
-    fn added<R: Wait>(&self, rt: &R, value: &T) -> Result<Pushed<Arc<T>>, Memory>
-        ensures value { IfOk result (λ row. arc_value row.value ≡ value.now) }
+    fn added<R: Wait>(&self, rt: &R, value: &T) -> Result<Pushed<T>, Memory>
+        ensures value { IfOk result (λ row. row.value ≡ value.now) }
         ensures lies { IfOk result (λ row. LiesIn self.now row) }
     {
-        let kept = Arc::new(self.alloc, value.share(self.alloc)?)?;
+        let kept = value.share(self.alloc)?;
         self.table.push_shown(rt, kept).map_err(|_| Memory)
     }
 

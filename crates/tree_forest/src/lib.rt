@@ -7,11 +7,13 @@
 
 mod forest;
 mod home;
+mod mark;
 mod shape;
 mod stamps;
 mod tree;
 
 pub use forest::Forest;
 pub use home::Home;
+pub use mark::Mark;
 pub use shape::Shape;
 pub use tree::Tree;

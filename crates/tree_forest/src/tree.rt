@@ -1,50 +1,47 @@
 //! A value that a forest keeps.
 ghost use Rattle.std.specs.Prelude.{◌≡◌, IfOk};
-ghost use Rattle.std.specs.Arc.{arc_value};
 ghost use Rattle.tree_forest.specs.Homes.{LiesIn};
 ghost use Rattle.tree_forest.specs.Kept.{IsOf};
 
-use crate::{Forest, Home};
+use crate::{Forest, Mark, Shape};
 use boxcar::Pushed;
+use std::alloc::Global;
 use std::marker::Model;
-use std::sync::Arc;
 use trace_types::Memory;
 
 /// A value that a [`Forest`] keeps, with the number of its row.
 #[derive(Drop)]
 pub struct Tree<T> {
-    value: Arc<T>,
-    row: Pushed<Arc<T>>,
-    home: Home,
+    value: T,
+    mark: Mark<T>,
+    alloc: Global,
 }
 
 impl<T> Model for Tree<T> {
     ghost use Rattle.std.specs.Prelude.{◌≡◌};
-    ghost use Rattle.std.specs.Arc.{arc_value};
-    ghost use Rattle.tree_forest.specs.Homes.{LiesIn};
     ghost use Rattle.tree_forest.specs.Kept.{Kept, kept_coded};
 
     ghost Value = { Kept T };
 
     ghost coded = { kept_coded T.code };
 
-    ghost view = { λ t. record { value = arc_value t.value; number = t.row.index; home = t.home } };
+    ghost view = { λ t. t.mark };
 
-    ghost invariant = { λ t. (arc_value t.value ≡ arc_value t.row.value) × LiesIn t.home t.row };
+    ghost invariant = { λ t. t.value ≡ t.mark.value };
 }
 
 impl<T> Tree<T> {
     /// The tree of a row of the forest, whose value is at hand.
-    pub(crate) fn of(forest: &Forest<T>, value: Arc<T>, row: Pushed<Arc<T>>) -> Tree<T>
+    pub(crate) fn of(forest: &Forest<T>, alloc: Global, value: T, row: Pushed<T>) -> Tree<T>
         requires lies { LiesIn forest.now row }
-        requires same { arc_value value ≡ arc_value row.value }
-        ensures value { result.value ≡ arc_value value }
+        requires same { value ≡ row.value }
+        ensures value { result.value ≡ value }
         ensures home { IsOf forest.now result }
     {
         Tree {
             value,
-            row,
-            home: Home::of(forest),
+            mark: Mark::of(forest, row),
+            alloc,
         }
     }
 
@@ -59,20 +56,14 @@ impl<T> Tree<T> {
     pub fn number(&self) -> u64
         ensures { result ≡ self.now.number }
     {
-        self.row.index() as u64
+        self.mark.number()
     }
 
-    /// The same tree once more, over the same value.
-    ///
-    /// It takes no memory. `Memory` where the value would stand in more trees than can be counted.
-    pub fn share(&self) -> Result<Tree<T>, Memory>
-        ensures { IfOk result (λ tree. tree ≡ self.now) }
+    /// Which row it is of.
+    pub fn mark(&self) -> &Mark<T>
+        ensures { result.now ≡ self.now }
     {
-        Ok(Tree {
-            value: Arc::try_clone(&self.value)?,
-            row: self.row.again(),
-            home: self.home.again(),
-        })
+        &self.mark
     }
 
     /// Of two trees of one forest that have one number the values are the same. It does nothing.
@@ -81,8 +72,19 @@ impl<T> Tree<T> {
         requires that { IsOf forest.now other.now }
         ensures { self.now.number ≡ other.now.number → self.now.value ≡ other.now.value }
     {
-        if self.row.index() == other.row.index() {
-            forest.agrees(&self.row, &other.row);
-        }
+        self.mark.same_number(forest, &other.mark);
+    }
+}
+
+impl<T: Shape> Tree<T> {
+    /// The same tree once more, over the same value. `Memory` where the value refuses to be shared.
+    pub fn share(&self) -> Result<Tree<T>, Memory>
+        ensures { IfOk result (λ tree. tree ≡ self.now) }
+    {
+        Ok(Tree {
+            value: self.value.share(self.alloc)?,
+            mark: self.mark.again(),
+            alloc: self.alloc,
+        })
     }
 }
