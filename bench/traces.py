@@ -83,8 +83,20 @@ def grown(parents, joins):
         yield f"join {parent} {name}"
 
 
+def fan_at_work():
+    """As many tasks as there may be, all spawned by root; each does three things."""
+    yield from (f"spawn root {name}" for name in NAMES)
+    yield from (f"local {name}" for _ in range(3) for name in NAMES)
+
+
 def orders(events, count):
     return (f"order {random.randint(1, events)} {random.randint(1, events)}" for _ in range(count))
+
+
+def orders_again(events, pairs, count):
+    """Orders of so many random pairs, each asked again and again."""
+    pairs = [(random.randint(1, events), random.randint(1, events)) for _ in range(pairs)]
+    return ("order {} {}".format(*random.choice(pairs)) for _ in range(count))
 
 
 def lists(count):
@@ -184,3 +196,7 @@ if __name__ == "__main__":
     for events in (1024, 2048, 4096, 8192, 16384):
         write(f"live64_{events}", GREATEST, addressed("x", build(64, events)))
     write("lists_of_build", GREATEST, addressed("x", with_lists(list(build(64, MOST_EVENTS)), 200)))
+    write("again", GREATEST, addressed("x", built, orders_again(MOST_EVENTS, 500, 300_000)))
+    fanned = list(fan_at_work())
+    write("fan_never", GREATEST, addressed("x", fanned, orders(len(fanned), 20_000)))
+    write("fan_again", GREATEST, addressed("x", fanned, orders_again(len(fanned), 500, 20_000)))

@@ -8,13 +8,13 @@ ghost use Rattle.trace_types.specs.clock.Join.{lifted, join};
 ghost use Rattle.trace_types.specs.clock.Event.{event};
 ghost use Rattle.trace_types.specs.clock.Digest.{digest_of_both};
 ghost use Rattle.event_tree.specs.Digest.{digest as digest_of};
-ghost use Rattle.event_tree.specs.Height.{height};
+ghost use Rattle.event_tree.specs.Height.{height, inner_nodes};
 ghost use Rattle.event_tree.specs.Leaves.{IsLeafTree};
 ghost use Rattle.event_tree.specs.Risen.{IsRaisedAt};
 ghost use Rattle.event_tree.specs.Parts.{tree_of_parts};
 
 use crate::{Point, RaisedPoint};
-use comparison::{compare, is_below};
+use comparison::{Directions, compare, is_below, is_below_within};
 use id_tree::IdTree;
 use joining::joined;
 use std::alloc::Global;
@@ -370,7 +370,29 @@ impl EvTree {
     {
         self.normal();
         other.normal();
-        let holding = compare(self, 0, other, 0);
+        self.standing(other, compare(self, 0, other, 0))
+    }
+
+    /// How this tree stands to `other`, if walks over so many inner nodes of both show it: for who has a shorter way than
+    /// a long walk.
+    pub fn order_within(&self, other: &EvTree, steps: u64) -> Option<Order>
+        ensures order { IfSome result (λ order. StandsAs order self.now other.now) }
+        ensures short { IfNone result (steps < inner_nodes self.now + inner_nodes other.now) }
+    {
+        self.normal();
+        other.normal();
+        let mut left = steps;
+        let below = is_below_within(self, 0, other, 0, &mut left)?;
+        let above = is_below_within(other, 0, self, 0, &mut left)?;
+        Some(self.standing(other, Directions { below, above }))
+    }
+
+    /// How this tree stands to `other` where these directions hold.
+    fn standing(&self, other: &EvTree, holding: Directions) -> Order
+        requires below { IsTrue holding.below ↔ IsBelow self.now other.now }
+        requires above { IsTrue holding.above ↔ IsBelow other.now self.now }
+        ensures { StandsAs result self.now other.now }
+    {
         match (holding.below, holding.above) {
             (true, true) => Order::Same,
             (true, false) => Order::Before,

@@ -1,3 +1,2 @@
 pub mod Capacity
-pub mod Ranges
 pub mod Rows

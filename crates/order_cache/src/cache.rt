@@ -3,7 +3,6 @@ ghost use Rattle.std.specs.Prelude.{◌≡◌, ◌<◌, ◌≤◌, ◌↔◌, If
 ghost use Rattle.event_tree.specs.Comparison.{StandsAs};
 ghost use Rattle.tree_forest.specs.Kept.{IsOf};
 ghost use Rattle.order_cache.specs.Capacity.{IsCapacity};
-ghost use Rattle.order_cache.specs.Ranges.{RangesDecide};
 
 use crate::CacheFault;
 use crate::compared::Compared;
@@ -26,7 +25,11 @@ pub struct OrderCache {
     slot: Counted<Option<Remembered>>,
     /// How often a comparison was remembered. It is counted by the thread that the slot is lent to.
     hits: AtomicU64,
-    /// How many asks in a row found nothing that was remembered.
+    /// How many asks there were, up to `FEW_ASKS`.
+    asks: AtomicU64,
+    /// How many asks more are taken for long ones, if none of them is.
+    long: AtomicU64,
+    /// How many looks in a row found nothing that was remembered.
     misses: AtomicU64,
 }
 
@@ -44,10 +47,17 @@ const LENT: u64 = PRESENT;
 /// The greatest capacity.
 const MOST: u64 = 65536;
 
-/// So many asks in a row that find nothing show that pairs are not asked again.
+/// So many asks are looked up first, whatever their walks. After so many that a short walk decides, walks are taken for
+/// short.
+const FEW_ASKS: u64 = 256;
+
+/// So many inner nodes are walked over in less time than a pair is found in.
+const SHORT_WALK: u64 = 24;
+
+/// So many looks in a row that find nothing show that pairs are not asked again.
 const MANY_MISSES: u64 = 256;
 
-/// Then one ask in so many is looked up and remembered, until one is found again.
+/// Then one ask in so many is looked up and remembered, until one is found again. So it is where walks are taken for short.
 const SELDOM: u64 = 16;
 
 /// A capacity that can be had, as the map takes it.
@@ -61,9 +71,8 @@ fn capacity_of(capacity: u64) -> Option<NonZeroUsize>
 }
 
 /// Whether the least and the greatest values decide how the two stand, so that comparing them walks nowhere.
-fn ranges_decide(first: &EvTree, second: &EvTree) -> bool
-    ensures { IsTrue result ↔ RangesDecide first.now second.now }
-{
+#[inline(always)]
+fn ranges_decide(first: &EvTree, second: &EvTree) -> bool {
     first.max() <= second.min() || second.max() <= first.min()
 }
 
@@ -92,6 +101,8 @@ impl OrderCache {
         Ok(OrderCache {
             slot: Counted::new(Some(remembered), &home),
             hits: AtomicU64::new(0),
+            asks: AtomicU64::new(0),
+            long: AtomicU64::new(0),
             misses: AtomicU64::new(0),
         })
     }
@@ -112,18 +123,85 @@ impl OrderCache {
         requires second { IsOf forest.now second.now }
         ensures { StandsAs result first.now.value second.now.value }
     {
-        if ranges_decide(first.value(), second.value()) || !self.is_looked_up() {
+        if ranges_decide(first.value(), second.value()) {
             return first.value().order(second.value());
         }
-        match self.recall(forest, first, second) {
-            Some(order) => order,
-            None => self.compared(first, second),
+        match self.first_steps(first, second) {
+            Some(steps) => self.order_after(steps, forest, first, second),
+            None => first.value().order(second.value()),
         }
     }
 
     /// How often a comparison was answered by what was remembered, for the operator. From 2^64 - 1 on it stays.
     pub fn hits(&self) -> u64 {
         self.hits.load(Ordering::Relaxed)
+    }
+
+    /// Over how many inner nodes a pair is walked before it is looked up: none while few have asked, so that what is asked
+    /// again is counted from the first. `None` where walks are taken for short, so that it is walked to its end; but one
+    /// pair of so many shows whether they are. Of two threads one may not be counted.
+    #[inline(always)]
+    fn first_steps(&self, first: &Tree<EvTree>, second: &Tree<EvTree>) -> Option<u64> {
+        let asks = self.asks.load(Ordering::Relaxed);
+        if asks < FEW_ASKS {
+            self.asks.store(asks + 1, Ordering::Relaxed);
+            return Some(0);
+        }
+        if self.long.load(Ordering::Relaxed) > 0
+            || (first.number() ^ second.number()) % SELDOM == 0
+        {
+            Some(SHORT_WALK)
+        } else {
+            None
+        }
+    }
+
+    /// How two trees stand to each other, by a walk over so many inner nodes, or else looked up.
+    #[inline(never)]
+    fn order_after(
+        &self,
+        steps: u64,
+        forest: &Forest<EvTree>,
+        first: &Tree<EvTree>,
+        second: &Tree<EvTree>,
+    ) -> Order
+        requires cache { self.now ≡ forest.now }
+        requires first { IsOf forest.now first.now }
+        requires second { IsOf forest.now second.now }
+        ensures { StandsAs result first.now.value second.now.value }
+    {
+        match first.value().order_within(second.value(), steps) {
+            Some(order) => {
+                let long = self.long.load(Ordering::Relaxed);
+                self.long.store(long.saturating_sub(1), Ordering::Relaxed);
+                order
+            }
+            None => {
+                self.long.store(FEW_ASKS, Ordering::Relaxed);
+                self.looked_up(forest, first, second)
+            }
+        }
+    }
+
+    /// How two trees stand to each other that a short walk does not decide.
+    fn looked_up(
+        &self,
+        forest: &Forest<EvTree>,
+        first: &Tree<EvTree>,
+        second: &Tree<EvTree>,
+    ) -> Order
+        requires cache { self.now ≡ forest.now }
+        requires first { IsOf forest.now first.now }
+        requires second { IsOf forest.now second.now }
+        ensures { StandsAs result first.now.value second.now.value }
+    {
+        if !self.is_looked_up() {
+            return first.value().order(second.value());
+        }
+        match self.recall(forest, first, second) {
+            Some(order) => order,
+            None => self.compared(first, second),
+        }
     }
 
     /// Whether this ask is looked up, and counts it as one that finds nothing. Of two threads one may not be counted.

@@ -4,8 +4,9 @@
 //! refuses: what is not remembered is compared. What is remembered is used only for the very two trees that were compared,
 //! in that order.
 //!
-//! Trees whose least and greatest values decide how they stand are compared at once, and are never remembered. Where many
-//! asks in a row find nothing, most are compared at once too, until one finds something again.
+//! Trees whose least and greatest values decide how they stand are compared at once, and are never remembered. So are, once
+//! some hundred pairs were asked, those that a short walk decides: to find a pair takes longer. Where many looks in a row
+//! find nothing, most pairs are compared at once too, until one is found again.
 #![tactic(auto)]
 
 mod cache;

@@ -1,6 +1,7 @@
 //! Comparing two lifted trees.
-ghost use Rattle.std.specs.Prelude.{◌≡◌, ◌+◌, ◌^◌, ◌<◌, ◌↔◌, ◌||◌, IsTrue};
+ghost use Rattle.std.specs.Prelude.{◌≡◌, ◌+◌, ◌^◌, ◌<◌, ◌≤◌, ◌↔◌, ◌||◌, IfSome, IsTrue, MatchOption};
 ghost use Rattle.trace_types.specs.clock.EventTree.{maximum};
+ghost use Rattle.event_tree.specs.Height.{inner_nodes};
 ghost use Rattle.event_tree.specs.Lifted.{IsLiftedBelow};
 ghost use Rattle.event_tree.specs.Ranges.{range_of, IsRangeBelow, CanBeBelow};
 
@@ -88,6 +89,50 @@ pub(super) fn is_below(one: &EvTree, one_lift: u64, other: &EvTree, other_lift: 
             let (one_lift, other_lift) = (one_lift + *base, other_lift + *other_base);
             is_below(&children.left, one_lift, &other_children.left, other_lift)
                 && is_below(&children.right, one_lift, &other_children.right, other_lift)
+        }
+        // A leaf has one value, so the ranges have decided.
+        _ => unreachable!(),
+    }
+}
+
+/// The same, if a walk over so many inner nodes shows it; `steps` is then how many of them are left.
+pub(super) fn is_below_within(
+    one: &EvTree,
+    one_lift: u64,
+    other: &EvTree,
+    other_lift: u64,
+    steps: &mut u64,
+) -> Option<bool>
+    requires one_fits { one_lift + maximum one.now < 2 ^ 64 }
+    requires other_fits { other_lift + maximum other.now < 2 ^ 64 }
+    ensures is { IfSome result (λ below. IsTrue below ↔ IsLiftedBelow one_lift one.now other_lift other.now) }
+    ensures short { MatchOption result (steps.old < inner_nodes one.now) (λ _. steps.old ≤ steps.new + inner_nodes one.now) }
+{
+    let span = one.range(one_lift);
+    let other_span = other.range(other_lift);
+    if span.is_below(other_span) {
+        return Some(true);
+    }
+    if !span.can_be_below(other_span) {
+        return Some(false);
+    }
+    match (&one.node, &other.node) {
+        (
+            Node::Fork { base, children, .. },
+            Node::Fork {
+                base: other_base,
+                children: other_children,
+                ..
+            },
+        ) => {
+            *steps = steps.checked_sub(1)?;
+            let (one_lift, other_lift) = (one_lift + *base, other_lift + *other_base);
+            let (left, other_left) = (&children.left, &other_children.left);
+            if !is_below_within(left, one_lift, other_left, other_lift, steps)? {
+                return Some(false);
+            }
+            let (right, other_right) = (&children.right, &other_children.right);
+            is_below_within(right, one_lift, other_right, other_lift, steps)
         }
         // A leaf has one value, so the ranges have decided.
         _ => unreachable!(),
