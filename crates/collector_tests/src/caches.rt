@@ -40,14 +40,14 @@ fn hits_of<R: Wait>(rt: &R, alloc: Global, capacity: u64, numbers: &[u64]) -> Re
 
 #[test]
 fn a_pair_that_is_asked_again_is_a_hit(rt: HostRuntime) -> Result<(), Fail> {
-    assert_eq!(rt; hits_of(&rt, rt.alloc(), 2, &[2, 2])?, 1);
-    assert_eq!(rt; hits_of(&rt, rt.alloc(), 2, &[2, 3, 2])?, 1);
+    assert!(rt; hits_of(&rt, rt.alloc(), 2, &[2, 2])? == 1);
+    assert!(rt; hits_of(&rt, rt.alloc(), 2, &[2, 3, 2])? == 1);
     Ok(())
 }
 
 #[test]
 fn a_pair_that_another_pushed_out_is_no_hit(rt: HostRuntime) -> Result<(), Fail> {
-    assert_eq!(rt; hits_of(&rt, rt.alloc(), 1, &[2, 3, 2])?, 0);
+    assert!(rt; hits_of(&rt, rt.alloc(), 1, &[2, 3, 2])? == 0);
     Ok(())
 }
 
@@ -67,7 +67,7 @@ fn capacities_0_and_65537_are_refused_and_those_between_are_not(
         (65536, None),
         (65537, Some(CacheFault::Capacity)),
     ] {
-        assert_eq!(rt; refused(rt.alloc(), capacity)?, want, "{capacity}");
+        assert!(rt; refused(rt.alloc(), capacity)? == want, "{capacity}");
     }
     Ok(())
 }

@@ -1,12 +1,15 @@
 //! Forests and the trees that they keep, by threads too.
 
+use crate::runs::RUNS;
 use event_tree::EvTree;
+use line_protocol::read_request;
 use std::alloc::Global;
 use std::sync::Wait;
 use std::test::Fail;
 use std::thread::{Threads, join};
-use trace_types::Memory;
-use tree_forest::{Forest, Shape, Tree};
+use tenant_ledger::Ledger;
+use trace_types::{Limits, Memory, Request};
+use tree_forest::{Forest, Shape};
 
 /// A value whose digest half of all others have too.
 #[derive(Drop)]
@@ -48,7 +51,7 @@ fn equal_values_share_a_number_and_others_of_one_digest_do_not(
     rt: HostRuntime,
 ) -> Result<(), Fail> {
     let numbers = numbers_of(&rt, rt.alloc(), b"aabbca")?;
-    assert_eq!(rt; numbers.as_slice(), [0, 0, 1, 1, 2, 3].as_slice());
+    assert!(rt; numbers.as_slice() == [0, 0, 1, 1, 2, 3].as_slice());
     Ok(())
 }
 
@@ -62,23 +65,65 @@ fn equal_trees_share_a_number(rt: HostRuntime) -> Result<(), Fail> {
     let forest = Forest::new(rt.alloc())?;
     let one = forest.intern(&rt, &tree(rt.alloc(), 3)?)?;
     let other = forest.intern(&rt, &tree(rt.alloc(), 3)?)?;
-    assert_eq!(rt; one.number(), other.number());
+    assert!(rt; one.number() == other.number());
     Ok(())
 }
 
-/// Keeps five trees again and again, in an order of the step's own.
+/// Takes the report, and adds the tree of its event.
+fn add_tree_of<R: AllocGlobal>(
+    rt: &R,
+    ledger: Ledger,
+    report: &Request,
+    trees: &mut Vec<EvTree>,
+) -> Result<Ledger, Fail> {
+    if !report.is_report() {
+        return Err("no report".into());
+    }
+    match ledger.prepare(rt, report) {
+        Ok(prepared) => {
+            let tree = prepared.tree().share(rt.alloc());
+            let (ledger, _) = prepared.commit();
+            trees.push(tree?)?;
+            Ok(ledger)
+        }
+        Err(_) => Err("a refused report".into()),
+    }
+}
+
+/// Adds the trees of the events of the run.
+fn add_trees_of<R: AllocGlobal>(rt: &R, run: &str, trees: &mut Vec<EvTree>) -> Result<(), Fail> {
+    let mut ledger = Ledger::new(rt.alloc(), Limits::default())?;
+    for line in run.lines() {
+        match read_request(line.as_bytes()) {
+            Some(report) => ledger = add_tree_of(rt, ledger, &report, trees)?,
+            None => return Err("no request".into()),
+        }
+    }
+    Ok(())
+}
+
+/// Keeps each tree 50 times, so many places on at each step and one place later in each round, and tells which number it
+/// was given at which place.
 fn kept<R: Wait>(
     rt: &R,
     alloc: Global,
     forest: &Forest<EvTree>,
-    step: u8,
-) -> Result<Vec<Tree<EvTree>>, Memory> {
-    let mut trees = Vec::new(alloc);
-    for round in 0..40u64 {
-        let tree = tree(alloc, round * step as u64 % 5)?;
-        trees.push(forest.intern(rt, &tree)?)?;
+    trees: &[EvTree],
+    on: usize,
+) -> Result<Vec<(usize, u64)>, Memory> {
+    let mut numbers = Vec::new(alloc);
+    for round in 0..50usize {
+        for step in 0..trees.len() {
+            let place = round
+                .wrapping_add(step.wrapping_mul(on))
+                .checked_rem(trees.len());
+            let place = place.unwrap_or(0);
+            if let Some(tree) = trees.get(place) {
+                numbers.push((place, forest.intern(rt, tree)?.number()))?;
+            }
+        }
     }
-    Ok(trees)
+    Ok(numbers)
 }
 
 /// What two threads keep at once.
@@ -86,51 +131,75 @@ fn kept_by_two<R: Threads + Wait + Sync>(
     rt: &R,
     alloc: Global,
     forest: &Forest<EvTree>,
-    steps: (u8, u8),
-) -> Result<Vec<Tree<EvTree>>, Memory> {
+    trees: &[EvTree],
+    on: (usize, usize),
+) -> Result<Vec<(usize, u64)>, Memory> {
     let (one, other) = join(
         rt,
-        || kept(rt, alloc, forest, steps.0),
-        || kept(rt, alloc, forest, steps.1),
+        || kept(rt, alloc, forest, trees, on.0),
+        || kept(rt, alloc, forest, trees, on.1),
     );
-    let mut trees = one?;
-    trees.append(&mut other?)?;
-    Ok(trees)
+    let mut numbers = one?;
+    numbers.append(&mut other?)?;
+    Ok(numbers)
 }
 
-/// What four threads keep at once.
+/// What four threads keep at once, each in another order.
 fn kept_by_four<R: Threads + Wait + Sync>(
     rt: &R,
     alloc: Global,
     forest: &Forest<EvTree>,
-) -> Result<Vec<Tree<EvTree>>, Memory> {
+    trees: &[EvTree],
+) -> Result<Vec<(usize, u64)>, Memory> {
     let (one, other) = join(
         rt,
-        || kept_by_two(rt, alloc, forest, (1, 2)),
-        || kept_by_two(rt, alloc, forest, (3, 4)),
+        || kept_by_two(rt, alloc, forest, trees, (1, 2)),
+        || kept_by_two(rt, alloc, forest, trees, (3, 5)),
     );
-    let mut trees = one?;
-    trees.append(&mut other?)?;
-    Ok(trees)
+    let mut numbers = one?;
+    numbers.append(&mut other?)?;
+    Ok(numbers)
 }
 
-fn agree(one: &Tree<EvTree>, other: &Tree<EvTree>) -> bool {
-    one.number() != other.number() || one.value().same(other.value())
+/// Whether the tree at this place is this one.
+fn is_at(trees: &[EvTree], place: usize, tree: &EvTree) -> bool {
+    match trees.get(place) {
+        Some(other) => other.same(tree),
+        None => false,
+    }
 }
 
-fn all_agree(trees: &[Tree<EvTree>]) -> bool {
-    trees
-        .iter()
-        .all(|one| trees.iter().all(|other| agree(one, other)))
+/// Whether each place that was given the number has this tree.
+fn all_have(trees: &[EvTree], numbers: &[(usize, u64)], number: u64, tree: &EvTree) -> bool {
+    numbers.iter().all(|(place, other)| *other != number || is_at(trees, *place, tree))
+}
+
+/// Whether wherever two numbers are equal, the trees are: of each tree by the number that it was given first.
+fn agree(trees: &[EvTree], numbers: &[(usize, u64)]) -> bool {
+    for (place, number) in numbers.iter().take(trees.len()) {
+        let holds = match trees.get(*place) {
+            Some(tree) => all_have(trees, numbers, *number, tree),
+            None => false,
+        };
+        if !holds {
+            return false;
+        }
+    }
+    true
 }
 
 #[test]
 fn four_threads_keep_equal_trees_under_equal_numbers(rt: HostRuntime) -> Result<(), Fail> {
+    let mut trees = Vec::new(rt.alloc());
+    for run in RUNS {
+        add_trees_of(&rt, run, &mut trees)?;
+    }
     let forest = Forest::new(rt.alloc())?;
-    let trees = kept_by_four(&rt, rt.alloc(), &forest)?;
-    assert_eq!(rt; trees.len(), 160);
-    assert!(rt; all_agree(&trees));
+    let numbers = kept_by_four(&rt, rt.alloc(), &forest, &trees)?;
+    assert!(rt; numbers.len() == trees.len().wrapping_mul(200));
+    assert!(rt; agree(&trees, &numbers));
     // Each thread adds a row for a tree once at most.
-    assert!(rt; trees.iter().all(|tree| tree.number() < 20));
+    let most = (trees.len() as u64).wrapping_mul(4);
+    assert!(rt; numbers.iter().all(|(_, number)| *number < most));
     Ok(())
 }

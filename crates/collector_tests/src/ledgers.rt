@@ -2,6 +2,7 @@
 ghost use Rattle.std.specs.Prelude.{◌≡◌, [], true};
 ghost use Rattle.trace_types.specs.tenant.Tenant.{is_report};
 
+use crate::runs::{FAMILY, TALK};
 use event_tree::EvTree;
 use id_tree::IdTree;
 use line_protocol::read_request;
@@ -12,23 +13,6 @@ use std::test::Fail;
 use tenant_ledger::{Keep, Ledger, PlainShare, Share};
 use trace_query::{Compare, Deciding, Plain, QueryFault, concurrent_with, past};
 use trace_types::{Limits, Memory, Name, Numbers, Order, Reply, Request};
-
-/// Tasks that start and join others.
-const FAMILY: &str = "spawn root a
-spawn a b
-local root
-end b
-end a
-join root b
-join root a";
-
-/// Tasks of which one sends the other a message.
-const TALK: &str = "local root
-spawn root a
-local a
-local root
-send a m
-recv root m";
 
 /// Whether the last event of the ledger has this row, and the stamp of this text.
 fn has_last(ledger: &Ledger, row: &Reply, stamp: &[u8]) -> bool {
@@ -215,7 +199,7 @@ fn comparisons_are_counted(rt: HostRuntime) -> Result<(), Fail> {
         (Request::Concurrent(4), (0, 5)),
     ] {
         let found = comparisons(&rt, share, &mut ledger, &query);
-        assert_eq!(rt; found, [want, want], "{query:?}");
+        assert!(rt; found == [want, want], "{query:?}");
     }
     Ok(())
 }
@@ -291,6 +275,6 @@ fn lists_by_points_are_those_by_trees_at_any_depth(rt: HostRuntime) -> Result<()
     let _ = looks.counted();
     let _ = ledger.ask(&share, &Request::Past(600));
     // The ids of the first 257 events lie within the 128 levels of a point.
-    assert_eq!(rt; looks.counted(), (342, 257));
+    assert!(rt; looks.counted() == (342, 257));
     Ok(())
 }

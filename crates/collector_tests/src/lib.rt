@@ -18,6 +18,8 @@ mod queries;
 #[cfg(test)]
 mod replays;
 #[cfg(test)]
+mod runs;
+#[cfg(test)]
 mod shares;
 #[cfg(test)]
 mod trees;

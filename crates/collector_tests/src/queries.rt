@@ -69,9 +69,8 @@ fn orders_are_those_of_the_trees(rt: HostRuntime) -> Result<(), Fail> {
         (0, 1, Err(QueryFault::Unknown)),
         (1, 7, Err(QueryFault::Unknown)),
     ] {
-        assert_eq!(rt;
-            order(&Plain, &trees, first, second),
-            want,
+        assert!(rt;
+            order(&Plain, &trees, first, second) == want,
             "{first} {second}"
         );
     }
@@ -139,7 +138,7 @@ fn no_event_has_a_list(rt: HostRuntime) -> Result<(), Fail> {
             concurrent_in_order(&Plain, rt.alloc(), &trees, event),
         ];
         for list in found {
-            assert_eq!(rt; list.err(), Some(QueryFault::Unknown), "{event}");
+            assert!(rt; list.err() == Some(QueryFault::Unknown), "{event}");
         }
     }
     Ok(())
@@ -180,10 +179,10 @@ fn each_event_before_is_compared_once(rt: HostRuntime) -> Result<(), Fail> {
         comparisons: Cell::new(0),
     };
     let found = past_in_order(&counted, rt.alloc(), &trees, 4)?;
-    assert_eq!(rt; found.as_slice(), [1, 2].as_slice());
-    assert_eq!(rt; counted.comparisons.get(), 3);
+    assert!(rt; found.as_slice() == [1, 2].as_slice());
+    assert!(rt; counted.comparisons.get() == 3);
     let found = concurrent_in_order(&counted, rt.alloc(), &trees, 4)?;
-    assert_eq!(rt; found.as_slice(), [3, 5].as_slice());
-    assert_eq!(rt; counted.comparisons.get(), 8);
+    assert!(rt; found.as_slice() == [3, 5].as_slice());
+    assert!(rt; counted.comparisons.get() == 8);
     Ok(())
 }

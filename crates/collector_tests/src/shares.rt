@@ -121,6 +121,6 @@ fn a_share_that_takes_a_lock_keeps_what_is_reported(rt: HostRuntime) -> Result<(
     let mut ledger = Ledger::with_share(rt.alloc(), Limits::default(), share)?;
     assert!(rt; answers_all(&rt, &mut ledger));
     let counted = [*counts.kept.lock(&rt), *counts.compared.lock(&rt)];
-    assert_eq!(rt; counted, [3, 1]);
+    assert!(rt; counted == [3, 1]);
     Ok(())
 }

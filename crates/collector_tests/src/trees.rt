@@ -33,7 +33,7 @@ fn fork_and_share_give_the_normal_form_of_ids(rt: HostRuntime) -> Result<(), Fai
         (false, true, "(0,1)"),
     ] {
         let text = text_of_pair(rt.alloc(), half(left), half(right))?;
-        assert_eq!(rt; text.as_str(), want);
+        assert!(rt; text.as_str() == want);
     }
     Ok(())
 }
@@ -74,7 +74,7 @@ fn fork_draws_out_what_both_children_have(rt: HostRuntime) -> Result<(), Fail> {
         ((3, 1, 1), "4"),
         ((2, 1, 0), "(2,1,0)"),
     ] {
-        assert_eq!(rt; text_of_node(rt.alloc(), node)?.as_str(), want);
+        assert!(rt; text_of_node(rt.alloc(), node)?.as_str() == want);
     }
     Ok(())
 }
@@ -96,10 +96,7 @@ fn shared(alloc: Global, tree: &EvTree) -> Result<(Order, (u64, Option<(u64, u64
 fn a_shared_tree_is_lent_in_equal_parts(rt: HostRuntime) -> Result<(), Fail> {
     let right = EvTree::fork(rt.alloc(), 1, EvTree::leaf(0), EvTree::leaf(4))?;
     let tree = EvTree::fork(rt.alloc(), 2, EvTree::leaf(1), right)?;
-    assert_eq!(rt;
-        shared(rt.alloc(), &tree)?,
-        (Order::Same, (3, Some((0, 4))))
-    );
-    assert_eq!(rt; lent(&EvTree::leaf(7)), (7, None));
+    assert!(rt; shared(rt.alloc(), &tree)? == (Order::Same, (3, Some((0, 4)))));
+    assert!(rt; lent(&EvTree::leaf(7)) == (7, None));
     Ok(())
 }

@@ -8,6 +8,7 @@ use line_protocol::{
 use std::alloc::Global;
 use std::io;
 use std::io::{Error, ErrorKind, Read, Write};
+use std::process::Abort;
 use std::test::Fail;
 use trace_types::{Code, Order, Reply};
 
@@ -76,6 +77,11 @@ fn show(text: &mut Vec<u8>, found: Option<Line>, line: &[u8]) -> Result<(), Fail
     Ok(())
 }
 
+/// Looks that these bytes are as wanted, and shows both where they are not.
+fn assert_bytes<R: Abort>(rt: &R, bytes: &[u8], want: &[u8]) {
+    assert_eq!(rt; bytes, want);
+}
+
 #[test]
 fn lines_end_at_line_feeds(rt: HostRuntime) -> Result<(), Fail> {
     let table: [(&[u8], &[u8]); 8] = [
@@ -91,7 +97,7 @@ fn lines_end_at_line_feeds(rt: HostRuntime) -> Result<(), Fail> {
     for (bytes, want) in table {
         for most in [1, 65536] {
             let text = shown(rt.alloc(), bytes, most, false)?;
-            assert_eq!(rt; text.as_slice(), want);
+            assert_bytes(&rt, &text, want);
         }
     }
     Ok(())
@@ -100,7 +106,7 @@ fn lines_end_at_line_feeds(rt: HostRuntime) -> Result<(), Fail> {
 #[test]
 fn a_fault_is_answered_again(rt: HostRuntime) -> Result<(), Fail> {
     let text = shown(rt.alloc(), b"one\ntwo", 2, true)?;
-    assert_eq!(rt; text.as_slice(), b"one|????????".as_slice());
+    assert_bytes(&rt, &text, b"one|????????");
     Ok(())
 }
 
@@ -130,7 +136,7 @@ fn two_hundred_bytes_are_a_line(rt: HostRuntime) -> Result<(), Fail> {
     ];
     for (len, end, want) in table {
         let text = shown_long(rt.alloc(), len, end)?;
-        assert_eq!(rt; text.as_slice(), want, "{len} bytes");
+        assert!(rt; text.as_slice() == want, "{len} bytes");
     }
     Ok(())
 }
@@ -169,9 +175,9 @@ fn the_bound_of_bytes_is_that_of_a_line(rt: HostRuntime) -> Result<(), Fail> {
     ];
     for (text, one, three) in table {
         let shown = shown_within(rt.alloc(), text, 1, 9)?;
-        assert_eq!(rt; shown.as_slice(), one);
+        assert_bytes(&rt, &shown, one);
         let shown = shown_within(rt.alloc(), text, 3, 9)?;
-        assert_eq!(rt; shown.as_slice(), three);
+        assert_bytes(&rt, &shown, three);
     }
     Ok(())
 }
@@ -194,7 +200,7 @@ fn the_greatest_bound_has_room(rt: HostRuntime) -> Result<(), Fail> {
         (65537, b"\nb", 4),
     ];
     for (len, end, want) in table {
-        assert_eq!(rt; shown_len(rt.alloc(), len, end)?, want);
+        assert!(rt; shown_len(rt.alloc(), len, end)? == want);
     }
     Ok(())
 }
@@ -202,9 +208,9 @@ fn the_greatest_bound_has_room(rt: HostRuntime) -> Result<(), Fail> {
 #[test]
 fn the_bound_of_reads_ends_the_reading(rt: HostRuntime) -> Result<(), Fail> {
     let shown = shown_within(rt.alloc(), b"a\nb", 3, 1)?;
-    assert_eq!(rt; shown.as_slice(), b"a|????????".as_slice());
+    assert_bytes(&rt, &shown, b"a|????????");
     let shown = shown_within(rt.alloc(), b"a\nb", 3, 2)?;
-    assert_eq!(rt; shown.as_slice(), b"a|b|".as_slice());
+    assert_bytes(&rt, &shown, b"a|b|");
     Ok(())
 }
 
@@ -264,7 +270,7 @@ fn replies_are_written_whole(rt: HostRuntime) {
     for (reply, want) in table {
         let (text, outcome) = written(rt.alloc(), &reply, 99);
         assert!(rt; outcome.is_ok());
-        assert_eq!(rt; text.as_slice(), want);
+        assert_bytes(&rt, &text, want);
     }
 }
 
@@ -272,7 +278,7 @@ fn replies_are_written_whole(rt: HostRuntime) {
 fn a_full_writer_is_a_fault(rt: HostRuntime) {
     let (text, outcome) = written(rt.alloc(), &Reply::Count(1, 2, 3), 6);
     assert!(rt; outcome.is_err());
-    assert_eq!(rt; text.as_slice(), b"200 1 ".as_slice());
+    assert_bytes(&rt, &text, b"200 1 ");
 }
 
 /// A writer of which so many calls are interrupted before one takes what it is given, and how often it was flushed.
@@ -313,8 +319,8 @@ fn a_piece_has_patience_of_its_own(rt: HostRuntime) {
         let mut writer = IntoWriter::new(&mut stubborn);
         let outcome = write_prefix(&mut writer, b"x");
         drop(writer);
-        assert_eq!(rt; outcome.is_ok(), is_written);
-        assert_eq!(rt; stubborn.left, left);
+        assert!(rt; outcome.is_ok() == is_written);
+        assert!(rt; stubborn.left == left);
     }
 }
 
@@ -327,7 +333,7 @@ fn a_flush_is_handed_on(rt: HostRuntime) -> Result<(), Fail> {
     let mut writer = Buffered::new(rt.alloc(), IntoWriter::new(&mut plain))?;
     assert!(rt; flush(&mut writer).is_ok());
     drop(writer);
-    assert_eq!(rt; plain.flushes, 1);
+    assert!(rt; plain.flushes == 1);
     Ok(())
 }
 
@@ -368,9 +374,9 @@ fn bytes_are_gathered_and_handed_on_whole(rt: HostRuntime) -> Result<(), Fail> {
     for (first, second, handed_on, all) in table {
         let first = vec![in rt.alloc(); b'a'; first]?;
         let second = vec![in rt.alloc(); b'b'; second]?;
-        assert_eq!(rt; early(rt.alloc(), &first, &second)?, handed_on);
+        assert!(rt; early(rt.alloc(), &first, &second)? == handed_on);
         let taken = gathered(rt.alloc(), &first, &second)?;
-        assert_eq!(rt; taken.len(), all);
+        assert!(rt; taken.len() == all);
         assert!(rt; taken.starts_with(&first) && taken.ends_with(&second));
     }
     Ok(())
