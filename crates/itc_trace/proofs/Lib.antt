@@ -1,6 +1,0 @@
-mod Amounts
-mod Asking
-mod CommandLine
-mod KindsOfWords
-mod Rows
-mod Works

@@ -1,5 +1,4 @@
-pub mod CommandLine
 pub mod Fault
 pub mod Program
-pub mod Reading
 pub mod Runs
+pub mod Taking

@@ -16,9 +16,10 @@ use Rattle.trace_world.specs.Exported.{BreaksExport, Exports}
 use Rattle.trace_world.specs.Replayed.{Replays, ReplaysInPart}
 use Rattle.trace_world.specs.declared.counts.Counts.{Counts}
 use Rattle.trace_world.specs.declared.replay_fault.ReplayFault.{ReplayFault}
-use Rattle.itc_trace.specs.CommandLine.{Demand, ToReplay, ToCheck, are_taken}
+use Rattle.command_line.specs.Demand.{Demand, ToReplay, ToCheck}
+use Rattle.itc_trace.specs.Taking.{are_taken}
 use Rattle.itc_trace.specs.Fault.{line_of_fault, fault_of_replay}
-use Rattle.itc_trace.specs.Reading.{Work, Replaying, Exporting, Checking}
+use Rattle.command_line.specs.Reading.{Work, Replaying, Exporting, Checking}
 use Rattle.itc_trace.specs.declared.fault.Fault.{Fault}
 use Rattle.itc_trace.specs.declared.fault.Fault.TheVariants.{Tenants, Read, Write, TooLong, Memory}
 

@@ -3,8 +3,9 @@ use Rattle.std.specs.Prelude.{◌≡◌, ◌≢◌, ℕ, ◌<◌, List, [], ◌�
 use Rattle.trace_types.specs.text.Name.{Text}
 use Rattle.line_protocol.specs.Source.{Given}
 use Rattle.line_protocol.specs.Sink.{Taken}
-use Rattle.itc_trace.specs.CommandLine.{asked_in, is_taken}
-use Rattle.itc_trace.specs.Reading.{AsksForHelp, MayBeRefused, kinds_of, work_of}
+use Rattle.command_line.specs.Demand.{asked_in}
+use Rattle.itc_trace.specs.Taking.{is_taken}
+use Rattle.command_line.specs.Reading.{AsksForHelp, MayBeRefused, kinds_of, work_of}
 use Rattle.itc_trace.specs.Program.{BreaksOff, Does, DoesSome, DoesSomeInPart, GoesThrough, IsUntouched, LacksMemory, RefusesTenants, ShowsSome, ShowsSomeAll, TellsFault}
 use Rattle.itc_trace.specs.declared.fault.Fault.{Fault}
 use Rattle.itc_trace.specs.declared.fault.Fault.TheVariants.{Memory, Write}

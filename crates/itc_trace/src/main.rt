@@ -18,8 +18,6 @@ ghost use Rattle.itc_trace.specs.Runs.{Runs};
 
 mod fault;
 mod program;
-mod wanted;
-mod words;
 
 use fault::Fault;
 use line_protocol::{Buffered, FromReader, IntoWriter, Sink, Source};

@@ -15,7 +15,8 @@ use Rattle.trace_world.specs.Exported.{BreaksExport}
 use Rattle.trace_world.specs.Replayed.{ReplaysInPart}
 use Rattle.trace_world.specs.declared.replay_fault.ReplayFault.{ReplayFault}
 use Rattle.trace_world.specs.declared.replay_fault.ReplayFault.TheVariants.{Read, Write, TooLong, Memory}
-use Rattle.itc_trace.specs.CommandLine.{ToReplay, are_taken, can_export, is_taken}
+use Rattle.command_line.specs.Demand.{ToReplay}
+use Rattle.itc_trace.specs.Taking.{are_taken, can_export, is_taken}
 use Rattle.itc_trace.specs.Fault.{fault_of_replay, status_of}
 use Rattle.itc_trace.specs.Program.{DoesReplay, DoesReplayInPart, ExportsFresh, ExportsFreshInPart, IsExportPlace, IsFailure, IsUntouched, ReplaysFresh, fresh_world}
 use Rattle.itc_trace.specs.declared.fault.Fault.{Fault}

@@ -1,5 +1,6 @@
 use Rattle.std.proofs.Common.{rules, ◌≡◌, ◌∙◌, ◌⊎◌, inl, inr, Bool, true, false, Option, Some, None, Result, Ok, Err, IfSome, IfErr, OnOk, ◌≢◌, ◌<◌, ◌≤◌, map, refl, sym, ap, subst, arith}
-use Rattle.itc_trace.specs.CommandLine.{Demand, ToReplay, ToCheck, are_taken, is_taken}
+use Rattle.command_line.specs.Demand.{Demand, ToReplay, ToCheck}
+use Rattle.itc_trace.specs.Taking.{are_taken, is_taken}
 use Rattle.itc_trace.specs.Fault.{status_of}
 use Rattle.itc_trace.specs.Program.{Does, DoesInPart, DoesReplay, DoesReplayInPart, DoesSome, DoesSomeInPart, ExportsFreshInPart, IsUntouched, LacksMemory, RefusesTenants, TellsFault}
 use Rattle.line_protocol.specs.Source.{Given}
@@ -9,12 +10,12 @@ use Rattle.std.specs.Global.{Global}
 use Rattle.std.specs.Prelude.{String, option_map, IsSomeAnd, IsTrue, List, string_bytes}
 use Rattle.trace_types.specs.tenant.Limits.{Limits, are_limits}
 use Rattle.trace_types.specs.text.Name.{Text}
-use Rattle.itc_trace.specs.declared.wanted.Replay.{Replay as Replays}
+use Rattle.command_line.specs.declared.wanted.Replay.{Replay as Replays}
 use Rattle.itc_trace.specs.declared.fault.Fault.{Fault}
 use Rattle.itc_trace.specs.declared.fault.Fault.TheVariants.{Words, Tenants, Read, Write, TooLong, Memory}
-use Rattle.itc_trace.specs.Reading.{IsAnswer, ReadsWords, Work, Replaying, Exporting, Checking, kinds_of, wanted_of, work_of, work_with}
-use Rattle.itc_trace.specs.declared.words.Asked.TheVariants.{Replay, Check, Show}
-use Rattle.itc_trace.specs.declared.words.Refusal.TheVariants as refusal
+use Rattle.command_line.specs.Reading.{IsAnswer, ReadsWords, Work, Replaying, Exporting, Checking, kinds_of, wanted_of, work_of, work_with}
+use Rattle.command_line.specs.declared.words.Asked.TheVariants.{Replay, Check, Show}
+use Rattle.command_line.specs.declared.words.Refusal.TheVariants as refusal
 use Rattle.itc_trace.proofs.program.run.Goals as goal
 use Rattle.itc_trace.proofs.program.run.Goals.{in-Ok-Replay, in-Ok-Show, in-Err-Memory}
 

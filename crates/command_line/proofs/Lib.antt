@@ -1,0 +1,6 @@
+mod Amounts
+mod Asking
+mod CommandLine
+mod KindsOfWords
+mod Rows
+mod Works

@@ -1,0 +1,138 @@
+-- What the words of the command line ask for.
+use Rattle.std.specs.Prelude.{ℕ, Bool, true, false, not, ◌==◌, List, [], ◌∷◌, map, Option, Some, None, option_map, option_and_then, if◌then◌else◌, codes}
+use Rattle.std.specs.List.{filter}
+use Rattle.trace_types.specs.tenant.Limits.{Limits, default_limits}
+use Rattle.trace_types.specs.text.Name.{Text, is_same, is_between}
+use Rattle.trace_types.specs.text.Reading.{number_of}
+
+-- what a replay is asked for: the limits that each tenant has, how many comparisons are remembered of all of them
+-- together, the tenants, and the one whose export is asked for in place of replies
+pub record AskedReplay : Type 0 where
+  pub limits : Limits
+  pub cache : ℕ
+  pub tenants : List Text
+  pub export : Option Text
+
+-- what the program is asked to do
+pub data Demand : Type 0 where
+  ToReplay : AskedReplay → Demand
+  ToCheck : Demand
+
+-- what a word is: a tenant, or the number or the name of an option
+pub data Role : Type 0 where
+  Tenant : Role
+  Events : Role
+  Tasks : Role
+  Messages : Role
+  Cache : Role
+  Export : Role
+
+-- whether two roles are the same
+abbrev pub is_role : Role → Role → Bool
+is_role Tenant Tenant = true
+is_role Events Events = true
+is_role Tasks Tasks = true
+is_role Messages Messages = true
+is_role Cache Cache = true
+is_role Export Export = true
+is_role a b = false
+
+-- a word and its role
+pub record Part : Type 0 where
+  pub role : Role
+  pub word : Text
+
+-- whether the word begins otherwise than with `-`
+abbrev pub is_plain : Text → Bool
+is_plain [] = true
+is_plain (byte ∷ bytes) = not (byte == 45)
+
+-- the role of the word after this one, where this one is an option
+abbrev pub option_named : Text → Option Role
+option_named word =
+    if is_same word (codes "--events") then Some Events
+    else if is_same word (codes "--tasks") then Some Tasks
+    else if is_same word (codes "--messages") then Some Messages
+    else if is_same word (codes "--cache") then Some Cache
+    else if is_same word (codes "--export") then Some Export
+    else None
+
+-- the parts, and one before them
+abbrev pub with_part : Role → Text → Option (List Part) → Option (List Part)
+with_part role word = option_map (λ parts. record { role = role; word = word } ∷ parts)
+
+-- The parts of the words, where the word before them was this option. A plain word is a tenant, and the word after an
+-- option is its number or its name. Of words with `-` in front that are no such option, as those that ask for help,
+-- nothing is said here.
+abbrev pub parts_after : Option Role → List Text → Option (List Part)
+parts_after None [] = Some []
+parts_after None (word ∷ words) =
+    if is_plain word then with_part Tenant word (parts_after None words)
+    else option_and_then (λ role. parts_after (Some role) words) (option_named word)
+parts_after (Some role) [] = None
+parts_after (Some role) (word ∷ words) = with_part role word (parts_after None words)
+
+-- the words of this role
+abbrev pub words_for : Role → List Part → List Text
+words_for role parts = map (λ part. part.word) (filter (λ part. is_role role part.role) parts)
+
+-- the number that the word spells, where it is one from 1 to this most
+abbrev pub number_up_to : ℕ → Text → Option ℕ
+number_up_to most word = option_and_then (λ number. if is_between 1 most number then Some number else None) (number_of word)
+
+-- the limit by the words of its option, which is used once at most
+abbrev pub limit_by : ℕ → ℕ → List Text → Option ℕ
+limit_by default most [] = Some default
+limit_by default most (word ∷ []) = number_up_to most word
+limit_by default most words = None
+
+-- the limits of these three numbers, where each is there
+abbrev pub limits_of : Option ℕ → Option ℕ → Option ℕ → Option Limits
+limits_of (Some events) (Some tasks) (Some messages) = Some (record { events = events; tasks = tasks; messages = messages })
+limits_of events tasks messages = None
+
+-- the limits that the parts ask for, and the default where an option is not used
+abbrev pub limits_by : List Part → Option Limits
+limits_by parts = limits_of (limit_by default_limits.events 16384 (words_for Events parts))
+    (limit_by default_limits.tasks 2048 (words_for Tasks parts)) (limit_by default_limits.messages 16384 (words_for Messages parts))
+
+-- how many comparisons the parts ask to be remembered, and the default where the option is not used
+abbrev pub cache_by : List Part → Option ℕ
+cache_by parts = limit_by 1024 65536 (words_for Cache parts)
+
+-- the tenant to be exported, if any, by the words of its option, which is used once at most
+abbrev pub export_by : List Text → Option (Option Text)
+export_by [] = Some None
+export_by (word ∷ []) = if is_plain word then Some (Some word) else None
+export_by words = None
+
+-- what these tenants, limits, number of comparisons and export ask for, where there is a tenant
+abbrev pub asked_with : List Text → Limits → ℕ → Option Text → Option AskedReplay
+asked_with [] limits cache export = None
+asked_with tenants limits cache export = Some (record { limits = limits; cache = cache; tenants = tenants; export = export })
+
+-- what these tenants ask for with these limits, this number and this export, where each is there
+abbrev pub asked_by_options : List Text → Option Limits → Option ℕ → Option (Option Text) → Option AskedReplay
+asked_by_options tenants (Some limits) (Some cache) (Some export) = asked_with tenants limits cache export
+asked_by_options tenants limits cache export = None
+
+-- what the parts ask for
+abbrev pub replay_asked_by : List Part → Option AskedReplay
+replay_asked_by parts = asked_by_options (words_for Tenant parts) (limits_by parts) (cache_by parts) (export_by (words_for Export parts))
+
+-- the replay that the words after `replay` ask for, where they are options, each with its number or name, and tenants
+abbrev pub replay_asked_in : List Text → Option AskedReplay
+replay_asked_in words = option_and_then replay_asked_by (parts_after None words)
+
+-- the check that the words after `check` ask for, where there are none
+abbrev pub check_asked_in : List Text → Option Demand
+check_asked_in [] = Some ToCheck
+check_asked_in (word ∷ words) = None
+
+-- what the words ask for, by the first of them
+abbrev pub asked_in : List Text → Option Demand
+asked_in [] = None
+asked_in (first ∷ words) =
+    if is_same first (codes "replay") then option_map ToReplay (replay_asked_in words)
+    else if is_same first (codes "check") then check_asked_in words
+    else None

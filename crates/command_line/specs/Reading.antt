@@ -1,0 +1,167 @@
+-- The command line as it is built, and what is read of it.
+use Rattle.std.specs.Prelude.{◌≡◌, ℕ, true, List, Option, Some, None, Result, Ok, Err, ◌⊎◌, [], codes, option_map, option_and_then, if◌then◌else◌, map, string_bytes}
+use Rattle.std.specs.Option.{option_map_or}
+use Rattle.clap.specs.Words.{App, Row, Rule, Text, all_of, first_of, one_of, new_app, new_rule, subcommand_of, with_rule, with_subcommand}
+use Rattle.clap.specs.Faults.{fault_of}
+use Rattle.clap.specs.Kinds.{IsAmong}
+use Rattle.clap.specs.declared.error.kind.ErrorKind.{ErrorKind}
+use Rattle.clap.specs.declared.error.kind.ErrorKind.TheVariants.{DisplayHelp, DisplayVersion}
+use Rattle.clap.specs.declared.builder.ArgAction.TheVariants.{Append, Set}
+use Rattle.clap.specs.declared.builder.value_parser.ValueParser.TheVariants as parser
+use Rattle.trace_types.specs.tenant.Limits.{Limits, are_limits, default_limits}
+use Rattle.trace_types.specs.text.Name.{is_between, is_same}
+use Rattle.trace_types.specs.text.Reading.{number_of}
+use Rattle.command_line.specs.Demand.{AskedReplay as Wanted, Demand, ToReplay, ToCheck, limits_of}
+use Rattle.command_line.specs.declared.words.Asked.{Asked}
+use Rattle.command_line.specs.declared.words.Asked.TheVariants.{Replay, Check, Show}
+use Rattle.command_line.specs.declared.wanted.Replay.{Replay as Replays}
+use Rattle.command_line.specs.declared.words.Refusal.{Refusal}
+use Rattle.command_line.specs.declared.words.Refusal.TheVariants.{Words, Memory}
+
+-- the argument for tenants: one or more
+abbrev pub tenant_rule : Rule
+tenant_rule = record (new_rule (codes "TENANT")) {
+  action = Some Append;
+  range = Some (record { start_inclusive = 1; end_inclusive = 18446744073709551615 });
+  required = true;
+}
+
+-- the option of this name, whose number is one from 1 to this most
+abbrev pub limit_rule : Text → ℕ → Rule
+limit_rule name most = record (new_rule name) {
+  long = Some name;
+  action = Some Set;
+  value_names = 1;
+  parser = Some (parser.Unsigned 1 most);
+}
+
+-- the option for the tenant to be exported
+abbrev pub export_rule : Rule
+export_rule = record (new_rule (codes "export")) { long = Some (codes "export"); action = Some Set; value_names = 1 }
+
+abbrev pub replay_app : App
+replay_app =
+    with_rule (with_rule (with_rule (with_rule (with_rule (with_rule (new_app (codes "replay")) (limit_rule (codes "events") 16384))
+    (limit_rule (codes "tasks") 2048)) (limit_rule (codes "messages") 16384)) (limit_rule (codes "cache") 65536)) export_rule) tenant_rule
+
+abbrev pub check_app : App
+check_app = new_app (codes "check")
+
+abbrev pub bare_app : App
+bare_app = record (new_app (codes "itc_trace")) {
+  top = record (new_app (codes "itc_trace")).top { has_version = true; no_binary_name = true; subcommand_required = true };
+}
+
+-- the whole command line
+abbrev pub program_app : App
+program_app = with_subcommand (with_subcommand bare_app replay_app.top) check_app.top
+
+-- why the command line does not take the words: the kinds of fault that may come, and none where it takes them
+abbrev pub kinds_of : List (List ℕ) → List ErrorKind
+kinds_of words = fault_of program_app words
+
+-- what a command line that is taken asks for
+pub data Work : Type 0 where
+  Replaying : Work
+  Exporting : Work
+  Checking : Work
+
+-- the tenant to be exported, if any, among what was found of a subcommand
+abbrev pub export_found : Option (Text × List Row) → Option Text
+export_found = option_and_then (λ found. first_of (codes "export") found.1)
+
+-- the work of a replay, by the tenant to be exported, if any
+abbrev pub work_with : Option Text → Work
+work_with None = Replaying
+work_with (Some name) = Exporting
+
+-- the work by what was found of a subcommand
+abbrev pub work_found : Option (Text × List Row) → Work
+work_found None = Replaying
+work_found (Some found) = if is_same found.0 (codes "check") then Checking else work_with (first_of (codes "export") found.1)
+
+-- the work that the words name, where the command line takes them
+abbrev pub work_of : List Text → Work
+work_of words = work_found (subcommand_of program_app words)
+
+-- A fault of this kind is no mistake: help or the version was asked for.
+abbrev pub IsShown : ErrorKind → Type 0
+IsShown kind = (kind ≡ DisplayHelp) ⊎ (kind ≡ DisplayVersion)
+
+-- Help or the version may be asked for.
+abbrev pub AsksForHelp : List ErrorKind → Type 0
+AsksForHelp kinds = (kind : ErrorKind) × IsAmong kind kinds × IsShown kind
+
+-- The command line may refuse the words, or takes them.
+abbrev pub MayBeRefused : List ErrorKind → Type 0
+MayBeRefused kinds = (kinds ≡ []) ⊎ ((kind : ErrorKind) × IsAmong kind kinds × (IsShown kind → ⊥))
+
+-- what is made of a fault of this kind
+abbrev pub IsToldOf : ErrorKind → Result Asked Refusal → Type 0
+IsToldOf kind (Ok (Replay replay)) = ⊥
+IsToldOf kind (Ok Check) = ⊥
+IsToldOf kind (Ok (Show text)) = IsShown kind
+IsToldOf kind (Err (Words text)) = IsShown kind → ⊥
+IsToldOf kind (Err Memory) = Unit {0}
+
+-- what is made of words for which these kinds of fault may come, and which name this work
+abbrev pub IsAnswer : List ErrorKind → Work → Result Asked Refusal → Type 0
+IsAnswer kinds work (Ok (Replay replay)) = (kinds ≡ []) × (work ≡ work_with (option_map string_bytes replay.export))
+IsAnswer kinds work (Ok Check) = (kinds ≡ []) × (work ≡ Checking)
+IsAnswer kinds work (Ok (Show text)) = AsksForHelp kinds
+IsAnswer kinds work (Err (Words text)) = MayBeRefused kinds
+IsAnswer kinds work (Err Memory) = Unit {0}
+
+-- the tenants among what was found of a subcommand
+abbrev pub tenants_found : Option (Text × List Row) → Option (List Text)
+tenants_found = option_and_then (λ found. all_of (codes "TENANT") found.1)
+
+-- What was found has these tenants, if it has any.
+abbrev pub FindsTenants : Option (Text × List Row) → List Text → Type 0
+FindsTenants found tenants = (names : List Text) → tenants_found found ≡ Some names → tenants ≡ names
+
+-- the number of the option of this name, and this one by default
+abbrev pub amount_in : Text → ℕ → List Row → Option ℕ
+amount_in name default rows = option_map_or number_of (one_of name rows) (Some default)
+
+-- the limits among what was found, where they are in their ranges
+abbrev pub limits_in : List Row → Option Limits
+limits_in rows = option_and_then (λ limits. if are_limits limits.events limits.tasks limits.messages then Some limits else None)
+    (limits_of (amount_in (codes "events") default_limits.events rows) (amount_in (codes "tasks") default_limits.tasks rows)
+    (amount_in (codes "messages") default_limits.messages rows))
+
+-- the limits among what was found of a subcommand
+abbrev pub limits_found : Option (Text × List Row) → Option Limits
+limits_found = option_and_then (λ found. limits_in found.1)
+
+-- What was found has these limits, if it has any.
+abbrev pub FindsLimits : Option (Text × List Row) → Option Limits → Type 0
+FindsLimits found result = (limits : Limits) → limits_found found ≡ Some limits → result ≡ Some limits
+
+-- how many comparisons are to be remembered, among what was found of a subcommand, where the number is in its range
+abbrev pub cache_found : Option (Text × List Row) → Option ℕ
+cache_found = option_and_then (λ found. option_and_then (λ number. if is_between 1 65536 number then Some number else None)
+    (amount_in (codes "cache") 1024 found.1))
+
+-- What was found is what is asked for.
+abbrev pub Has : Option (Text × List Row) → Demand → Type 0
+Has found (ToReplay asked) = (work_found found ≡ work_with asked.export) × (tenants_found found ≡ Some asked.tenants)
+    × (limits_found found ≡ Some asked.limits) × (cache_found found ≡ Some asked.cache) × (export_found found ≡ asked.export)
+Has found ToCheck = work_found found ≡ Checking
+
+-- what a replay that was read is asked for
+abbrev pub wanted_of : Replays → Wanted
+wanted_of replay = record {
+  limits = replay.limits;
+  cache = replay.cache;
+  tenants = map string_bytes replay.tenants.items;
+  export = option_map string_bytes replay.export;
+}
+
+-- What is asked for was read, if there was memory.
+abbrev pub ReadsWords : Demand → Result Asked Refusal → Type 0
+ReadsWords asked (Ok (Replay replay)) = asked ≡ ToReplay (wanted_of replay)
+ReadsWords asked (Ok Check) = asked ≡ ToCheck
+ReadsWords asked (Ok (Show text)) = ⊥
+ReadsWords asked (Err (Words text)) = ⊥
+ReadsWords asked (Err Memory) = Unit {0}

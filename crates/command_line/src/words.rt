@@ -1,0 +1,328 @@
+//! The words of the command line.
+ghost use Rattle.std.specs.Prelude.{◌≡◌, ◌↔◌, IsTrue, ℕ, false, [], Some, Err, map, option_map, IfOk, IfErr, IfSome, string_bytes};
+ghost use Rattle.clap.specs.Words.{app_of, found_of, kind_of, rows_of, rule_of, subcommand_rows_of};
+ghost use Rattle.clap.specs.declared.builder.Command.TheViews.{out-Command as fields_of};
+ghost use Rattle.trace_types.specs.text.Name.{is_between};
+ghost use Rattle.command_line.specs.Demand.{Demand, asked_in};
+ghost use Rattle.command_line.specs.Reading.{Checking, FindsTenants, FindsLimits, Has, IsAnswer, IsToldOf, ReadsWords, amount_in, cache_found, check_app, export_found, export_rule, kinds_of, limit_rule, program_app, replay_app, tenant_rule, work_found, work_of};
+
+use crate::wanted::Replay;
+use clap::builder::ValueParser;
+use clap::error::ErrorKind;
+use clap::{Arg, ArgAction, ArgMatches, Command, Error};
+use std::alloc::{AllocError, AllocFailed, Global};
+use std::convert::AsStr;
+use trace_types::Limits;
+
+/// What help says after the commands.
+const HELP: &str = "\
+A tenant is a group of tasks whose events are ordered among themselves. Its requests report
+events, as `local root` and `send root m`, and ask about them, as `order 1 2`. An export is a
+tenant's trace as lines of JSON, one for each event, with its stamp and the events that it follows.
+
+Example:
+  printf 'x local root\\nx local root\\nx order 1 2\\n' | itc_trace replay x
+
+`itc_trace help replay` tells of the lines and the options, `itc_trace help check` of exports.";
+
+/// What help on `replay` says after the options.
+const REPLAY_HELP: &str = "\
+Each line of standard input is TENANT REQUEST, and each line of output TENANT REPLY, in the same
+order. A reply is a code and what belongs to it: 200 and 201 tell what was done, others why not.
+
+Requests that report, and are answered 201 with the event's number:
+  local TASK, send TASK MESSAGE, recv TASK MESSAGE, spawn TASK NEW, end TASK, join TASK ENDED
+Requests that ask, and are answered 200:
+  order A B, past A, concurrent A, event A, stamp A, task TASK, message MESSAGE, count
+
+Each tenant starts with the task root, and has the limits for itself. No reply depends on how many
+comparisons are remembered. With --export no reply is written, and at the end a line of JSON for
+each event of that tenant.
+
+Examples:
+  printf 'x local root\\ny local root\\nx stamp 1\\n' | itc_trace replay --events 100 x y
+  x 201 1
+  y 201 1
+  x 200 [1;1]
+  printf 'x local root\\n' | itc_trace replay --export x x
+  {\"event\":1,\"kind\":\"local\",\"name\":\"-\",\"preds\":[],\"stamp\":\"[1;1]\",\"task\":\"root\"}";
+
+/// What help on `check` says after the options.
+const CHECK_HELP: &str = "\
+Standard input is an export. The answer is `yes N` where each of its N lines is right, with status
+0; else `no LINE REASON` with the first faulty line, from 1, and the number of the first of these
+reasons, with status 1:
+  1 it is no JSON, or has more than 65536 bytes
+  2 it is no object of the keys event, kind, name, preds, stamp and task, with their kinds of values
+  3 its event is not the number of the line, or is above 16384
+  4 its preds do not increase, or are no earlier events
+  5 its stamp is none
+  6 the trees of an earlier event and of this one do not compare as the preds say
+
+Example:
+  printf 'x local root\\nx local root\\n' | itc_trace replay --export x x | itc_trace check
+  yes 2";
+
+const EVENTS_HELP: &str = "The most events of each tenant: 1 to 16384 [default: 4096]";
+
+const TASKS_HELP: &str =
+    "The most tasks that each tenant ever has, root included: 1 to 2048 [default: 512]";
+
+const MESSAGES_HELP: &str = "The most messages of each tenant: 1 to 16384 [default: 2048]";
+
+const CACHE_HELP: &str =
+    "How many comparisons are remembered, of all tenants together: 1 to 65536 [default: 1024]";
+
+/// How many comparisons are remembered where the words do not say it.
+const DEFAULT_CACHE: u64 = 1024;
+
+/// The most comparisons that may be remembered.
+const MOST_CACHE: u64 = 65536;
+
+/// What the words ask for.
+#[derive(Drop)]
+pub enum Asked {
+    Replay(Replay),
+    /// The check of an export.
+    Check,
+    /// To show this text: help.
+    Show(String),
+}
+
+/// Why the words are not followed.
+#[derive(Drop)]
+pub enum Refusal {
+    /// They are refused with this text.
+    Words(String),
+    Memory,
+}
+
+impl From<AllocError> for Refusal {
+    ghost use Rattle.command_line.specs.declared.words.Refusal.TheVariants.{Memory};
+
+    ghost from_gives = { λ _ refusal. refusal ≡ Memory };
+
+    fn from(_refused: AllocError) -> Refusal {
+        Refusal::Memory
+    }
+}
+
+impl<T: Drop> From<AllocFailed<T>> for Refusal {
+    ghost use Rattle.command_line.specs.declared.words.Refusal.TheVariants.{Memory};
+
+    ghost from_gives = { λ _ refusal. refusal ≡ Memory };
+
+    fn from(_refused: AllocFailed<T>) -> Refusal {
+        Refusal::Memory
+    }
+}
+
+/// The program's command line.
+fn command<'a>(alloc: Global) -> Result<Command<'a>, AllocError>
+    ensures { IfOk result (λ command. app_of command ≡ program_app) }
+{
+    Command::new(alloc, "itc_trace")
+        .bin_name("itc_trace")?
+        .version("0.1.0")
+        .about("Collects the events of tasks, and answers how they are ordered")
+        .after_help(HELP)
+        .no_binary_name(true)
+        .subcommand_required(true)
+        .subcommand(replay_command(alloc)?)?
+        .subcommand(check_command(alloc))
+}
+
+/// The command `replay`.
+fn replay_command<'a>(alloc: Global) -> Result<Command<'a>, AllocError>
+    ensures app { IfOk result (λ command. app_of command ≡ replay_app) }
+    ensures local { IfOk result (λ command. (fields_of command).has_globals ≡ false) }
+{
+    Command::new(alloc, "replay")
+        .about("Replays lines of requests from standard input, and writes a line for each")
+        .after_help(REPLAY_HELP)
+        .arg(limit(alloc, "events", EVENTS_HELP, Limits::MOST_EVENTS))?
+        .arg(limit(alloc, "tasks", TASKS_HELP, Limits::MOST_TASKS))?
+        .arg(limit(alloc, "messages", MESSAGES_HELP, Limits::MOST_MESSAGES))?
+        .arg(limit(alloc, "cache", CACHE_HELP, MOST_CACHE))?
+        .arg(export(alloc))?
+        .arg(tenants(alloc))
+}
+
+/// The command `check`.
+fn check_command<'a>(alloc: Global) -> Command<'a>
+    ensures app { app_of result ≡ check_app }
+    ensures local { (fields_of result).has_globals ≡ false }
+{
+    Command::new(alloc, "check")
+        .about("Checks an export from standard input, and writes one line: yes, or no and why")
+        .after_help(CHECK_HELP)
+}
+
+/// The argument for tenants.
+fn tenants<'a>(alloc: Global) -> Arg<'a>
+    ensures rule { rule_of result ≡ tenant_rule }
+    ensures local { result.global ≡ false }
+{
+    Arg::new(alloc, "TENANT")
+        .help("A tenant's name: 1 to 24 letters, digits or _; 1 to 16 names, none twice")
+        .required(true)
+        .num_args(1..)
+        .action(ArgAction::Append)
+}
+
+/// The option of this name for a limit, with its help, and the most that it may be.
+fn limit<'a>(alloc: Global, name: &'a str, help: &'a str, most: u64) -> Arg<'a>
+    ensures rule { rule_of result ≡ limit_rule name.entry.now most }
+    ensures local { result.global ≡ false }
+{
+    Arg::new(alloc, name)
+        .long(name)
+        .value_name("N")
+        .help(help)
+        .value_parser(ValueParser::unsigned(1, most))
+        .action(ArgAction::Set)
+}
+
+/// The option for the tenant to be exported.
+fn export<'a>(alloc: Global) -> Arg<'a>
+    ensures rule { rule_of result ≡ export_rule }
+    ensures local { result.global ≡ false }
+{
+    Arg::new(alloc, "export")
+        .long("export")
+        .value_name("NAME")
+        .help("The tenant whose export is written at the end, in place of all replies")
+        .action(ArgAction::Set)
+}
+
+/// What the words after the program's name ask for.
+///
+/// Taken are `replay` and then, in any order, 1 or more tenants, each of the options `--events N`, `--tasks N`,
+/// `--messages N` and `--cache N` once at most, with a whole number in its range, and `--export NAME` once at most; or
+/// `check` alone.
+pub fn read_words<S: AsStr>(alloc: Global, words: &[S]) -> Result<Asked, Refusal>
+    // Limits and tenants are read as they stand, and want of memory alone prevents it.
+    ensures asked { IfSome (asked_in (map S.text words.now)) (λ asked. ReadsWords asked result) }
+    // Whatever the words are, help is shown only where it is asked for.
+    ensures kinds { IsAnswer (kinds_of (map S.text words.now)) (work_of (map S.text words.now)) result }
+{
+    match command(alloc)?.try_get_matches_from(words) {
+        Ok(matches) => asked_of(alloc, &matches),
+        Err(error) => shown(alloc, &error),
+    }
+}
+
+/// What was found.
+fn asked_of(alloc: Global, matches: &ArgMatches) -> Result<Asked, Refusal>
+    ensures asked { (asked : Demand) → Has (subcommand_rows_of matches.now) asked → ReadsWords asked result }
+    ensures kinds { IsAnswer [] (work_found (subcommand_rows_of matches.now)) result }
+{
+    if is_check(matches) {
+        return Ok(Asked::Check);
+    }
+    let tenants = tenants_of(alloc, matches)?;
+    let export = export_of(alloc, matches)?;
+    match (limits_of(matches), cache_of(matches)) {
+        (Some(limits), Some(cache)) => Ok(Asked::Replay(Replay {
+            limits,
+            cache,
+            tenants,
+            export,
+        })),
+        _ => Err(Refusal::Words(String::new(alloc))),
+    }
+}
+
+/// Whether the command `check` was found.
+fn is_check(matches: &ArgMatches) -> bool
+    ensures { IsTrue result ↔ (work_found (subcommand_rows_of matches.now) ≡ Checking) }
+{
+    matches.subcommand_matches("check").is_some()
+}
+
+/// The tenants that were found.
+fn tenants_of(alloc: Global, matches: &ArgMatches) -> Result<Vec<String>, Refusal>
+    ensures ok { IfOk result (λ tenants. FindsTenants (subcommand_rows_of matches.now) (map string_bytes tenants.items)) }
+    ensures err { IfErr result (λ refusal. refusal ≡ Refusal.Memory) }
+{
+    let Some((_, replay)) = matches.subcommand() else {
+        return Ok(Vec::new(alloc));
+    };
+    copy_texts(alloc, replay.get_strs("TENANT").unwrap_or(&[]))
+}
+
+/// The tenant to be exported, if one was found.
+fn export_of(alloc: Global, matches: &ArgMatches) -> Result<Option<String>, Refusal>
+    ensures ok { IfOk result (λ export. option_map string_bytes export ≡ export_found (subcommand_rows_of matches.now)) }
+    ensures err { IfErr result (λ refusal. refusal ≡ Refusal.Memory) }
+{
+    let Some((_, replay)) = matches.subcommand() else {
+        return Ok(None);
+    };
+    match replay.get_str("export") {
+        Some(name) => Ok(Some(String::from_str(alloc, name)?)),
+        None => Ok(None),
+    }
+}
+
+/// The limits that were found; `None` where one is out of its range.
+fn limits_of(matches: &ArgMatches) -> Option<Limits>
+    ensures { FindsLimits (subcommand_rows_of matches.now) result }
+{
+    let (_, replay) = matches.subcommand()?;
+    Limits::read(
+        amount_of(replay, "events", Limits::DEFAULT_EVENTS),
+        amount_of(replay, "tasks", Limits::DEFAULT_TASKS),
+        amount_of(replay, "messages", Limits::DEFAULT_MESSAGES),
+    )
+}
+
+/// How many comparisons are to be remembered; `None` where the number is out of its range.
+fn cache_of(matches: &ArgMatches) -> Option<u64>
+    ensures found { (cache : ℕ) → cache_found (subcommand_rows_of matches.now) ≡ Some cache → result ≡ Some cache }
+    ensures in_range { IfSome result (λ cache. IsTrue (is_between 1 65536 cache)) }
+{
+    let (_, replay) = matches.subcommand()?;
+    let cache = amount_of(replay, "cache", DEFAULT_CACHE);
+    if 1 <= cache && cache <= MOST_CACHE {
+        Some(cache)
+    } else {
+        None
+    }
+}
+
+/// The number of the option of this name, or the default where it was not used.
+fn amount_of(replay: &ArgMatches, name: &str, default: u64) -> u64
+    ensures { (number : ℕ) → amount_in name.now default (rows_of (found_of replay.now)) ≡ Some number → result ≡ number }
+{
+    replay.get_one::<u64>(name).unwrap_or(default)
+}
+
+/// Copies of the texts.
+fn copy_texts(alloc: Global, texts: &[&str]) -> Result<Vec<String>, Refusal>
+    ensures ok { IfOk result (λ copies. map string_bytes copies.items ≡ map (λ text. text.now) texts.now) }
+    ensures err { IfErr result (λ refusal. refusal ≡ Refusal.Memory) }
+{
+    let mut copies = Vec::new(alloc);
+    for text in texts {
+        copies.push(String::from_str(alloc, text)?)?;
+    }
+    Ok(copies)
+}
+
+/// The text of an error that clap made: help, or why the words are refused.
+fn shown(alloc: Global, error: &Error) -> Result<Asked, Refusal>
+    ensures memory { kind_of error.now ≡ ErrorKind.OutOfMemory → result ≡ Err Refusal.Memory }
+    ensures told { IsToldOf (kind_of error.now) result }
+{
+    let kind = error.kind();
+    if kind == ErrorKind::OutOfMemory {
+        return Err(Refusal::Memory);
+    }
+    let text = format!(in alloc; "{error}")?;
+    if kind == ErrorKind::DisplayHelp || kind == ErrorKind::DisplayVersion {
+        Ok(Asked::Show(text))
+    } else {
+        Err(Refusal::Words(text))
+    }
+}
