@@ -11,7 +11,7 @@ use std::alloc::Global;
 use std::sync::Wait;
 use trace_query::{Compare, Deciding};
 use trace_types::{Memory, Order};
-use tree_forest::{Forest, Tree};
+use tree_forest::{Forest, Home, Tree};
 
 /// Keeps the ids and trees of all tenants, each once, and how trees stood to each other that were asked last.
 ///
@@ -41,6 +41,13 @@ impl Shared {
             trees,
             orders,
         })
+    }
+
+    /// Where its event trees lie. It has no bytes.
+    pub fn home(&self) -> Home
+        ensures { result ≡ ⟦<Shared as Keep>⟧.home self.now }
+    {
+        Home::of(&self.trees)
     }
 
     /// How often a comparison was answered by the cache, for the operator alone.

@@ -1,28 +1,33 @@
 -- A book is kept with the event of a report that is not refused.
-use Rattle.std.proofs.Common.{◌≡◌, ℕ, suc, ◌-◌, ◌<◌, ◌≤◌, [], ◌∷◌, ◌++◌, length, map, slice_get, option_map, Option, Some, refl, sym, ap, ◌∙◌, subst, arith}
-use Rattle.tenant_ledger.proofs.Words.{nat_tests, length-append, length-map, length-reverse, reverse-append, map-append, same_Some, slice_get-map, transport, Text, History, task_count, tree_clock, id_of, tree_of, row_after, Row, IsLegal, Contents, Event, IsKept, IsKeptWith, IsTask, IsReport, IsReady, HasRoom, AreMessages, ArePoints, MayRaise, Notes, history_in, task_in, of_each, id_after, event_of, with_event, tasks_with, task_count_with, Report}
+use Rattle.std.proofs.Common.{◌≡◌, ℕ, List, suc, ◌-◌, ◌<◌, ◌≤◌, [], ◌∷◌, ◌++◌, length, map, slice_get, option_map, Option, Some, refl, sym, ap, ◌∙◌, subst, arith}
+use Rattle.tenant_ledger.proofs.Words.{nat_tests, length-append, length-map, length-reverse, reverse-append, map-append, same_Some, slice_get-map, transport, Text, History, history_of, EventTree, task_count, tree_clock, id_of, tree_of, row_after, Row, IsLegal, Contents, Event, IsKept, IsKeptWith, IsTask, IsReport, IsReady, HasRoom, AreMessages, ArePoints, MayRaise, Notes, history_in, task_in, of_each, id_after, event_of, with_event, tasks_with, task_count_with, Report}
 use Rattle.message_book.specs.Book as message_book
 use Rattle.trace_query.specs.declared.deciding.Deciding.{Deciding}
 use Rattle.tenant_ledger.proofs.clock.Events.{tree_of-older}
 use Rattle.tenant_ledger.proofs.clock.Legality.{IsLegal_from_AreLegal}
 use Rattle.tenant_ledger.proofs.keeping.Known.{legal_history}
-use Rattle.tenant_ledger.proofs.keeping.Lists.{length-of_each, at_event, same_places}
+use Rattle.tenant_ledger.proofs.keeping.Lists.{length-of_each, at_event, same_places, Stays}
 use Rattle.tenant_ledger.proofs.keeping.Messages.{noted_are_messages}
 use Rattle.tenant_ledger.proofs.keeping.Points.{points_with_one}
 use Rattle.tenant_ledger.proofs.keeping.Tasks.{id_is_kept, id_is_left, tasks_are_kept, tasks_are_counted}
 
-module _ (book : Contents) (kept : IsKept book) where
-  -- what the book has of an event: its tree, and the id of its task after it
-  pub tree_at_event : (event : ℕ) → 0 < event → event ≤ length book.rows → slice_get book.trees (event - 1) ≡ Some (tree_of tree_clock (history_in book) event)
+module _ (rows : List Row) (trees : List EventTree) (are : trees ≡ of_each (tree_of tree_clock) (history_of rows)) where
+  -- what is kept of an event: its tree
+  pub tree_at_event : (event : ℕ) → 0 < event → event ≤ length rows → slice_get trees (event - 1) ≡ Some (tree_of tree_clock (history_of rows) event)
   tree_at_event event positive within =
-      ap (λ trees. slice_get trees (event - 1)) kept.trees ∙ at_event (tree_of tree_clock) (tree_of-older tree_clock) (history_in book) event positive
-      (omega (arith, within, length-reverse book.rows))
+      ap (λ trees. slice_get trees (event - 1)) are ∙ at_event (tree_of tree_clock) (tree_of-older tree_clock) (history_of rows) event positive
+      (omega (arith, within, length-reverse rows))
 
-  -- the book has a tree of each event
-  pub one_tree : length book.trees ≡ length book.rows
-  one_tree = ap length kept.trees ∙ length-of_each (tree_of tree_clock) (history_in book) ∙ length-reverse book.rows
+  -- a tree is kept of each event
+  pub one_tree : length trees ≡ length rows
+  one_tree = ap length are ∙ length-of_each (tree_of tree_clock) (history_of rows) ∙ length-reverse rows
 
-  -- and a place of the id of each event's task after it
+-- what is told of an event's task is not told anew by a later row
+pub id_after-older : Stays id_after
+id_after-older row earlier event older = grind (arith, nat_tests)
+
+module _ (book : Contents) (kept : IsKept book) where
+  -- the book has a place of the id of each event's task after it
   pub one_place : length book.places ≡ length book.rows
   one_place =
       sym (length-map book.places (slice_get book.ids)) ∙ ap length kept.places ∙ length-map (of_each id_after (history_in book)) Some
@@ -31,7 +36,7 @@ module _ (book : Contents) (kept : IsKept book) where
   pub id_at_event : (event place : ℕ) → 0 < event → event ≤ length book.rows → slice_get book.places (event - 1) ≡ Some place
       → slice_get book.ids place ≡ Some (id_after (history_in book) event)
   id_at_event event place positive within there =
-      let told = at_event id_after (λ row earlier e before. grind (arith, nat_tests)) (history_in book) event positive (omega (arith, within, length-reverse book.rows)) in
+      let told = at_event id_after id_after-older (history_in book) event positive (omega (arith, within, length-reverse book.rows)) in
       same_Some (slice_get book.ids place) (Some (id_after (history_in book) event))
       (sym (slice_get-map (slice_get book.ids) book.places (event - 1) ∙ ap (option_map (slice_get book.ids)) there)
       ∙ ap (λ ids. slice_get ids (event - 1)) kept.places ∙ slice_get-map Some (of_each id_after (history_in book)) (event - 1) ∙ ap (option_map Some) told)

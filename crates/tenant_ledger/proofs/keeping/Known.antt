@@ -13,7 +13,7 @@ differ_back one other differ = false_from_ne_true (is_same other one) λ same.
     false≢true (sym differ ∙ (is_same_iff one other).1 (sym ((is_same_iff other one).0 same)))
 
 -- a task that a row may take in has ended
-joined_was : (earlier : History) (row : Row) (task : Text) (kind : Kind) (name : Option Text) → AllowsNamed earlier kind name
+pub joined_was : (earlier : History) (row : Row) (task : Text) (kind : Kind) (name : Option Text) → AllowsNamed earlier kind name
     → joins task (record row { kind = kind; name = name }) ≡ true → is_ended earlier task ≡ true
 joined_was earlier row task Join (Some child) allowed joins_it = subst (λ name. is_ended earlier name ≡ true) ((is_same_iff child task).0 joins_it) allowed.1
 joined_was earlier row task Join None allowed joins_it = absurd allowed

@@ -57,7 +57,7 @@ received_was_sent earlier row name Recv None allowed received = absurd allowed
 received_was_sent earlier row name kind named allowed received = absurd (false≢true received)
 
 -- so one that was not sent has no receipts
-unsent_has_no_receipts : (history : History) (name : Text) → IsLegal history → is_sent history name ≡ false → receipts history name ≡ []
+pub unsent_has_no_receipts : (history : History) (name : Text) → IsLegal history → is_sent history name ≡ false → receipts history name ≡ []
 unsent_has_no_receipts [] name legal unsent = refl
 unsent_has_no_receipts (row ∷ earlier) name legal unsent =
     grind (arith, nat_tests, received_was_sent earlier row name row.kind row.name legal.0.1, unsent_has_no_receipts earlier name legal.1)

@@ -1,7 +1,7 @@
 -- The lists that are told by comparing the kept trees are those of the graph, and so is the row of an event.
 use Rattle.std.proofs.Common.{◌≡◌, ℕ, suc, ◌-◌, ◌<◌, ◌≤◌, Bool, true, false, cond, not, ◌&&◌, IsTrue, eqb, ltb, List, [], ◌∷◌, ◌++◌, length, get_or, slice_get, reverse, map, option_map, Option, Some, None, Result, Ok, Err, IfOk, IfErr, refl, sym, ap, ◌∙◌, subst, inl, inr, arith}
 use Rattle.trace_query.specs.Compared.{is_order}
-use Rattle.tenant_ledger.proofs.Words.{transport, filter, range_with_len, cases_Bool, eq-eqb, eqb-true, cond-true, cond-false, nat_tests, length-reverse, map-append, reverse-append, reverse-reverse, get_or_from_slice_get, same_Some, slice_get-map, slice_get_read, of_each, tree_at, StandInOrder, order_between, others_standing, fault_due, History, history_of, is_event, row_of, events, reaches, order_of, past_of, concurrent_with, EventTree, Leaf, tree_clock, tree_of, stamp_of, Order, Same, Before, After, Concurrent, Row, is_report, MayLackMemory, Answers, reply_to_view, NoEvent, Reply, Request, IsBelow, Contents, IsKept, IsLegal, MayHavePoint, value, tenant_of, history_in, code_of}
+use Rattle.tenant_ledger.proofs.Words.{transport, filter, range_with_len, cases_Bool, eq-eqb, eqb-true, cond-true, cond-false, nat_tests, length-reverse, map-append, reverse-append, reverse-reverse, get_or_from_slice_get, same_Some, slice_get-map, slice_get_read, of_each, tree_at, StandInOrder, order_between, others_standing, fault_due, History, history_of, is_event, row_of, events, reaches, order_of, past_of, concurrent_with, EventTree, Leaf, tree_clock, tree_of, stamp_of, Order, Same, Before, After, Concurrent, Row, is_report, MayLackMemory, Answers, reply_to_view, NoEvent, Reply, Request, IsBelow, Tenant, AreLegal, ArePoints, IsLegal, MayHavePoint, value, code_of}
 use Rattle.trace_types.specs.declared.reply.Reply.TheVariants as reply
 use Rattle.trace_types.specs.declared.request.Request.TheVariants as request
 use Rattle.trace_query.specs.Deciding.{DecideInOrder, DecidesBelow, IsDecidedBy, point_in}
@@ -37,15 +37,18 @@ before_by same forth back = grind (arith, nat_tests)
 concurrent_by : (same forth back : Bool) → (same ≡ true → forth ≡ true) → is_order Concurrent (cond same Same (cond forth Before (cond back After Concurrent))) ≡ (not forth && not back)
 concurrent_by same forth back itself = grind (arith, nat_tests, itself)
 
-module _ (book : Contents) (is : IsKept book) where
-  abbrev pub history : History
-  history = history_in book
+-- the reply that gives the order that was found
+abbrev pub order_reply : Result Order QueryFault → Reply
+order_reply (Ok order) = reply.Ordering order
+order_reply (Err fault) = reply.Refused (code_of fault)
 
-  abbrev pub trees : List EventTree
-  trees = book.trees
+-- what is kept of each event is its tree, and the rows are legal
+module _ (tenant : Tenant) (trees : List EventTree) (legal : AreLegal tenant.limits tenant.rows) (are : trees ≡ of_each (tree_of tree_clock) (history_of tenant.rows)) where
+  abbrev pub history : History
+  history = history_of tenant.rows
 
   as_many : length trees ≡ length history
-  as_many = one_tree book is ∙ sym (length-reverse book.rows)
+  as_many = one_tree tenant.rows trees are ∙ sym (length-reverse tenant.rows)
 
   -- an event by the trees is one by the rows
   pub same_events : (event : ℕ) → query.has_tree trees event ≡ is_event history event
@@ -55,8 +58,8 @@ module _ (book : Contents) (is : IsKept book) where
   pub tree_is_kept : (event : ℕ) → IsTrue (is_event history event) → tree_at trees event ≡ tree_of tree_clock history event
   tree_is_kept event event_is =
       let bounds = event_bounds history event event_is in
-      let within : event ≤ length book.rows = omega (arith, bounds.1, length-reverse book.rows) in
-      get_or_from_slice_get trees (event - 1) (tree_of tree_clock history event) (Leaf 0) (tree_at_event book is event bounds.0 within)
+      let within : event ≤ length tenant.rows = omega (arith, bounds.1, length-reverse tenant.rows) in
+      get_or_from_slice_get trees (event - 1) (tree_of tree_clock history event) (Leaf 0) (tree_at_event tenant.rows trees are event bounds.0 within)
 
   -- the trees tell the order of the events
   pub trees_tell : Tells trees (order_of history)
@@ -64,21 +67,21 @@ module _ (book : Contents) (is : IsKept book) where
       let one_is : IsTrue (is_event history first) = sym (same_events first) ∙ first_is in
       let other_is : IsTrue (is_event history second) = sym (same_events second) ∙ second_is in
       rw (tree_is_kept first one_is, tree_is_kept second other_is)
-      (stands_as_ordered history (IsLegal_from_AreLegal book.limits book.rows is.legal) first second one_is other_is)
+      (stands_as_ordered history (IsLegal_from_AreLegal tenant.limits tenant.rows legal) first second one_is other_is)
 
   -- what an event knows is not below what an earlier one does: to be below it is to reach it
   pub stand_in_order : StandInOrder trees
   stand_in_order earlier later earlier_is later_is before below =
       let one_is : IsTrue (is_event history earlier) = sym (same_events earlier) ∙ earlier_is in
       let other_is : IsTrue (is_event history later) = sym (same_events later) ∙ later_is in
-      let holds = invariant_upheld tree_clock_laws history (IsLegal_from_AreLegal book.limits book.rows is.legal) in
+      let holds = invariant_upheld tree_clock_laws history (IsLegal_from_AreLegal tenant.limits tenant.rows legal) in
       let kept_below = transport (λ i. IsBelow (tree_is_kept later other_is i) (tree_is_kept earlier one_is i)) below in
       elim (reaches_forward history later earlier ((below_iff_reaches tree_clock_laws history holds later earlier other_is).0 kept_below)) [ inl same ↦ omega (arith, same, before) | inr after ↦ omega (arith, after.0, before) ]
 
   -- a point that an event raised decides which later events it reaches, and so which trees its own is below
-  pub decide_in_order : DecideInOrder trees book.points
-  decide_in_order earlier later earlier_is later_is before =
-      by (point_in book.points (earlier - 1)) (subst (λ e. MayHavePoint history e (point_in book.points (earlier - 1))) number (is.points.each (earlier - 1)))
+  pub decide_in_order : (points : List (Option Deciding)) → ArePoints history points → DecideInOrder trees points
+  decide_in_order points are_points earlier later earlier_is later_is before =
+      by (point_in points (earlier - 1)) (subst (λ e. MayHavePoint history e (point_in points (earlier - 1))) number (are_points.each (earlier - 1)))
     where
       one_is : IsTrue (is_event history earlier)
       one_is = sym (same_events earlier) ∙ earlier_is
@@ -89,15 +92,15 @@ module _ (book : Contents) (is : IsKept book) where
       number : suc (earlier - 1) ≡ earlier
       number = omega (arith, (event_bounds history earlier one_is).0)
 
-      legal : IsLegal history
-      legal = IsLegal_from_AreLegal book.limits book.rows is.legal
+      legal_history : IsLegal history
+      legal_history = IsLegal_from_AreLegal tenant.limits tenant.rows legal
 
       by : (found : Option Deciding) → MayHavePoint history earlier found → IsDecidedBy found (tree_at trees earlier) (tree_at trees later)
       by None none = tt
       by (Some deciding) has = record {
         own = has.own ∙ ap (λ tree. value tree deciding.point) (sym (tree_is_kept earlier one_is));
         decides = transport (λ i. DecidesBelow deciding.point (sym (tree_is_kept earlier one_is) i) (sym (tree_is_kept later other_is) i))
-            (λ known. (invariant_upheld tree_clock_laws history legal).trees_rise earlier later ((decides_reach history legal earlier deciding.point has.raised later).0 known));
+            (λ known. (invariant_upheld tree_clock_laws history legal_history).trees_rise earlier later ((decides_reach history legal_history earlier deciding.point has.raised later).0 known));
       }
 
   told : (wanted : Order) → is_order wanted Same ≡ false → (event : ℕ) → IsTrue (query.has_tree trees event)
@@ -118,64 +121,54 @@ module _ (book : Contents) (is : IsKept book) where
       told Concurrent refl event event_is
       ∙ (λ i. filter (λ other. concurrent_by (eqb other event) (reaches history other event) (reaches history event other) (itself other) i) (events history))
 
-module _ (book : Contents) (is : IsKept book) {trees : List EventTree} (trees_are : trees ≡ book.trees) (event : ℕ) {V : Type 0} (items : V → List ℕ) (answer : Reply) where
-  -- a search through the trees that found this list, or a fault, was answered
-  abbrev IsAnswered : Request → List ℕ → Result V QueryFault → Type 0
-  IsAnswered asked list found = IfOk found (λ _. query.has_tree trees event ≡ true) → IfErr found (λ refusal. refusal ≡ fault_due trees event)
-      → IfOk found (λ value. answer ≡ reply.List (items value)) → IfErr found (λ refusal. answer ≡ reply.Refused (code_of refusal))
-      → IfOk found (λ value. items value ≡ list) → Answers (tenant_of book) asked answer
+  module _ (event : ℕ) {V : Type 0} (items : V → List ℕ) (answer : Reply) where
+    -- a search through the trees that found this list, or a fault, was answered
+    abbrev IsAnswered : Request → List ℕ → Result V QueryFault → Type 0
+    IsAnswered asked list found = IfOk found (λ _. query.has_tree trees event ≡ true) → IfErr found (λ refusal. refusal ≡ fault_due trees event)
+        → IfOk found (λ value. answer ≡ reply.List (items value)) → IfErr found (λ refusal. answer ≡ reply.Refused (code_of refusal))
+        → IfOk found (λ value. items value ≡ list) → Answers tenant asked answer
 
-  has_it : query.has_tree trees event ≡ is_event (history_in book) event
-  has_it = ap (λ found. query.has_tree found event) trees_are ∙ same_events book is event
-
-  -- a list of events that is told by the trees is answered as it is due
-  list_answered : (asked : Request) (graph list : List ℕ) → (is_event (history_in book) event ≡ true → list ≡ graph)
-      → (is_event (history_in book) event ≡ true → (reply.List graph ≡ reply_to_view (tenant_of book) asked) × IsTrue (not (is_report asked)) × MayLackMemory (tenant_of book) asked)
-      → (is_event (history_in book) event ≡ false → reply.Refused NoEvent ≡ reply_to_view (tenant_of book) asked) → (found : Result V QueryFault) → IsAnswered asked list found
-  list_answered asked graph list same due none (Ok value) known fault listed refused events =
-      let there = sym has_it ∙ known in inl (listed ∙ ap reply.List (events ∙ same there) ∙ (due there).0)
-  list_answered asked graph list same due none (Err refusal) known fault listed refused events = elim (cases_Bool (query.has_tree trees event)) [
-    | inl there ↦
-        let given = due (sym has_it ∙ there) in
-        inr (given.1, given.2, refused ∙ ap (λ f. reply.Refused (code_of f)) (fault ∙ cond-true (query.has_tree trees event) _ _ there))
-    | inr nowhere ↦
-        inl (refused ∙ ap (λ f. reply.Refused (code_of f)) (fault ∙ cond-false (query.has_tree trees event) _ _ nowhere) ∙ none (sym has_it ∙ nowhere))
-  ]
-
-  pub past_answered : (found : Result V QueryFault) → IsAnswered (request.Past event) (query.trees_before trees event) found
-  past_answered =
-      list_answered (request.Past event) (past_of (history_in book) event) (query.trees_before trees event)
-      (λ there. ap (λ found. query.trees_before found event) trees_are ∙ past_told book is event (same_events book is event ∙ there))
-      (λ there. (rw there refl, refl, (refl, rw there refl))) (λ nowhere. rw nowhere refl)
-
-  pub concurrent_answered : (found : Result V QueryFault) → IsAnswered (request.Concurrent event) (query.concurrent_of trees event) found
-  concurrent_answered =
-      list_answered (request.Concurrent event) (concurrent_with (history_in book) event) (query.concurrent_of trees event)
-      (λ there. ap (λ found. query.concurrent_of found event) trees_are ∙ concurrent_told book is event (same_events book is event ∙ there))
-      (λ there. (rw there refl, refl, (refl, rw there refl))) (λ nowhere. rw nowhere refl)
-
--- the reply that gives the order that was found
-abbrev pub order_reply : Result Order QueryFault → Reply
-order_reply (Ok order) = reply.Ordering order
-order_reply (Err fault) = reply.Refused (code_of fault)
-
--- an order that is told by the trees is answered as it is due
-pub order_answered : (book : Contents) → IsKept book → {trees : List EventTree} → trees ≡ book.trees → (first second : ℕ)
-    → order_reply (query.order_due trees first second) ≡ reply_to_view (tenant_of book) (request.Order first second)
-order_answered book is trees_are first second =
-    ap (λ trees. order_reply (query.order_due trees first second)) trees_are
-    ∙ ap order_reply (λ i. cond (same_events book is first i && same_events book is second i) (Ok (order_between book.trees first second)) (Err Unknown))
-    ∙ elim (cases_Bool (is_event (history_in book) first)) [
-      | inl one ↦ elim (cases_Bool (is_event (history_in book) second)) [
-        | inl other ↦
-            let told = trees_tell book is first second (same_events book is first ∙ one) (same_events book is second ∙ other) in
-            let same = stand_one_way (tree_at book.trees first) (tree_at book.trees second) (order_between book.trees first second) (order_of (history_in book) first second)
-            (tree_order_stands (tree_at book.trees first) (tree_at book.trees second)) told in
-            rw (one, other) (ap reply.Ordering same)
-        | inr nowhere ↦ rw (one, nowhere) refl
-      ]
-      | inr nowhere ↦ rw nowhere refl
+    -- a list of events that is told by the trees is answered as it is due
+    list_answered : (asked : Request) (graph list : List ℕ) → (is_event history event ≡ true → list ≡ graph)
+        → (is_event history event ≡ true → (reply.List graph ≡ reply_to_view tenant asked) × IsTrue (not (is_report asked)) × MayLackMemory tenant asked)
+        → (is_event history event ≡ false → reply.Refused NoEvent ≡ reply_to_view tenant asked) → (found : Result V QueryFault) → IsAnswered asked list found
+    list_answered asked graph list same due none (Ok value) known fault listed refused events =
+        let there = sym (same_events event) ∙ known in inl (listed ∙ ap reply.List (events ∙ same there) ∙ (due there).0)
+    list_answered asked graph list same due none (Err refusal) known fault listed refused events = elim (cases_Bool (query.has_tree trees event)) [
+      | inl there ↦
+          let given = due (sym (same_events event) ∙ there) in
+          inr (given.1, given.2, refused ∙ ap (λ f. reply.Refused (code_of f)) (fault ∙ cond-true (query.has_tree trees event) _ _ there))
+      | inr nowhere ↦
+          inl (refused ∙ ap (λ f. reply.Refused (code_of f)) (fault ∙ cond-false (query.has_tree trees event) _ _ nowhere) ∙ none (sym (same_events event) ∙ nowhere))
     ]
+
+    pub past_answered : (found : Result V QueryFault) → IsAnswered (request.Past event) (query.trees_before trees event) found
+    past_answered =
+        list_answered (request.Past event) (past_of history event) (query.trees_before trees event)
+        (λ there. past_told event (same_events event ∙ there))
+        (λ there. (rw there refl, refl, (refl, rw there refl))) (λ nowhere. rw nowhere refl)
+
+    pub concurrent_answered : (found : Result V QueryFault) → IsAnswered (request.Concurrent event) (query.concurrent_of trees event) found
+    concurrent_answered =
+        list_answered (request.Concurrent event) (concurrent_with history event) (query.concurrent_of trees event)
+        (λ there. concurrent_told event (same_events event ∙ there))
+        (λ there. (rw there refl, refl, (refl, rw there refl))) (λ nowhere. rw nowhere refl)
+
+  -- an order that is told by the trees is answered as it is due
+  pub order_answered : (first second : ℕ) → order_reply (query.order_due trees first second) ≡ reply_to_view tenant (request.Order first second)
+  order_answered first second =
+      ap order_reply (λ i. cond (same_events first i && same_events second i) (Ok (order_between trees first second)) (Err Unknown))
+      ∙ elim (cases_Bool (is_event history first)) [
+        | inl one ↦ elim (cases_Bool (is_event history second)) [
+          | inl other ↦
+              let told = trees_tell first second (same_events first ∙ one) (same_events second ∙ other) in
+              let same = stand_one_way (tree_at trees first) (tree_at trees second) (order_between trees first second) (order_of history first second)
+              (tree_order_stands (tree_at trees first) (tree_at trees second)) told in
+              rw (one, other) (ap reply.Ordering same)
+          | inr nowhere ↦ rw (one, nowhere) refl
+        ]
+        | inr nowhere ↦ rw nowhere refl
+      ]
 
 -- the rows stand in the order of the events
 rows_in_order : (history : History) → of_each row_of history ≡ map Some (reverse history)
