@@ -1,0 +1,13 @@
+pub mod Adding
+pub mod Beginnings
+pub mod Cases
+pub mod PublishedAnswers
+pub mod PublishedCounts
+pub mod PublishedEvents
+pub mod PublishedHomes
+pub mod PublishedNext
+pub mod Publishing
+pub mod Reporting
+pub mod Searching
+pub mod Steps
+pub mod Viewing

@@ -1,0 +1,83 @@
+-- What a view sees once it entered, and what it may put together.
+use Rattle.std.proofs.Common.{◌≡◌, ℕ, Bool, false, MatchBool, List, [], ◌∷◌, refl, sym, ◌∙◌, subst, inl}
+use Rattle.std.specs.Prelude.{Option, Some, None}
+use mathlib.Core.List.{IsPrefix}
+use Rattle.logbook.specs.Pages.{Book}
+use Rattle.tenant_ledger.proofs.Words.{Limits, Row, Tenant, Request, Reply, Refused, Answers, AreLegal, is_report}
+use Rattle.trace_types.specs.declared.code.Code.TheVariants.{ViewOnly}
+use Rattle.tenant_desk.specs.Events.{tenant_of}
+use Rattle.tenant_desk.specs.Rules.{IsOfDesk, IsOfLog, StaysOf, HasEntered, Sees}
+use Rattle.tenant_desk.specs.Views.{Known, BeginWithEach, LooksUp, Responds}
+use Rattle.tenant_desk.specs.declared.published.Published.{Published}
+use Rattle.tenant_desk.specs.declared.rule.Sight.{Sight}
+use Rattle.tenant_desk.proofs.Beginnings.{begins_with_itself, begins_through}
+
+-- a longer list begins with each that a shorter one begins with
+pub begin_through : (rows more : List Row) (lists : List (List Row)) → IsPrefix rows more → BeginWithEach rows lists → BeginWithEach more lists
+begin_through rows more [] longer begin = tt
+begin_through rows more (list ∷ lists) longer begin = (begins_through list rows more begin.0 longer, begin_through rows more lists longer begin.1)
+
+-- so the longer of two lists that are put together begins with both, and with each that was before
+pub put_longer : (seen told : List Row) (lists : List (List Row)) → IsPrefix seen told → BeginWithEach seen lists → BeginWithEach told (told ∷ seen ∷ lists)
+put_longer seen told lists longer begin = (begins_with_itself told, (longer, begin_through seen told lists longer begin))
+
+pub put_shorter : (seen told : List Row) (lists : List (List Row)) → IsPrefix told seen → BeginWithEach seen lists → BeginWithEach seen (told ∷ seen ∷ lists)
+put_shorter seen told lists shorter begin = (shorter, (begins_with_itself seen, begin))
+
+-- what is known of a desk is known of its log
+pub of_log : (book : Book) (limits : Limits) (home : List ℕ) (known : Option Sight) → IsOfDesk book limits home known → IsOfLog book known
+of_log book limits home None of = absurd of
+of_log book limits home (Some sight) of = of.0
+
+-- what was entered is of the log of which something was known
+pub entered_log : (book : Book) (known now : Option Sight) (published : Published) → IsOfLog book known → Sees known published published now → published.front.book ≡ book
+entered_log book None now published of sees = absurd of
+entered_log book (Some sight) now published of sees = sym sees.2.0.0 ∙ of
+
+-- and of the desk: the same limits, and trees that lie there
+pub entered_desk : (book : Book) (limits : Limits) (home : List ℕ) (known now : Option Sight) (published : Published) → IsOfDesk book limits home known
+    → Sees known published published now → (published.front.book ≡ book) × (published.events.limits ≡ limits) × (published.events.home ≡ home)
+entered_desk book limits home None now published of sees = absurd of
+entered_desk book limits home (Some sight) now published of sees = (sym sees.2.0.0 ∙ of.0, sym sees.2.0.1 ∙ of.1, sym sees.2.0.2 ∙ of.2)
+
+-- which is then known
+pub stays_of : (known now : Option Sight) (published : Published) → Sees known published published now → StaysOf known now
+stays_of known now published sees book limits home of =
+    subst (IsOfDesk book limits home) (sym sees.1) (entered_desk book limits home known now published of sees)
+
+pub known_of_entered : (book : Book) (limits : Limits) (home : List ℕ) (known now : Option Sight) (published : Published) → IsOfDesk book limits home known
+    → Sees known published published now → IsOfDesk published.front.book limits home now
+known_of_entered book limits home known now published of sees =
+    let is = entered_desk book limits home known now published of sees in
+    subst (IsOfDesk published.front.book limits home) (sym sees.1) (refl, is.1, is.2)
+
+-- the answer at what was entered is one at the rows that are then seen
+pub looks_up : (old : Known) (home : List ℕ) (known now : Option Sight) (published : Published) (request : Request) (reply : Reply)
+    → IsOfDesk old.book old.limits home known → BeginWithEach old.seen old.met → HasEntered known old.seen published now
+    → Answers (tenant_of published.events) request reply
+    → LooksUp old request reply (record { seen = published.front.rows; met = []; limits = old.limits; book = published.front.book })
+looks_up old home known now published request reply of begin entered answered =
+    let is = entered_desk old.book old.limits home known now published of entered.sees in
+    let same : tenant_of published.events ≡ record { limits = old.limits; rows = published.front.rows } =
+    λ i. record { limits = is.1 i; rows = (sym entered.sees.0.rows) i } in
+    inl (
+      subst (λ (tenant : Tenant). Answers tenant request reply) same answered,
+      record {
+        legal = subst (λ (tenant : Tenant). AreLegal tenant.limits tenant.rows) same entered.sees.0.events.legal;
+        later = entered.begins;
+        heard = begin_through old.seen published.front.rows old.met entered.begins begin;
+        met = refl;
+        limits = refl;
+        book = is.0;
+      },
+    )
+
+-- so a view that is asked answers as it is due, where that is what it has seen afterwards
+pub responds : (old new : Known) (home : List ℕ) (known now : Option Sight) (published : Published) (request : Request) (reply : Reply)
+    → is_report request ≡ false → IsOfDesk old.book old.limits home known → BeginWithEach old.seen old.met → HasEntered known old.seen published now
+    → Answers (tenant_of published.events) request reply
+    → new ≡ record { seen = published.front.rows; met = []; limits = old.limits; book = published.front.book }
+    → Responds old request reply new
+responds old new home known now published request reply query of begin entered answered is =
+    subst (λ (report : Bool). MatchBool report ((reply ≡ Refused ViewOnly) × (new ≡ old)) (LooksUp old request reply new)) (sym query)
+    (subst (λ (known : Known). LooksUp old request reply known) (sym is) (looks_up old home known now published request reply of begin entered answered))

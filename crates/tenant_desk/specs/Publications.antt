@@ -1,0 +1,57 @@
+-- What a desk publishes, and how an operation changes it.
+use Rattle.std.specs.Prelude.{◌≡◌, ℕ, suc, List, [], ◌∷◌, ◌++◌, length, Option, Some, None}
+use Rattle.trace_types.specs.tenant.Rows.{history_of}
+use Rattle.trace_types.specs.tenant.Tenant.{AreLegal}
+use Rattle.trace_types.specs.clock.Clock.{tree_clock}
+use Rattle.trace_types.specs.clock.Stamps.{id_of, tree_of}
+use Rattle.tenant_desk.specs.Histories.{longer_by}
+use Rattle.tenant_desk.specs.Events.{Events, first_events, with_event}
+use Rattle.tenant_desk.specs.Rules.{Follows, IsPublished, sight_of}
+use Rattle.tenant_desk.specs.declared.rule.Sight.{Sight}
+use Rattle.tenant_desk.specs.declared.event.Event.{Event}
+use Rattle.tenant_desk.specs.declared.published.Operation.{Operation}
+use Rattle.tenant_desk.specs.declared.published.Published.{Published}
+
+-- the events with that of an operation, where it has one
+abbrev pub with_some : Option Event → Events → Events
+with_some None events = events
+with_some (Some event) events = with_event event.row event.tree.value event.tree.home event.id.value events
+
+-- what is published after an operation: the events before the operation's own, and that one
+abbrev pub after : Published → Operation → Published
+after published operation = record {
+  events = with_some operation.event (first_events operation.before published.events);
+  front = operation.front;
+}
+
+-- each operation is for the event after so many
+abbrev pub EachNext : ℕ → List Operation → Type 0
+EachNext count [] = Unit {0}
+EachNext count (operation ∷ operations) = (operation.before ≡ count) × EachNext count operations
+
+-- The event can be published after these: with it the rows are legal, and it has what is to be kept of it.
+pub record IsNext (events : Events) (event : Event) : Type 0 where
+  pub legal : AreLegal events.limits (events.rows ++ event.row ∷ [])
+  pub tree : event.tree.value ≡ tree_of tree_clock (event.row ∷ history_of events.rows) (suc (length events.rows))
+  pub id : event.id.value ≡ id_of tree_clock (event.row ∷ history_of events.rows) event.row.task
+  pub home : event.tree.home ≡ events.home
+
+-- what is published with one more event
+abbrev pub with_next : Event → Published → Published
+with_next event published = record { events = with_some (Some event) published.events; front = longer_by event.row published.front }
+
+-- what an operation makes of events that are all kept
+abbrev pub made_by : Operation → Published → Published
+made_by operation published = record { events = with_some operation.event published.events; front = operation.front }
+
+-- The operation is for the event after those that are published, and what it makes of them may be published after them.
+pub record IsFor (published : Published) (operation : Operation) : Type 0 where
+  pub before : operation.before ≡ length published.events.rows
+  pub sound : IsPublished (made_by operation published)
+  pub follows : Follows published (made_by operation published)
+
+-- What is shown is as published values are, the writer knows of it, and each operation that waits is for the event after it.
+pub record MayPublish (shown : Published) (known : Option Sight) (waiting : List Operation) : Type 0 where
+  pub sound : IsPublished shown
+  pub seen : known ≡ Some (sight_of shown)
+  pub next : EachNext (length shown.events.rows) waiting

@@ -1,0 +1,37 @@
+-- What a search through a tenant's rows is due to find.
+use Rattle.std.specs.Prelude.{ℕ, Bool, true, false, List, Option, Some, None, if◌then◌else◌}
+use Rattle.std.specs.Option.{option_map, option_to_list}
+use Rattle.trace_types.specs.text.Name.{Text}
+use Rattle.trace_types.specs.tenant.Rows.{History, starts, joins, sends, receives, is_known, state_of, last_event, is_sent, send_event, receipts}
+use Rattle.trace_types.specs.declared.row.Row.{Row}
+use Rattle.trace_types.specs.declared.row.Kind.{Kind}
+use Rattle.trace_types.specs.declared.row.Kind.TheVariants.{Local, Spawn, Send, Recv, End, Join}
+use Rattle.trace_types.specs.declared.task_state.TaskState.{TaskState}
+use Rattle.trace_types.specs.declared.task_state.TaskState.TheVariants.{Live, Ended, Joined}
+
+-- how far a task has come that was joined or was not, and whose last report is of this kind
+abbrev pub state_at : Bool → Kind → TaskState
+state_at true last = Joined
+state_at false End = Ended
+state_at false last = Live
+
+-- whether the row is a report of this kind that starts or takes in the task, or sends or receives the message
+abbrev pub is_report_of : Kind → Text → Row → Bool
+is_report_of Local name row = false
+is_report_of Spawn task row = starts task row
+is_report_of Send message row = sends message row
+is_report_of Recv message row = receives message row
+is_report_of End name row = false
+is_report_of Join task row = joins task row
+
+-- how far the task has come and its last event, where there is such a task
+abbrev pub task_due : History → Text → Option (TaskState × ℕ)
+task_due history task = if is_known history task then Some (state_of history task, last_event history task) else None
+
+-- a send, and the one receipt, if there is one, as a list
+abbrev pub send_and_receipts : Option (ℕ × Option ℕ) → Option (ℕ × List ℕ)
+send_and_receipts found = option_map (λ (one : ℕ × Option ℕ). (one.0, option_to_list one.1)) found
+
+-- the send and the receipts of the message, where there is such a message
+abbrev pub message_due : History → Text → Option (ℕ × List ℕ)
+message_due history message = if is_sent history message then Some (send_event history message, receipts history message) else None

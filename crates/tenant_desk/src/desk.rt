@@ -1,0 +1,254 @@
+//! The desk of a tenant, which alone takes its reports.
+ghost use Rattle.std.specs.Prelude.{◌≡◌, ◌∷◌, ◌++◌, [], true, false, IfOk};
+ghost use Rattle.trace_types.specs.tenant.Tenant.{AreLegal, Steps, fresh, is_report};
+ghost use Rattle.trace_types.specs.text.Text.{CanBeWritten};
+ghost use Rattle.tenant_desk.specs.Desks.{IsDone, IsEventOf, AllArePublished};
+
+use crate::Told;
+use crate::event::Event;
+use crate::publisher::Publisher;
+use crate::views::Views;
+use std::alloc::Global;
+use std::marker::Model;
+use std::sync::{Arc, Wait};
+use tenant_ledger::{Keep, Ledger, Prepared, Share, Shared};
+use trace_types::{Code, Limits, Memory, Reply, Request};
+
+/// What a desk works with: the tenant's ledger, what its trees are kept with, and what its views see.
+struct Work {
+    ledger: Ledger<Arc<Shared>>,
+    shared: Arc<Shared>,
+    publisher: Publisher,
+    alloc: Global,
+}
+
+impl Model for Work {
+    ghost use Rattle.std.specs.Arc.{arc_value};
+    ghost use Rattle.tenant_desk.specs.Desks.{Desk as Seen, AllArePublished};
+
+    ghost Value = { Seen };
+
+    ghost view = { λ w. record { tenant = w.ledger; published = w.publisher.events.rows; book = w.publisher.front.book } };
+
+    ghost invariant = { λ w. AllArePublished (⟦<Shared as Keep>⟧.home (arc_value w.shared)) w.ledger w.publisher };
+}
+
+/// What is to be published of a report. `Memory` where its tree or its id cannot be kept once more.
+fn event_of<R: Wait>(
+    rt: &R,
+    alloc: Global,
+    shared: &Shared,
+    prepared: &Prepared<Arc<Shared>>,
+) -> Result<Event, Memory>
+    ensures { IfOk result (IsEventOf (⟦<Shared as Keep>⟧.home shared.now) prepared.now) }
+{
+    let tree = prepared.tree().value().share(alloc)?;
+    Ok(Event {
+        row: prepared.row().share(),
+        tree: shared.keep_tree(rt, tree)?,
+        id: prepared.id().share()?,
+    })
+}
+
+/// Publishes the report and commits it; abandons it, with `NoMemory`, where it cannot be published.
+fn accept<R: Wait>(
+    rt: &R,
+    alloc: Global,
+    shared: &Shared,
+    prepared: Prepared<Arc<Shared>>,
+    publisher: Publisher,
+) -> (Ledger<Arc<Shared>>, Publisher, Reply)
+    requires legal { AreLegal prepared.tenant.limits (prepared.tenant.rows ++ prepared.row ∷ []) }
+    requires shown { AllArePublished (⟦<Shared as Keep>⟧.home shared.now) prepared.tenant publisher }
+    ensures done { IsDone prepared result.2 result.0 }
+    ensures shown { AllArePublished (⟦<Shared as Keep>⟧.home shared.now) result.0 result.1 }
+    ensures book { result.1.front.book ≡ publisher.front.book }
+{
+    let Ok(event) = event_of(rt, alloc, shared, &prepared) else {
+        return (
+            prepared.abandon(),
+            publisher,
+            Reply::Refused(Code::NoMemory),
+        );
+    };
+    let (publisher, shown) = publisher.publish(rt, event);
+    if !shown {
+        return (
+            prepared.abandon(),
+            publisher,
+            Reply::Refused(Code::NoMemory),
+        );
+    }
+    let (ledger, reply) = prepared.commit();
+    (ledger, publisher, reply)
+}
+
+impl Work {
+    /// Takes one request. A report is written, so that its row is legal.
+    fn call<R: Wait>(self, rt: &R, request: &Request) -> (Work, Reply)
+        ensures steps { Steps self.tenant request.now result.1 result.0.tenant }
+        ensures legal { AreLegal result.0.tenant.limits result.0.tenant.rows }
+        ensures published { result.0.published ≡ result.0.tenant.rows }
+        ensures book { result.0.book ≡ self.book }
+    {
+        let (work, reply) = if request.reported().is_some() {
+            self.report(rt, request)
+        } else {
+            let reply = self.ask(rt, request);
+            (self, reply)
+        };
+        let _ = work.ledger.rows();
+        (work, reply)
+    }
+
+    /// Answers a query by the ledger.
+    fn ask<R: Wait>(&self, rt: &R, request: &Request) -> Reply
+        requires { is_report request.now ≡ false }
+        ensures { Steps self.now.tenant request.now result self.now.tenant }
+    {
+        match self.ledger.ask_briefly(rt, request) {
+            Some(reply) => reply,
+            None => self.ledger.ask(&*self.shared, request),
+        }
+    }
+
+    /// Takes a report: what is accepted was published before it was committed.
+    fn report<R: Wait>(self, rt: &R, request: &Request) -> (Work, Reply)
+        requires report { is_report request.now ≡ true }
+        requires written { CanBeWritten request.now }
+        ensures steps { Steps self.tenant request.now result.1 result.0.tenant }
+        ensures book { result.0.book ≡ self.book }
+    {
+        let Work {
+            ledger,
+            shared,
+            publisher,
+            alloc,
+        } = self;
+        let _ = ledger.rows();
+        let (ledger, publisher, reply) = match ledger.prepare(rt, request) {
+            Ok(prepared) => accept(rt, alloc, &shared, prepared, publisher),
+            Err((ledger, reply)) => (ledger, publisher, reply),
+        };
+        let work = Work {
+            ledger,
+            shared,
+            publisher,
+            alloc,
+        };
+        (work, reply)
+    }
+
+    /// Tells of all rows.
+    fn tell(&self) -> Told
+        ensures { result ≡ record { rows = self.now.tenant.rows; book = self.now.book } }
+    {
+        Told {
+            front: self.publisher.front().again(),
+        }
+    }
+
+    /// Ends what it has.
+    fn close<R: Wait>(self, rt: &R) {
+        let Work {
+            ledger: _,
+            shared: _,
+            publisher,
+            alloc: _,
+        } = self;
+        publisher.close(rt);
+    }
+}
+
+/// The desk of a tenant: it alone takes the tenant's reports, and shows the accepted ones to its [`Views`].
+///
+/// Contracts see the tenant, the rows that are shown, and the log in which they stand. It is no value that may be dropped:
+/// end it by [`Desk::close`].
+pub struct Desk {
+    /// It is there but for the time of a report, which moves it.
+    work: Option<Work>,
+}
+
+impl Model for Desk {
+    ghost use Rattle.std.specs.Prelude.{Some, None};
+    ghost use Rattle.tenant_desk.specs.Desks.{Desk as Seen, no_desk};
+
+    ghost Value = { Seen };
+
+    ghost view = { λ d. elim d.work [ None ↦ no_desk | Some work ↦ work ] };
+
+    ghost invariant = { λ d. elim d.work [ None ↦ ⊥ | Some work ↦ Unit {0} ] };
+}
+
+impl Desk {
+    /// Takes one request as the tenant's ledger does. A report that is accepted was published before the call returns; it
+    /// waits for views that still read what was published before the last report.
+    ///
+    /// A request is refused with the first code that applies of those that `refusals` of `trace_types` has for it, and
+    /// last with `NoMemory` (507), where a request for memory was refused: a report, `past`, `concurrent` or `stamp`. A
+    /// refused request changes nothing, and may be asked again.
+    pub fn call<R: Wait>(&mut self, rt: &R, request: &Request) -> Reply
+        ensures steps { Steps self.old.tenant request.now result self.new.tenant }
+        ensures legal { AreLegal self.new.tenant.limits self.new.tenant.rows }
+        ensures published { self.new.published ≡ self.new.tenant.rows }
+        ensures book { self.new.book ≡ self.old.book }
+    {
+        let Some(work) = self.work.take() else {
+            unreachable!()
+        };
+        let (work, reply) = work.call(rt, request);
+        match self.work.replace(work) {
+            None => {}
+            Some(_) => unreachable!(),
+        }
+        reply
+    }
+
+    /// Tells of all rows that were accepted. It takes no memory, and constant time.
+    pub fn tell(&self) -> Told
+        ensures { result ≡ record { rows = self.now.tenant.rows; book = self.now.book } }
+    {
+        let Some(work) = &self.work else {
+            unreachable!()
+        };
+        work.tell()
+    }
+
+    /// Ends the desk. Its views see nothing any more; it waits for those that still read.
+    pub fn close<R: Wait>(self, rt: &R) {
+        let Desk { work } = self;
+        if let Some(work) = work {
+            work.close(rt);
+        }
+    }
+}
+
+/// A desk of a tenant without rows, and its views. `Memory` where a request for memory was refused.
+pub fn desk_and_views<R: Wait>(
+    rt: &R,
+    alloc: Global,
+    limits: Limits,
+    shared: Arc<Shared>,
+) -> Result<(Desk, Views), Memory>
+    ensures tenant { IfOk result (λ made. made.0.tenant ≡ fresh limits) }
+    ensures published { IfOk result (λ made. made.0.published ≡ []) }
+    ensures views { IfOk result (λ made. made.1 ≡ record { left = 8; limits = limits; book = made.0.book }) }
+{
+    let ledger = Ledger::with_share(alloc, limits, Arc::try_clone(&shared)?)?;
+    let mut publisher = Publisher::new(rt, alloc, limits, &shared.home())?;
+    match Views::new(alloc, limits, &shared, &mut publisher) {
+        Ok(views) => {
+            let work = Work {
+                ledger,
+                shared,
+                publisher,
+                alloc,
+            };
+            Ok((Desk { work: Some(work) }, views))
+        }
+        Err(refused) => {
+            publisher.close(rt);
+            Err(refused)
+        }
+    }
+}

@@ -1,0 +1,32 @@
+//! What is published of one event.
+ghost use Rattle.std.specs.Prelude.{◌≡◌, IfOk};
+
+use event_tree::EvTree;
+use id_tree::IdTree;
+use trace_types::{Memory, Row};
+use tree_forest::Tree;
+
+/// What is published of one event: its row, what it knows, and the id of its task after it.
+#[derive(Drop)]
+pub struct Event {
+    /// The row of the event.
+    pub row: Row,
+    /// What the event knows, with itself.
+    pub tree: Tree<EvTree>,
+    /// The id that its task has after it.
+    pub id: Tree<IdTree>,
+}
+
+impl Event {
+    /// The same event once more. It takes no memory; `Memory` where one of its trees would stand in more places than can
+    /// be counted.
+    pub fn share(&self) -> Result<Event, Memory>
+        ensures { IfOk result (λ event. event ≡ self.now) }
+    {
+        Ok(Event {
+            row: self.row.share(),
+            tree: self.tree.share()?,
+            id: self.id.share()?,
+        })
+    }
+}

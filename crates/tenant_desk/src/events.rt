@@ -1,0 +1,376 @@
+//! What is published of a tenant's events, and the answers at it.
+ghost use Rattle.std.specs.Prelude.{◌≡◌, ◌↔◌, ◌<◌, suc, length, map, slice_get, Some, is_some, IfSome, IfOk, IfErr, IsOk, MatchResult};
+ghost use Rattle.std.specs.Option.{option_to_list};
+ghost use Rattle.trace_types.specs.tenant.Rows.{history_of, is_event, task_count, message_count};
+ghost use Rattle.trace_types.specs.tenant.Tenant.{Answers, reply_to_view};
+ghost use Rattle.tenant_ledger.specs.Ledger.{code_of};
+ghost use Rattle.tenant_desk.specs.Events.{AreSound, tenant_of, no_events, first_events, with_event};
+
+use crate::event::Event;
+use crate::search::{message_in, task_in};
+use event_tree::EvTree;
+use id_tree::IdTree;
+use stamp_codec::write_parts;
+use std::alloc::Global;
+use std::marker::Model;
+use std::sync::Wait;
+use tenant_ledger::{Keep, Share, Shared};
+use trace_query::{Compare, QueryFault, concurrent_in_order, order, pair_of, past_in_order};
+use trace_types::{Code, Kind, Limits, Memory, Name, Numbers, Receipts, Reply, Request, Row, Text};
+use tree_forest::{Home, Tree};
+
+/// The events of one tenant that are published: of each its row, what it knows, and the id of its task after it.
+///
+/// Room for as many events as the tenant may have is taken when it is made, so that a change takes no memory.
+#[derive(Drop)]
+pub struct Events {
+    limits: Limits,
+    /// Where the trees are to lie.
+    home: Home,
+    rows: Vec<Row>,
+    trees: Vec<Tree<EvTree>>,
+    ids: Vec<Tree<IdTree>>,
+    /// How many tasks there ever were, root included.
+    tasks: u64,
+    messages: u64,
+}
+
+impl Model for Events {
+    ghost use Rattle.std.specs.Prelude.{map};
+    ghost use Rattle.std.specs.Coded.{codes};
+    ghost use Rattle.event_tree.specs.EventTreeCode.{event_tree_code};
+    ghost use Rattle.id_tree.specs.IdCode.{id_code};
+    ghost use Rattle.tenant_desk.specs.Events.{Events as Published};
+    ghost use Rattle.tenant_desk.specs.Kept.{AreHeld};
+
+    ghost Value = { Published };
+
+    ghost coded = { Prim.hlevel (codes, event_tree_code, id_code) };
+
+    ghost view = { λ e. record {
+      home = e.home;
+      limits = e.limits;
+      rows = e.rows.items;
+      trees = map (λ tree. tree.value) e.trees.items;
+      homes = map (λ tree. tree.home) e.trees.items;
+      ids = map (λ tree. tree.value) e.ids.items;
+    } };
+
+    ghost invariant = { λ e. AreHeld e.limits.events e.rows e.trees e.ids e.tasks e.messages };
+}
+
+impl Events {
+    /// No events, with room for as many as the limits allow. `Memory` where a request for memory was refused.
+    pub fn new(alloc: Global, limits: Limits, home: Home) -> Result<Events, Memory>
+        ensures { IfOk result (λ events. events ≡ no_events home limits) }
+    {
+        let room = limits.events() as usize;
+        Ok(Events {
+            limits,
+            home,
+            rows: Vec::with_capacity(alloc, room)?,
+            trees: Vec::with_capacity(alloc, room)?,
+            ids: Vec::with_capacity(alloc, room)?,
+            tasks: 1,
+            messages: 0,
+        })
+    }
+
+    /// The limits of the tenant.
+    pub fn limits(&self) -> Limits
+        ensures { result ≡ self.now.limits }
+    {
+        self.limits
+    }
+
+    /// The rows, the oldest first.
+    pub fn rows(&self) -> &[Row]
+        ensures { result.now ≡ self.now.rows }
+    {
+        &self.rows
+    }
+
+    /// How many events there are.
+    pub fn count(&self) -> usize
+        ensures { result ≡ length self.now.rows }
+    {
+        self.rows.len()
+    }
+
+    /// Keeps the first so many events. It takes no memory.
+    pub fn truncate(&mut self, count: usize)
+        ensures { self.new ≡ first_events count self.old }
+    {
+        self.trees.truncate(count);
+        self.ids.truncate(count);
+        if count < self.rows.len() {
+            self.rows.truncate(count);
+            self.tasks = task_count(&self.rows);
+            self.messages = message_count(&self.rows);
+        }
+    }
+
+    /// Keeps the first so many events, and adds this one behind them. It takes no memory; `Memory` where there is no room
+    /// for it, since it is above the limit.
+    pub fn put(&mut self, before: usize, event: Event) -> Result<(), Memory>
+        ensures room { IsOk result ↔ (before < self.old.limits.events) }
+        ensures events { MatchResult result
+            (λ _. self.new ≡ with_event event.row event.tree.value event.tree.home event.id.value (first_events before self.old))
+            (λ _. self.new ≡ self.old) }
+    {
+        if before as u64 >= self.limits.events() {
+            return Err(Memory);
+        }
+        self.truncate(before);
+        self.add(event);
+        Ok(())
+    }
+
+    /// Adds an event for which there is room.
+    fn add(&mut self, event: Event)
+        requires room { length self.old.rows < self.old.limits.events }
+        requires trees { length self.old.trees < self.old.limits.events }
+        requires ids { length self.old.ids < self.old.limits.events }
+        ensures { self.new ≡ with_event event.row event.tree.value event.tree.home event.id.value self.old }
+    {
+        match event.row.kind {
+            Kind::Spawn => self.tasks += 1,
+            Kind::Send => self.messages += 1,
+            _ => {}
+        }
+        self.rows.push_reserved(event.row);
+        self.trees.push_reserved(event.tree);
+        self.ids.push_reserved(event.id);
+    }
+
+    /// Answers a query as the tenant is due of whom these are the events, and refuses every report with `ViewOnly` (410).
+    /// Only `past`, `concurrent` and `stamp` take memory, and may be refused with `NoMemory` (507).
+    pub fn answer<C: Compare<Kept = Tree<EvTree>>>(
+        &self,
+        compare: &C,
+        alloc: Global,
+        request: &Request,
+    ) -> Reply
+        requires { AreSound self.now }
+        ensures { Answers (tenant_of self.now) request.now result }
+    {
+        match *request {
+            Request::Local(_)
+            | Request::Spawn(..)
+            | Request::Send(..)
+            | Request::Recv(..)
+            | Request::End(_)
+            | Request::Join(..) => Reply::Refused(Code::ViewOnly),
+            Request::Order(first, second) => self.order(compare, first, second),
+            Request::Past(event) => self.past(compare, alloc, event),
+            Request::Concurrent(event) => self.concurrent_with(compare, alloc, event),
+            Request::Event(event) => self.event(event),
+            Request::Stamp(event) => self.stamp(alloc, event),
+            Request::Task(name) => self.task(&name),
+            Request::Message(name) => self.message(alloc, &name),
+            Request::Count => self.counts(),
+        }
+    }
+
+    /// The same, where orders are looked up in the cache of what all tenants share.
+    pub fn answer_cached<R: Wait>(
+        &self,
+        rt: &R,
+        shared: &Shared,
+        alloc: Global,
+        request: &Request,
+    ) -> Reply
+        requires sound { AreSound self.now }
+        requires home { ⟦<Shared as Keep>⟧.home shared.now ≡ self.now.home }
+        ensures { Answers (tenant_of self.now) request.now result }
+    {
+        match *request {
+            Request::Order(first, second) => self.order_kept(rt, shared, first, second),
+            _ => self.answer(shared, alloc, request),
+        }
+    }
+
+    /// How the first event stands to the second, by the trees kept for them.
+    #[inline(always)]
+    fn order<C: Compare<Kept = Tree<EvTree>>>(&self, compare: &C, first: u64, second: u64) -> Reply
+        requires { AreSound self.now }
+        ensures { result ≡ reply_to_view (tenant_of self.now) (Request.Order first second) }
+    {
+        match order(compare, self.trees(), first, second) {
+            Ok(order) => Reply::Ordering(order),
+            Err(fault) => Reply::Refused(code_of(fault)),
+        }
+    }
+
+    /// The same, by the cache.
+    #[inline(always)]
+    fn order_kept<R: Wait>(&self, rt: &R, shared: &Shared, first: u64, second: u64) -> Reply
+        requires sound { AreSound self.now }
+        requires home { ⟦<Shared as Keep>⟧.home shared.now ≡ self.now.home }
+        ensures { result ≡ reply_to_view (tenant_of self.now) (Request.Order first second) }
+    {
+        match pair_of(self.trees(), first, second) {
+            Ok((first, second)) => Reply::Ordering(shared.order_kept(rt, first, second)),
+            Err(fault) => Reply::Refused(code_of(fault)),
+        }
+    }
+
+    /// The other events that reach the event, by the trees kept for them.
+    fn past<C: Compare<Kept = Tree<EvTree>>>(&self, compare: &C, alloc: Global, event: u64) -> Reply
+        requires { AreSound self.now }
+        ensures { Answers (tenant_of self.now) (Request.Past event) result }
+    {
+        listed(past_in_order(compare, alloc, self.trees(), event))
+    }
+
+    /// The events that neither reach the event nor are reached from it, by the trees kept for them.
+    fn concurrent_with<C: Compare<Kept = Tree<EvTree>>>(
+        &self,
+        compare: &C,
+        alloc: Global,
+        event: u64,
+    ) -> Reply
+        requires { AreSound self.now }
+        ensures { Answers (tenant_of self.now) (Request.Concurrent event) result }
+    {
+        listed(concurrent_in_order(compare, alloc, self.trees(), event))
+    }
+
+    /// What each event knows, in the order of the events.
+    fn trees(&self) -> &[Tree<EvTree>]
+        ensures trees { map (λ tree. tree.value) result.now ≡ self.now.trees }
+        ensures homes { map (λ tree. tree.home) result.now ≡ self.now.homes }
+    {
+        &self.trees
+    }
+
+    /// What the event in this place knows.
+    fn tree(&self, place: usize) -> &EvTree
+        requires { place < length self.now.trees }
+        ensures { slice_get self.now.trees place ≡ Some result.now }
+    {
+        self.trees[place].value()
+    }
+
+    /// The id of its task after the event in this place.
+    fn id(&self, place: usize) -> &IdTree
+        requires { place < length self.now.ids }
+        ensures { slice_get self.now.ids place ≡ Some result.now }
+    {
+        self.ids[place].value()
+    }
+
+    /// The place of the event in the lists, where there is such an event.
+    fn place_of(&self, event: u64) -> Option<usize>
+        ensures there { is_some result ≡ is_event (history_of self.now.rows) event }
+        ensures place { IfSome result (λ place. (event ≡ suc place) × (place < length self.now.rows)) }
+    {
+        let place = event.checked_sub(1)?;
+        if place < self.rows.len() as u64 {
+            Some(place as usize)
+        } else {
+            None
+        }
+    }
+
+    /// The row of the event.
+    fn event(&self, event: u64) -> Reply
+        ensures { result ≡ reply_to_view (tenant_of self.now) (Request.Event event) }
+    {
+        match self.place_of(event) {
+            Some(place) => Reply::Event(self.rows[place].share()),
+            None => Reply::Refused(Code::NoEvent),
+        }
+    }
+
+    /// The stamp of the event.
+    fn stamp(&self, alloc: Global, event: u64) -> Reply
+        requires { AreSound self.now }
+        ensures { Answers (tenant_of self.now) (Request.Stamp event) result }
+    {
+        let Some(place) = self.place_of(event) else {
+            return Reply::Refused(Code::NoEvent);
+        };
+        match write_parts(alloc, self.id(place), self.tree(place)) {
+            Ok(text) => Reply::Stamp(Text::from(text)),
+            Err(refused) => Reply::Refused(Code::from(refused)),
+        }
+    }
+
+    /// The state and the last event of the task.
+    fn task(&self, name: &Name) -> Reply
+        requires { AreSound self.now }
+        ensures { result ≡ reply_to_view (tenant_of self.now) (Request.Task name.now) }
+    {
+        match task_in(&self.rows, name) {
+            Some((state, last)) => Reply::Task(state, last),
+            None => Reply::Refused(Code::NoTask),
+        }
+    }
+
+    /// The send and the receipts of the message.
+    fn message(&self, alloc: Global, name: &Name) -> Reply
+        requires { AreSound self.now }
+        ensures { result ≡ reply_to_view (tenant_of self.now) (Request.Message name.now) }
+    {
+        match message_in(&self.rows, name) {
+            Some((sent, received)) => Reply::Message(sent, receipts(alloc, received)),
+            None => Reply::Refused(Code::NoMessage),
+        }
+    }
+
+    /// How many events, tasks ever and messages there are.
+    #[inline(always)]
+    fn counts(&self) -> Reply
+        ensures { result ≡ reply_to_view (tenant_of self.now) Request.Count }
+    {
+        Reply::Count(self.rows.len() as u64, self.tasks, self.messages)
+    }
+}
+
+/// How many tasks the rows say there ever were, root included.
+fn task_count(rows: &[Row]) -> u64
+    ensures { result ≡ task_count (history_of rows.now) }
+{
+    let started = rows.iter().filter(|row| row.kind == Kind::Spawn).count();
+    1 + started as u64
+}
+
+/// How many messages the rows say there are.
+fn message_count(rows: &[Row]) -> u64
+    ensures { result ≡ message_count (history_of rows.now) }
+{
+    rows.iter().filter(|row| row.kind == Kind::Send).count() as u64
+}
+
+/// The receipts of a message that this event received, if one did.
+fn receipts(alloc: Global, received: Option<u64>) -> Receipts
+    ensures { result ≡ option_to_list received }
+{
+    let mut receipts = Receipts::none(alloc);
+    if let Some(event) = received {
+        receipts.add(event);
+    }
+    receipts
+}
+
+/// The reply that gives these events.
+fn listed(found: Result<Vec<u64>, QueryFault>) -> Reply
+    ensures events { IfOk found (λ events. result ≡ Reply.List events.items) }
+    ensures fault { IfErr found (λ fault. result ≡ Reply.Refused (code_of fault)) }
+{
+    match found {
+        Ok(events) => Reply::List(Numbers::from(events)),
+        Err(fault) => Reply::Refused(code_of(fault)),
+    }
+}
+
+/// The code with which a query about events is refused.
+fn code_of(fault: QueryFault) -> Code
+    ensures { result ≡ code_of fault }
+{
+    match fault {
+        QueryFault::Unknown => Code::NoEvent,
+        QueryFault::Memory => Code::NoMemory,
+    }
+}

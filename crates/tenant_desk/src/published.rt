@@ -1,0 +1,50 @@
+//! What a desk publishes, and what it does to it.
+ghost use Rattle.std.specs.Prelude.{◌≡◌, IfOk};
+ghost use Rattle.tenant_desk.specs.Publications.{after};
+
+use crate::event::Event;
+use crate::events::Events;
+use crate::front::Front;
+use left_right::Absorb;
+use std::alloc::AllocError;
+
+/// The events of a tenant, and how far they are in its log.
+#[derive(Drop)]
+pub(crate) struct Published {
+    pub(crate) events: Events,
+    pub(crate) front: Front,
+}
+
+/// Keeps the first `before` events, and puts its own behind them, where it has one. `front` is how far the log is then.
+#[derive(Drop)]
+pub(crate) struct Operation {
+    pub(crate) before: usize,
+    pub(crate) event: Option<Event>,
+    pub(crate) front: Front,
+}
+
+impl Absorb<Operation> for Published {
+    type State = Published;
+
+    ghost state = { λ published. published };
+
+    ghost applied = { after };
+
+    fn absorb_first(
+        &mut self,
+        operation: &Operation,
+        _other: &Published,
+    ) -> Result<(), AllocError> {
+        match &operation.event {
+            Some(event) => {
+                let event = event.share().map_err(|_| AllocError)?;
+                self.events
+                    .put(operation.before, event)
+                    .map_err(|_| AllocError)?;
+            }
+            None => self.events.truncate(operation.before),
+        }
+        self.front = operation.front.again();
+        Ok(())
+    }
+}

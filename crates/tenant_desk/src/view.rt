@@ -1,0 +1,173 @@
+//! A view of a tenant, which answers beside its desk.
+ghost use Rattle.std.specs.Prelude.{◌≡◌, [], IfOk, MatchResult};
+ghost use Rattle.std.specs.Arc.{arc_value};
+ghost use Rattle.left_right.specs.Sides.{view as known_at};
+ghost use Rattle.tenant_desk.specs.Rules.{HasEntered, IsOfLog, StaysOf};
+ghost use Rattle.tenant_desk.specs.Views.{Learns, Responds};
+
+use crate::Told;
+use crate::front::Front;
+use crate::met::Met;
+use crate::publisher::{DeskReader, DeskReading, Publisher};
+use crate::rule::Seeing;
+use std::alloc::Global;
+use std::marker::Model;
+use std::sync::{Arc, Wait};
+use tenant_ledger::{Keep, Shared};
+use trace_types::{Code, Limits, Memory, Reply, Request};
+
+/// A view of a tenant: it answers at a list that its desk published, and never goes back behind one that it saw or was
+/// told of.
+///
+/// Contracts see the rows that it knows of, the lists that were put together since it last entered, the limits of the
+/// tenant, and the log in which the rows stand.
+#[derive(Drop)]
+pub struct View {
+    /// It is there but for the time of an answer, which moves it.
+    reader: Option<DeskReader>,
+    seen: Front,
+    met: Met,
+    limits: Limits,
+    shared: Arc<Shared>,
+    alloc: Global,
+}
+
+impl Model for View {
+    ghost use Rattle.std.specs.Prelude.{Some, None};
+    ghost use Rattle.std.specs.Arc.{arc_value};
+    ghost use Rattle.left_right.specs.Sides.{view as known_at};
+    ghost use Rattle.tenant_desk.specs.Rules.{IsOfDesk};
+    ghost use Rattle.tenant_desk.specs.Views.{BeginWithEach, Known};
+
+    ghost Value = { Known };
+
+    ghost view = { λ v. record { seen = v.seen.rows; met = v.met; limits = v.limits; book = v.seen.book } };
+
+    ghost invariant = { λ v. BeginWithEach v.seen.rows v.met
+        × elim v.reader [ None ↦ ⊥ | Some reader ↦ IsOfDesk v.seen.book v.limits (⟦<Shared as Keep>⟧.home (arc_value v.shared)) (known_at reader.place) ] };
+}
+
+/// Enters what is published. The reader comes back where the desk is gone, or where less is published than was seen.
+#[tactic(auto, using(crate::proofs::Viewing::entered_log, crate::proofs::Viewing::stays_of))]
+fn enter(reader: DeskReader, seen: &Front) -> Result<DeskReading, DeskReader>
+    requires { IsOfLog seen.now.book (known_at reader.place) }
+    ensures { MatchResult result
+        (λ reading. HasEntered (known_at reader.place) seen.now.rows reading.part.value (known_at reading.place))
+        (λ left. StaysOf (known_at reader.place) (known_at left.place)) }
+{
+    let reading = reader.enter_as::<Seeing>()?;
+    if reading.get().front.covers(seen) {
+        Ok(reading)
+    } else {
+        Err(reading.leave())
+    }
+}
+
+/// Leaves what was entered, and gives how far it went.
+fn leave(reading: DeskReading) -> (DeskReader, Front)
+    ensures known { known_at result.0.place ≡ known_at reading.place }
+    ensures front { result.1 ≡ reading.part.value.front }
+{
+    let front = reading.get().front.again();
+    (reading.leave(), front)
+}
+
+impl View {
+    /// A view of what is shown, which has seen all of it. `Memory` where there is no place to read from, or none can be had.
+    pub(crate) fn new(
+        alloc: Global,
+        limits: Limits,
+        shared: &Arc<Shared>,
+        publisher: &mut Publisher,
+    ) -> Result<View, Memory>
+        requires limits { publisher.old.events.limits ≡ limits }
+        requires home { publisher.old.events.home ≡ ⟦<Shared as Keep>⟧.home (arc_value shared.now) }
+        ensures same { publisher.new ≡ publisher.old }
+        ensures view { IfOk result (λ view. view ≡ record { seen = publisher.old.front.rows; met = []; limits = limits; book = publisher.old.front.book }) }
+    {
+        let shared = Arc::try_clone(shared)?;
+        let reader = publisher.reader()?;
+        Ok(View {
+            reader: Some(reader),
+            seen: publisher.front().again(),
+            met: Met::new(),
+            limits,
+            shared,
+            alloc,
+        })
+    }
+
+    /// Sees the rows that a desk told of, if they are more than were seen. It takes no memory, and waits for nobody.
+    #[tactic(auto, using(crate::proofs::Viewing::put_longer, crate::proofs::Viewing::put_shorter))]
+    pub fn learn(&mut self, told: Told)
+        requires { told.book ≡ self.old.book }
+        ensures { Learns self.old told self.new }
+    {
+        let is_longer = !self.seen.covers(&told.front);
+        self.met.put(&told.front, &self.seen);
+        if is_longer {
+            self.seen = told.front;
+        }
+    }
+
+    /// Answers a query at the list that is published then. It waits for nobody, and passes the cache by.
+    ///
+    /// A report is refused with `ViewOnly` (410), and a query where its desk is gone with `NoPlace` (422); then the view is
+    /// as before. Only `past`, `concurrent` and `stamp` take memory, and may be refused with `NoMemory` (507).
+    #[tactic(auto, using(crate::proofs::Viewing::of_log, crate::proofs::Viewing::entered_desk))]
+    pub fn ask(&mut self, request: &Request) -> Reply
+        ensures answer { Responds self.old request.now result self.new }
+        ensures book { self.new.book ≡ self.old.book }
+    {
+        if request.is_report() {
+            return Reply::Refused(Code::ViewOnly);
+        }
+        let Some(reader) = self.reader.take() else {
+            unreachable!()
+        };
+        match enter(reader, &self.seen) {
+            Ok(reading) => {
+                let events = &reading.get().events;
+                let reply = events.answer(&*self.shared, self.alloc, request);
+                let (reader, seen) = leave(reading);
+                self.reader = Some(reader);
+                self.seen = seen;
+                self.met.clear();
+                reply
+            }
+            Err(reader) => {
+                self.reader = Some(reader);
+                Reply::Refused(Code::NoPlace)
+            }
+        }
+    }
+
+    /// Answers as [`View::ask`] does, and looks orders up in the cache of what all tenants share.
+    #[tactic(auto, using(crate::proofs::Viewing::of_log, crate::proofs::Viewing::entered_desk))]
+    pub fn ask_cached<R: Wait>(&mut self, rt: &R, request: &Request) -> Reply
+        ensures answer { Responds self.old request.now result self.new }
+        ensures book { self.new.book ≡ self.old.book }
+    {
+        if request.is_report() {
+            return Reply::Refused(Code::ViewOnly);
+        }
+        let Some(reader) = self.reader.take() else {
+            unreachable!()
+        };
+        match enter(reader, &self.seen) {
+            Ok(reading) => {
+                let events = &reading.get().events;
+                let reply = events.answer_cached(rt, &*self.shared, self.alloc, request);
+                let (reader, seen) = leave(reading);
+                self.reader = Some(reader);
+                self.seen = seen;
+                self.met.clear();
+                reply
+            }
+            Err(reader) => {
+                self.reader = Some(reader);
+                Reply::Refused(Code::NoPlace)
+            }
+        }
+    }
+}

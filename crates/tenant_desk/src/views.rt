@@ -1,0 +1,73 @@
+//! The views of a tenant.
+ghost use Rattle.std.specs.Prelude.{◌≡◌, ◌+◌, [], IfOk, MatchOption};
+ghost use Rattle.std.specs.Arc.{arc_value};
+ghost use Rattle.tenant_desk.specs.Views.{new_view};
+
+use crate::front::Front;
+use crate::publisher::Publisher;
+use crate::view::View;
+use std::alloc::Global;
+use std::marker::Model;
+use std::sync::Arc;
+use tenant_ledger::{Keep, Shared};
+use trace_types::{Limits, Memory};
+
+/// How many views a desk has.
+const VIEWS: usize = 8;
+
+/// The views of a tenant that were not handed out yet.
+///
+/// Contracts see how many they are, and of which desk.
+#[derive(Drop)]
+pub struct Views {
+    views: Vec<View>,
+    limits: Limits,
+    front: Front,
+}
+
+impl Model for Views {
+    ghost use Rattle.std.specs.Prelude.{◌≡◌, length, All};
+    ghost use Rattle.tenant_desk.specs.Views.{Remaining, new_view};
+
+    ghost Value = { Remaining };
+
+    ghost view = { λ v. record { left = length v.views.items; limits = v.limits; book = v.front.book } };
+
+    ghost invariant = { λ v. All (λ view. view ≡ new_view v.limits v.front.book) v.views.items };
+}
+
+impl Views {
+    /// The views of what is shown, which has no rows.
+    pub(crate) fn new(
+        alloc: Global,
+        limits: Limits,
+        shared: &Arc<Shared>,
+        publisher: &mut Publisher,
+    ) -> Result<Views, Memory>
+        requires rows { publisher.old.front.rows ≡ [] }
+        requires limits { publisher.old.events.limits ≡ limits }
+        requires home { publisher.old.events.home ≡ ⟦<Shared as Keep>⟧.home (arc_value shared.now) }
+        ensures same { publisher.new ≡ publisher.old }
+        ensures views { IfOk result (λ views. views ≡ record { left = 8; limits = limits; book = publisher.old.front.book }) }
+    {
+        let mut views = Vec::with_capacity(alloc, VIEWS)?;
+        for _number in 0..VIEWS {
+            views.push(View::new(alloc, limits, shared, publisher)?)?;
+        }
+        Ok(Views {
+            views,
+            limits,
+            front: publisher.front().again(),
+        })
+    }
+
+    /// Hands out a view: each of eight once, and `None` from then on.
+    pub fn view(&mut self) -> Option<View>
+        ensures limits { self.new.limits ≡ self.old.limits }
+        ensures book { self.new.book ≡ self.old.book }
+        ensures view { MatchOption result ((self.old.left ≡ 0) × (self.new.left ≡ 0))
+            (λ view. (self.old.left ≡ self.new.left + 1) × (view ≡ new_view self.old.limits self.old.book)) }
+    {
+        self.views.pop()
+    }
+}
