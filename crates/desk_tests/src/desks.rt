@@ -15,7 +15,7 @@ fn new_shared(alloc: Global) -> Result<Arc<Shared>, Memory> {
 }
 
 /// The desk of a new tenant, and its views.
-fn opened<R: Wait>(rt: &R, alloc: Global) -> Result<(Desk, Views), Memory>
+pub(crate) fn opened<R: Wait>(rt: &R, alloc: Global) -> Result<(Desk, Views), Memory>
     ensures { IfOk result (λ made. made.1.book ≡ made.0.book) }
 {
     let shared = new_shared(alloc)?;

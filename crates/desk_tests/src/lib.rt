@@ -5,3 +5,5 @@
 
 #[cfg(test)]
 mod desks;
+#[cfg(test)]
+mod threads;

@@ -25,10 +25,8 @@ pub struct OrderCache {
     slot: Counted<Option<Remembered>>,
     /// How often a comparison was remembered. It is counted by the thread that the slot is lent to.
     hits: AtomicU64,
-    /// How many asks there were, up to `FEW_ASKS`.
-    asks: AtomicU64,
-    /// How many asks more are taken for long ones, if none of them is.
-    long: AtomicU64,
+    /// How many asks more are not taken for short ones, if none of them is long: above `FEW_ASKS` while few have asked.
+    watch: AtomicU64,
     /// How many looks in a row found nothing that was remembered.
     misses: AtomicU64,
 }
@@ -57,8 +55,11 @@ const SHORT_WALK: u64 = 24;
 /// So many looks in a row that find nothing show that pairs are not asked again.
 const MANY_MISSES: u64 = 256;
 
-/// Then one ask in so many is looked up and remembered, until one is found again. So it is where walks are taken for short.
+/// Then one ask in so many is looked up and remembered, until one is found again.
 const SELDOM: u64 = 16;
+
+/// Where walks are taken for short, one pair of so many is watched.
+const SAMPLE: u64 = 64;
 
 /// A capacity that can be had, as the map takes it.
 fn capacity_of(capacity: u64) -> Option<NonZeroUsize>
@@ -101,8 +102,7 @@ impl OrderCache {
         Ok(OrderCache {
             slot: Counted::new(Some(remembered), &home),
             hits: AtomicU64::new(0),
-            asks: AtomicU64::new(0),
-            long: AtomicU64::new(0),
+            watch: AtomicU64::new(2 * FEW_ASKS),
             misses: AtomicU64::new(0),
         })
     }
@@ -123,13 +123,10 @@ impl OrderCache {
         requires second { IsOf forest.now second.now }
         ensures { StandsAs result first.now.value second.now.value }
     {
-        if ranges_decide(first.value(), second.value()) {
+        if self.takes_for_short(first, second) || ranges_decide(first.value(), second.value()) {
             return first.value().order(second.value());
         }
-        match self.first_steps(first, second) {
-            Some(steps) => self.order_after(steps, forest, first, second),
-            None => first.value().order(second.value()),
-        }
+        self.order_watched(forest, first, second)
     }
 
     /// How often a comparison was answered by what was remembered, for the operator. From 2^64 - 1 on it stays.
@@ -137,30 +134,19 @@ impl OrderCache {
         self.hits.load(Ordering::Relaxed)
     }
 
-    /// Over how many inner nodes a pair is walked before it is looked up: none while few have asked, so that what is asked
-    /// again is counted from the first. `None` where walks are taken for short, so that it is walked to its end; but one
-    /// pair of so many shows whether they are. Of two threads one may not be counted.
+    /// Whether walks are taken for short, so that the pair is walked to its end; but one pair of so many shows whether they
+    /// are.
     #[inline(always)]
-    fn first_steps(&self, first: &Tree<EvTree>, second: &Tree<EvTree>) -> Option<u64> {
-        let asks = self.asks.load(Ordering::Relaxed);
-        if asks < FEW_ASKS {
-            self.asks.store(asks + 1, Ordering::Relaxed);
-            return Some(0);
-        }
-        if self.long.load(Ordering::Relaxed) > 0
-            || (first.number() ^ second.number()) % SELDOM == 0
-        {
-            Some(SHORT_WALK)
-        } else {
-            None
-        }
+    fn takes_for_short(&self, first: &Tree<EvTree>, second: &Tree<EvTree>) -> bool {
+        self.watch.load(Ordering::Relaxed) == 0 && (first.number() ^ second.number()) % SAMPLE != 0
     }
 
-    /// How two trees stand to each other, by a walk over so many inner nodes, or else looked up.
+    /// How two trees stand to each other: looked up while few have asked, so that what is asked again is counted from the
+    /// first; then walked over a few inner nodes, and looked up where that does not decide. Of two threads one may not be
+    /// counted.
     #[inline(never)]
-    fn order_after(
+    fn order_watched(
         &self,
-        steps: u64,
         forest: &Forest<EvTree>,
         first: &Tree<EvTree>,
         second: &Tree<EvTree>,
@@ -170,14 +156,18 @@ impl OrderCache {
         requires second { IsOf forest.now second.now }
         ensures { StandsAs result first.now.value second.now.value }
     {
-        match first.value().order_within(second.value(), steps) {
+        let watch = self.watch.load(Ordering::Relaxed);
+        if watch > FEW_ASKS {
+            self.watch.store(watch - 1, Ordering::Relaxed);
+            return self.looked_up(forest, first, second);
+        }
+        match first.value().order_within(second.value(), SHORT_WALK) {
             Some(order) => {
-                let long = self.long.load(Ordering::Relaxed);
-                self.long.store(long.saturating_sub(1), Ordering::Relaxed);
+                self.watch.store(watch.saturating_sub(1), Ordering::Relaxed);
                 order
             }
             None => {
-                self.long.store(FEW_ASKS, Ordering::Relaxed);
+                self.watch.store(FEW_ASKS, Ordering::Relaxed);
                 self.looked_up(forest, first, second)
             }
         }

@@ -1,3 +1,4 @@
+pub mod Crossing
 pub mod Words
 pub mod clock
 pub mod keeping

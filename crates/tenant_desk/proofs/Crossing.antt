@@ -1,0 +1,106 @@
+-- What of a desk and its views may go to another thread, type by type, lowest first: a search that goes down through all of
+-- them runs out of steps.
+use denote.Param.Send.{IsSend, IsSync, sendable}
+use Rattle.std.proofs.Crossing.{crosses}
+use Rattle.left_right.proofs.reader.Reader.TheSendSync as reader
+use Rattle.left_right.proofs.writer.Writer.TheSendSync as writer
+use Rattle.logbook.proofs.tokens.Seen.TheSendSync as seen
+use Rattle.logbook.proofs.word.Word.TheSendSync as word
+use Rattle.tenant_ledger.proofs.ledger.Ledger.TheSendSync as ledger
+use Rattle.trace_types.proofs.limits.Limits.TheSendSync as limits
+use Rattle.trace_types.proofs.row.Row.TheSendSync as row
+use Rattle.tree_forest.proofs.tree.Tree.TheSendSync as kept
+use Rattle.tree_forest.proofs.home.Home.TheSendSync as home
+use Rattle.tenant_ledger.proofs.Crossing.{id_tree_send, id_tree_sync, ev_tree_send, ev_tree_sync, shared_send, shared_sync}
+use Rattle.event_tree.specs.contracts.ev_tree.EvTree as EvTree
+use Rattle.id_tree.specs.contracts.IdTree as IdTree
+use Rattle.tree_forest.specs.contracts.tree.Tree as Tree
+use Rattle.tenant_desk.specs.contracts.desk.Desk as Desk
+use Rattle.tenant_desk.specs.contracts.desk.Work as Work
+use Rattle.tenant_desk.specs.contracts.event.Event as Event
+use Rattle.tenant_desk.specs.contracts.events.Events as Events
+use Rattle.tenant_desk.specs.contracts.front.Front as Front
+use Rattle.tenant_desk.specs.contracts.met.Met as Met
+use Rattle.tenant_desk.specs.contracts.published.Operation as Operation
+use Rattle.tenant_desk.specs.contracts.published.Published as Published
+use Rattle.tenant_desk.specs.contracts.publisher.Publisher as Publisher
+use Rattle.tenant_desk.specs.contracts.view.View as View
+
+kept_ev_sync : IsSync (Tree.the_row EvTree.the_row)
+kept_ev_sync = search (kept.the_sync, sendable, ev_tree_sync) depth 20
+
+kept_id_sync : IsSync (Tree.the_row IdTree.the_row)
+kept_id_sync = search (kept.the_sync, sendable, id_tree_sync) depth 20
+
+front_send : IsSend Front.the_row
+front_send = search (seen.the_send, sendable, crosses) depth 20
+
+front_sync : IsSync Front.the_row
+front_sync = search (seen.the_sync, sendable, crosses) depth 20
+
+events_sync : IsSync Events.the_row
+events_sync = search (sendable, crosses, kept_ev_sync, kept_id_sync, row.the_sync, home.the_sync, limits.the_sync) depth 20
+
+published_sync : IsSync Published.the_row
+published_sync = search (sendable, crosses, events_sync, front_sync) depth 20
+
+met_send : IsSend Met.the_row
+met_send = search (sendable, crosses) depth 20
+
+pub view_send : IsSend View.the_row
+view_send = search (
+  sendable,
+  crosses,
+  reader.the_send,
+  published_sync,
+  front_send,
+  met_send,
+  limits.the_send,
+  shared_send,
+  shared_sync,
+) depth 30
+
+kept_ev_send : IsSend (Tree.the_row EvTree.the_row)
+kept_ev_send = search (kept.the_send, sendable, ev_tree_send) depth 20
+
+kept_id_send : IsSend (Tree.the_row IdTree.the_row)
+kept_id_send = search (kept.the_send, sendable, id_tree_send) depth 20
+
+event_send : IsSend Event.the_row
+event_send = search (sendable, kept_ev_send, kept_id_send, row.the_field_send) depth 20
+
+events_send : IsSend Events.the_row
+events_send = search (sendable, crosses, kept_ev_send, kept_id_send, row.the_send, home.the_send, limits.the_send) depth 20
+
+published_send : IsSend Published.the_row
+published_send = search (sendable, events_send, front_send) depth 20
+
+operation_send : IsSend Operation.the_row
+operation_send = search (sendable, event_send, front_send) depth 20
+
+publisher_send : IsSend Publisher.the_row
+publisher_send = search (
+  sendable,
+  crosses,
+  writer.the_field_send,
+  published_send,
+  published_sync,
+  operation_send,
+  word.the_send,
+  front_send,
+) depth 20
+
+work_send : IsSend Work.the_row
+work_send = search (
+  sendable,
+  crosses,
+  ledger.the_send,
+  shared_send,
+  shared_sync,
+  publisher_send,
+  kept_ev_send,
+  kept_id_send,
+) depth 20
+
+pub desk_send : IsSend Desk.the_row
+desk_send = search (sendable, work_send) depth 20
