@@ -1,11 +1,13 @@
-//! Asks a ledger all that a run asks, and again what finds no memory: each reply has to be the one that is due.
+//! Asks a ledger all that a run asks, and again what finds no memory: each reply has to be the one that is due. Then it asks
+//! a desk and its view the same.
 //!
-//! Before each line of the run all its reports are prepared and abandoned, which is to leave no trace either. The program
-//! prints `ok` where that holds. It is run once for each block of memory that it asks for, with that block refused.
+//! Before each line of the run all its reports are prepared and abandoned at the ledger, which is to leave no trace either.
+//! The program prints `ok` where that holds. It is run once for each block of memory that it asks for, with that block refused.
 #![tactic(auto)]
 
 ghost use Rattle.std.specs.Prelude.{◌≡◌};
 
+mod desks;
 mod run;
 
 use line_protocol::{IntoWriter, read_request, write_reply};
@@ -21,6 +23,7 @@ fn main(rt: HostRuntime) -> io::Result<()> {
         Ok(ledger) => answers_the_run(&rt, ledger),
         Err(Memory) => false,
     };
+    let holds = holds && desks::answer_the_run(&rt, rt.alloc());
     println!(rt; "{}", if holds { "ok" } else { "wrong" })
 }
 
