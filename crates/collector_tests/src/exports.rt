@@ -1,11 +1,13 @@
 //! Exports, written and checked.
+ghost use Rattle.std.specs.Prelude.{◌<◌, length, IfOk};
 
 use line_protocol::{FromReader, IntoWriter};
 use std::alloc::Global;
+use std::sync::Wait;
 use std::test::Fail;
 use trace_export::{Reason, Verdict, check};
 use trace_types::{Limits, Name};
-use trace_world::{World, replay_export};
+use trace_world::{ReplayFault, World, replay_export};
 
 /// The lines of a small trace, with LF between them.
 const LINES: [&str; 8] = [
@@ -42,26 +44,46 @@ fn verdict_of(alloc: Global, text: &[u8]) -> Result<Verdict, Fail> {
     Ok(check(alloc, &mut reader)?)
 }
 
+/// A world of the tenants `x` and `y`.
+fn new_world(alloc: Global) -> Result<World, Fail>
+    ensures { IfOk result (λ world. 0 < length world.tenants) }
+{
+    let names = [name(b"x")?, name(b"y")?];
+    Ok(World::new(alloc, &names, Limits::default(), 1024)?)
+}
+
+/// How many lines are told, and what is written, where the requests are done and `x` is exported.
+fn exported<R: AllocGlobal + Wait>(rt: &R, world: &mut World) -> Result<(u64, Vec<u8>), ReplayFault>
+    requires { 0 < length world.old.tenants }
+{
+    let mut reader = FromReader::new(REQUESTS);
+    let mut writer = IntoWriter::new(Vec::new(rt.alloc()));
+    let count = replay_export(rt, rt.alloc(), world, 0, &mut reader, &mut writer)?;
+    Ok((count, writer.into_inner()))
+}
+
 #[test]
 fn export_has_every_row(rt: HostRuntime) -> Result<(), Fail> {
-    let alloc = rt.alloc();
-    let names = [name(b"x")?, name(b"y")?];
-    let mut world = World::new(alloc, &names, Limits::default(), 1024)?;
-    let mut reader = FromReader::new(REQUESTS);
-    let mut writer = IntoWriter::new(Vec::new(alloc));
-    let count = replay_export(&rt, alloc, &mut world, 0, &mut reader, &mut writer)?;
-    assert!(rt; count == 8);
-    assert!(rt; writer.into_inner().as_slice() == export_text(alloc)?.as_slice());
+    let mut world = new_world(rt.alloc())?;
+    let written = exported(&rt, &mut world)?;
+    assert!(rt; written == (8, export_text(rt.alloc())?));
     Ok(())
+}
+
+/// The lines without the first.
+fn without_the_first(text: &[u8]) -> &[u8] {
+    text.get(LINES[0].len() + 1..).unwrap_or(&[])
 }
 
 #[test]
 fn check_answers(rt: HostRuntime) -> Result<(), Fail> {
-    let alloc = rt.alloc();
-    let text = export_text(alloc)?;
-    assert!(rt; verdict_of(alloc, b"")? == Verdict::Yes(0));
-    assert!(rt; verdict_of(alloc, &text)? == Verdict::Yes(8));
-    let without_the_first = text.get(LINES[0].len() + 1..).unwrap_or(&[]);
-    assert!(rt; verdict_of(alloc, without_the_first)? == Verdict::No(1, Reason::Number));
+    let text = export_text(rt.alloc())?;
+    for (lines, want) in [
+        (&[][..], Verdict::Yes(0)),
+        (&text, Verdict::Yes(8)),
+        (without_the_first(&text), Verdict::No(1, Reason::Number)),
+    ] {
+        assert!(rt; verdict_of(rt.alloc(), lines)? == want);
+    }
     Ok(())
 }

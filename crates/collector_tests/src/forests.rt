@@ -1,105 +1,72 @@
 //! Forests and the trees that they keep, by threads too.
 
-use crate::runs::RUNS;
 use event_tree::EvTree;
-use line_protocol::read_request;
 use std::alloc::Global;
 use std::sync::Wait;
 use std::test::Fail;
 use std::thread::{Threads, join};
-use tenant_ledger::Ledger;
-use trace_types::{Limits, Memory, Request};
-use tree_forest::{Forest, Shape};
+use trace_types::Memory;
+use tree_forest::Forest;
 
-/// A value whose digest half of all others have too.
-#[derive(Drop)]
-struct Letter {
-    byte: u8,
+/// The tree of a number and those of its halves, made anew.
+fn tree(alloc: Global, (n, left, right): (u8, u8, u8)) -> Result<EvTree, Memory> {
+    let left = EvTree::leaf(u64::from(left));
+    let right = EvTree::leaf(u64::from(right));
+    EvTree::fork(alloc, u64::from(n), left, right)
 }
 
-impl Shape for Letter {
-    ghost use Rattle.std.specs.Prelude.{◌%◌};
-
-    ghost digest_of = { λ letter. letter.byte % 2 };
-
-    fn same(&self, other: &Letter) -> bool {
-        self.byte == other.byte
-    }
-
-    fn digest(&self) -> u64 {
-        (self.byte % 2) as u64
-    }
-
-    fn share(&self, _alloc: Global) -> Result<Letter, Memory> {
-        Ok(Letter { byte: self.byte })
-    }
-}
-
-/// The numbers of these letters in a forest without rows.
-fn numbers_of<R: Wait>(rt: &R, alloc: Global, letters: &[u8]) -> Result<Vec<u64>, Memory> {
-    let forest = Forest::new(alloc)?;
-    let mut numbers = Vec::new(alloc);
-    for &byte in letters {
-        let letter = Letter { byte };
-        numbers.push(forest.intern(rt, &letter)?.number())?;
-    }
-    Ok(numbers)
-}
-
-#[test]
-fn equal_values_share_a_number_and_others_of_one_digest_do_not(
-    rt: HostRuntime,
-) -> Result<(), Fail> {
-    let numbers = numbers_of(&rt, rt.alloc(), b"aabbca")?;
-    assert!(rt; numbers.as_slice() == [0, 0, 1, 1, 2, 3].as_slice());
-    Ok(())
-}
-
-/// A tree of this number, made anew.
-fn tree(alloc: Global, number: u64) -> Result<EvTree, Memory> {
-    EvTree::fork(alloc, 0, EvTree::leaf(number), EvTree::leaf(7))
+/// The number of a tree that is made anew and kept.
+fn number_of<R: Wait>(
+    rt: &R,
+    alloc: Global,
+    forest: &Forest<EvTree>,
+    parts: (u8, u8, u8),
+) -> Result<u64, Memory> {
+    let tree = tree(alloc, parts)?;
+    Ok(forest.intern(rt, &tree)?.number())
 }
 
 #[test]
 fn equal_trees_share_a_number(rt: HostRuntime) -> Result<(), Fail> {
     let forest = Forest::new(rt.alloc())?;
-    let one = forest.intern(&rt, &tree(rt.alloc(), 3)?)?;
-    let other = forest.intern(&rt, &tree(rt.alloc(), 3)?)?;
-    assert!(rt; one.number() == other.number());
+    let one = number_of(&rt, rt.alloc(), &forest, (0, 3, 7))?;
+    let other = number_of(&rt, rt.alloc(), &forest, (0, 3, 7))?;
+    assert!(rt; one == other);
     Ok(())
 }
 
-/// Takes the report, and adds the tree of its event.
-fn add_tree_of<R: AllocGlobal>(
-    rt: &R,
-    ledger: Ledger,
-    report: &Request,
-    trees: &mut Vec<EvTree>,
-) -> Result<Ledger, Fail> {
-    if !report.is_report() {
-        return Err("no report".into());
-    }
-    match ledger.prepare(rt, report) {
-        Ok(prepared) => {
-            let tree = prepared.tree().share(rt.alloc());
-            let (ledger, _) = prepared.commit();
-            trees.push(tree?)?;
-            Ok(ledger)
-        }
-        Err(_) => Err("a refused report".into()),
-    }
-}
+/// Trees of which some are equal, also where they are made of other numbers.
+const TREES: [(u8, u8, u8); 21] = [
+    (1, 0, 0),
+    (2, 0, 0),
+    (2, 0, 1),
+    (2, 1, 0),
+    (2, 0, 2),
+    (4, 0, 0),
+    (1, 1, 1),
+    (0, 2, 2),
+    (1, 1, 2),
+    (0, 3, 2),
+    (3, 0, 0),
+    (2, 1, 1),
+    (3, 1, 0),
+    (3, 0, 1),
+    (1, 3, 3),
+    (2, 0, 3),
+    (1, 1, 4),
+    (5, 0, 0),
+    (2, 0, 1),
+    (0, 0, 4),
+    (0, 4, 0),
+];
 
-/// Adds the trees of the events of the run.
-fn add_trees_of<R: AllocGlobal>(rt: &R, run: &str, trees: &mut Vec<EvTree>) -> Result<(), Fail> {
-    let mut ledger = Ledger::new(rt.alloc(), Limits::default())?;
-    for line in run.lines() {
-        match read_request(line.as_bytes()) {
-            Some(report) => ledger = add_tree_of(rt, ledger, &report, trees)?,
-            None => return Err("no request".into()),
-        }
+/// The trees of the table.
+fn all_trees(alloc: Global) -> Result<Vec<EvTree>, Memory> {
+    let mut trees = Vec::new(alloc);
+    for parts in TREES {
+        trees.push(tree(alloc, parts)?)?;
     }
-    Ok(())
+    Ok(trees)
 }
 
 /// Keeps each tree 50 times, so many places on at each step and one place later in each round, and tells which number it
@@ -190,16 +157,12 @@ fn agree(trees: &[EvTree], numbers: &[(usize, u64)]) -> bool {
 
 #[test]
 fn four_threads_keep_equal_trees_under_equal_numbers(rt: HostRuntime) -> Result<(), Fail> {
-    let mut trees = Vec::new(rt.alloc());
-    for run in RUNS {
-        add_trees_of(&rt, run, &mut trees)?;
-    }
+    let trees = all_trees(rt.alloc())?;
     let forest = Forest::new(rt.alloc())?;
     let numbers = kept_by_four(&rt, rt.alloc(), &forest, &trees)?;
-    assert!(rt; numbers.len() == trees.len().wrapping_mul(200));
+    assert!(rt; numbers.len() == 4200);
     assert!(rt; agree(&trees, &numbers));
     // Each thread adds a row for a tree once at most.
-    let most = (trees.len() as u64).wrapping_mul(4);
-    assert!(rt; numbers.iter().all(|(_, number)| *number < most));
+    assert!(rt; numbers.iter().all(|(_, number)| *number < 84));
     Ok(())
 }

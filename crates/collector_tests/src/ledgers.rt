@@ -1,67 +1,22 @@
-//! One tenant's ledger, by its calls: what is prepared, how often it compares, and its lists where trees are deep.
-ghost use Rattle.std.specs.Prelude.{◌≡◌, [], true};
-ghost use Rattle.trace_types.specs.tenant.Tenant.{is_report};
+//! How often a ledger has trees compared, and looks at one point of them.
+ghost use Rattle.std.specs.Prelude.{◌≡◌, []};
 
-use crate::runs::{FAMILY, TALK};
 use event_tree::EvTree;
 use id_tree::IdTree;
 use line_protocol::read_request;
-use stamp_codec::write_parts;
-use std::alloc::Global;
 use std::cell::Cell;
 use std::test::Fail;
-use tenant_ledger::{Keep, Ledger, PlainShare, Share};
-use trace_query::{Compare, Deciding, Plain, QueryFault, concurrent_with, past};
-use trace_types::{Limits, Memory, Name, Numbers, Order, Reply, Request};
+use tenant_ledger::{Keep, Ledger, Share};
+use trace_query::{Compare, Deciding, Plain};
+use trace_types::{Limits, Memory, Order, Request};
 
-/// Whether the last event of the ledger has this row, and the stamp of this text.
-fn has_last(ledger: &Ledger, row: &Reply, stamp: &[u8]) -> bool {
-    let event = ledger.rows().len() as u64;
-    let kept = ledger.ask(&PlainShare, &Request::Stamp(event));
-    ledger.ask(&PlainShare, &Request::Event(event)) == *row
-        && matches!(&kept, Reply::Stamp(text) if text.as_bytes() == stamp)
-}
-
-/// The ledger after the request, and whether it keeps the row, the id and the tree that were prepared for a report.
-fn kept_as_prepared<R: AllocGlobal>(rt: &R, ledger: Ledger, request: &Request) -> (Ledger, bool) {
-    if !request.is_report() {
-        return (ledger, true);
-    }
-    match ledger.prepare(rt, request) {
-        Ok(prepared) => {
-            let row = Reply::Event(prepared.row().share());
-            let stamp = write_parts(rt.alloc(), prepared.id(), prepared.tree());
-            let (ledger, _) = prepared.commit();
-            let holds = has_last(&ledger, &row, stamp.as_deref().unwrap_or(&[]));
-            (ledger, holds)
-        }
-        Err((ledger, _)) => (ledger, false),
-    }
-}
-
-/// Whether each report of the run is accepted and kept as it was prepared.
-fn is_kept_as_prepared<R: AllocGlobal>(rt: &R, mut ledger: Ledger, run: &str) -> bool {
-    for line in run.lines() {
-        let Some(request) = read_request(line.as_bytes()) else {
-            return false;
-        };
-        let (next, holds) = kept_as_prepared(rt, ledger, &request);
-        if !holds {
-            return false;
-        }
-        ledger = next;
-    }
-    true
-}
-
-#[test]
-fn what_is_prepared_is_what_is_kept(rt: HostRuntime) -> Result<(), Fail> {
-    for run in [FAMILY, TALK] {
-        let ledger = Ledger::new(rt.alloc(), Limits::default())?;
-        assert!(rt; is_kept_as_prepared(&rt, ledger, run), "{run}");
-    }
-    Ok(())
-}
+/// Reports of two tasks, of which one sends the other a message.
+const REPORTS: &str = "local root
+spawn root a
+local a
+local root
+send a m
+recv root m";
 
 /// How often two trees were compared, and how often one point was looked at.
 #[derive(Drop)]
@@ -173,14 +128,13 @@ fn comparisons<R>(
     [of_ledger, share.looks.counted()]
 }
 
-/// A ledger that counts, after this run.
+/// A ledger that counts, after the reports.
 fn counting_ledger<'a, R: AllocGlobal>(
     rt: &R,
     share: Counting<'a>,
-    run: &str,
 ) -> Result<Ledger<Counting<'a>>, Memory> {
     let mut ledger = Ledger::with_share(rt.alloc(), Limits::default(), share)?;
-    for line in run.lines() {
+    for line in REPORTS.lines() {
         if let Some(request) = read_request(line.as_bytes()) {
             let _ = ledger.report(rt, &request);
         }
@@ -192,7 +146,7 @@ fn counting_ledger<'a, R: AllocGlobal>(
 fn comparisons_are_counted(rt: HostRuntime) -> Result<(), Fail> {
     let looks = Looks::none();
     let share = Counting { looks: &looks };
-    let mut ledger = counting_ledger(&rt, share, TALK)?;
+    let mut ledger = counting_ledger(&rt, share)?;
     for (query, want) in [
         (Request::Order(3, 4), (1, 0)),
         (Request::Past(4), (0, 3)),
@@ -201,80 +155,5 @@ fn comparisons_are_counted(rt: HostRuntime) -> Result<(), Fail> {
         let found = comparisons(&rt, share, &mut ledger, &query);
         assert!(rt; found == [want, want], "{query:?}");
     }
-    Ok(())
-}
-
-/// How many tasks a chain has beside `root`: the trees of its last events are higher than the halves of a point.
-const CHAIN: u64 = 300;
-
-/// The ledger after the report; the tree of its event follows the others.
-fn grown<'a>(
-    alloc: Global,
-    ledger: Ledger<Counting<'a>>,
-    trees: &mut Vec<EvTree>,
-    report: &Request,
-) -> Result<Ledger<Counting<'a>>, Fail>
-    requires { is_report report.now ≡ true }
-{
-    match ledger.prepare(&(), report) {
-        Ok(prepared) => {
-            let tree = prepared.tree().share(alloc);
-            let (ledger, _) = prepared.commit();
-            trees.push(tree?)?;
-            Ok(ledger)
-        }
-        Err((ledger, _)) => Ok(ledger),
-    }
-}
-
-/// A chain of tasks, each started by the one before, which then goes on; and what its events know.
-fn chain<'a>(
-    alloc: Global,
-    share: Counting<'a>,
-) -> Result<(Ledger<Counting<'a>>, Vec<EvTree>), Fail> {
-    let mut ledger = Ledger::with_share(alloc, Limits::default(), share)?;
-    let mut trees = Vec::new(alloc);
-    let mut task = Name::root();
-    for number in 0..CHAIN {
-        let name = format!(in alloc; "t{number}")?;
-        let child = Name::read(name.as_bytes()).ok_or("no name")?;
-        let spawn = Request::Spawn(task, child);
-        ledger = grown(alloc, ledger, &mut trees, &spawn)?;
-        ledger = grown(alloc, ledger, &mut trees, &Request::Local(task))?;
-        task = child;
-    }
-    Ok((ledger, trees))
-}
-
-/// Whether the ledger's lists of the event are those that comparing whole trees gives.
-fn lists_as_trees_do(
-    alloc: Global,
-    share: Counting<'_>,
-    ledger: &Ledger<Counting<'_>>,
-    trees: &[EvTree],
-    event: u64,
-) -> Result<bool, QueryFault> {
-    let past = past(&Plain, alloc, trees, event)?;
-    let concurrent = concurrent_with(&Plain, alloc, trees, event)?;
-    Ok(
-        ledger.ask(&share, &Request::Past(event)) == Reply::List(Numbers::from(past))
-            && ledger.ask(&share, &Request::Concurrent(event))
-                == Reply::List(Numbers::from(concurrent)),
-    )
-}
-
-#[test]
-fn lists_by_points_are_those_by_trees_at_any_depth(rt: HostRuntime) -> Result<(), Fail> {
-    let looks = Looks::none();
-    let share = Counting { looks: &looks };
-    let (ledger, trees) = chain(rt.alloc(), share)?;
-    for event in [1, 2, 3, 254, 255, 256, 257, 258, 259, 599, 600] {
-        let holds = lists_as_trees_do(rt.alloc(), share, &ledger, &trees, event)?;
-        assert!(rt; holds, "{event}");
-    }
-    let _ = looks.counted();
-    let _ = ledger.ask(&share, &Request::Past(600));
-    // The ids of the first 257 events lie within the 128 levels of a point.
-    assert!(rt; looks.counted() == (342, 257));
     Ok(())
 }

@@ -1,8 +1,9 @@
 //! Tests of the collector's crates by their public calls. They stand here, so that each of those crates is proved once.
 //!
-//! They show what no contract says: that the definitions mean what was meant, on values from outside; how texts are
-//! written; and that calls which may answer want of memory find some. What lines and replies can show, also up to the
-//! greatest limits, is shown by runs of the built program, and what texts of stamps can show by those of `stamp_cases`.
+//! They show what neither a contract nor a run of a built program does: what is counted and kept beside the replies, what
+//! threads do at once, and calls and words that the program does not come to. What lines and replies can show, also up to
+//! the greatest limits and over faults, is shown by runs of the built program, and what texts of stamps can show by those
+//! of `stamp_cases`.
 #![tactic(auto)]
 
 #[cfg(test)]
@@ -15,12 +16,6 @@ mod forests;
 mod ledgers;
 #[cfg(test)]
 mod queries;
-#[cfg(test)]
-mod replays;
-#[cfg(test)]
-mod runs;
-#[cfg(test)]
-mod shares;
 #[cfg(test)]
 mod trees;
 #[cfg(test)]

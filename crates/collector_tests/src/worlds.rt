@@ -1,6 +1,8 @@
-//! Worlds of tenants, by the calls that make one and find a tenant.
+//! Worlds of tenants, by the calls that make one, and what their tenants share.
 
 use std::alloc::Global;
+use std::process::Abort;
+use std::sync::Wait;
 use std::test::Fail;
 use trace_types::{Limits, Name, WorldFault};
 use trace_world::{World, replay_bytes};
@@ -14,22 +16,24 @@ fn names_of(alloc: Global, letters: &str) -> Result<Vec<Name>, Fail> {
     Ok(names)
 }
 
-#[test]
-fn no_names_17_names_and_a_name_twice_are_refused(rt: HostRuntime) -> Result<(), Fail> {
-    for letters in ["", "abcdefghijklmnopq", "xx", "xyzx"] {
-        let names = names_of(rt.alloc(), letters)?;
-        let refused = World::new(rt.alloc(), &names, Limits::default(), 0).err();
-        assert!(rt; refused == Some(WorldFault::Names), "{letters}");
-    }
-    Ok(())
+/// Why there is no world of the tenants of these names and a cache of this capacity.
+fn refusal(alloc: Global, letters: &str, capacity: u64) -> Result<Option<WorldFault>, Fail> {
+    let names = names_of(alloc, letters)?;
+    Ok(World::new(alloc, &names, Limits::default(), capacity).err())
 }
 
 #[test]
-fn a_cache_of_no_comparison_and_one_too_large_are_refused(rt: HostRuntime) -> Result<(), Fail> {
-    let names = names_of(rt.alloc(), "x")?;
-    for capacity in [0u64, 65537] {
-        let refused = World::new(rt.alloc(), &names, Limits::default(), capacity).err();
-        assert!(rt; refused == Some(WorldFault::Capacity));
+fn wrong_tenants_and_capacities_are_refused(rt: HostRuntime) -> Result<(), Fail> {
+    for (letters, capacity, want) in [
+        ("", 1, WorldFault::Names),
+        ("abcdefghijklmnopq", 1, WorldFault::Names),
+        ("xx", 1, WorldFault::Names),
+        ("xyzx", 0, WorldFault::Names),
+        ("x", 0, WorldFault::Capacity),
+        ("x", 65537, WorldFault::Capacity),
+    ] {
+        let refusal = refusal(rt.alloc(), letters, capacity)?;
+        assert!(rt; refusal == Some(want), "{letters} {capacity}");
     }
     Ok(())
 }
@@ -40,26 +44,22 @@ const OF_X: &[u8] = b"x local root\nx spawn root a\nx local a\nx local root\nx o
 /// What `y` does: its events 4 and 3 know what the events 3 and 4 of `x` know.
 const OF_Y: &[u8] = b"y local root\ny spawn root a\ny local root\ny local a\ny order 4 3\n";
 
+/// The hits of the cache after these lines, of which the last asks for an order that is concurrent.
+fn hits_after<R: AllocGlobal + Abort + Wait>(
+    rt: &R,
+    world: &mut World,
+    lines: &[u8],
+) -> Result<u64, Fail> {
+    let text = replay_bytes(rt, rt.alloc(), world, lines)?;
+    assert!(rt; text.ends_with(b" 200 concurrent\n"));
+    Ok(world.shared().hits())
+}
+
 #[test]
 fn hits_across_tenants(rt: HostRuntime) -> Result<(), Fail> {
     let names = names_of(rt.alloc(), "xy")?;
     let mut world = World::new(rt.alloc(), &names, Limits::default(), 1)?;
-    replay_bytes(&rt, rt.alloc(), &mut world, OF_X)?;
-    let before = world.shared().hits();
-    let text = replay_bytes(&rt, rt.alloc(), &mut world, OF_Y)?;
-    assert!(rt; text.ends_with(b"y 200 concurrent\n"));
-    assert!(rt; before < world.shared().hits());
-    Ok(())
-}
-
-#[test]
-fn sixteen_names_are_found_at_their_places(rt: HostRuntime) -> Result<(), Fail> {
-    let names = names_of(rt.alloc(), "abcdefghijklmnop")?;
-    let world = World::new(rt.alloc(), &names, Limits::default(), 65536)?;
-    assert!(rt; world.tenant_count() == 16);
-    for (place, name) in names.iter().enumerate() {
-        assert!(rt; world.find(name) == Some(place));
-    }
-    assert!(rt; world.find(&Name::root()) == None);
+    let before = hits_after(&rt, &mut world, OF_X)?;
+    assert!(rt; before < hits_after(&rt, &mut world, OF_Y)?);
     Ok(())
 }
