@@ -155,14 +155,22 @@ fn agree(trees: &[EvTree], numbers: &[(usize, u64)]) -> bool {
     true
 }
 
+/// Whether four threads that keep the trees at once are given numbers that agree, and few of them.
+fn are_shared<R: Threads + Wait + Sync>(
+    rt: &R,
+    alloc: Global,
+    trees: &[EvTree],
+) -> Result<bool, Memory> {
+    let forest = Forest::new(alloc)?;
+    let numbers = kept_by_four(rt, alloc, &forest, trees)?;
+    // Each of the four adds a row for a tree once at most.
+    let are_few = numbers.iter().all(|(_, number)| *number < 84);
+    Ok(numbers.len() == 4200 && are_few && agree(trees, &numbers))
+}
+
 #[test]
 fn four_threads_keep_equal_trees_under_equal_numbers(rt: HostRuntime) -> Result<(), Fail> {
     let trees = all_trees(rt.alloc())?;
-    let forest = Forest::new(rt.alloc())?;
-    let numbers = kept_by_four(&rt, rt.alloc(), &forest, &trees)?;
-    assert!(rt; numbers.len() == 4200);
-    assert!(rt; agree(&trees, &numbers));
-    // Each thread adds a row for a tree once at most.
-    assert!(rt; numbers.iter().all(|(_, number)| *number < 84));
+    assert!(rt; are_shared(&rt, rt.alloc(), &trees)?);
     Ok(())
 }

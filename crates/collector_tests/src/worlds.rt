@@ -55,11 +55,25 @@ fn hits_after<R: AllocGlobal + Abort + Wait>(
     Ok(world.shared().hits())
 }
 
+/// The hits after the lines of `x`, and after those of `y`.
+fn hits_of_both<R: AllocGlobal + Abort + Wait>(
+    rt: &R,
+    world: &mut World,
+) -> Result<(u64, u64), Fail> {
+    let before = hits_after(rt, world, OF_X)?;
+    Ok((before, hits_after(rt, world, OF_Y)?))
+}
+
+/// A world of the tenants `x` and `y`, which remembers one comparison.
+fn new_world(alloc: Global) -> Result<World, Fail> {
+    let names = names_of(alloc, "xy")?;
+    Ok(World::new(alloc, &names, Limits::default(), 1)?)
+}
+
 #[test]
 fn hits_across_tenants(rt: HostRuntime) -> Result<(), Fail> {
-    let names = names_of(rt.alloc(), "xy")?;
-    let mut world = World::new(rt.alloc(), &names, Limits::default(), 1)?;
-    let before = hits_after(&rt, &mut world, OF_X)?;
-    assert!(rt; before < hits_after(&rt, &mut world, OF_Y)?);
+    let mut world = new_world(rt.alloc())?;
+    let (before, after) = hits_of_both(&rt, &mut world)?;
+    assert!(rt; before < after);
     Ok(())
 }
