@@ -1,0 +1,133 @@
+
+// The same loads over one book of this program behind a `RwLock`, whose maps are used where `maps` is asked for: the script
+// puts this behind all of plain.rs but its `main`.
+use std::sync::atomic::{AtomicBool, Ordering as AtomicOrdering};
+use std::sync::RwLock;
+use std::time::Instant;
+
+/// How a reader finds tasks and messages: by a search of the rows from the newest, as views do, or in the maps of the book.
+#[derive(Clone, Copy, PartialEq)]
+enum By {
+    Search,
+    Maps,
+}
+
+fn find_task(rows: &[Row], task: Name) -> Option<(State, u64)> {
+    let mut joined = false;
+    for (earlier, row) in rows.iter().enumerate().rev() {
+        let event = earlier as u64 + 1;
+        let names_it = row.name == Some(task);
+        match row.kind {
+            _ if row.task == task && joined => return Some((State::Joined, event)),
+            Kind::End if row.task == task => return Some((State::Ended, event)),
+            _ if row.task == task => return Some((State::Live, event)),
+            Kind::Spawn if names_it => return Some((State::Live, event)),
+            Kind::Join if names_it => joined = true,
+            _ => {}
+        }
+    }
+    None
+}
+
+fn find_message(rows: &[Row], message: Name) -> Option<Message> {
+    let mut received = 0;
+    for (earlier, row) in rows.iter().enumerate().rev() {
+        let event = earlier as u64 + 1;
+        let names_it = row.name == Some(message);
+        match row.kind {
+            Kind::Send if names_it => return Some(Message { sent: event, received }),
+            Kind::Recv if names_it => received = event,
+            _ => {}
+        }
+    }
+    None
+}
+
+fn tell_found_task(rows: &[Row], task: Name, out: &mut Vec<u8>) -> Result<(), Refusal> {
+    let (state, last) = find_task(rows, task).ok_or("401 no task")?;
+    out.extend_from_slice(match state {
+        State::Live => b"200 live ",
+        State::Ended => b"200 ended ",
+        State::Joined => b"200 joined ",
+    });
+    write_number(out, last);
+    Ok(())
+}
+
+fn tell_found_message(rows: &[Row], message: Name, out: &mut Vec<u8>) -> Result<(), Refusal> {
+    let message = find_message(rows, message).ok_or("405 no message")?;
+    out.extend_from_slice(b"200 ");
+    write_number(out, message.sent);
+    out.push(b' ');
+    write_list(out, &[message.received]);
+    Ok(())
+}
+
+/// Answers a question as a reader does.
+fn ask(book: &RwLock<Tenant>, by: By, question: &Request, out: &mut Vec<u8>) -> bool {
+    let tenant = book.read().expect("a lock");
+    out.clear();
+    let told = match question {
+        Request::Count => tenant.tell_count(out),
+        Request::Order(first, second) => tenant.tell_order(*first, *second, out),
+        Request::Task(task) if by == By::Search => tell_found_task(&tenant.rows, *task, out),
+        Request::Task(task) => tenant.tell_task(*task, out),
+        Request::Message(message) if by == By::Search => tell_found_message(&tenant.rows, *message, out),
+        Request::Message(message) => tenant.tell_message(*message, out),
+        _ => Err("no question"),
+    };
+    told.is_ok()
+}
+
+fn by_one(book: &RwLock<Tenant>, by: By, questions: &[Request], asks: u64, done: &AtomicBool) -> u64 {
+    let (mut answered, mut out) = (0, Vec::with_capacity(256));
+    for number in 0..asks {
+        if done.load(AtomicOrdering::Relaxed) {
+            break;
+        }
+        answered += ask(book, by, &questions[number as usize % questions.len()], &mut out) as u64;
+    }
+    answered
+}
+
+fn take(book: &RwLock<Tenant>, reports: u64, done: &AtomicBool) {
+    let (root, mut out) = (Name::read(b"root").expect("a name"), Vec::new());
+    for _ in 0..reports {
+        out.clear();
+        let _ = book.write().expect("a lock").answer(Request::Local(root), &mut out);
+    }
+    if reports > 0 {
+        done.store(true, AtomicOrdering::Relaxed);
+    }
+}
+
+fn opened(reports: &[String]) -> Tenant {
+    let mut tenant = Tenant::new(Limits { events: 16384, tasks: 2048, messages: 16384, keeps_points: true });
+    let mut out = Vec::new();
+    for report in reports {
+        out.clear();
+        tenant.answer(Request::read(report.as_bytes()).expect("a report"), &mut out).expect("an accepted report");
+    }
+    tenant
+}
+
+fn main() {
+    let by = if std::env::args().any(|word| word == "maps") { By::Maps } else { By::Search };
+    let lines: Vec<String> = stdin().lines().map(|line| line.expect("a line")).collect();
+    let mut parts = lines.split(|line| line.is_empty());
+    let reports = parts.next().expect("reports");
+    let questions: Vec<Request> =
+        parts.next().expect("questions").iter().map(|line| Request::read(line.as_bytes()).expect("a question")).collect();
+    for load in parts.next().expect("loads") {
+        let load: Vec<u64> = load.split(' ').map(|word| word.parse().expect("a number")).collect();
+        let (threads, asks, taken) = (load[0], load[1], load[2]);
+        let (book, done) = (RwLock::new(opened(reports)), AtomicBool::new(false));
+        let start = Instant::now();
+        let answered: u64 = std::thread::scope(|scope| {
+            let views: Vec<_> = (0..threads).map(|_| scope.spawn(|| by_one(&book, by, &questions, asks, &done))).collect();
+            take(&book, taken, &done);
+            views.into_iter().map(|view| view.join().expect("a reader")).sum()
+        });
+        println!("{} {answered}", start.elapsed().as_nanos());
+    }
+}
