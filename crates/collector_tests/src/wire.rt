@@ -31,15 +31,30 @@ const TWO_LINES: &[u8] = b"a\nb";
 fn found_within(alloc: Global, reads: u64) -> Result<(u64, Option<ReadFault>), Memory>
     requires { (1 ≤ reads) × (reads ≤ 2 ^ 30) }
 {
-    let mut source = FromReader::new(TWO_LINES);
-    let mut lines = LineReader::with_bounds(alloc, &mut source, 3, reads)?;
+    found_from_within(alloc, &mut FromReader::new(TWO_LINES), reads)
+}
+
+fn found_from_within<R: Source>(
+    alloc: Global,
+    source: &mut R,
+    reads: u64,
+) -> Result<(u64, Option<ReadFault>), Memory>
+    requires { (1 ≤ reads) × (reads ≤ 2 ^ 30) }
+{
+    let mut lines = LineReader::with_bounds(alloc, source, 3, reads)?;
     Ok(found(&mut lines))
 }
 
 /// What is found in them within the bounds of requests.
 fn found_in_requests(alloc: Global) -> Result<(u64, Option<ReadFault>), Memory> {
-    let mut source = FromReader::new(TWO_LINES);
-    let mut lines = LineReader::new(alloc, &mut source)?;
+    found_from(alloc, &mut FromReader::new(TWO_LINES))
+}
+
+fn found_from<R: Source>(
+    alloc: Global,
+    source: &mut R,
+) -> Result<(u64, Option<ReadFault>), Memory> {
+    let mut lines = LineReader::new(alloc, source)?;
     Ok(found(&mut lines))
 }
 
