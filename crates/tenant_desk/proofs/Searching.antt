@@ -1,5 +1,5 @@
 -- What a search from the newest row to the oldest finds is what the rows say.
-use Rattle.std.proofs.Common.{◌≡◌, ◌≢◌, ◌⊎◌, ℕ, suc, Bool, true, false, cond, ◌||◌, List, [], ◌∷◌, ◌++◌, length, Option, Some, None, refl, sym, ap, ◌∙◌, subst, inl, inr, is_some, length-append, arith}
+use Rattle.std.proofs.Common.{◌≡◌, ℕ, suc, Bool, true, false, cond, ◌||◌, List, [], ◌∷◌, ◌++◌, length, Option, Some, None, refl, sym, ap, ◌∙◌, subst, inl, inr, is_some, length-append, arith}
 use Rattle.std.proofs.lemmas.Bool.{cases_Bool, false≢true, false_from_ne_true, cond-true, cond-false, or_left}
 use Rattle.std.proofs.lemmas.List.{append-nil, length-reverse, reverse-append}
 use Rattle.std.proofs.lemmas.Bool.Decides.{nat_tests}
@@ -237,23 +237,3 @@ no_task_left (row ∷ rows) task joined none = absurd (omega (arith, none))
 pub no_message_left : (rest : List Row) (message : Text) (received : Option ℕ) → length rest ≡ 0 → find_message received (history_of rest) message ≡ None
 no_message_left [] message received none = refl
 no_message_left (row ∷ rows) message received none = absurd (omega (arith, none))
-
--- the last number, or this one where there is none
-abbrev last_or : ℕ → List ℕ → ℕ
-last_or last [] = last
-last_or last (next ∷ rest) = last_or next rest
-
-last_or-last : (before : ℕ) (rest : List ℕ) (last : ℕ) → last_or before (rest ++ last ∷ []) ≡ last
-last_or-last before [] last = refl
-last_or-last before (next ∷ rest) last = last_or-last next rest last
-
--- texts whose last bytes differ are not the same
-pub differ_at_the_last : (first second rest others : List ℕ) (last other : ℕ) → first ≡ rest ++ last ∷ [] → second ≡ others ++ other ∷ [] → last ≢ other → false ≡ is_same first second
-differ_at_the_last first second rest others last other ends ends' differ = at (cases_Bool (is_same first second))
-  where
-    at : (is_same first second ≡ true) ⊎ (is_same first second ≡ false) → false ≡ is_same first second
-    at (inl same) = absurd (differ (
-        sym (last_or-last 0 rest last)
-        ∙ ap (last_or 0) (sym ends ∙ (is_same_iff first second).0 same ∙ ends')
-        ∙ last_or-last 0 others other))
-    at (inr differs) = sym differs

@@ -15,7 +15,9 @@ use std::alloc::Global;
 use std::marker::Model;
 use std::sync::Wait;
 use tenant_ledger::{Keep, Share, Shared};
-use trace_query::{Compare, QueryFault, concurrent_in_order, order, pair_of, past_in_order};
+use trace_query::{
+    Compare, QueryFault, concurrent_in_order, order_in_order, pair_of, past_in_order,
+};
 use trace_types::{Code, Kind, Limits, Memory, Name, Numbers, Receipts, Reply, Request, Row, Text};
 use tree_forest::{Home, Tree};
 
@@ -196,7 +198,7 @@ impl Events {
         requires { AreSound self.now }
         ensures { result ≡ reply_to_view (tenant_of self.now) (Request.Order first second) }
     {
-        match order(compare, self.trees(), first, second) {
+        match order_in_order(compare, self.trees(), first, second) {
             Ok(order) => Reply::Ordering(order),
             Err(fault) => Reply::Refused(code_of(fault)),
         }

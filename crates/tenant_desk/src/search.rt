@@ -1,7 +1,6 @@
 //! What the rows say of a task or of a message, by one search from the newest row to the oldest.
 ghost use Rattle.std.specs.Prelude.{◌≡◌};
 ghost use Rattle.trace_types.specs.tenant.Rows.{history_of, names};
-ghost use Rattle.trace_types.specs.text.Name.{is_same};
 ghost use Rattle.tenant_ledger.specs.Legal.{IsLegal};
 ghost use Rattle.tenant_desk.specs.Searches.{is_report_of, state_at, task_due, send_and_receipts, message_due};
 
@@ -16,7 +15,7 @@ pub(crate) fn task_in(rows: &[Row], task: &Name) -> Option<(TaskState, u64)>
     let mut joined = false;
     let mut rest = rows;
     while let Some((row, earlier)) = rest.split_last() {
-        if is_same(&row.task, task) {
+        if row.task == *task {
             return Some((state_at(joined, row.kind), rest.len() as u64));
         }
         if is_report_of(Kind::Spawn, task, row) {
@@ -52,20 +51,6 @@ pub(crate) fn message_in(rows: &[Row], message: &Name) -> Option<(u64, Option<u6
     None
 }
 
-/// Whether the names are the same. Most of those that differ do so in their last byte, which is looked at first.
-#[inline(always)]
-fn is_same(first: &Name, second: &Name) -> bool
-    ensures { result ≡ is_same first.now second.now }
-{
-    let (first, second) = (first.as_bytes(), second.as_bytes());
-    if let (Some((last, _)), Some((other, _))) = (first.split_last(), second.split_last()) {
-        if last != other {
-            return false;
-        }
-    }
-    first == second
-}
-
 /// How far a task has come whose last report is of this kind.
 fn state_at(joined: bool, last: Kind) -> TaskState
     ensures { result ≡ state_at joined last }
@@ -97,7 +82,7 @@ fn is_named(row: &Row, name: &Name) -> bool
     ensures { result ≡ names row.now name.now }
 {
     match &row.name {
-        Some(other) => is_same(other, name),
+        Some(other) => other == name,
         None => false,
     }
 }

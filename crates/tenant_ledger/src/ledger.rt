@@ -14,7 +14,7 @@ use crate::{PlainShare, Prepared, laws};
 use std::alloc::Global;
 use std::marker::Model;
 use trace_query::{
-    Compare, Meant, QueryFault, concurrent_by_points, order, pair_of, past_by_points,
+    Compare, Meant, QueryFault, concurrent_by_points, order_in_order, pair_of, past_by_points,
 };
 use trace_types::{Code, Limits, Memory, Name, Numbers, Reply, Request, Row};
 
@@ -192,7 +192,7 @@ impl<S: Keep> Ledger<S> {
     fn order<C: Compare<Kept = S::Kept>>(&self, compare: &C, first: u64, second: u64) -> Reply
         ensures { result ≡ reply_to_view self.now (Request.Order first second) }
     {
-        match order(compare, self.book.trees(), first, second) {
+        match order_in_order(compare, self.book.trees(), first, second) {
             Ok(order) => Reply::Ordering(order),
             Err(fault) => Reply::Refused(code_of(fault)),
         }

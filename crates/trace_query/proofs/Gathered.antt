@@ -69,7 +69,7 @@ ordered trees first second one other order is_first is_second is_one is_other st
     ap Ok told ∙ sym (cond-true (has_tree trees first && has_tree trees second) (Ok (order_between trees first second)) (Err Unknown) both)
 
 -- what is kept for an event stands for the tree of the event, and there is such an event
-kept_there : {K : Type 0} (tree : K → EventTree) (kept : List K) (event : ℕ) (one : K) → kept_at kept event ≡ Some one
+pub kept_there : {K : Type 0} (tree : K → EventTree) (kept : List K) (event : ℕ) (one : K) → kept_at kept event ≡ Some one
     → (has_tree (map tree kept) event ≡ true) × (tree one ≡ tree_at (map tree kept) event)
 kept_there tree kept zero one is = cc
 kept_there tree kept (suc place) one is =

@@ -24,6 +24,25 @@ pub fn order<C: Compare>(
     Ok(compare.order(first, second))
 }
 
+/// As [`order`], of events whose trees stand in their order: they are compared in one direction.
+pub fn order_in_order<C: Compare>(
+    compare: &C,
+    kept: &[C::Kept],
+    first: u64,
+    second: u64,
+) -> Result<Order, QueryFault>
+    requires { StandInOrder (map C.Kept.tree kept.now) }
+    ensures { result ≡ order_due (map C.Kept.tree kept.now) first second }
+{
+    let (one, other) = pair_of(kept, first, second)?;
+    Ok(match first.cmp(&second) {
+        Ordering::Equal => Order::Same,
+        Ordering::Less if compare.is_below(one, other) => Order::Before,
+        Ordering::Greater if compare.is_below(other, one) => Order::After,
+        _ => Order::Concurrent,
+    })
+}
+
 /// What is kept for the two events, as whoever compares kept trees by other means than a [`Compare`] wants it; `Unknown`
 /// where either is no event.
 ///
