@@ -1,11 +1,12 @@
 
-// The same loads over one book of this program behind a `RwLock`, whose maps are used where `maps` is asked for: the script
-// puts this behind all of plain.rs but its `main`.
+// The same loads over one book of this program behind a `RwLock`, whose maps and points are used where `maps` is asked for:
+// the script puts this behind all of plain.rs but its `main`.
 use std::sync::atomic::{AtomicBool, Ordering as AtomicOrdering};
 use std::sync::RwLock;
 use std::time::Instant;
 
-/// How a reader finds tasks and messages: by a search of the rows from the newest, as views do, or in the maps of the book.
+/// How a reader finds tasks and messages, and compares an event with a later one: by a search of the rows from the newest and
+/// by a walk, as views do, or by the maps and the points of the book.
 #[derive(Clone, Copy, PartialEq)]
 enum By {
     Search,
@@ -63,13 +64,30 @@ fn tell_found_message(rows: &[Row], message: Name, out: &mut Vec<u8>) -> Result<
     Ok(())
 }
 
+/// The order of two events, of which the later is not before the earlier.
+fn tell_order(tenant: &Tenant, by: By, first: u64, second: u64, out: &mut Vec<u8>) -> Result<(), Refusal> {
+    let rows = (tenant.row(first)?, tenant.row(second)?);
+    let (earlier, later) = if first < second { rows } else { (rows.1, rows.0) };
+    let is_before = match by {
+        By::Search => earlier.tree.leq(&later.tree),
+        By::Maps => earlier.is_known_to(&later.tree),
+    };
+    out.extend_from_slice(match first.cmp(&second) {
+        Ordering::Equal => b"200 same",
+        Ordering::Less if is_before => b"200 before",
+        Ordering::Greater if is_before => b"200 after",
+        _ => b"200 concurrent",
+    });
+    Ok(())
+}
+
 /// Answers a question as a reader does.
 fn ask(book: &RwLock<Tenant>, by: By, question: &Request, out: &mut Vec<u8>) -> bool {
     let tenant = book.read().expect("a lock");
     out.clear();
     let told = match question {
         Request::Count => tenant.tell_count(out),
-        Request::Order(first, second) => tenant.tell_order(*first, *second, out),
+        Request::Order(first, second) => tell_order(&tenant, by, *first, *second, out),
         Request::Task(task) if by == By::Search => tell_found_task(&tenant.rows, *task, out),
         Request::Task(task) => tenant.tell_task(*task, out),
         Request::Message(message) if by == By::Search => tell_found_message(&tenant.rows, *message, out),
