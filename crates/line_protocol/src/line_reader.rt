@@ -1,8 +1,8 @@
 //! Bytes, cut into lines.
-ghost use Rattle.std.specs.Prelude.{◌≡◌, ◌≤◌, ◌^◌, IsTrue, [], false, None, Err, IfOk, IfSome, IfNone};
+ghost use Rattle.std.specs.Prelude.{◌≡◌, ◌≤◌, ◌^◌, ◌↔◌, IsTrue, [], false, None, Err, IfOk, IfSome, IfNone};
 ghost use Rattle.std.specs.Result.{result_err};
 ghost use Rattle.line_protocol.specs.Held.{fresh_held, fresh_within};
-ghost use Rattle.line_protocol.specs.LineReading.{FindsNext};
+ghost use Rattle.line_protocol.specs.LineReading.{FindsNext, NeedsRead};
 
 use crate::buffer::Buffer;
 use crate::{Line, ReadFault, Source};
@@ -56,11 +56,21 @@ impl<'a, R: Source> LineReader<'a, R> {
         ensures fault { IfOk result (λ reader. reader.fault ≡ None) }
     {
         let buffer = Buffer::with_bounds(alloc, bytes, reads)?;
-        Ok(LineReader {
+        Ok(LineReader::over(source, buffer))
+    }
+
+    /// A line reader that goes on with what the buffer holds, and then reads the source.
+    pub fn over(source: &'a mut R, buffer: Buffer) -> LineReader<'a, R>
+        ensures same_source { result.source.ghost_name ≡ source.entry.ghost_name }
+        ensures source { result.source.now ≡ source.old }
+        ensures held { result.buffer ≡ buffer }
+        ensures fault { result.fault ≡ None }
+    {
+        LineReader {
             source,
             buffer,
             fault: None,
-        })
+        }
     }
 
     /// The next line.
@@ -85,6 +95,20 @@ impl<'a, R: Source> LineReader<'a, R> {
             self.fault = Some(fault);
         }
         found
+    }
+
+    /// Whether the source is read before the next line is answered.
+    pub fn needs_read(&self) -> bool
+        ensures { IsTrue result ↔ NeedsRead self.now.buffer }
+    {
+        self.buffer.needs_read()
+    }
+
+    /// The fault that is answered from now on, where there was one.
+    pub fn fault(&self) -> Option<ReadFault>
+        ensures { result ≡ self.now.fault }
+    {
+        self.fault
     }
 
     /// The line that was found last.

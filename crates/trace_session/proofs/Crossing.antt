@@ -1,0 +1,17 @@
+-- A hub may be shared among threads. It is shown type by type, lowest first: a search that goes down through all of them runs
+-- out of steps.
+use denote.Param.Send.{IsSend, IsSync, sendable}
+use Rattle.std.proofs.Crossing.{crosses}
+use Rattle.tenant_desk.proofs.Crossing.{desk_send, view_send}
+use Rattle.trace_session.specs.contracts.hub.Hub as Hub
+use Rattle.trace_session.specs.contracts.hub.Tenant as Tenant
+use Rattle.trace_session.specs.contracts.resting.Resting as Resting
+
+resting_send : IsSend Resting.the_row
+resting_send = search (sendable, crosses, desk_send, view_send) depth 20
+
+tenant_sync : IsSync Tenant.the_row
+tenant_sync = search (sendable, crosses, resting_send) depth 20
+
+pub hub_sync : IsSync Hub.the_row
+hub_sync = search (sendable, crosses, tenant_sync) depth 20

@@ -1,0 +1,9 @@
+pub mod Crossing
+mod FirstLines
+mod Following
+mod Lists
+mod Reading
+mod Refusing
+mod Running
+mod Soundness
+mod Writing

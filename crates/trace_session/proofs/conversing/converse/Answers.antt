@@ -1,0 +1,20 @@
+use Rattle.std.proofs.Common.{Ok, sym, ap, ◌∙◌}
+use Rattle.line_protocol.proofs.LineReadingLemmas.{Reads-on}
+use Rattle.line_protocol.specs.LineReading.{FindsNext}
+use Rattle.trace_session.proofs.FirstLines.{Converses-opened, IfNone-from}
+use Rattle.trace_session.specs.Openings.{opening_at}
+use Rattle.trace_session.proofs.conversing.converse.Goals as goal
+use Rattle.trace_session.proofs.conversing.converse.Given.{Over}
+use Rattle.trace_session.proofs.conversing.converse.Goals.{After-open}
+
+-- the first line was found
+finds : (g : Over) (c : After-open g) → FindsNext (g.R.Source.seen c.args.lines.now.source.now) (g.R.Source.seen c.next.new.self.source.now) c.args.lines.now.buffer c.next.new.self.buffer (Ok c.in_ok-found.found)
+finds g c = IfNone-from _ c.args.lines.now.fault c.requires c.in_ok-found.ensures.finds
+
+pub returns-clause-converses : goal.returns-clause-converses
+returns-clause-converses g c =
+    Converses-opened c.args.hub.now _ (g.R.Source.seen c.next.new.self.source.now) _ c.args.lines.now.buffer c.next.new.self.buffer _ _ _ c.in_ok-found.found c.in-Some.opening c.open.result
+    (finds g c).line (finds g c).reads.reads.bounds (ap (opening_at c.in_ok-found.found) (sym c.line.ensures) ∙ sym c.opening_at.ensures ∙ c.in-Some.is) c.open.ensures.opens
+
+pub returns-clause-reads : goal.returns-clause-reads
+returns-clause-reads g c = Reads-on (finds g c).reads.reads (λ ended. ap g.R.Source.seen (c.open.ensures.at_end ended).0) c.open.ensures.reads

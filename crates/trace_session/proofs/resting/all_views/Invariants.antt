@@ -1,0 +1,13 @@
+use Rattle.std.proofs.Common.{◌≡◌, ◌+◌, length}
+use Rattle.std.specs.Prelude.{All}
+use Rattle.trace_session.specs.Lent.{IsSoundView}
+use Rattle.trace_session.proofs.resting.all_views.Given as goal
+
+abbrev pub invariant-loop-view : goal.invariant-loop-view
+invariant-loop-view l = record {
+  counted : length l.all.items + l.views.left ≡ l.fn.views.left;
+  sound : All IsSoundView l.all.items;
+}
+
+abbrev pub decreases-loop-view : goal.decreases-loop-view
+decreases-loop-view l = l.views.left

@@ -1,0 +1,9 @@
+use Rattle.std.proofs.Common.{◌≡◌, ◌+◌}
+use Rattle.trace_session.proofs.serving.accept_all.Given as goal
+
+abbrev pub invariant-loop-turn : goal.invariant-loop-turn
+invariant-loop-turn g l = record {
+  counted : l.count ≡ l.turn;
+  given : g.D.Door.given l.door ≡ g.D.Door.given l.fn.door + l.count;
+  failures : g.D.Door.failures l.door ≡ g.D.Door.failures l.fn.door;
+}

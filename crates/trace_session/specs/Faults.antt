@@ -1,0 +1,36 @@
+-- Which fault of a session a fault of reading is.
+use Rattle.std.specs.Prelude.{ℕ, Result, Ok, Err, Option, Some, None}
+use Rattle.line_protocol.specs.declared.read_fault.ReadFault.{ReadFault}
+use Rattle.line_protocol.specs.declared.read_fault.ReadFault.TheVariants as read
+use Rattle.trace_session.specs.declared.session_fault.SessionFault.{SessionFault}
+use Rattle.trace_session.specs.declared.session_fault.SessionFault.TheVariants.{Read, Write, TooLong, Memory, Gate}
+
+abbrev pub session_fault_of : ReadFault → SessionFault
+session_fault_of read.Read = Read
+session_fault_of read.TooLong = TooLong
+
+-- the fault of reading that a fault of a session is, if it is one
+abbrev pub read_fault_of : SessionFault → Option ReadFault
+read_fault_of Read = Some read.Read
+read_fault_of TooLong = Some read.TooLong
+read_fault_of Write = None
+read_fault_of Memory = None
+read_fault_of Gate = None
+
+-- the fault of reading in which a call ended, if it did
+abbrev pub read_fault_in : {A : Type 0} → Result A SessionFault → Option ReadFault
+read_fault_in (Ok value) = None
+read_fault_in (Err fault) = read_fault_of fault
+
+-- how many reads failed before this fault came
+abbrev pub failed_reads_of : SessionFault → ℕ
+failed_reads_of Read = 1
+failed_reads_of TooLong = 0
+failed_reads_of Write = 0
+failed_reads_of Memory = 0
+failed_reads_of Gate = 0
+
+-- how many reads failed in a call that ended so
+abbrev pub failed_reads_in : {A : Type 0} → Result A SessionFault → ℕ
+failed_reads_in (Ok value) = 0
+failed_reads_in (Err fault) = failed_reads_of fault

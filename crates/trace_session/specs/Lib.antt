@@ -1,0 +1,12 @@
+pub mod Answers
+pub mod Asking
+pub mod Conversations
+pub mod Faults
+pub mod Hubs
+pub mod Lent
+pub mod Openings
+pub mod Reading
+pub mod Runs
+pub mod Serving
+pub mod Sessions
+pub mod Written

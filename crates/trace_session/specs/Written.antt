@@ -1,0 +1,78 @@
+-- What a session wrote.
+use Rattle.std.specs.Prelude.{◌≡◌, ◌≤◌, IsTrue, Result, Ok, Err, List, [], ◌∷◌, ◌++◌, ◌⊎◌, length, map}
+use Rattle.std.specs.List.{concat}
+use Rattle.std.specs.Io.KnownBytes.{Keeps}
+use Rattle.trace_types.specs.text.Name.{Text}
+use Rattle.trace_types.specs.text.Text.{reply_text}
+use Rattle.trace_types.specs.declared.reply.Reply.{Reply}
+use Rattle.line_protocol.specs.Patience.{FlushesPatiently, GivesUpFlushing}
+use Rattle.line_protocol.specs.Sink.{Taken}
+use Rattle.line_protocol.specs.TextsInTurn.{BeginsFirst, BreaksOffAt, WritesTexts}
+use Rattle.line_protocol.specs.Writing.{EndsInFault, GoesWell, GoesWrong, WritesPart, WritesWhole}
+use Rattle.trace_session.specs.declared.session_fault.SessionFault.{SessionFault}
+use Rattle.trace_session.specs.declared.session_fault.SessionFault.TheVariants.{Read, Write, TooLong, Memory, Gate}
+
+-- the lines of replies
+abbrev pub reply_line : Reply → Text
+reply_line reply = reply_text reply ++ 10 ∷ []
+
+abbrev pub reply_lines : List Reply → List Text
+reply_lines replies = map reply_line replies
+
+-- All these replies were written, each patiently, and handed on.
+pub record WritesAll (before after : Taken) (replies : List Reply) : Type 0 where
+  pub bytes : after.bytes ≡ before.bytes ++ concat (reply_lines replies)
+  pub flushed : IsTrue after.is_flushed
+  pub patient : WritesTexts before.calls after.calls (reply_lines replies)
+  pub failures : after.failures ≡ before.failures
+  pub began : Keeps before.began after.began
+
+-- A write fault came: these replies were written, but the last of them perhaps not, or a front of it. The fault came at
+-- that one, or at a flush.
+pub record WritesInPart (before after : Taken) (replies : List Reply) : Type 0 where
+  pub whole : List Reply
+  pub left : List Reply
+  pub splits : replies ≡ whole ++ left
+  pub last : length left ≤ 1
+  pub begun : Text
+  pub begins : BeginsFirst begun (reply_lines left)
+  pub bytes : after.bytes ≡ before.bytes ++ (concat (reply_lines whole) ++ begun)
+  pub patient : WritesTexts before.calls after.calls (reply_lines whole)
+  pub broken_off : BreaksOffAt (length (concat (reply_lines whole))) (reply_lines left) patient.more
+  pub fault : EndsInFault before after
+  pub began : Keeps before.began after.began
+
+-- All was handed on.
+abbrev pub HandsAllOn : Taken → Taken → Type 0
+HandsAllOn before after =
+    (after.bytes ≡ before.bytes) × IsTrue after.is_flushed × GoesWell before after × FlushesPatiently before.calls after.calls
+
+-- What was written stays, and was perhaps handed on.
+abbrev pub KeepsAll : Taken → Taken → Type 0
+KeepsAll before after = (after.bytes ≡ before.bytes) × GoesWell before after × FlushesPatiently before.calls after.calls
+
+-- A write fault came while all was to be handed on.
+abbrev pub StopsHandingOn : Taken → Taken → Type 0
+StopsHandingOn before after = (after.bytes ≡ before.bytes) × GoesWrong before after × GivesUpFlushing before.calls after.calls
+
+-- What was written is handed on where a line is to be read, or left as it is.
+abbrev pub HandsOnBefore : {A : Type 0} → Result A SessionFault → Taken → Taken → Type 0
+HandsOnBefore (Ok value) before after = KeepsAll before after
+HandsOnBefore (Err Read) before after = HandsAllOn before after
+HandsOnBefore (Err TooLong) before after = HandsAllOn before after
+HandsOnBefore (Err Write) before after = StopsHandingOn before after
+HandsOnBefore (Err Memory) before after = ⊥
+HandsOnBefore (Err Gate) before after = ⊥
+
+-- The line was not written: a write fault came in it, or the gate held it back and what was written before was to be handed on.
+abbrev pub StopsAt : SessionFault → Taken → Taken → Text → Type 0
+StopsAt Write before after text = WritesPart before after text ⊎ StopsHandingOn before after
+StopsAt Gate before after text = HandsAllOn before after
+StopsAt Read before after text = ⊥
+StopsAt TooLong before after text = ⊥
+StopsAt Memory before after text = ⊥
+
+-- The line was written, or not.
+abbrev pub PutsOut : {A : Type 0} → Taken → Taken → Result A SessionFault → Text → Type 0
+PutsOut before after (Ok value) text = WritesWhole before after text
+PutsOut before after (Err fault) text = StopsAt fault before after text

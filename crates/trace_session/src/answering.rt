@@ -1,0 +1,191 @@
+//! The lines of a session, answered one after another.
+ghost use Rattle.std.specs.Prelude.{◌≡◌, ◌↔◌, ◌<◌, ◌≤◌, ◌⊎◌, IsTrue, None, IfOk, IfErr, IfNone, IfSome, IsErrOf, MatchResult, Err};
+ghost use Rattle.std.specs.Result.{result_err};
+ghost use Rattle.line_protocol.specs.LineReading.{FindsNext, NeedsRead, Reads};
+ghost use Rattle.trace_session.specs.Answers.{AnswersLine};
+ghost use Rattle.trace_session.specs.Asking.{FindsAsked};
+ghost use Rattle.trace_session.specs.Faults.{failed_reads_in, read_fault_in, session_fault_of};
+ghost use Rattle.trace_session.specs.Reading.{FindsNothing};
+ghost use Rattle.trace_session.specs.Sessions.{AnswersAsked, AnswersRequest, Finishes, Session};
+ghost use Rattle.trace_session.specs.Written.{HandsOnBefore, KeepsAll, PutsOut, StopsHandingOn, reply_line};
+
+use crate::asked::{Asked, asked_in};
+use crate::leave::ask_leave;
+use crate::lent::Lent;
+use crate::{Gate, SessionEnd, SessionFault};
+use line_protocol::{Line, LineReader, ReadFault, Sink, Source, WriteFault, flush};
+use std::sync::Wait;
+use trace_types::{Code, Reply, Request};
+
+/// How many requests one session may make.
+const MOST_REQUESTS: u64 = 1048576;
+
+/// Answers lines by what is lent, until the session ends.
+pub(crate) fn answer_lines<T: Wait, L: Lent, R: Source, W: Sink, G: Gate>(
+    rt: &T,
+    lent: &mut L,
+    lines: &mut LineReader<'_, R>,
+    writer: &mut W,
+    gate: &G,
+    number: u64,
+) -> Result<SessionEnd, SessionFault>
+    ensures same_source { lines.new.source.ghost_name ≡ lines.old.source.ghost_name }
+    ensures session { IfNone lines.old.fault (Session L.does (R.seen lines.old.source.now) (R.seen lines.new.source.now)
+        lines.old.buffer lines.new.buffer (W.seen writer.old) (W.seen writer.new) lent.old lent.new result) }
+    ensures reads { IfNone lines.old.fault (Reads (R.seen lines.old.source.now) (R.seen lines.new.source.now)
+        lines.old.buffer lines.new.buffer (failed_reads_in result)) }
+    ensures fault { IfNone lines.old.fault (lines.new.fault ≡ read_fault_in result) }
+    ensures at_end { IsTrue lines.old.buffer.is_ended →
+        (lines.new.source.now ≡ lines.old.source.now) × IsTrue lines.new.buffer.is_ended }
+    ensures let_out { ((W.seen writer.new).bytes ≡ (W.seen writer.old).bytes) ⊎ G.lets_out gate.now number }
+    ensures gate { IsErrOf result SessionFault.Gate → G.holds_back gate.now number }
+    ensures again { IfSome lines.old.fault (λ fault. (result ≡ Err (session_fault_of fault)) × (lines.new ≡ lines.old)
+        × (writer.new ≡ writer.old) × (lent.new ≡ lent.old)) }
+{
+    if let Some(fault) = lines.fault() {
+        return Err(SessionFault::from(fault));
+    }
+    let mut requests = 0u64;
+    loop {
+        let asked = next_asked(lines, writer)?;
+        if let Some(end) = answer_asked(rt, lent, asked, requests, writer, gate, number)? {
+            return finish(writer, end);
+        }
+        requests += 1;
+    }
+}
+
+/// Finds what the next line asks. No read is made while the writer holds a reply back.
+fn next_asked<R: Source, W: Sink>(
+    lines: &mut LineReader<'_, R>,
+    writer: &mut W,
+) -> Result<Asked, SessionFault>
+    requires { lines.old.fault ≡ None }
+    ensures same_source { lines.new.source.ghost_name ≡ lines.old.source.ghost_name }
+    ensures asked { IfOk result (λ asked. FindsAsked (R.seen lines.old.source.now).bytes (R.seen lines.new.source.now).bytes
+        lines.old.buffer lines.new.buffer asked) }
+    ensures none { IfErr result (λ fault. FindsNothing fault (R.seen lines.old.source.now) (R.seen lines.new.source.now)
+        lines.old.buffer lines.new.buffer) }
+    ensures reads { Reads (R.seen lines.old.source.now) (R.seen lines.new.source.now)
+        lines.old.buffer lines.new.buffer (failed_reads_in result) }
+    ensures fault { lines.new.fault ≡ read_fault_in result }
+    ensures at_end { IsTrue lines.old.buffer.is_ended →
+        (lines.new.source.now ≡ lines.old.source.now) × IsTrue lines.new.buffer.is_ended }
+    ensures handed_on { HandsOnBefore result (W.seen writer.old) (W.seen writer.new) }
+{
+    hand_on(lines, writer)?;
+    let found = next_line(lines, writer)?;
+    Ok(asked_in(found, lines.line()))
+}
+
+/// Flushes what was written, where the next line wants a read.
+fn hand_on<R: Source, W: Sink>(lines: &LineReader<'_, R>, writer: &mut W) -> Result<(), WriteFault>
+    ensures flushed { IfOk result (λ _. NeedsRead lines.now.buffer → IsTrue (W.seen writer.new).is_flushed) }
+    ensures handed_on { MatchResult result (λ _. KeepsAll (W.seen writer.old) (W.seen writer.new)) (λ _. StopsHandingOn (W.seen writer.old) (W.seen writer.new)) }
+{
+    if lines.needs_read() {
+        flush(writer)
+    } else {
+        Ok(())
+    }
+}
+
+/// Finds the next line. No read is made while the writer holds a reply back.
+#[inline(always)]
+fn next_line<R: Source, W: Sink>(
+    lines: &mut LineReader<'_, R>,
+    _writer: &W,
+) -> Result<Line, ReadFault>
+    requires open { lines.old.fault ≡ None }
+    requires flushed { NeedsRead lines.old.buffer → IsTrue (W.seen _writer.now).is_flushed }
+    ensures same_source { lines.new.source.ghost_name ≡ lines.old.source.ghost_name }
+    ensures finds { FindsNext (R.seen lines.old.source.now) (R.seen lines.new.source.now) lines.old.buffer lines.new.buffer result }
+    ensures fault { lines.new.fault ≡ result_err result }
+    ensures at_end { IsTrue lines.old.buffer.is_ended →
+        (lines.new.source.now ≡ lines.old.source.now) × IsTrue lines.new.buffer.is_ended }
+{
+    lines.next()
+}
+
+/// Answers what is asked after so many requests, and gives the end that it brings.
+fn answer_asked<T: Wait, L: Lent, W: Sink, G: Gate>(
+    rt: &T,
+    lent: &mut L,
+    asked: Asked,
+    requests: u64,
+    writer: &mut W,
+    gate: &G,
+    number: u64,
+) -> Result<Option<SessionEnd>, SessionFault>
+    ensures answers { AnswersAsked L.does asked requests lent.old lent.new (W.seen writer.old) (W.seen writer.new) result }
+    ensures let_out { ((W.seen writer.new).bytes ≡ (W.seen writer.old).bytes) ⊎ G.lets_out gate.now number }
+    ensures gate { IsErrOf result SessionFault.Gate → G.holds_back gate.now number }
+{
+    match asked {
+        Asked::End => Ok(Some(SessionEnd::EndOfInput)),
+        Asked::Quit => Ok(Some(SessionEnd::Quit)),
+        Asked::Request(_) if requests == MOST_REQUESTS => {
+            put_out(rt, writer, gate, number, &Reply::Refused(Code::SessionOver))?;
+            Ok(Some(SessionEnd::Over))
+        }
+        Asked::Request(request) => {
+            answer_request(rt, lent, &request, writer, gate, number)?;
+            Ok(None)
+        }
+    }
+}
+
+/// Answers a line that is a request, or spells none.
+fn answer_request<T: Wait, L: Lent, W: Sink, G: Gate>(
+    rt: &T,
+    lent: &mut L,
+    request: &Option<Request>,
+    writer: &mut W,
+    gate: &G,
+    number: u64,
+) -> Result<(), SessionFault>
+    ensures answers { AnswersRequest L.does request.now lent.old lent.new (W.seen writer.old) (W.seen writer.new) result }
+    ensures let_out { ((W.seen writer.new).bytes ≡ (W.seen writer.old).bytes) ⊎ G.lets_out gate.now number }
+    ensures gate { IsErrOf result SessionFault.Gate → G.holds_back gate.now number }
+{
+    let reply = reply_to(rt, lent, request);
+    put_out(rt, writer, gate, number, &reply)
+}
+
+/// The reply to a line that is a request, or spells none.
+fn reply_to<T: Wait, L: Lent>(rt: &T, lent: &mut L, request: &Option<Request>) -> Reply
+    ensures { AnswersLine L.does lent.old request.now result lent.new }
+{
+    match request {
+        Some(request) => lent.answer(rt, request),
+        None => Reply::Refused(Code::Line),
+    }
+}
+
+/// Writes the reply where the gate lets it out. Where it does not, what was written before is handed on.
+pub(crate) fn put_out<T: Wait, W: Sink, G: Gate>(
+    rt: &T,
+    writer: &mut W,
+    gate: &G,
+    number: u64,
+    reply: &Reply,
+) -> Result<(), SessionFault>
+    ensures put_out { PutsOut (W.seen writer.old) (W.seen writer.new) result (reply_line reply.now) }
+    ensures let_out { ((W.seen writer.new).bytes ≡ (W.seen writer.old).bytes) ⊎ G.lets_out gate.now number }
+    ensures gate { IsErrOf result SessionFault.Gate → G.holds_back gate.now number }
+{
+    let Some(leave) = ask_leave(rt, gate, number) else {
+        flush(writer)?;
+        return Err(SessionFault::Gate);
+    };
+    leave.write(writer, reply)?;
+    Ok(())
+}
+
+/// Ends the session so, once all is handed on.
+pub(crate) fn finish<W: Sink>(writer: &mut W, end: SessionEnd) -> Result<SessionEnd, SessionFault>
+    ensures { Finishes end (W.seen writer.old) (W.seen writer.new) result }
+{
+    flush(writer)?;
+    Ok(end)
+}

@@ -1,0 +1,38 @@
+//! What a line of a session asks.
+ghost use Rattle.std.specs.Prelude.{◌≡◌};
+ghost use Rattle.trace_session.specs.Asking.{asked_in};
+
+use line_protocol::{Line, read_request};
+use trace_types::Request;
+
+/// What a line of a session asks.
+pub(crate) enum Asked {
+    /// This request; `None` where the line spells none.
+    Request(Option<Request>),
+    /// The end of the session.
+    Quit,
+    /// Nothing: the input has ended.
+    End,
+}
+
+/// What is asked where this was found, and this is the line where it is a whole one.
+pub(crate) fn asked_in(found: Line, line: &[u8]) -> Asked
+    ensures { result ≡ asked_in found line.now }
+{
+    match found {
+        Line::End => Asked::End,
+        Line::TooLong => Asked::Request(None),
+        Line::Whole => asked_by(line),
+    }
+}
+
+/// What a line asks that is not too long.
+fn asked_by(line: &[u8]) -> Asked
+    ensures { result ≡ asked_in Line.Whole line.now }
+{
+    if line == b"quit".as_slice() {
+        Asked::Quit
+    } else {
+        Asked::Request(read_request(line))
+    }
+}

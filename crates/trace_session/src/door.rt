@@ -1,0 +1,33 @@
+//! Where connections come from.
+ghost use Rattle.std.specs.Prelude.{◌≡◌, ◌+◌, ℕ, MatchResult, MatchOption};
+
+use line_protocol::{Sink, Source};
+use std::sync::Wait;
+use thiserror::Error;
+
+/// No connection could be accepted.
+#[derive(Clone, Copy, Debug, PartialEq, Eq, Error)]
+#[error("accept fault")]
+pub struct DoorFault;
+
+/// Gives connections, one after another.
+pub trait Door {
+    /// What a connection is read from.
+    type Reader: Source + Drop + Send;
+
+    /// What is written to it.
+    type Writer: Sink + Drop + Send;
+
+    // how many connections it gave
+    ghost given: { Self → ℕ };
+
+    // how often it failed
+    ghost failures: { Self → ℕ };
+
+    /// The next connection; `None` where no more will come. It may wait for one.
+    fn accept<R: Wait>(&mut self, rt: &R) -> Result<Option<(Self::Reader, Self::Writer)>, DoorFault>
+        ensures given { MatchResult result
+            (λ came. MatchOption came (given self.new ≡ given self.old) (λ _. given self.new ≡ given self.old + 1))
+            (λ _. given self.new ≡ given self.old) }
+        ensures failures { MatchResult result (λ _. failures self.new ≡ failures self.old) (λ _. failures self.new ≡ failures self.old + 1) };
+}

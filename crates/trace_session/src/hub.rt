@@ -1,0 +1,249 @@
+//! The desks and views of all tenants, which sessions borrow.
+ghost use Rattle.std.specs.Prelude.{◌≡◌, ◌≢◌, ◌↔◌, ◌++◌, ◌∷◌, [], true, false, IfErr, IfOk, IfSome, IsErrOf, is_some};
+ghost use Rattle.std.specs.List.{list_any};
+ghost use Rattle.trace_types.specs.text.Name.{is_same};
+ghost use Rattle.trace_session.specs.Openings.{is_tenant};
+ghost use Rattle.order_cache.specs.Capacity.{IsCapacity};
+ghost use Rattle.trace_session.specs.Hubs.{are_distinct, can_be_tenants};
+ghost use Rattle.trace_session.specs.Lent.{IsSoundDesk, IsSoundView};
+
+use crate::resting::Resting;
+use order_cache::CacheFault;
+use std::alloc::Global;
+use std::marker::Model;
+use std::sync::{Arc, Mutex, MutexGuard, Wait};
+use tenant_desk::{Desk, View};
+use tenant_ledger::Shared;
+use trace_types::{Limits, Memory, Name, WorldFault};
+
+/// One tenant, with what rests of it under a lock.
+pub(crate) struct Tenant {
+    name: Name,
+    resting: Mutex<Resting>,
+}
+
+impl Tenant {
+    /// Lends the desk, if no session has it.
+    pub(crate) fn take_desk<R: Wait>(&self, rt: &R) -> Option<Desk>
+        ensures { IfSome result IsSoundDesk }
+    {
+        let mut resting = self.resting.lock(rt);
+        let desk = resting.take_desk();
+        MutexGuard::unlock(resting);
+        desk
+    }
+
+    /// Takes the desk back that it lent.
+    pub(crate) fn put_desk<R: Wait>(&self, rt: &R, desk: Desk)
+        requires { IsSoundDesk desk }
+    {
+        let mut resting = self.resting.lock(rt);
+        let other = resting.put_desk(desk);
+        MutexGuard::unlock(resting);
+        if let Some(other) = other {
+            other.close(rt);
+        }
+    }
+
+    /// Lends a view, if there is one that no session has.
+    pub(crate) fn take_view<R: Wait>(&self, rt: &R) -> Option<View>
+        ensures { IfSome result IsSoundView }
+    {
+        let mut resting = self.resting.lock(rt);
+        let view = resting.take_view();
+        MutexGuard::unlock(resting);
+        view
+    }
+
+    /// Takes a view back that it lent.
+    pub(crate) fn put_view<R: Wait>(&self, rt: &R, view: View)
+        requires { IsSoundView view }
+    {
+        let mut resting = self.resting.lock(rt);
+        resting.put_view(view);
+        MutexGuard::unlock(resting);
+    }
+
+    /// Ends the desk.
+    fn close<R: Wait>(self, rt: &R) {
+        let Tenant { name: _, resting } = self;
+        resting.into_inner().close(rt);
+    }
+}
+
+/// The desks and views of all tenants. A session borrows what it needs, and each that is not borrowed rests under its
+/// tenant's lock.
+///
+/// Contracts see the tenants' names. It is no value that may be dropped: end it by [`Hub::close`].
+pub struct Hub {
+    tenants: Vec<Tenant>,
+}
+
+impl Model for Hub {
+    ghost use Rattle.std.specs.Prelude.{List, map};
+    ghost use Rattle.trace_types.specs.text.Name.{Text};
+
+    ghost Value = { List Text };
+
+    ghost view = { λ hub. map (λ tenant. tenant.name) hub.tenants.items };
+}
+
+impl Hub {
+    /// The most tenants.
+    pub const MOST_TENANTS: usize = 16;
+
+    /// Tenants of these names that have reported nothing, each with these limits by itself, a desk and eight views. It
+    /// takes 1 to 16 names, and answers `Names` for none, for more, and where a name stands twice. Their cache remembers
+    /// at most this many comparisons of two trees: 1 to 65536, else it answers `Capacity`. Want of memory comes last.
+    pub fn new<R: Wait>(
+        rt: &R,
+        alloc: Global,
+        names: &[Name],
+        limits: Limits,
+        cache: u64,
+    ) -> Result<Hub, WorldFault>
+        ensures names { IsErrOf result WorldFault.Names ↔ (can_be_tenants names.now ≡ false) }
+        ensures capacity { IsErrOf result WorldFault.Capacity ↔ (can_be_tenants names.now ≡ true) × (IsCapacity cache → ⊥) }
+        ensures hub { IfOk result (λ hub. hub ≡ names.now) }
+    {
+        if !can_be_tenants(names) {
+            return Err(WorldFault::Names);
+        }
+        let shared = shared_by_all(alloc, cache)?;
+        Ok(Hub::with_tenants(rt, alloc, names, limits, &shared)?)
+    }
+
+    /// The tenants of these names.
+    fn with_tenants<R: Wait>(
+        rt: &R,
+        alloc: Global,
+        names: &[Name],
+        limits: Limits,
+        shared: &Arc<Shared>,
+    ) -> Result<Hub, Memory>
+        ensures { IfOk result (λ hub. hub ≡ names.now) }
+    {
+        let mut hub = Hub {
+            tenants: Vec::with_capacity(alloc, names.len())?,
+        };
+        for name in names {
+            hub = hub.with_tenant(rt, alloc, *name, limits, shared)?;
+        }
+        Ok(hub)
+    }
+
+    /// The same tenants and one more. Where a request for memory is refused, all are ended.
+    fn with_tenant<R: Wait>(
+        self,
+        rt: &R,
+        alloc: Global,
+        name: Name,
+        limits: Limits,
+        shared: &Arc<Shared>,
+    ) -> Result<Hub, Memory>
+        ensures { IfOk result (λ hub. hub ≡ self ++ name ∷ []) }
+    {
+        match new_tenant(rt, alloc, name, limits, shared) {
+            Ok(tenant) => self.with(rt, tenant),
+            Err(refused) => {
+                self.close(rt);
+                Err(refused)
+            }
+        }
+    }
+
+    /// The same tenants and this one. Where there is no room, all are ended.
+    fn with<R: Wait>(self, rt: &R, tenant: Tenant) -> Result<Hub, Memory>
+        ensures { IfOk result (λ hub. hub ≡ self ++ tenant.name ∷ []) }
+    {
+        let mut hub = self;
+        match hub.tenants.push(tenant) {
+            Ok(()) => Ok(hub),
+            Err(failed) => {
+                failed.value.close(rt);
+                hub.close(rt);
+                Err(Memory)
+            }
+        }
+    }
+
+    /// The tenant of this name, if there is one.
+    pub(crate) fn find(&self, name: &Name) -> Option<&Tenant>
+        ensures known { is_some result ≡ is_tenant self.now name.now }
+        ensures named { IfSome result (λ tenant. tenant.now.name ≡ name.now) }
+    {
+        tenant_of(&self.tenants, name)
+    }
+
+    /// Ends the hub and its desks. It waits for views that still read.
+    pub fn close<R: Wait>(self, rt: &R) {
+        let Hub { mut tenants } = self;
+        while let Some(tenant) = tenants.pop() {
+            tenant.close(rt);
+        }
+        tenants.destroy_empty();
+    }
+}
+
+/// The tenant of this name, if there is one.
+fn tenant_of<'a>(tenants: &'a [Tenant], name: &Name) -> Option<&'a Tenant>
+    ensures known { is_some result ≡ list_any (λ tenant. is_same tenant.name name.now) tenants.now }
+    ensures named { IfSome result (λ tenant. tenant.now.name ≡ name.now) }
+{
+    for tenant in tenants {
+        if tenant.name == *name {
+            return Some(tenant);
+        }
+    }
+    None
+}
+
+/// A tenant that has reported nothing.
+fn new_tenant<R: Wait>(
+    rt: &R,
+    alloc: Global,
+    name: Name,
+    limits: Limits,
+    shared: &Arc<Shared>,
+) -> Result<Tenant, Memory>
+    ensures { IfOk result (λ tenant. tenant.name ≡ name) }
+{
+    let shared = Arc::try_clone(shared)?;
+    let resting = Resting::new(rt, alloc, limits, shared)?;
+    Ok(Tenant {
+        name,
+        resting: Mutex::new(resting),
+    })
+}
+
+/// What the tenants are to share.
+fn shared_by_all(alloc: Global, cache: u64) -> Result<Arc<Shared>, WorldFault>
+    ensures capacity { IsErrOf result WorldFault.Capacity ↔ (IsCapacity cache → ⊥) }
+    ensures names { IfErr result (λ fault. fault ≢ WorldFault.Names) }
+{
+    match Shared::new(alloc, cache) {
+        Ok(shared) => match Arc::new(alloc, shared) {
+            Ok(shared) => Ok(shared),
+            Err(_) => Err(WorldFault::Memory),
+        },
+        Err(CacheFault::Capacity) => Err(WorldFault::Capacity),
+        Err(CacheFault::Memory) => Err(WorldFault::Memory),
+    }
+}
+
+fn can_be_tenants(names: &[Name]) -> bool
+    ensures { result ≡ can_be_tenants names.now }
+{
+    1 <= names.len() && names.len() <= Hub::MOST_TENANTS && are_distinct(names)
+}
+
+fn are_distinct(names: &[Name]) -> bool
+    ensures { result ≡ are_distinct names.now }
+{
+    for (place, name) in names.iter().enumerate() {
+        if names[place + 1..].contains(name) {
+            return false;
+        }
+    }
+    true
+}

@@ -1,0 +1,99 @@
+//! What no session uses of one tenant.
+ghost use Rattle.std.specs.Prelude.{◌≡◌, IfOk, IfSome, length, All};
+ghost use Rattle.trace_session.specs.Lent.{IsSoundDesk, IsSoundView};
+
+use std::alloc::Global;
+use std::marker::Model;
+use std::sync::{Arc, Wait};
+use tenant_desk::{Desk, View, Views, desk_and_views};
+use tenant_ledger::Shared;
+use trace_types::{Limits, Memory};
+
+/// The desk and the views of one tenant, as far as no session uses them. All of them are sound.
+///
+/// It is no value that may be dropped: end it by [`Resting::close`].
+pub(crate) struct Resting {
+    desk: Option<Desk>,
+    views: Vec<View>,
+}
+
+impl Model for Resting {
+    ghost use Rattle.std.specs.Prelude.{All, IfSome};
+    ghost use Rattle.trace_session.specs.Lent.{IsSoundDesk, IsSoundView};
+
+    ghost Value = { Unit {0} };
+
+    ghost view = { λ _. tt };
+
+    ghost invariant = { λ r. IfSome r.desk IsSoundDesk × All IsSoundView r.views.items };
+}
+
+impl Resting {
+    /// The desk of a new tenant and its views. `Memory` where a request for memory was refused.
+    pub(crate) fn new<R: Wait>(
+        rt: &R,
+        alloc: Global,
+        limits: Limits,
+        shared: Arc<Shared>,
+    ) -> Result<Resting, Memory> {
+        let (desk, views) = desk_and_views(rt, alloc, limits, shared)?;
+        match all_views(alloc, views) {
+            Ok(views) => Ok(Resting {
+                desk: Some(desk),
+                views,
+            }),
+            Err(refused) => {
+                desk.close(rt);
+                Err(refused)
+            }
+        }
+    }
+
+    /// Lends the desk, if no session has it.
+    pub(crate) fn take_desk(&mut self) -> Option<Desk>
+        ensures { IfSome result IsSoundDesk }
+    {
+        self.desk.take()
+    }
+
+    /// Takes the desk back. One that was there comes out.
+    pub(crate) fn put_desk(&mut self, desk: Desk) -> Option<Desk>
+        requires { IsSoundDesk desk }
+    {
+        self.desk.replace(desk)
+    }
+
+    /// Lends a view, if there is one that no session has.
+    pub(crate) fn take_view(&mut self) -> Option<View>
+        ensures { IfSome result IsSoundView }
+    {
+        self.views.pop()
+    }
+
+    /// Takes a view back. There is room for all that were lent.
+    pub(crate) fn put_view(&mut self, view: View)
+        requires { IsSoundView view }
+    {
+        let _ = self.views.push(view);
+    }
+
+    /// Ends the desk.
+    pub(crate) fn close<R: Wait>(self, rt: &R) {
+        let Resting { desk, views: _ } = self;
+        if let Some(desk) = desk {
+            desk.close(rt);
+        }
+    }
+}
+
+/// All the views that are left. `Memory` where a request for memory was refused.
+fn all_views(alloc: Global, mut views: Views) -> Result<Vec<View>, Memory>
+    ensures count { IfOk result (λ all. length all.items ≡ views.left) }
+    ensures sound { IfOk result (λ all. All IsSoundView all.items) }
+{
+    let mut all = Vec::with_capacity(alloc, 8)?;
+    while let Some(view) = views.view() {
+        all.push(view)?;
+    }
+    Ok(all)
+}

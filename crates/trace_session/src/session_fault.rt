@@ -1,0 +1,55 @@
+//! Why a session stops.
+ghost use Rattle.std.specs.Prelude.{◌≡◌};
+ghost use Rattle.trace_session.specs.Faults.{session_fault_of};
+ghost use Rattle.trace_session.specs.declared.session_fault.SessionFault.TheVariants as variants;
+
+use line_protocol::{ReadFault, WriteFault};
+use thiserror::Error;
+use trace_types::Memory;
+
+/// Why a session stops before its end.
+#[derive(Clone, Copy, Debug, PartialEq, Eq, Error)]
+pub enum SessionFault {
+    /// A read failed.
+    #[error("read fault")]
+    Read,
+    /// A write or a flush failed.
+    #[error("write fault")]
+    Write,
+    /// All the reads that one session may make were made.
+    #[error("input too long")]
+    TooLong,
+    /// A request for memory was refused, before anything was read.
+    #[error("no memory")]
+    Memory,
+    /// The gate did not let a line out.
+    #[error("gate")]
+    Gate,
+}
+
+impl From<ReadFault> for SessionFault {
+    ghost from_gives = { λ fault session_fault. session_fault ≡ session_fault_of fault };
+
+    fn from(fault: ReadFault) -> SessionFault {
+        match fault {
+            ReadFault::Read => SessionFault::Read,
+            ReadFault::TooLong => SessionFault::TooLong,
+        }
+    }
+}
+
+impl From<WriteFault> for SessionFault {
+    ghost from_gives = { λ _ session_fault. session_fault ≡ variants.Write };
+
+    fn from(_fault: WriteFault) -> SessionFault {
+        SessionFault::Write
+    }
+}
+
+impl From<Memory> for SessionFault {
+    ghost from_gives = { λ _ session_fault. session_fault ≡ variants.Memory };
+
+    fn from(_refused: Memory) -> SessionFault {
+        SessionFault::Memory
+    }
+}
