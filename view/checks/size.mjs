@@ -1,0 +1,110 @@
+// The greatest trace: how long it takes to open, and how long a step of scrolling or zooming takes.
+import assert from "node:assert/strict";
+import { readFileSync } from "node:fs";
+import { exportOf, file, lists, pictureOf } from "./program.mjs";
+import { greatest, seeded } from "./traces.mjs";
+
+const MOST_OPENING = 2000, MOST_STEP = 50;
+const pan = (count, deltaX, deltaY) => ({ count, deltaX, deltaY });
+const zoom = (count, deltaY) => ({ count, deltaX: 0, deltaY, ctrlKey: true });
+const PLAN = [pan(15, 300, 0), zoom(30, 60), pan(15, 200, 0), pan(10, 0, 200), zoom(30, -60), pan(20, 900, 0), zoom(10, 100),
+  pan(30, 400, 30)];
+
+/** Takes steps and measures each from the wheel's event until its frame is on the canvas. A step is drawn three times and its
+ * least time counts, since other work on the machine may come in between. */
+const steps = async (plan) => {
+  const { view } = page, times = [];
+  const timed = (act) => {
+    const begin = performance.now();
+    act();
+    return performance.now() - begin;
+  };
+  const drawn = () => timed(() => {
+    view.draw();
+    view.context.getImageData(0, 0, 1, 1);
+  });
+  for (const { count, ...turn } of plan) {
+    for (let step = 0; step < count; step++) {
+      await new Promise((resolve) => requestAnimationFrame(resolve));
+      const wheel = new WheelEvent("wheel", { ...turn, clientX: 500, clientY: 300, cancelable: true });
+      const asked = timed(() => view.canvas.dispatchEvent(wheel)), turns = [drawn(), drawn(), drawn()];
+      times.push({ least: asked + Math.min(...turns), most: asked + Math.max(...turns), count: view.count });
+    }
+  }
+  times.sort((one, other) => other.least - one.least);
+  const reached = Math.min(timed(() => page.reach()), timed(() => page.reach()));
+  const most = Math.max(...times.map((time) => time.most));
+  return { longest: times[0], middle: times[times.length >> 1].least, most, reached };
+};
+
+async function openings(tab, html, path) {
+  const times = [];
+  for (let turn = 0; turn < 3; turn++) {
+    await tab.navigate("about:blank");
+    const begin = performance.now();
+    await tab.navigate(`file://${html}`);
+    await tab.until(() => typeof page !== "undefined" && page.isShown === true);
+    await tab.frame();
+    times.push(performance.now() - begin);
+  }
+  const begin = performance.now(), opened = await tab.run(() => page.opened);
+  await tab.pick("#file", path);
+  await tab.until((count) => page.opened > count + 1, opened);
+  await tab.frame();
+  return { asPage: times, asFile: performance.now() - begin };
+}
+
+/** What the longest step was, in words. What other work held up is measured again, three times at most. */
+async function judged(tab, what) {
+  for (let turn = 1; ; turn++) {
+    const { longest, middle, most, reached } = await tab.run(steps, PLAN), isShort = Math.max(longest.least, reached) < MOST_STEP;
+    const words = `${what}, the longest step ${longest.least.toFixed(1)} ms (${longest.count} events in view; `
+      + `${most.toFixed(1)} ms with other work), half of them within ${middle.toFixed(1)} ms, the buttons over events `
+      + `${reached.toFixed(1)} ms${turn > 1 ? `, measured ${turn} times` : ""}`;
+    assert.ok(isShort || turn < 3, words);
+    if (isShort) return words;
+  }
+}
+
+export async function size(tab) {
+  const reports = greatest(seeded(3)), spawned = reports.filter((report) => report.startsWith("spawn")).length;
+  assert.deepEqual([reports.length, spawned], [16384, 2047]);
+  const bytes = exportOf(reports), html = pictureOf("greatest.html", bytes);
+  const { asPage, asFile } = await openings(tab, html, file("greatest.export", bytes)), begin = performance.now();
+  assert.ok(Math.min(...asPage) < MOST_OPENING && asFile < MOST_OPENING, `opening took ${[...asPage, asFile].join(", ")} ms`);
+  await tab.until(() => page.verdict !== null);
+  const compared = performance.now() - begin, told = [];
+  assert.equal(await tab.run(() => page.verdict), "yes 16384");
+  told.push(await judged(tab, "plain"));
+  await tab.run(() => page.choose(8000, { closer: true }));
+  told.push(await judged(tab, "with an event chosen"));
+  await tab.run(() => {
+    const time = document.getElementById("time");
+    time.value = "number";
+    time.dispatchEvent(new Event("change"));
+  });
+  told.push(await judged(tab, "by event number"));
+  await pastIsRight(tab, reports);
+  const mebibytes = (length) => (length / 2 ** 20).toFixed(1);
+  return `${mebibytes(bytes.length)} MiB opened in ${asPage.map((time) => time.toFixed(0)).join(", ")} ms as a page of `
+    + `${mebibytes(readFileSync(html).length)} MiB and in ${asFile.toFixed(0)} ms as a file, and compared after `
+    + `${(compared / 1000).toFixed(1)} s more; ${told.join("; ")}`;
+}
+
+/** The past of some events is what the program answers; and choosing one takes no longer than a step. */
+async function pastIsRight(tab, reports) {
+  const random = seeded(23), events = Array.from({ length: 20 }, () => 1 + Math.floor(random() * 16384));
+  const past = lists(reports, "past", events);
+  for (const [place, event] of events.entries()) {
+    const { shown, time } = await tab.run((chosen) => {
+      const times = [0, 1, 2].map(() => {
+        const begin = performance.now();
+        page.choose(chosen);
+        return performance.now() - begin;
+      });
+      return { shown: page.eventsStanding(PAST), time: Math.min(...times) };
+    }, event);
+    assert.deepEqual(shown, past[place]);
+    assert.ok(time < MOST_STEP, `choosing event ${event} took ${time} ms`);
+  }
+}

@@ -1,0 +1,144 @@
+// The checks of what somebody does with the picture: searching, walking, linking and moving.
+import assert from "node:assert/strict";
+import { exportOf, inWork, pictureOf } from "./program.mjs";
+import { chosen, opened, pause, placeOf, press, text } from "./tab.mjs";
+import { busy, seeded } from "./traces.mjs";
+
+const CONTROL = 2, SHIFT = 8;
+
+const namedBy = (reports, keyword, word) =>
+  reports.filter((report) => report.startsWith(keyword)).map((report) => report.split(" ")[word]);
+
+export async function listsAndSearch(tab) {
+  const reports = [...busy(seeded(11), 120, 8, 30), "send root lonely", "spawn root idle"];
+  await opened(tab, pictureOf("lists.html", exportOf(reports)));
+  const read = new Set(namedBy(reports, "recv", 2)), over = new Set(namedBy(reports, "end", 1));
+  const unread = namedBy(reports, "send", 2).filter((name) => !read.has(name));
+  const open = ["root", ...namedBy(reports, "spawn", 2)].filter((name) => !over.has(name));
+  assert.deepEqual(await listOf(tab, "unread"), [`Messages that nobody received: ${unread.length}`, ...unread]);
+  assert.deepEqual(await listOf(tab, "open"), [`Tasks that did not end: ${open.length}`, ...open]);
+  await found(tab, "lonely", "Event 121");
+  await found(tab, "17", "Event 17");
+  await found(tab, "idle", "Event 122");
+  await search(tab, "task_1");
+  await press(tab, "#found li button");
+  assert.equal(await text(tab, "#chosen dd:nth-of-type(2)"), "task_1");
+}
+
+/** The title of a list, and of each item the name that it ends with. */
+async function listOf(tab, id) {
+  await tab.run((list) => document.getElementById(list).setAttribute("open", ""), id);
+  await pause(80);
+  const items = await tab.run((list) => [...document.querySelectorAll(`#${list} li`)].map((item) => item.textContent), id);
+  return [await text(tab, `#${id} summary`), ...items.map((item) => item.replace(", last event", "").split(" ").at(-1))];
+}
+
+async function search(tab, sought) {
+  await tab.run(() => {
+    document.getElementById("search").value = "";
+  });
+  await press(tab, "#search");
+  await tab.type(sought);
+}
+
+/** Enter leads to what is searched, and it is in view then. */
+async function found(tab, sought, title) {
+  await search(tab, sought);
+  await tab.key("Enter");
+  assert.equal(await chosen(tab), title);
+  const isInView = await tab.run(() => {
+    const { view } = page, x = view.x(view.layout.times[view.chosen]), y = view.y(view.layout.lane(view.chosen));
+    return x > 0 && x < view.width && y > 0 && y < view.height;
+  });
+  assert.ok(isInView, `${title} is in view`);
+}
+
+/** Tab reaches the events in view, arrows walk along the task and along edges, and a screen reader is told what stands where. */
+export async function keyboard(tab) {
+  await opened(tab, inWork("worked.html"));
+  await tab.run(() => document.getElementById("fit").focus());
+  await tab.until(() => page.buttons.size === 8);
+  const focused = () => Number(document.activeElement?.dataset?.event ?? 0);
+  for (const event of [1, 2, 3]) {
+    await tab.key("Tab");
+    assert.equal(await tab.run(focused), event);
+  }
+  await tab.key("Enter");
+  assert.equal(await chosen(tab), "Event 3");
+  const walk = "Right 5, Down 6, Left 4, Left 2, Down 3, Up 2, Right 4, Right 6, Up 5, Right 7, Right 7, Down 8, Up 7";
+  for (const [arrow, event] of walk.split(", ").map((step) => step.split(" "))) {
+    await tab.key(`Arrow${arrow}`);
+    assert.deepEqual([await tab.run(focused), await chosen(tab)], [Number(event), `Event ${event}`], `${arrow} ${event}`);
+  }
+  const spoken = await tab.spokenButtons();
+  for (const name of ["Event 5, a sends m, follows 3, in the past of event 7", "Event 7, a ends, follows 5, chosen",
+    "Event 6, root receives m, follows 4 and 5, concurrent with event 7",
+    "Event 8, root joins a, follows 6 and 7, event 7 could influence it"]) assert.ok(spoken.includes(name), name);
+  await tab.key("Escape");
+  assert.match(await text(tab, "#chosen"), /^Choose an event/);
+}
+
+/** The address says what is chosen, and leads there again. */
+export async function address(tab) {
+  const time = () => document.getElementById("time").value;
+  await opened(tab, inWork("worked.html"), "#event=6&other=4&time=number");
+  assert.deepEqual([await chosen(tab), await text(tab, "#words"), await tab.run(time)],
+    ["Event 6", "Event 6 happened after event 4.", "number"]);
+  await tab.click(...await placeOf(tab, 3));
+  await tab.click(...await placeOf(tab, 4), SHIFT);
+  assert.equal(await text(tab, "#words"), "Event 3 and event 4 are concurrent: nothing kept them in order.");
+  assert.equal(await tab.run(() => location.hash), "#event=3&other=4&time=number");
+  await tab.run(() => {
+    location.hash = "#event=8";
+  });
+  await tab.frame();
+  assert.deepEqual([await chosen(tab), await tab.run(time)], ["Event 8", "chain"]);
+  for (const hash of ["#event=9", "#event=-1", "#event=<b>", "#event=1e0&other=2", "#%"]) {
+    await opened(tab, inWork("worked.html"), hash);
+    assert.match(await text(tab, "#chosen"), /^Choose an event/);
+  }
+  await tab.click(...await placeOf(tab, 1));
+  await press(tab, "#pair");
+  await tab.click(...await placeOf(tab, 8));
+  assert.equal(await text(tab, "#words"), "Event 1 happened before event 8.");
+}
+
+const where = (tab) => tab.run(() => ({ left: page.view.left, scale: page.view.scale }));
+const timeAt = ({ left, scale }, x) => left + x / scale;
+const near = (one, other, what) => assert.ok(Math.abs(one - other) < 1e-6, `${what}: ${one} and ${other}`);
+
+/** The wheel, a drag and fingers move and zoom the picture; what is below the pointer or between the fingers stays there. */
+export async function moving(tab, phone) {
+  await opened(tab, inWork("busy.html"));
+  const start = await where(tab);
+  await tab.wheel(500, 400, 120, 0);
+  const wheeled = await where(tab);
+  near(timeAt(start, 120), wheeled.left, "the wheel pans");
+  await tab.wheel(500, 400, 0, -120, CONTROL);
+  const zoomed = await where(tab);
+  assert.ok(zoomed.scale > wheeled.scale);
+  near(timeAt(wheeled, 500), timeAt(zoomed, 500), "the wheel zooms at the pointer");
+  await tab.drag(600, 400, 500, 400);
+  near(timeAt(zoomed, 100), (await where(tab)).left, "dragging pans");
+  assert.equal(await tab.run(() => page.view.chosen), 0);
+  await press(tab, "#fit");
+  const isWhole = () => page.view.left <= 1 && page.view.x(page.view.layout.columns) <= page.view.width;
+  assert.ok(await tab.run(isWhole));
+  await fingers(phone);
+}
+
+async function fingers(phone) {
+  await opened(phone, inWork("busy.html"));
+  const start = await where(phone);
+  await phone.touch([[[300, 300]], [[280, 300]], [[200, 300]]]);
+  const panned = await where(phone);
+  near(timeAt(start, 100), panned.left, "a finger pans");
+  await phone.touch([[[150, 300], [250, 300]], [[130, 300], [270, 300]], [[140, 300], [260, 300]]]);
+  const pinched = await where(phone);
+  near(pinched.scale / panned.scale, 1.2, "two fingers zoom");
+  near(timeAt(panned, 200), timeAt(pinched, 200), "two fingers zoom between them");
+  await phone.until(() => page.buttons.size > 3);
+  const event = await phone.run(() => [...page.buttons.keys()].sort((one, other) => one - other)[3]);
+  await phone.touch([[await placeOf(phone, event)]]);
+  assert.equal(await chosen(phone), `Event ${event}`);
+}
