@@ -1,105 +1,117 @@
--- Words that ask for a replay are spelled by their parts, those that ask for a check are `check`, and what is asked for is found.
-use Rattle.std.proofs.Common.{◌≡◌, ◌∙◌, ℕ, suc, ◌≤◌, Bool, true, false, List, [], ◌∷◌, length, Option, Some, None, option_map, option_and_then, refl, sym, ap, ap₂, subst, codes, arith, IfSome, if◌then◌else◌}
+-- Words that ask for a replay or a service are spelled by their parts, those that ask for a check are `check`, and what is asked for is found.
+use Rattle.std.proofs.Common.{◌≡◌, ◌∙◌, ℕ, suc, ◌≤◌, Bool, true, false, ◌||◌, List, [], ◌∷◌, length, Option, Some, None, option_map, option_and_then, refl, sym, ap, ap₂, subst, codes, arith, IfSome, if◌then◌else◌}
 use Rattle.std.specs.Prelude.{slice_get, unwrap_or}
-use Rattle.std.specs.List.{list_all}
-use Rattle.std.proofs.lemmas.Bool.{and_from}
+use Rattle.std.specs.List.{list_all, list_any}
+use Rattle.std.proofs.lemmas.Bool.{and_from, or_right}
 use Rattle.std.proofs.lemmas.Slice.Eq.{bytes_eq-Decides}
 use Rattle.clap.specs.Words.{App, HasMatchesOf, Row, first_of, is_simple, subcommand_of, subcommand_rows_of, takes}
 use Rattle.clap.specs.Lexer.{usize_max}
+use Rattle.clap.proofs.WalkLemmas.{both as and_is_true}
 use Rattle.clap.proofs.OnLiterals.{clap_on_literals}
 use Rattle.clap.specs.Walk.{row_text}
 use Rattle.clap.specs.declared.parser.ArgMatches.{ArgMatches}
 use Rattle.trace_types.specs.tenant.Limits.{Limits, are_limits}
 use Rattle.trace_types.specs.text.Name.{Text, is_between, is_same}
 use Rattle.trace_types.specs.text.Reading.{number_of}
-use Rattle.command_line.specs.Demand.{AskedReplay, Demand, ToReplay, ToCheck, Role, Tenant, Events, Tasks, Messages, Cache, Export, Part, replay_asked_by, cache_by, asked_by_options, export_by, replay_asked_in, check_asked_in, asked_in, asked_with, is_plain, is_role, limit_by, limits_by, limits_of, number_up_to, option_named, parts_after, words_for}
-use Rattle.command_line.specs.Reading.{Has, amount_in, cache_found, limits_found, limits_in, program_app, tenants_found, work_found, work_with, export_found}
-use Rattle.command_line.proofs.CommandLine.{Fits, FitsOnce, PlainOnce, finds, id_of, row_of, simple, spelled, spelled_with, takes_parts}
+use Rattle.command_line.specs.Demand.{AskedReplay, AskedService, Demand, ToReplay, ToServe, ToCheck, Role, Tenant, Events, Tasks, Messages, Cache, Export, Port, Workers, Sessions, Part, replay_asked_by, cache_by, asked_by_options, export_by, port_by, replay_asked_in, service_asked_by, service_asked_in, service_with, check_asked_in, asked_in, asked_with, is_plain, is_role, limit_by, limits_by, limits_of, number_up_to, option_named, option_of, parts_after, words_for}
+use Rattle.command_line.specs.Reading.{Has, amount_in, cache_found, limits_found, limits_in, number_found, program_app, tenants_found, work_found, work_with, export_found}
+use Rattle.command_line.proofs.CommandLine.{Fits, FitsOnce, PlainOnce, same_role, Verb, Replays, Serves, finds, has_option, has_role, have_roles, id_of, name_of, options_of, row_of, simple, spelled, spelled_with, takes_parts}
 use Rattle.command_line.proofs.Rows.{row_in}
 
 some_same : {X : Type 0} {a b : X} → Some a ≡ Some b → a ≡ b
 some_same {X} {a} e = ap (λ o. unwrap_or o a) e
 
--- the option whose number has this role
-abbrev option_of : Role → Text
-option_of Tenant = []
-option_of Events = codes "--events"
-option_of Tasks = codes "--tasks"
-option_of Messages = codes "--messages"
-option_of Cache = codes "--cache"
-option_of Export = codes "--export"
-
-named : (word : Text) (role : Role) → option_named word ≡ Some role → (word ≡ option_of role) × (is_role Tenant role ≡ false)
-named word role is = go (is_same word (codes "--events")) (is_same word (codes "--tasks")) (is_same word (codes "--messages")) (is_same word (codes "--cache")) (is_same word (codes "--export")) refl refl refl refl refl is
+-- an option that is named is one of these
+named : (options : List Role) (word : Text) (role : Role) → option_named options word ≡ Some role → (word ≡ option_of role) × (list_any (is_role role) options ≡ true)
+named [] word role is = cc
+named (one ∷ options) word role is = go (is_same word (option_of one)) refl is (λ e. named options word role e)
   where
-    chosen : (one : Role) → word ≡ option_of one → is_role Tenant one ≡ false → Some one ≡ Some role → (word ≡ option_of role) × (is_role Tenant role ≡ false)
-    chosen one word_is limit e = subst (λ r. (word ≡ option_of r) × (is_role Tenant r ≡ false)) (some_same e) (word_is, limit)
+    itself : (one : Role) → is_role one one ≡ true
+    itself Tenant = refl
+    itself Events = refl
+    itself Tasks = refl
+    itself Messages = refl
+    itself Cache = refl
+    itself Export = refl
+    itself Port = refl
+    itself Workers = refl
+    itself Sessions = refl
 
-    go : (events tasks messages cache export : Bool) → is_same word (codes "--events") ≡ events → is_same word (codes "--tasks") ≡ tasks → is_same word (codes "--messages") ≡ messages
-        → is_same word (codes "--cache") ≡ cache → is_same word (codes "--export") ≡ export
-        → (if events then Some Events else if tasks then Some Tasks else if messages then Some Messages else if cache then Some Cache else if export then Some Export else None) ≡ Some role
-        → (word ≡ option_of role) × (is_role Tenant role ≡ false)
-    go true tasks messages cache export a b c d f e = chosen Events ((bytes_eq-Decides word (codes "--events")).0 a) refl e
-    go false true messages cache export a b c d f e = chosen Tasks ((bytes_eq-Decides word (codes "--tasks")).0 b) refl e
-    go false false true cache export a b c d f e = chosen Messages ((bytes_eq-Decides word (codes "--messages")).0 c) refl e
-    go false false false true export a b c d f e = chosen Cache ((bytes_eq-Decides word (codes "--cache")).0 d) refl e
-    go false false false false true a b c d f e = chosen Export ((bytes_eq-Decides word (codes "--export")).0 f) refl e
-    go false false false false false a b c d f e = cc
+    go : (b : Bool) → is_same word (option_of one) ≡ b → (if b then Some one else option_named options word) ≡ Some role
+        → (option_named options word ≡ Some role → (word ≡ option_of role) × (list_any (is_role role) options ≡ true))
+        → (word ≡ option_of role) × (list_any (is_role role) (one ∷ options) ≡ true)
+    go true same e later =
+        let is = some_same e in (
+          (bytes_eq-Decides word (option_of one)).0 same ∙ ap option_of is,
+          ap (λ b. b || list_any (is_role role) options) (subst (λ r. is_role r one ≡ true) is (itself one)),
+        )
+    go false same e later =
+        let rest = later e in
+        (rest.0, or_right _ _ rest.1)
 
-spelled_limit : (role : Role) (word : Text) (words : List Text) → is_role Tenant role ≡ false → option_of role ∷ word ∷ words ≡ spelled_with role word words
-spelled_limit Tenant word words limit = cc
-spelled_limit Events word words limit = refl
-spelled_limit Tasks word words limit = refl
-spelled_limit Messages word words limit = refl
-spelled_limit Cache word words limit = refl
-spelled_limit Export word words limit = refl
+no_tenant : (verb : Verb) (role : Role) → has_option verb role ≡ true → is_role Tenant role ≡ false
+no_tenant Replays Tenant has = cc
+no_tenant Serves Tenant has = cc
+no_tenant verb role has = refl
+
+spelled_option : (role : Role) (word : Text) (words : List Text) → is_role Tenant role ≡ false → option_of role ∷ word ∷ words ≡ spelled_with role word words
+spelled_option Tenant word words option = cc
+spelled_option role word words option = refl
 
 -- the words with the option before them
 abbrev before : Option Role → List Text → List Text
 before None words = words
 before (Some role) words = option_of role ∷ words
 
-abbrev IsOption : Option Role → Type 0
-IsOption None = Unit {0}
-IsOption (Some role) = is_role Tenant role ≡ false
+abbrev IsOption : Verb → Option Role → Type 0
+IsOption verb None = Unit {0}
+IsOption verb (Some role) = has_option verb role ≡ true
 
-abbrev Spelled : List Text → List Part → Type 0
-Spelled words parts = (words ≡ spelled parts) × (list_all is_plain (words_for Tenant parts) ≡ true)
+-- what is known of the parts that words spell
+pub record Spelled (verb : Verb) (words : List Text) (parts : List Part) : Type 0 where
+  pub words_are : words ≡ spelled parts
+  pub plain : list_all is_plain (words_for Tenant parts) ≡ true
+  pub have : have_roles verb parts ≡ true
 
 more_parts : (part : Part) (after : Option (List Part)) (parts : List Part) → option_map (λ rest. part ∷ rest) after ≡ Some parts
     → (rest : List Part) × (after ≡ Some rest) × (part ∷ rest ≡ parts)
 more_parts part None parts e = cc
 more_parts part (Some rest) parts e = (rest, refl, some_same e)
 
-spelled_by : (option : Option Role) (words : List Text) (parts : List Part) → IsOption option → parts_after option words ≡ Some parts → Spelled (before option words) parts
-spelled_by None [] parts is e = subst (Spelled []) (some_same e) (refl, refl)
-spelled_by None (word ∷ words) parts is e = go (is_plain word) refl e (option_named word) refl (λ option rest. spelled_by option words rest)
+spelled_by : (verb : Verb) (option : Option Role) (words : List Text) (parts : List Part) → IsOption verb option → parts_after (options_of verb) option words ≡ Some parts
+    → Spelled verb (before option words) parts
+spelled_by verb None [] parts is e = subst (Spelled verb []) (some_same e) (record { words_are = refl; plain = refl; have = refl })
+spelled_by verb None (word ∷ words) parts is e =
+    go (is_plain word) refl e (option_named (options_of verb) word) refl (λ option rest. spelled_by verb option words rest)
   where
     go : (plain : Bool) → is_plain word ≡ plain
-        → (if plain then option_map (λ rest. record { role = Tenant; word = word } ∷ rest) (parts_after None words)
-        else option_and_then (λ role. parts_after (Some role) words) (option_named word)) ≡ Some parts
-        → (option : Option Role) → option_named word ≡ option
-        → ((option : Option Role) (rest : List Part) → IsOption option → parts_after option words ≡ Some rest → Spelled (before option words) rest)
-        → Spelled (word ∷ words) parts
+        → (if plain then option_map (λ rest. record { role = Tenant; word = word } ∷ rest) (parts_after (options_of verb) None words)
+        else option_and_then (λ role. parts_after (options_of verb) (Some role) words) (option_named (options_of verb) word)) ≡ Some parts
+        → (option : Option Role) → option_named (options_of verb) word ≡ option
+        → ((option : Option Role) (rest : List Part) → IsOption verb option → parts_after (options_of verb) option words ≡ Some rest → Spelled verb (before option words) rest)
+        → Spelled verb (word ∷ words) parts
     go true plain e option of later =
-        let more = more_parts (record { role = Tenant; word = word }) (parts_after None words) parts e in
+        let more = more_parts (record { role = Tenant; word = word }) (parts_after (options_of verb) None words) parts e in
         let rest = later None more.0 tt more.1 in
-        subst (Spelled (word ∷ words)) more.2 (ap (λ left. word ∷ left) rest.0, and_from _ _ plain rest.1)
+        subst (Spelled verb (word ∷ words)) more.2
+        (record { words_are = ap (λ left. word ∷ left) rest.words_are; plain = and_from _ _ plain rest.plain; have = and_from true (have_roles verb more.0) refl rest.have })
     go false plain e None of later =
-        let no : None ≡ Some parts = sym (ap (option_and_then (λ role. parts_after (Some role) words)) of) ∙ e in
+        let no : None ≡ Some parts = sym (ap (option_and_then (λ role. parts_after (options_of verb) (Some role) words)) of) ∙ e in
         cc
     go false plain e (Some role) of later =
-        let is = named word role of in
-        let rest = later (Some role) parts is.1 (sym (ap (option_and_then (λ one. parts_after (Some one) words)) of) ∙ e) in
-        (ap (λ first. first ∷ words) is.0 ∙ rest.0, rest.1)
-spelled_by (Some role) [] parts is e = cc
-spelled_by (Some role) (word ∷ words) parts is e =
-    let more = more_parts (record { role = role; word = word }) (parts_after None words) parts e in
-    let rest = spelled_by None words more.0 tt more.1 in
-    subst (Spelled (option_of role ∷ word ∷ words)) more.2 (
-      ap (λ left. option_of role ∷ word ∷ left) rest.0 ∙ spelled_limit role word (spelled more.0) is,
-      rw is rest.1,
-    )
+        let is = named (options_of verb) word role of in
+        let rest = later (Some role) parts is.1 (sym (ap (option_and_then (λ one. parts_after (options_of verb) (Some one) words)) of) ∙ e) in
+        record { words_are = ap (λ first. first ∷ words) is.0 ∙ rest.words_are; plain = rest.plain; have = rest.have }
+spelled_by verb (Some role) [] parts is e = cc
+spelled_by verb (Some role) (word ∷ words) parts is e =
+    let more = more_parts (record { role = role; word = word }) (parts_after (options_of verb) None words) parts e in
+    let rest = spelled_by verb None words more.0 tt more.1 in
+    let option = no_tenant verb role is in
+    subst (Spelled verb (option_of role ∷ word ∷ words)) more.2 (record {
+      words_are = ap (λ left. option_of role ∷ word ∷ left) rest.words_are ∙ spelled_option role word (spelled more.0) option;
+      plain = rw option rest.plain;
+      have = and_from _ _ (or_right _ _ is) rest.have;
+    })
 
 -- ---- limits
 
@@ -137,6 +149,26 @@ amount_found role default most words number rows row e =
     go [] e = e
     go (word ∷ []) e = (in_range most word number e).0
     go (word ∷ other ∷ words) e = cc
+
+port_fits : (words : List Text) (port : ℕ) → port_by words ≡ Some port → FitsOnce 65535 words
+port_fits [] port e = cc
+port_fits (word ∷ []) port e = let is = in_range 65535 word port e in (port, is.0, is.1)
+port_fits (word ∷ other ∷ words) port e = cc
+
+port_limit : (words : List Text) (port : ℕ) → port_by words ≡ Some port → limit_by 0 65535 words ≡ Some port
+port_limit [] port e = cc
+port_limit (word ∷ []) port e = e
+port_limit (word ∷ other ∷ words) port e = cc
+
+port_within : (words : List Text) (port : ℕ) → port_by words ≡ Some port → is_between 1 65535 port ≡ true
+port_within [] port e = cc
+port_within (word ∷ []) port e = (in_range 65535 word port e).1
+port_within (word ∷ other ∷ words) port e = cc
+
+port_word : (words : List Text) (port : ℕ) → port_by words ≡ Some port → (word : Text) × (words ≡ word ∷ [])
+port_word [] port e = cc
+port_word (word ∷ []) port e = (word, refl)
+port_word (word ∷ other ∷ words) port e = cc
 
 -- the name of an export is plain, and stands once
 export_fits : (words : List Text) (export : Option Text) → export_by words ≡ Some export → PlainOnce words
@@ -193,28 +225,29 @@ amounts rows limits e = go (limits_of (amount_in (codes "events") 4096 rows) (am
         let each = three (amount_in (codes "events") 4096 rows) (amount_in (codes "tasks") 512 rows) (amount_in (codes "messages") 2048 rows) limits (of ∙ ap Some is.0) in
         (each.0, each.1, each.2, is.1)
 
--- the number of comparisons that was found
-pub counted : (rows : List Row) (cache : ℕ)
-    → option_and_then (λ number. if is_between 1 65536 number then Some number else None) (amount_in (codes "cache") 1024 rows) ≡ Some cache
-    → (amount_in (codes "cache") 1024 rows ≡ Some cache) × (is_between 1 65536 cache ≡ true)
-counted rows cache e = go (amount_in (codes "cache") 1024 rows) refl e
+-- the number that was found
+pub counted : (name : Text) (default most : ℕ) (rows : List Row) (number : ℕ)
+    → option_and_then (λ number. if is_between 1 most number then Some number else None) (amount_in name default rows) ≡ Some number
+    → (amount_in name default rows ≡ Some number) × (is_between 1 most number ≡ true)
+counted name default most rows number e = go (amount_in name default rows) refl e
   where
-    within : (n : ℕ) (b : Bool) → is_between 1 65536 n ≡ b → (if b then Some n else None) ≡ Some cache → (n ≡ cache) × (is_between 1 65536 cache ≡ true)
-    within n true is e = (some_same e, subst (λ m. is_between 1 65536 m ≡ true) (some_same e) is)
+    within : (n : ℕ) (b : Bool) → is_between 1 most n ≡ b → (if b then Some n else None) ≡ Some number → (n ≡ number) × (is_between 1 most number ≡ true)
+    within n true is e = (some_same e, subst (λ m. is_between 1 most m ≡ true) (some_same e) is)
     within n false is e = cc
 
-    go : (o : Option ℕ) → amount_in (codes "cache") 1024 rows ≡ o
-        → option_and_then (λ number. if is_between 1 65536 number then Some number else None) o ≡ Some cache
-        → (amount_in (codes "cache") 1024 rows ≡ Some cache) × (is_between 1 65536 cache ≡ true)
+    go : (o : Option ℕ) → amount_in name default rows ≡ o
+        → option_and_then (λ number. if is_between 1 most number then Some number else None) o ≡ Some number
+        → (amount_in name default rows ≡ Some number) × (is_between 1 most number ≡ true)
     go None of e = cc
-    go (Some n) of e = let is = within n (is_between 1 65536 n) refl e in (of ∙ ap Some is.0, is.1)
+    go (Some n) of e = let is = within n (is_between 1 most n) refl e in (of ∙ ap Some is.0, is.1)
 
 -- ---- what is asked for
 
--- how words ask for it
+-- how words ask for a replay
 pub record AsksFor (words : List Text) (asked : AskedReplay) : Type 0 where
   pub parts : List Part
   pub words_are : words ≡ codes "replay" ∷ spelled parts
+  pub have : have_roles Replays parts ≡ true
   pub tenant : Text
   pub tenants : List Text
   pub tenants_are : words_for Tenant parts ≡ tenant ∷ tenants
@@ -242,9 +275,9 @@ asks_with (first ∷ others) limits cache export asked e =
     )
 
 replay_asks_for : (first : Text) (words : List Text) (asked : AskedReplay) → first ≡ codes "replay" → replay_asked_in words ≡ Some asked → AsksFor (first ∷ words) asked
-replay_asks_for first words asked is_first e = read (parts_after None words) refl e
+replay_asks_for first words asked is_first e = read (parts_after (options_of Replays) None words) refl e
   where
-    by_options : (parts : List Part) → Spelled words parts → (limits : Limits) → limits_by parts ≡ Some limits
+    by_options : (parts : List Part) → Spelled Replays words parts → (limits : Limits) → limits_by parts ≡ Some limits
         → (cache : ℕ) → cache_by parts ≡ Some cache
         → (export : Option Text) → export_by (words_for Export parts) ≡ Some export
         → asked_with (words_for Tenant parts) limits cache export ≡ Some asked → AsksFor (first ∷ words) asked
@@ -254,12 +287,13 @@ replay_asks_for first words asked is_first e = read (parts_after None words) ref
         asked.limits (by ∙ ap Some with.4) in
         record {
           parts = parts;
-          words_are = ap₂ (λ (a : Text) (b : List Text). a ∷ b) is_first is.0;
+          words_are = ap₂ (λ (a : Text) (b : List Text). a ∷ b) is_first is.words_are;
+          have = is.have;
           tenant = with.0;
           tenants = with.1;
           tenants_are = with.2;
           asked_are = with.3;
-          plain = is.1;
+          plain = is.plain;
           events = each.0;
           tasks = each.1;
           messages = each.2;
@@ -267,7 +301,7 @@ replay_asks_for first words asked is_first e = read (parts_after None words) ref
           export = exports ∙ ap Some with.5;
         }
 
-    by_parts : (parts : List Part) → Spelled words parts → (limits : Option Limits) → limits_by parts ≡ limits
+    by_parts : (parts : List Part) → Spelled Replays words parts → (limits : Option Limits) → limits_by parts ≡ limits
         → (cache : Option ℕ) → cache_by parts ≡ cache
         → (export : Option (Option Text)) → export_by (words_for Export parts) ≡ export
         → asked_by_options (words_for Tenant parts) limits cache export ≡ Some asked → AsksFor (first ∷ words) asked
@@ -276,13 +310,77 @@ replay_asks_for first words asked is_first e = read (parts_after None words) ref
     by_parts parts is (Some limits) by (Some cache) counts None exports e = cc
     by_parts parts is (Some limits) by (Some cache) counts (Some export) exports e = by_options parts is limits by cache counts export exports e
 
-    read : (after : Option (List Part)) → parts_after None words ≡ after → option_and_then replay_asked_by after ≡ Some asked → AsksFor (first ∷ words) asked
+    read : (after : Option (List Part)) → parts_after (options_of Replays) None words ≡ after → option_and_then replay_asked_by after ≡ Some asked → AsksFor (first ∷ words) asked
     read None of e = cc
-    read (Some parts) of e = by_parts parts (spelled_by None words parts tt of) (limits_by parts) refl (cache_by parts) refl (export_by (words_for Export parts)) refl e
+    read (Some parts) of e = by_parts parts (spelled_by Replays None words parts tt of) (limits_by parts) refl (cache_by parts) refl (export_by (words_for Export parts)) refl e
+
+-- how words ask for a service
+pub record AsksForService (words : List Text) (asked : AskedService) : Type 0 where
+  pub parts : List Part
+  pub words_are : words ≡ codes "serve" ∷ spelled parts
+  pub have : have_roles Serves parts ≡ true
+  pub tenant : Text
+  pub tenants : List Text
+  pub tenants_are : words_for Tenant parts ≡ tenant ∷ tenants
+  pub asked_are : asked.tenants ≡ words_for Tenant parts
+  pub plain : list_all is_plain (words_for Tenant parts) ≡ true
+  pub port : port_by (words_for Port parts) ≡ Some asked.port
+  pub workers : limit_by 4 32 (words_for Workers parts) ≡ Some asked.workers
+  pub sessions : limit_by 1048576 1048576 (words_for Sessions parts) ≡ Some asked.sessions
+  pub events : limit_by 4096 16384 (words_for Events parts) ≡ Some asked.limits.events
+  pub tasks : limit_by 512 2048 (words_for Tasks parts) ≡ Some asked.limits.tasks
+  pub messages : limit_by 2048 16384 (words_for Messages parts) ≡ Some asked.limits.messages
+  pub cache : limit_by 1024 65536 (words_for Cache parts) ≡ Some asked.cache
+
+service_asks_for : (first : Text) (words : List Text) (asked : AskedService) → first ≡ codes "serve" → service_asked_in words ≡ Some asked → AsksForService (first ∷ words) asked
+service_asks_for first words asked is_first e = read (parts_after (options_of Serves) None words) refl e
+  where
+    by_parts : (parts : List Part) → Spelled Serves words parts → (tenants : List Text) → words_for Tenant parts ≡ tenants
+        → (port : Option ℕ) → port_by (words_for Port parts) ≡ port
+        → (workers : Option ℕ) → limit_by 4 32 (words_for Workers parts) ≡ workers
+        → (sessions : Option ℕ) → limit_by 1048576 1048576 (words_for Sessions parts) ≡ sessions
+        → (limits : Option Limits) → limits_by parts ≡ limits
+        → (cache : Option ℕ) → cache_by parts ≡ cache
+        → service_with tenants port workers sessions limits cache ≡ Some asked → AsksForService (first ∷ words) asked
+    by_parts parts is [] tenants_are port ports workers works sessions holds limits by cache counts e = cc
+    by_parts parts is (tenant ∷ tenants) tenants_are None ports workers works sessions holds limits by cache counts e = cc
+    by_parts parts is (tenant ∷ tenants) tenants_are (Some port) ports None works sessions holds limits by cache counts e = cc
+    by_parts parts is (tenant ∷ tenants) tenants_are (Some port) ports (Some workers) works None holds limits by cache counts e = cc
+    by_parts parts is (tenant ∷ tenants) tenants_are (Some port) ports (Some workers) works (Some sessions) holds None by cache counts e = cc
+    by_parts parts is (tenant ∷ tenants) tenants_are (Some port) ports (Some workers) works (Some sessions) holds (Some limits) by None counts e = cc
+    by_parts parts is (tenant ∷ tenants) tenants_are (Some port) ports (Some workers) works (Some sessions) holds (Some limits) by (Some cache) counts e =
+        let same = some_same e in
+        let each = three (limit_by 4096 16384 (words_for Events parts)) (limit_by 512 2048 (words_for Tasks parts)) (limit_by 2048 16384 (words_for Messages parts))
+        asked.limits (by ∙ ap (λ (a : AskedService). Some a.limits) same) in
+        record {
+          parts = parts;
+          words_are = ap₂ (λ (a : Text) (b : List Text). a ∷ b) is_first is.words_are;
+          have = is.have;
+          tenant = tenant;
+          tenants = tenants;
+          tenants_are = tenants_are;
+          asked_are = sym (tenants_are ∙ ap (λ (a : AskedService). a.tenants) same);
+          plain = is.plain;
+          port = ports ∙ ap (λ (a : AskedService). Some a.port) same;
+          workers = works ∙ ap (λ (a : AskedService). Some a.workers) same;
+          sessions = holds ∙ ap (λ (a : AskedService). Some a.sessions) same;
+          events = each.0;
+          tasks = each.1;
+          messages = each.2;
+          cache = counts ∙ ap (λ (a : AskedService). Some a.cache) same;
+        }
+
+    read : (after : Option (List Part)) → parts_after (options_of Serves) None words ≡ after → option_and_then service_asked_by after ≡ Some asked
+        → AsksForService (first ∷ words) asked
+    read None of e = cc
+    read (Some parts) of e =
+        by_parts parts (spelled_by Serves None words parts tt of) (words_for Tenant parts) refl (port_by (words_for Port parts)) refl
+        (limit_by 4 32 (words_for Workers parts)) refl (limit_by 1048576 1048576 (words_for Sessions parts)) refl (limits_by parts) refl (cache_by parts) refl e
 
 -- how words ask for this
 abbrev pub Asks : List Text → Demand → Type 0
 Asks words (ToReplay asked) = AsksFor words asked
+Asks words (ToServe asked) = AsksForService words asked
 Asks words ToCheck = words ≡ codes "check" ∷ []
 
 asks_for : (first : Text) (words : List Text) (asked : Demand) → asked_in (first ∷ words) ≡ Some asked → Asks (first ∷ words) asked
@@ -292,6 +390,10 @@ asks_for first words asked e = go (is_same first (codes "replay")) refl e
     replay None is_first of e = cc
     replay (Some one) is_first of e = subst (Asks (first ∷ words)) (some_same e) (replay_asks_for first words one is_first of)
 
+    service : (one : Option AskedService) → first ≡ codes "serve" → service_asked_in words ≡ one → option_map ToServe one ≡ Some asked → Asks (first ∷ words) asked
+    service None is_first of e = cc
+    service (Some one) is_first of e = subst (Asks (first ∷ words)) (some_same e) (service_asks_for first words one is_first of)
+
     check : (rest : List Text) → first ≡ codes "check" → check_asked_in rest ≡ Some asked → Asks (first ∷ rest) asked
     check [] is_first e = subst (Asks (first ∷ [])) (some_same e) (ap (λ word. word ∷ []) is_first)
     check (word ∷ rest) is_first e = cc
@@ -300,11 +402,18 @@ asks_for first words asked e = go (is_same first (codes "replay")) refl e
     other true same e = check words ((bytes_eq-Decides first (codes "check")).0 same) e
     other false same e = cc
 
+    serves : (b : Bool) → is_same first (codes "serve") ≡ b
+        → (if b then option_map ToServe (service_asked_in words) else if is_same first (codes "check") then check_asked_in words else None) ≡ Some asked
+        → Asks (first ∷ words) asked
+    serves true same e = service (service_asked_in words) ((bytes_eq-Decides first (codes "serve")).0 same) refl e
+    serves false same e = other (is_same first (codes "check")) refl e
+
     go : (b : Bool) → is_same first (codes "replay") ≡ b
-        → (if b then option_map ToReplay (replay_asked_in words) else if is_same first (codes "check") then check_asked_in words else None) ≡ Some asked
+        → (if b then option_map ToReplay (replay_asked_in words) else if is_same first (codes "serve") then option_map ToServe (service_asked_in words)
+        else if is_same first (codes "check") then check_asked_in words else None) ≡ Some asked
         → Asks (first ∷ words) asked
     go true same e = replay (replay_asked_in words) ((bytes_eq-Decides first (codes "replay")).0 same) refl e
-    go false same e = other (is_same first (codes "check")) refl e
+    go false same e = serves (is_same first (codes "serve")) refl e
 
 -- words that ask for something
 pub asks : (words : List Text) (P : Demand → Type 0) → ((asked : Demand) → Asks words asked → P asked) → IfSome (asked_in words) P
@@ -315,6 +424,18 @@ asks (first ∷ words) P holds = go (asked_in (first ∷ words)) refl
     go None is = tt
     go (Some asked) is = holds asked (asks_for first words asked is)
 
+-- the words of an option that the command has not
+no_words : (verb : Verb) (role : Role) (parts : List Part) → has_role verb role ≡ false → have_roles verb parts ≡ true → words_for role parts ≡ []
+no_words verb role [] has have = refl
+no_words verb role (part ∷ parts) has have = go (is_role role part.role) refl (no_words verb role parts has (and_is_true _ _ have).1)
+  where
+    go : (b : Bool) → is_role role part.role ≡ b → words_for role parts ≡ [] → words_for role (part ∷ parts) ≡ []
+    go true is rest =
+        let same : role ≡ part.role = same_role role part.role is in
+        let no : true ≡ false = sym (and_is_true _ _ have).0 ∙ (ap (has_role verb) (sym same) ∙ has) in
+        cc
+    go false is rest = rw is rest
+
 fits_of : (words : List Text) (asked : AskedReplay) (asks : AsksFor words asked) (role : Role) → Fits role (words_for role asks.parts)
 fits_of words asked asks Tenant = asks.plain
 fits_of words asked asks Events = limit_fits 4096 16384 (words_for Events asks.parts) asked.limits.events asks.events
@@ -322,6 +443,20 @@ fits_of words asked asks Tasks = limit_fits 512 2048 (words_for Tasks asks.parts
 fits_of words asked asks Cache = limit_fits 1024 65536 (words_for Cache asks.parts) asked.cache asks.cache
 fits_of words asked asks Export = export_fits (words_for Export asks.parts) asked.export asks.export
 fits_of words asked asks Messages = limit_fits 2048 16384 (words_for Messages asks.parts) asked.limits.messages asks.messages
+fits_of words asked asks Port = subst (FitsOnce 65535) (sym (no_words Replays Port asks.parts refl asks.have)) tt
+fits_of words asked asks Workers = subst (FitsOnce 32) (sym (no_words Replays Workers asks.parts refl asks.have)) tt
+fits_of words asked asks Sessions = subst (FitsOnce 1048576) (sym (no_words Replays Sessions asks.parts refl asks.have)) tt
+
+fits_service : (words : List Text) (asked : AskedService) (asks : AsksForService words asked) (role : Role) → Fits role (words_for role asks.parts)
+fits_service words asked asks Tenant = asks.plain
+fits_service words asked asks Events = limit_fits 4096 16384 (words_for Events asks.parts) asked.limits.events asks.events
+fits_service words asked asks Tasks = limit_fits 512 2048 (words_for Tasks asks.parts) asked.limits.tasks asks.tasks
+fits_service words asked asks Cache = limit_fits 1024 65536 (words_for Cache asks.parts) asked.cache asks.cache
+fits_service words asked asks Export = subst PlainOnce (sym (no_words Serves Export asks.parts refl asks.have)) tt
+fits_service words asked asks Messages = limit_fits 2048 16384 (words_for Messages asks.parts) asked.limits.messages asks.messages
+fits_service words asked asks Port = port_fits (words_for Port asks.parts) asked.port asks.port
+fits_service words asked asks Workers = limit_fits 4 32 (words_for Workers asks.parts) asked.workers asks.workers
+fits_service words asked asks Sessions = limit_fits 1048576 1048576 (words_for Sessions asks.parts) asked.sessions asks.sessions
 
 -- a part has a word at least
 few_parts : (parts : List Part) → length parts ≤ length (spelled parts)
@@ -335,42 +470,73 @@ few_parts (part ∷ parts) = go part.role (few_parts parts)
     go Messages rest = omega arith
     go Cache rest = omega arith
     go Export rest = omega arith
+    go Port rest = omega arith
+    go Workers rest = omega arith
+    go Sessions rest = omega arith
 
-few_of : (words : List Text) (asked : AskedReplay) (asks : AsksFor words asked) → length words ≤ usize_max → length asks.parts ≤ usize_max
-few_of words asked asks bound =
-    let longer = few_parts asks.parts in
-    let length_is : length words ≡ suc (length (spelled asks.parts)) = ap length asks.words_are in
+few_of : (words : List Text) (name : Text) (parts : List Part) → words ≡ name ∷ spelled parts → length words ≤ usize_max → length parts ≤ usize_max
+few_of words name parts words_are bound =
+    let longer = few_parts parts in
+    let length_is : length words ≡ suc (length (spelled parts)) = ap length words_are in
     omega arith
 
--- it is found
+-- the limits that such words have are found
+limits_are : (parts : List Part) (limits : Limits) (rows : List Row) → limit_by 4096 16384 (words_for Events parts) ≡ Some limits.events
+    → limit_by 512 2048 (words_for Tasks parts) ≡ Some limits.tasks → limit_by 2048 16384 (words_for Messages parts) ≡ Some limits.messages
+    → ((role : Role) → row_in (id_of role) rows ≡ row_of role (words_for role parts)) → limits_in rows ≡ Some limits
+limits_are parts limits rows events tasks messages are =
+    let events_are = amount_found Events 4096 16384 (words_for Events parts) limits.events rows (are Events) events in
+    let tasks_are = amount_found Tasks 512 2048 (words_for Tasks parts) limits.tasks rows (are Tasks) tasks in
+    let messages_are = amount_found Messages 2048 16384 (words_for Messages parts) limits.messages rows (are Messages) messages in
+    let ranges : are_limits limits.events limits.tasks limits.messages ≡ true =
+    and_from _ _ (and_from _ _ (limit_within 4096 16384 (words_for Events parts) limits.events refl events)
+    (limit_within 512 2048 (words_for Tasks parts) limits.tasks refl tasks))
+    (limit_within 2048 16384 (words_for Messages parts) limits.messages refl messages)
+    in
+    ap (λ found. option_and_then (λ (l : Limits). if are_limits l.events l.tasks l.messages then Some l else None) found)
+    (ap₂ (λ a b. limits_of a b (amount_in (codes "messages") 2048 rows)) events_are tasks_are ∙ ap (limits_of (Some limits.events) (Some limits.tasks)) messages_are)
+    ∙ ap (λ b. if b then Some limits else None) ranges
+
+-- a number is found
+number_is : (role : Role) (default most : ℕ) (words : List Text) (number : ℕ) (rows : List Row) → row_in (id_of role) rows ≡ row_of role words
+    → limit_by default most words ≡ Some number → is_between 1 most number ≡ true
+    → option_and_then (λ n. if is_between 1 most n then Some n else None) (amount_in (id_of role) default rows) ≡ Some number
+number_is role default most words number rows row e within =
+    ap (option_and_then (λ n. if is_between 1 most n then Some n else None)) (amount_found role default most words number rows row e)
+    ∙ ap (λ b. if b then Some number else None) within
+
+-- what is asked for is found
 found_replay : (words : List Text) (asked : AskedReplay) → AsksFor words asked → length words ≤ usize_max → Has (subcommand_of program_app words) (ToReplay asked)
 found_replay words asked asks bound =
-    let is = finds asks.parts (fits_of words asked asks) (few_of words asked asks bound) in
+    let is = finds Replays asks.parts asks.have (fits_of words asked asks) (few_of words (codes "replay") asks.parts asks.words_are bound) in
     let found_is = ap (subcommand_of program_app) asks.words_are ∙ is.1 in
     let export = export_is (words_for Export asks.parts) asked.export is.0 (is.2 Export) asks.export in (
       ap work_found found_is ∙ ap work_with export,
       ap tenants_found found_is ∙ (ap (λ row. option_map (λ (r : Row). r.values) row) (is.2 Tenant ∙ ap (row_of Tenant) asks.tenants_are)
           ∙ ap Some (sym (asks.asked_are ∙ asks.tenants_are))),
-      ap limits_found found_is ∙ (ap (λ limits. option_and_then (λ (l : Limits). if are_limits l.events l.tasks l.messages then Some l else None) limits)
-          (limits_are is.0 is.2) ∙ ap (λ b. if b then Some asked.limits else None) ranges),
-      ap cache_found found_is ∙ (ap (option_and_then (λ number. if is_between 1 65536 number then Some number else None))
-          (amount_found Cache 1024 65536 (words_for Cache asks.parts) asked.cache is.0 (is.2 Cache) asks.cache)
-          ∙ ap (λ b. if b then Some asked.cache else None) (limit_within 1024 65536 (words_for Cache asks.parts) asked.cache refl asks.cache)),
+      ap limits_found found_is ∙ limits_are asks.parts asked.limits is.0 asks.events asks.tasks asks.messages is.2,
+      ap cache_found found_is ∙ number_is Cache 1024 65536 (words_for Cache asks.parts) asked.cache is.0 (is.2 Cache) asks.cache
+          (limit_within 1024 65536 (words_for Cache asks.parts) asked.cache refl asks.cache),
       ap export_found found_is ∙ export,
     )
-  where
-    limits_are : (rows : List Row) → ((role : Role) → row_in (id_of role) rows ≡ row_of role (words_for role asks.parts))
-        → limits_of (amount_in (codes "events") 4096 rows) (amount_in (codes "tasks") 512 rows) (amount_in (codes "messages") 2048 rows) ≡ Some asked.limits
-    limits_are rows are =
-        let events = amount_found Events 4096 16384 (words_for Events asks.parts) asked.limits.events rows (are Events) asks.events in
-        let tasks = amount_found Tasks 512 2048 (words_for Tasks asks.parts) asked.limits.tasks rows (are Tasks) asks.tasks in
-        let messages = amount_found Messages 2048 16384 (words_for Messages asks.parts) asked.limits.messages rows (are Messages) asks.messages in
-        ap₂ (λ a b. limits_of a b (amount_in (codes "messages") 2048 rows)) events tasks ∙ ap (limits_of (Some asked.limits.events) (Some asked.limits.tasks)) messages
 
-    ranges : are_limits asked.limits.events asked.limits.tasks asked.limits.messages ≡ true
-    ranges = and_from _ _ (and_from _ _ (limit_within 4096 16384 (words_for Events asks.parts) asked.limits.events refl asks.events)
-        (limit_within 512 2048 (words_for Tasks asks.parts) asked.limits.tasks refl asks.tasks))
-        (limit_within 2048 16384 (words_for Messages asks.parts) asked.limits.messages refl asks.messages)
+found_service : (words : List Text) (asked : AskedService) → AsksForService words asked → length words ≤ usize_max → Has (subcommand_of program_app words) (ToServe asked)
+found_service words asked asks bound =
+    let is = finds Serves asks.parts asks.have (fits_service words asked asks) (few_of words (codes "serve") asks.parts asks.words_are bound) in
+    let found_is = ap (subcommand_of program_app) asks.words_are ∙ is.1 in (
+      ap work_found found_is,
+      ap tenants_found found_is ∙ (ap (λ row. option_map (λ (r : Row). r.values) row) (is.2 Tenant ∙ ap (row_of Tenant) asks.tenants_are)
+          ∙ ap Some (sym (asks.asked_are ∙ asks.tenants_are))),
+      ap limits_found found_is ∙ limits_are asks.parts asked.limits is.0 asks.events asks.tasks asks.messages is.2,
+      ap cache_found found_is ∙ number_is Cache 1024 65536 (words_for Cache asks.parts) asked.cache is.0 (is.2 Cache) asks.cache
+          (limit_within 1024 65536 (words_for Cache asks.parts) asked.cache refl asks.cache),
+      ap (number_found (codes "port") 0 65535) found_is ∙ number_is Port 0 65535 (words_for Port asks.parts) asked.port is.0 (is.2 Port)
+          (port_limit (words_for Port asks.parts) asked.port asks.port) (port_within (words_for Port asks.parts) asked.port asks.port),
+      ap (number_found (codes "workers") 4 32) found_is ∙ number_is Workers 4 32 (words_for Workers asks.parts) asked.workers is.0 (is.2 Workers) asks.workers
+          (limit_within 4 32 (words_for Workers asks.parts) asked.workers refl asks.workers),
+      ap (number_found (codes "sessions") 1048576 1048576) found_is ∙ number_is Sessions 1048576 1048576 (words_for Sessions asks.parts) asked.sessions is.0
+          (is.2 Sessions) asks.sessions (limit_within 1048576 1048576 (words_for Sessions asks.parts) asked.sessions refl asks.sessions),
+    )
 
 found_check : Has (subcommand_of program_app (codes "check" ∷ [])) ToCheck
 unfolding clap_on_literals
@@ -378,6 +544,7 @@ found_check = refl
 
 found : (words : List Text) (asked : Demand) → Asks words asked → length words ≤ usize_max → Has (subcommand_of program_app words) asked
 found words (ToReplay asked) asks bound = found_replay words asked asks bound
+found words (ToServe asked) asks bound = found_service words asked asks bound
 found words ToCheck asks bound = ap (λ ws. work_found (subcommand_of program_app ws)) asks ∙ found_check
 
 -- what a parse found is what the model finds
@@ -399,8 +566,17 @@ takes_check = refl
 takes_replay : (words : List Text) (asked : AskedReplay) → AsksFor words asked → length words ≤ usize_max → takes program_app words ≡ true
 takes_replay words asked asks bound =
     ap (takes program_app) asks.words_are
-    ∙ takes_parts asks.parts asks.tenant asks.tenants asks.tenants_are (fits_of words asked asks) (few_of words asked asks bound)
+    ∙ takes_parts Replays asks.parts (asks.tenant, asks.tenants, asks.tenants_are) asks.have (fits_of words asked asks)
+    (few_of words (codes "replay") asks.parts asks.words_are bound)
+
+takes_service : (words : List Text) (asked : AskedService) → AsksForService words asked → length words ≤ usize_max → takes program_app words ≡ true
+takes_service words asked asks bound =
+    let port = port_word (words_for Port asks.parts) asked.port asks.port in
+    ap (takes program_app) asks.words_are
+    ∙ takes_parts Serves asks.parts ((asks.tenant, asks.tenants, asks.tenants_are), (port.0, port.1)) asks.have (fits_service words asked asks)
+    (few_of words (codes "serve") asks.parts asks.words_are bound)
 
 pub takes_asked : (app : App) (words : List Text) (asked : Demand) → app ≡ program_app → Asks words asked → length words ≤ usize_max → takes app words ≡ true
 takes_asked app words (ToReplay asked) app_is asks bound = ap (λ a. takes a words) app_is ∙ takes_replay words asked asks bound
+takes_asked app words (ToServe asked) app_is asks bound = ap (λ a. takes a words) app_is ∙ takes_service words asked asks bound
 takes_asked app words ToCheck app_is asks bound = ap₂ takes app_is asks ∙ takes_check

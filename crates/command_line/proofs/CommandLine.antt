@@ -1,11 +1,11 @@
--- What the command line makes of options and plain words after `replay`.
+-- What the command line makes of options and plain words after `replay` and after `serve`.
 use Rattle.std.proofs.Common.{◌≡◌, ◌∙◌, ℕ, suc, ◌+◌, ◌≤◌, Bool, true, false, not, ◌&&◌, ◌||◌, cond, List, [], ◌∷◌, ◌++◌, map, Option, Some, None, refl, sym, ap, ap₂, subst, codes, fold, length, nat_le, append_assoc, append-nil, is_some, arith, if◌then◌else◌}
 use Rattle.std.proofs.lemmas.Bool.{le-leb, or_right}
 use Rattle.std.proofs.lemmas.List.{length-append}
 use Rattle.std.proofs.lemmas.Slice.Eq.{bytes_eq-Decides}
-use Rattle.std.specs.List.{filter, list_all}
+use Rattle.std.specs.List.{filter, list_all, list_any}
 use Rattle.std.specs.Str.{bytes_eq}
-use Rattle.clap.specs.Words.{Row, Rule, Text, is_simple, subcommand_of, takes}
+use Rattle.clap.specs.Words.{App, Row, Rule, Text, is_simple, subcommand_of, takes}
 use Rattle.clap.specs.declared.builder.value_parser.Reading.TheVariants.{AsWritten}
 use Rattle.clap.specs.declared.parser.matches.ValueSource.TheVariants.{CommandLine}
 use Rattle.trace_types.specs.text.Name.{is_between}
@@ -14,19 +14,43 @@ use Rattle.clap.specs.Lexer.{long_of, short_of, usize_max}
 use Rattle.clap.specs.ValueTests.{is_unsigned_in}
 use Rattle.clap.specs.Simple.{Shape, built, built_leaf, inherited, marked_built, with_leaf_noted, names_of, entered, with_index, filled}
 use Rattle.clap.specs.Takes.{walk_passes, turn_passes, word_passes, step_passes, values_pass, settle_passes, default_passes, is_given, is_valid, level_passes, entered_passes, use_passes}
-use Rattle.clap.specs.Walk.{Walk, Held, Waiting, walked, walk_from, nothing_held, idle, option, positional, positional_held, after_step, plain_word, subcommand_or_other, finished, has_row, settled, settled_rows, stop_after, values_or_missing, walk, with_default, with_values, without}
+use Rattle.clap.specs.Walk.{Walk, Held, Waiting, walked, walk_from, nothing_held, idle, option, positional, positional_held, after_step, plain_word, subcommand_met, subcommand_or_other, finished, has_row, settled, settled_rows, stop_after, value, values_or_missing, walk, with_default, with_values, without}
 use Rattle.clap.proofs.WalkLemmas.{both as and_is_true, walk_stopped}
-use Rattle.command_line.specs.Demand.{Role, Tenant, Events, Tasks, Messages, Cache, Export, Part, is_plain, is_role, words_for}
-use Rattle.command_line.specs.Reading.{program_app, replay_app, tenant_rule}
+use Rattle.command_line.specs.Demand.{Role, Tenant, Events, Tasks, Messages, Cache, Export, Port, Workers, Sessions, Part, is_plain, is_role, option_of, replay_options, service_options, words_for}
+use Rattle.command_line.specs.Reading.{program_app, replay_app, serve_app, tenant_rule}
 use Rattle.command_line.proofs.Amounts.{passes, spells}
 use Rattle.command_line.proofs.Rows.{grown, row_beside, row_in, row_with, twice, unfound}
 
--- the subcommand, as it is built
-abbrev pub replay_shape : Shape
-replay_shape = built_leaf (inherited (with_leaf_noted (marked_built program_app.top)) replay_app.top)
+-- the commands that take tenants
+pub data Verb : Type 0 where
+  Replays : Verb
+  Serves : Verb
 
-abbrev pub rules : List Rule
-rules = replay_shape.rules
+abbrev pub name_of : Verb → Text
+name_of Replays = codes "replay"
+name_of Serves = codes "serve"
+
+abbrev app_of : Verb → App
+app_of Replays = replay_app
+app_of Serves = serve_app
+
+abbrev pub options_of : Verb → List Role
+options_of Replays = replay_options
+options_of Serves = service_options
+
+abbrev pub has_option : Verb → Role → Bool
+has_option verb role = list_any (is_role role) (options_of verb)
+
+-- whether a part may be of this role
+abbrev pub has_role : Verb → Role → Bool
+has_role verb role = is_role Tenant role || has_option verb role
+
+-- the command, as it is built
+abbrev pub shape : Verb → Shape
+shape verb = built_leaf (inherited (with_leaf_noted (marked_built program_app.top)) (app_of verb).top)
+
+abbrev pub rules : Verb → List Rule
+rules verb = (shape verb).rules
 
 pub simple : is_simple program_app ≡ true
 simple = refl
@@ -41,6 +65,9 @@ id_of Tasks = codes "tasks"
 id_of Messages = codes "messages"
 id_of Cache = codes "cache"
 id_of Export = codes "export"
+id_of Port = codes "port"
+id_of Workers = codes "workers"
+id_of Sessions = codes "sessions"
 
 abbrev pub most_of : Role → ℕ
 most_of Tenant = 0
@@ -49,15 +76,14 @@ most_of Tasks = 2048
 most_of Messages = 16384
 most_of Cache = 65536
 most_of Export = 0
+most_of Port = 65535
+most_of Workers = 32
+most_of Sessions = 1048576
 
 -- the words of a part, and those after it
 abbrev pub spelled_with : Role → Text → List Text → List Text
 spelled_with Tenant word words = word ∷ words
-spelled_with Events word words = codes "--events" ∷ word ∷ words
-spelled_with Tasks word words = codes "--tasks" ∷ word ∷ words
-spelled_with Messages word words = codes "--messages" ∷ word ∷ words
-spelled_with Cache word words = codes "--cache" ∷ word ∷ words
-spelled_with Export word words = codes "--export" ∷ word ∷ words
+spelled_with role word words = option_of role ∷ word ∷ words
 
 abbrev pub spelled : List Part → List Text
 spelled [] = []
@@ -87,14 +113,20 @@ itself Tasks = refl
 itself Messages = refl
 itself Cache = refl
 itself Export = refl
+itself Port = refl
+itself Workers = refl
+itself Sessions = refl
 
-same_role : (a b : Role) → is_role a b ≡ true → a ≡ b
+pub same_role : (a b : Role) → is_role a b ≡ true → a ≡ b
 same_role Tenant Tenant e = refl
 same_role Events Events e = refl
 same_role Tasks Tasks e = refl
 same_role Messages Messages e = refl
 same_role Cache Cache e = refl
 same_role Export Export e = refl
+same_role Port Port e = refl
+same_role Workers Workers e = refl
+same_role Sessions Sessions e = refl
 same_role a b e = cc
 
 apart : (a b : Role) → is_role a b ≡ false → bytes_eq (id_of b) (id_of a) ≡ false
@@ -104,6 +136,9 @@ apart Tasks Tasks e = cc
 apart Messages Messages e = cc
 apart Cache Cache e = cc
 apart Export Export e = cc
+apart Port Port e = cc
+apart Workers Workers e = cc
+apart Sessions Sessions e = cc
 apart a b e = refl
 
 grown_is : (role : Role) (word : Text) (words : List Text) → Some (grown (id_of role) AsWritten (word ∷ []) (row_of role words)) ≡ row_of role (words ++ word ∷ [])
@@ -125,29 +160,29 @@ rows_with seen role word rows are other = go (is_role other role) refl
 -- ---- what is held
 
 -- what is held after one more part
-abbrev met : Role → Text → Held → Held
-met Tenant word held = positional_held rules tenant_built word held
-met Events word held = record (settled rules held) { pending = Some (codes "events", word ∷ []) }
-met Tasks word held = record (settled rules held) { pending = Some (codes "tasks", word ∷ []) }
-met Messages word held = record (settled rules held) { pending = Some (codes "messages", word ∷ []) }
-met Cache word held = record (settled rules held) { pending = Some (codes "cache", word ∷ []) }
-met Export word held = record (settled rules held) { pending = Some (codes "export", word ∷ []) }
+abbrev met : Verb → Role → Text → Held → Held
+met verb Tenant word held = positional_held (rules verb) tenant_built word held
+met verb role word held = record (settled (rules verb) held) { pending = Some (id_of role, word ∷ []) }
 
 abbrev pending_length : Option (Text × List Text) → ℕ
 pending_length None = 0
 pending_length (Some pending) = length pending.1
 
 -- what is held between two parts
-record Holds (seen : Seen) (count : ℕ) (held : Held) : Type 0 where
-  rows : (role : Role) → row_in (id_of role) (settled_rows rules held.pending held.rows) ≡ row_of role (seen role)
-  settles : settle_passes rules false held ≡ true
+record Holds (verb : Verb) (seen : Seen) (count : ℕ) (held : Held) : Type 0 where
+  rows : (role : Role) → row_in (id_of role) (settled_rows (rules verb) held.pending held.rows) ≡ row_of role (seen role)
+  settles : settle_passes (rules verb) false held ≡ true
   pending : pending_length held.pending ≤ count
+
+-- what is asked of the word of an option: its number is in the range
+abbrev FitsOption : Role → Text → Type 0
+FitsOption Export word = Unit {0}
+FitsOption role word = is_unsigned_in 1 (most_of role) word ≡ true
 
 -- what is asked of a word in its role
 abbrev FitsNow : Role → List Text → Text → Type 0
 FitsNow Tenant before word = is_plain word ≡ true
-FitsNow Export before word = (before ≡ []) × (is_plain word ≡ true)
-FitsNow role before word = (before ≡ []) × (is_plain word ≡ true) × (is_unsigned_in 1 (most_of role) word ≡ true)
+FitsNow role before word = (before ≡ []) × (is_plain word ≡ true) × FitsOption role word
 
 no_values : (words : List Text) → values_or_missing tenant_built words ≡ words
 no_values [] = refl
@@ -157,45 +192,64 @@ texts_pass : (words : List Text) → values_pass tenant_built words ≡ true
 texts_pass [] = refl
 texts_pass (word ∷ words) = texts_pass words
 
+-- the tenants that are pending
+tenant_rows : (verb : Verb) (words : List Text) (rows : List Row)
+    → settled_rows (rules verb) (Some (codes "TENANT", words)) rows ≡ with_values (codes "TENANT") AsWritten CommandLine (values_or_missing tenant_built words) rows
+tenant_rows Replays words rows = refl
+tenant_rows Serves words rows = refl
+
+tenant_settles : (verb : Verb) (words : List Text) (rows : List Row) (skip : ℕ)
+    → settle_passes (rules verb) false (record { rows = rows; pending = Some (codes "TENANT", words); skip = skip }) ≡ use_passes false tenant_built words rows
+tenant_settles Replays words rows skip = refl
+tenant_settles Serves words rows skip = refl
+
 -- one more tenant among those that are pending
-more_rows : (word : Text) (words : List Text) (rows : List Row)
-    → settled_rows rules (Some (codes "TENANT", words ++ word ∷ [])) rows ≡ added Tenant word (settled_rows rules (Some (codes "TENANT", words)) rows)
-more_rows word words rows =
-    ap (λ values. with_values (codes "TENANT") AsWritten CommandLine values rows) (no_values (words ++ word ∷ []))
+more_rows : (verb : Verb) (word : Text) (words : List Text) (rows : List Row)
+    → settled_rows (rules verb) (Some (codes "TENANT", words ++ word ∷ [])) rows ≡ added Tenant word (settled_rows (rules verb) (Some (codes "TENANT", words)) rows)
+more_rows verb word words rows =
+    tenant_rows verb (words ++ word ∷ []) rows
+    ∙ (ap (λ values. with_values (codes "TENANT") AsWritten CommandLine values rows) (no_values (words ++ word ∷ []))
     ∙ (twice (codes "TENANT") AsWritten words (word ∷ []) rows refl
-    ∙ ap (λ values. added Tenant word (with_values (codes "TENANT") AsWritten CommandLine values rows)) (sym (no_values words)))
+    ∙ (ap (λ values. added Tenant word (with_values (codes "TENANT") AsWritten CommandLine values rows)) (sym (no_values words))
+    ∙ ap (added Tenant word) (sym (tenant_rows verb words rows)))))
 
-more_settle : (word : Text) (words : List Text) (rows : List Row) → nat_le 1 (length (words ++ word ∷ [])) ≡ true → nat_le (length (words ++ word ∷ [])) usize_max ≡ true
-    → use_passes false tenant_built (words ++ word ∷ []) rows ≡ true
-more_settle word words rows some few =
-    ap₂ ◌&&◌ some (ap₂ ◌&&◌ few (ap (values_pass tenant_built) (no_values (words ++ word ∷ [])) ∙ texts_pass (words ++ word ∷ [])))
+more_settle : (verb : Verb) (word : Text) (words : List Text) (rows : List Row) (skip : ℕ) → nat_le 1 (length (words ++ word ∷ [])) ≡ true
+    → nat_le (length (words ++ word ∷ [])) usize_max ≡ true
+    → settle_passes (rules verb) false (record { rows = rows; pending = Some (codes "TENANT", words ++ word ∷ []); skip = skip }) ≡ true
+more_settle verb word words rows skip some few =
+    tenant_settles verb (words ++ word ∷ []) rows skip
+    ∙ ap₂ ◌&&◌ some (ap₂ ◌&&◌ few (ap (values_pass tenant_built) (no_values (words ++ word ∷ [])) ∙ texts_pass (words ++ word ∷ [])))
 
-keeps_tenant : (seen : Seen) (count skip : ℕ) (word : Text) (pending : Option (Text × List Text)) (rows : List Row)
-    → Holds seen count (record { rows = rows; pending = pending; skip = skip }) → suc count ≤ usize_max
-    → Holds (with_word seen Tenant word) (suc count) (met Tenant word (record { rows = rows; pending = pending; skip = skip }))
-keeps_tenant seen count skip word None rows holds few =
-    record { rows = rows_with seen Tenant word rows holds.rows; settles = refl; pending = omega arith }
-keeps_tenant seen count skip word (Some pending) rows holds few = go (bytes_eq pending.0 (codes "TENANT")) refl
+keeps_tenant : (verb : Verb) (seen : Seen) (count skip : ℕ) (word : Text) (pending : Option (Text × List Text)) (rows : List Row)
+    → Holds verb seen count (record { rows = rows; pending = pending; skip = skip }) → suc count ≤ usize_max
+    → Holds verb (with_word seen Tenant word) (suc count) (met verb Tenant word (record { rows = rows; pending = pending; skip = skip }))
+keeps_tenant verb seen count skip word None rows holds few = record {
+  rows = λ other. ap (row_in (id_of other)) (tenant_rows verb (word ∷ []) rows) ∙ rows_with seen Tenant word rows holds.rows other;
+  settles = tenant_settles verb (word ∷ []) rows skip;
+  pending = omega arith;
+}
+keeps_tenant verb seen count skip word (Some pending) rows holds few = go (bytes_eq pending.0 (codes "TENANT")) refl
   where
     go : (among : Bool) → bytes_eq pending.0 (codes "TENANT") ≡ among
-        → Holds (with_word seen Tenant word) (suc count) (met Tenant word (record { rows = rows; pending = Some pending; skip = skip }))
+        → Holds verb (with_word seen Tenant word) (suc count) (met verb Tenant word (record { rows = rows; pending = Some pending; skip = skip }))
     go true is =
         let named : pending.0 ≡ codes "TENANT" = (bytes_eq-Decides pending.0 (codes "TENANT")).0 is in
         let longer : length (pending.1 ++ word ∷ []) ≡ length pending.1 + 1 = length-append pending.1 (word ∷ []) in
         let within : length pending.1 ≤ count = holds.pending in
         let some : nat_le 1 (length (pending.1 ++ word ∷ [])) ≡ true = le-leb 1 _ (omega arith) in
         let fits : nat_le (length (pending.1 ++ word ∷ [])) usize_max ≡ true = le-leb _ usize_max (omega arith) in
-        let same : settled_rows rules (Some (pending.0, pending.1 ++ word ∷ [])) rows ≡ added Tenant word (settled_rows rules (Some (pending.0, pending.1)) rows) =
-        subst (λ id. settled_rows rules (Some (id, pending.1 ++ word ∷ [])) rows ≡ added Tenant word (settled_rows rules (Some (id, pending.1)) rows)) (sym named) (more_rows word pending.1 rows)
+        let same : settled_rows (rules verb) (Some (pending.0, pending.1 ++ word ∷ [])) rows ≡ added Tenant word (settled_rows (rules verb) (Some (pending.0, pending.1)) rows) =
+        subst (λ id. settled_rows (rules verb) (Some (id, pending.1 ++ word ∷ [])) rows ≡ added Tenant word (settled_rows (rules verb) (Some (id, pending.1)) rows)) (sym named) (more_rows verb word pending.1 rows)
         in
         rw is (record {
-          rows = λ other. ap (row_in (id_of other)) same ∙ rows_with seen Tenant word (settled_rows rules (Some (pending.0, pending.1)) rows) holds.rows other;
-          settles = subst (λ id. settle_passes rules false (record { rows = rows; pending = Some (id, pending.1 ++ word ∷ []); skip = skip }) ≡ true) (sym named) (more_settle word pending.1 rows some fits);
+          rows = λ other. ap (row_in (id_of other)) same ∙ rows_with seen Tenant word (settled_rows (rules verb) (Some (pending.0, pending.1)) rows) holds.rows other;
+          settles = subst (λ id. settle_passes (rules verb) false (record { rows = rows; pending = Some (id, pending.1 ++ word ∷ []); skip = skip }) ≡ true) (sym named) (more_settle verb word pending.1 rows skip some fits);
           pending = omega arith;
         })
     go false is = rw is (record {
-      rows = rows_with seen Tenant word (settled_rows rules (Some pending) rows) holds.rows;
-      settles = refl;
+      rows = λ other. ap (row_in (id_of other)) (tenant_rows verb (word ∷ []) (settled_rows (rules verb) (Some pending) rows))
+          ∙ rows_with seen Tenant word (settled_rows (rules verb) (Some pending) rows) holds.rows other;
+      settles = tenant_settles verb (word ∷ []) (settled_rows (rules verb) (Some pending) rows) skip;
       pending = omega arith;
     })
 
@@ -209,29 +263,63 @@ fresh_rows seen role word rows are none =
       unused.1,
     )
 
-keeps : (seen : Seen) (count : ℕ) (role : Role) (word : Text) (held : Held) → Holds seen count held → FitsNow role (seen role) word → suc count ≤ usize_max
-    → Holds (with_word seen role word) (suc count) (met role word held)
-keeps seen count Tenant word held holds fits few = keeps_tenant seen count held.skip word held.pending held.rows holds few
-keeps seen count Events word held holds fits few =
-    let rows = settled_rows rules held.pending held.rows in
-    let fresh = fresh_rows seen Events word rows holds.rows fits.0 in
-    record { rows = fresh.0; settles = ap₂ ◌&&◌ (ap (λ b. not b || false) fresh.1) (ap (λ b. b && true) fits.2); pending = omega arith }
-keeps seen count Tasks word held holds fits few =
-    let rows = settled_rows rules held.pending held.rows in
-    let fresh = fresh_rows seen Tasks word rows holds.rows fits.0 in
-    record { rows = fresh.0; settles = ap₂ ◌&&◌ (ap (λ b. not b || false) fresh.1) (ap (λ b. b && true) fits.2); pending = omega arith }
-keeps seen count Messages word held holds fits few =
-    let rows = settled_rows rules held.pending held.rows in
-    let fresh = fresh_rows seen Messages word rows holds.rows fits.0 in
-    record { rows = fresh.0; settles = ap₂ ◌&&◌ (ap (λ b. not b || false) fresh.1) (ap (λ b. b && true) fits.2); pending = omega arith }
-keeps seen count Cache word held holds fits few =
-    let rows = settled_rows rules held.pending held.rows in
-    let fresh = fresh_rows seen Cache word rows holds.rows fits.0 in
-    record { rows = fresh.0; settles = ap₂ ◌&&◌ (ap (λ b. not b || false) fresh.1) (ap (λ b. b && true) fits.2); pending = omega arith }
-keeps seen count Export word held holds fits few =
-    let rows = settled_rows rules held.pending held.rows in
-    let fresh = fresh_rows seen Export word rows holds.rows fits.0 in
-    record { rows = fresh.0; settles = ap₂ ◌&&◌ (ap (λ b. not b || false) fresh.1) refl; pending = omega arith }
+-- the row of an option after its use
+option_rows : (verb : Verb) (role : Role) (word : Text) (rows : List Row) → has_option verb role ≡ true
+    → settled_rows (rules verb) (Some (id_of role, word ∷ [])) rows ≡ with_values (id_of role) AsWritten CommandLine (word ∷ []) (without (id_of role) rows)
+option_rows Replays Events word rows has = refl
+option_rows Replays Tasks word rows has = refl
+option_rows Replays Messages word rows has = refl
+option_rows Replays Cache word rows has = refl
+option_rows Replays Export word rows has = refl
+option_rows Serves Port word rows has = refl
+option_rows Serves Workers word rows has = refl
+option_rows Serves Sessions word rows has = refl
+option_rows Serves Events word rows has = refl
+option_rows Serves Tasks word rows has = refl
+option_rows Serves Messages word rows has = refl
+option_rows Serves Cache word rows has = refl
+option_rows verb role word rows has = cc
+
+-- its use passes
+option_settles : (verb : Verb) (role : Role) (word : Text) (rows : List Row) (skip : ℕ) → has_option verb role ≡ true → has_row (id_of role) rows ≡ false → FitsOption role word
+    → settle_passes (rules verb) false (record { rows = rows; pending = Some (id_of role, word ∷ []); skip = skip }) ≡ true
+option_settles Replays Events word rows skip has fresh fits = ap₂ ◌&&◌ (ap (λ b. not b || false) fresh) (ap (λ b. b && true) fits)
+option_settles Replays Tasks word rows skip has fresh fits = ap₂ ◌&&◌ (ap (λ b. not b || false) fresh) (ap (λ b. b && true) fits)
+option_settles Replays Messages word rows skip has fresh fits = ap₂ ◌&&◌ (ap (λ b. not b || false) fresh) (ap (λ b. b && true) fits)
+option_settles Replays Cache word rows skip has fresh fits = ap₂ ◌&&◌ (ap (λ b. not b || false) fresh) (ap (λ b. b && true) fits)
+option_settles Replays Export word rows skip has fresh fits = ap₂ ◌&&◌ (ap (λ b. not b || false) fresh) refl
+option_settles Serves Port word rows skip has fresh fits = ap₂ ◌&&◌ (ap (λ b. not b || false) fresh) (ap (λ b. b && true) fits)
+option_settles Serves Workers word rows skip has fresh fits = ap₂ ◌&&◌ (ap (λ b. not b || false) fresh) (ap (λ b. b && true) fits)
+option_settles Serves Sessions word rows skip has fresh fits = ap₂ ◌&&◌ (ap (λ b. not b || false) fresh) (ap (λ b. b && true) fits)
+option_settles Serves Events word rows skip has fresh fits = ap₂ ◌&&◌ (ap (λ b. not b || false) fresh) (ap (λ b. b && true) fits)
+option_settles Serves Tasks word rows skip has fresh fits = ap₂ ◌&&◌ (ap (λ b. not b || false) fresh) (ap (λ b. b && true) fits)
+option_settles Serves Messages word rows skip has fresh fits = ap₂ ◌&&◌ (ap (λ b. not b || false) fresh) (ap (λ b. b && true) fits)
+option_settles Serves Cache word rows skip has fresh fits = ap₂ ◌&&◌ (ap (λ b. not b || false) fresh) (ap (λ b. b && true) fits)
+option_settles verb role word rows skip has fresh fits = cc
+
+option_held : (verb : Verb) (seen : Seen) (count : ℕ) (role : Role) (word : Text) (held : Held) → Holds verb seen count held → has_option verb role ≡ true → seen role ≡ []
+    → FitsOption role word → suc count ≤ usize_max
+    → Holds verb (with_word seen role word) (suc count) (record (settled (rules verb) held) { pending = Some (id_of role, word ∷ []) })
+option_held verb seen count role word held holds has none fits few =
+    let rows = settled_rows (rules verb) held.pending held.rows in
+    let fresh = fresh_rows seen role word rows holds.rows none in
+    record {
+      rows = λ other. ap (row_in (id_of other)) (option_rows verb role word rows has) ∙ fresh.0 other;
+      settles = option_settles verb role word rows held.skip has fresh.1 fits;
+      pending = omega arith;
+    }
+
+keeps : (verb : Verb) (seen : Seen) (count : ℕ) (role : Role) (word : Text) (held : Held) → has_role verb role ≡ true → Holds verb seen count held
+    → FitsNow role (seen role) word → suc count ≤ usize_max → Holds verb (with_word seen role word) (suc count) (met verb role word held)
+keeps verb seen count Tenant word held has holds fits few = keeps_tenant verb seen count held.skip word held.pending held.rows holds few
+keeps verb seen count Events word held has holds fits few = option_held verb seen count Events word held holds has fits.0 fits.2 few
+keeps verb seen count Tasks word held has holds fits few = option_held verb seen count Tasks word held holds has fits.0 fits.2 few
+keeps verb seen count Messages word held has holds fits few = option_held verb seen count Messages word held holds has fits.0 fits.2 few
+keeps verb seen count Cache word held has holds fits few = option_held verb seen count Cache word held holds has fits.0 fits.2 few
+keeps verb seen count Export word held has holds fits few = option_held verb seen count Export word held holds has fits.0 fits.2 few
+keeps verb seen count Port word held has holds fits few = option_held verb seen count Port word held holds has fits.0 fits.2 few
+keeps verb seen count Workers word held has holds fits few = option_held verb seen count Workers word held holds has fits.0 fits.2 few
+keeps verb seen count Sessions word held has holds fits few = option_held verb seen count Sessions word held holds has fits.0 fits.2 few
 
 -- ---- the walk
 
@@ -246,9 +334,9 @@ at held after_tenant = record {
 }
 
 -- the walk after an option, before its value
-abbrev before_value : Role → Held → Walk
-before_value role held = record {
-  held = record (settled rules held) { pending = Some (id_of role, []) };
+abbrev before_value : Verb → Role → Held → Walk
+before_value verb role held = record {
+  held = record (settled (rules verb) held) { pending = Some (id_of role, []) };
   waiting = option (id_of role);
   position = 1;
   is_trailing = false;
@@ -271,109 +359,156 @@ not_short : (word : Text) → is_plain word ≡ true → short_of word ≡ None
 not_short [] plain = refl
 not_short (byte ∷ bytes) plain = rw (no_hyphen _ plain) refl
 
-plain_met : (waiting : Waiting) (word : Text) (held : Held) → is_plain word ≡ true
-    → subcommand_or_other rules None waiting 1 word held ≡ plain_word rules waiting word held
-plain_met waiting word held plain = rw (no_dashes word plain, not_long word plain, not_short word plain) refl
+plain_met : (verb : Verb) (waiting : Waiting) (word : Text) (held : Held) → is_plain word ≡ true
+    → subcommand_or_other (rules verb) None waiting 1 word held ≡ plain_word (rules verb) waiting word held
+plain_met verb waiting word held plain = rw (no_dashes word plain, not_long word plain, not_short word plain) refl
 
-tenant_step : (after_tenant : Bool) (word : Text) (held : Held) → is_plain word ≡ true → walked rules [] (at held after_tenant) word ≡ at (met Tenant word held) true
+tenant_step : (verb : Verb) (after_tenant : Bool) (word : Text) (held : Held) → is_plain word ≡ true
+    → walked (rules verb) [] (at held after_tenant) word ≡ at (met verb Tenant word held) true
 unfolding walked
-tenant_step true word held plain = ap (λ step. after_step rules word (at held true) step.0 step.1) (plain_met positional word held plain)
-tenant_step false word held plain = ap (λ step. after_step rules word (at held false) step.0 step.1) (plain_met idle word held plain)
+tenant_step Replays true word held plain = ap (λ step. after_step (rules Replays) word (at held true) step.0 step.1) (plain_met Replays positional word held plain)
+tenant_step Replays false word held plain = ap (λ step. after_step (rules Replays) word (at held false) step.0 step.1) (plain_met Replays idle word held plain)
+tenant_step Serves true word held plain = ap (λ step. after_step (rules Serves) word (at held true) step.0 step.1) (plain_met Serves positional word held plain)
+tenant_step Serves false word held plain = ap (λ step. after_step (rules Serves) word (at held false) step.0 step.1) (plain_met Serves idle word held plain)
 
-tenant_turn : (after_tenant : Bool) (word : Text) (held : Held) → is_plain word ≡ true → settle_passes rules false held ≡ true
-    → turn_passes replay_shape [] (at held after_tenant) word ≡ true
-tenant_turn true word held plain settles =
-    let passes_word : word_passes replay_shape [] false positional word held ≡ true = rw (no_dashes word plain, not_long word plain, not_short word plain) refl in
-    ap₂ ◌&&◌ passes_word (ap (λ step. step_passes replay_shape 1 step.0 step.1) (plain_met positional word held plain) ∙ or_right _ _ settles)
-tenant_turn false word held plain settles =
-    let passes_word : word_passes replay_shape [] false idle word held ≡ true = rw (no_dashes word plain, not_long word plain, not_short word plain) refl in
-    ap₂ ◌&&◌ passes_word (ap (λ step. step_passes replay_shape 1 step.0 step.1) (plain_met idle word held plain) ∙ or_right _ _ settles)
+plain_passes : (verb : Verb) (waiting : Waiting) (word : Text) (held : Held) → is_plain word ≡ true → subcommand_met [] waiting word ≡ None
+    → word_passes (shape verb) [] false waiting word held ≡ true
+plain_passes verb waiting word held plain no_name = rw (no_name, no_dashes word plain, not_long word plain, not_short word plain) refl
 
-value_step : (role : Role) (word : Text) (held : Held) → is_role Tenant role ≡ false → is_plain word ≡ true → walked rules [] (before_value role held) word ≡ at (met role word held) false
+-- a tenant may come
+tenant_place : (verb : Verb) (held : Held) → settle_passes (rules verb) false held ≡ true → step_passes (shape verb) 1 held value ≡ true
+tenant_place Replays held settles = or_right _ _ settles
+tenant_place Serves held settles = or_right _ _ settles
+
+tenant_turn : (verb : Verb) (after_tenant : Bool) (word : Text) (held : Held) → is_plain word ≡ true → settle_passes (rules verb) false held ≡ true
+    → turn_passes (shape verb) [] (at held after_tenant) word ≡ true
+tenant_turn verb true word held plain settles =
+    ap₂ ◌&&◌ (plain_passes verb positional word held plain refl)
+    (ap (λ step. step_passes (shape verb) 1 step.0 step.1) (plain_met verb positional word held plain) ∙ tenant_place verb held settles)
+tenant_turn verb false word held plain settles =
+    ap₂ ◌&&◌ (plain_passes verb idle word held plain refl)
+    (ap (λ step. step_passes (shape verb) 1 step.0 step.1) (plain_met verb idle word held plain) ∙ tenant_place verb held settles)
+
+value_step : (verb : Verb) (role : Role) (word : Text) (held : Held) → has_option verb role ≡ true → is_plain word ≡ true
+    → walked (rules verb) [] (before_value verb role held) word ≡ at (record (settled (rules verb) held) { pending = Some (id_of role, word ∷ []) }) false
 unfolding walked
-value_step Tenant word held limit plain = cc
-value_step Events word held limit plain = ap (λ step. after_step rules word (before_value Events held) step.0 step.1) (plain_met (option (codes "events")) word (before_value Events held).held plain)
-value_step Tasks word held limit plain = ap (λ step. after_step rules word (before_value Tasks held) step.0 step.1) (plain_met (option (codes "tasks")) word (before_value Tasks held).held plain)
-value_step Messages word held limit plain = ap (λ step. after_step rules word (before_value Messages held) step.0 step.1) (plain_met (option (codes "messages")) word (before_value Messages held).held plain)
-value_step Cache word held limit plain = ap (λ step. after_step rules word (before_value Cache held) step.0 step.1) (plain_met (option (codes "cache")) word (before_value Cache held).held plain)
-value_step Export word held limit plain = ap (λ step. after_step rules word (before_value Export held) step.0 step.1) (plain_met (option (codes "export")) word (before_value Export held).held plain)
+value_step Replays Events word held has plain = ap (λ step. after_step (rules Replays) word (before_value Replays Events held) step.0 step.1) (plain_met Replays (option (id_of Events)) word (before_value Replays Events held).held plain)
+value_step Replays Tasks word held has plain = ap (λ step. after_step (rules Replays) word (before_value Replays Tasks held) step.0 step.1) (plain_met Replays (option (id_of Tasks)) word (before_value Replays Tasks held).held plain)
+value_step Replays Messages word held has plain = ap (λ step. after_step (rules Replays) word (before_value Replays Messages held) step.0 step.1) (plain_met Replays (option (id_of Messages)) word (before_value Replays Messages held).held plain)
+value_step Replays Cache word held has plain = ap (λ step. after_step (rules Replays) word (before_value Replays Cache held) step.0 step.1) (plain_met Replays (option (id_of Cache)) word (before_value Replays Cache held).held plain)
+value_step Replays Export word held has plain = ap (λ step. after_step (rules Replays) word (before_value Replays Export held) step.0 step.1) (plain_met Replays (option (id_of Export)) word (before_value Replays Export held).held plain)
+value_step Serves Port word held has plain = ap (λ step. after_step (rules Serves) word (before_value Serves Port held) step.0 step.1) (plain_met Serves (option (id_of Port)) word (before_value Serves Port held).held plain)
+value_step Serves Workers word held has plain = ap (λ step. after_step (rules Serves) word (before_value Serves Workers held) step.0 step.1) (plain_met Serves (option (id_of Workers)) word (before_value Serves Workers held).held plain)
+value_step Serves Sessions word held has plain = ap (λ step. after_step (rules Serves) word (before_value Serves Sessions held) step.0 step.1) (plain_met Serves (option (id_of Sessions)) word (before_value Serves Sessions held).held plain)
+value_step Serves Events word held has plain = ap (λ step. after_step (rules Serves) word (before_value Serves Events held) step.0 step.1) (plain_met Serves (option (id_of Events)) word (before_value Serves Events held).held plain)
+value_step Serves Tasks word held has plain = ap (λ step. after_step (rules Serves) word (before_value Serves Tasks held) step.0 step.1) (plain_met Serves (option (id_of Tasks)) word (before_value Serves Tasks held).held plain)
+value_step Serves Messages word held has plain = ap (λ step. after_step (rules Serves) word (before_value Serves Messages held) step.0 step.1) (plain_met Serves (option (id_of Messages)) word (before_value Serves Messages held).held plain)
+value_step Serves Cache word held has plain = ap (λ step. after_step (rules Serves) word (before_value Serves Cache held) step.0 step.1) (plain_met Serves (option (id_of Cache)) word (before_value Serves Cache held).held plain)
+value_step verb role word held has plain = cc
 
-value_turn : (role : Role) (word : Text) (held : Held) → is_role Tenant role ≡ false → is_plain word ≡ true → turn_passes replay_shape [] (before_value role held) word ≡ true
-value_turn role word held limit plain =
-    let passes_word : word_passes replay_shape [] false (option (id_of role)) word (before_value role held).held ≡ true =
-    rw (no_dashes word plain, not_long word plain, not_short word plain) refl
-    in
-    ap₂ ◌&&◌ passes_word (ap (λ step. step_passes replay_shape 1 step.0 step.1) (plain_met (option (id_of role)) word (before_value role held).held plain))
+value_turn : (verb : Verb) (role : Role) (word : Text) (held : Held) → is_plain word ≡ true → turn_passes (shape verb) [] (before_value verb role held) word ≡ true
+value_turn verb role word held plain =
+    ap₂ ◌&&◌ (plain_passes verb (option (id_of role)) word (before_value verb role held).held plain refl)
+    (ap (λ step. step_passes (shape verb) 1 step.0 step.1) (plain_met verb (option (id_of role)) word (before_value verb role held).held plain))
 
 -- whether the words pass from here on, and where they lead
-abbrev Same : Walk → List Text → Walk → List Text → Type 0
-Same walk words later rest = (walk_passes replay_shape [] walk words ≡ walk_passes replay_shape [] later rest)
-    × (fold (walked rules []) walk words ≡ fold (walked rules []) later rest)
+abbrev Same : Verb → Walk → List Text → Walk → List Text → Type 0
+Same verb walk words later rest = (walk_passes (shape verb) [] walk words ≡ walk_passes (shape verb) [] later rest)
+    × (fold (walked (rules verb) []) walk words ≡ fold (walked (rules verb) []) later rest)
 
-one_more : (walk later : Walk) (word : Text) (words : List Text) → turn_passes replay_shape [] walk word ≡ true → walked rules [] walk word ≡ later → Same walk (word ∷ words) later words
+one_more : (verb : Verb) (walk later : Walk) (word : Text) (words : List Text) → turn_passes (shape verb) [] walk word ≡ true → walked (rules verb) [] walk word ≡ later
+    → Same verb walk (word ∷ words) later words
 unfolding walk_passes
-one_more walk later word words turns steps = (
-  ap₂ ◌&&◌ turns (ap (λ next. walk_passes replay_shape [] next words) steps),
-  ap (λ next. fold (walked rules []) next words) steps,
+one_more verb walk later word words turns steps = (
+  ap₂ ◌&&◌ turns (ap (λ next. walk_passes (shape verb) [] next words) steps),
+  ap (λ next. fold (walked (rules verb) []) next words) steps,
 )
 
-option_step : (after_tenant : Bool) (held : Held) (words : List Text) (role : Role) (word : Text) → is_role Tenant role ≡ false → settle_passes rules false held ≡ true
-    → is_plain word ≡ true → Same (at held after_tenant) (spelled_with role word words) (at (met role word held) false) words
+-- the name of an option waits for its value
+name_turn : (verb : Verb) (role : Role) (after_tenant : Bool) (held : Held) → has_option verb role ≡ true → settle_passes (rules verb) false held ≡ true
+    → turn_passes (shape verb) [] (at held after_tenant) (option_of role) ≡ true
+name_turn Replays Events true held has settles = ap (λ b. b && true) settles
+name_turn Replays Events false held has settles = ap (λ b. b && true) settles
+name_turn Replays Tasks true held has settles = ap (λ b. b && true) settles
+name_turn Replays Tasks false held has settles = ap (λ b. b && true) settles
+name_turn Replays Messages true held has settles = ap (λ b. b && true) settles
+name_turn Replays Messages false held has settles = ap (λ b. b && true) settles
+name_turn Replays Cache true held has settles = ap (λ b. b && true) settles
+name_turn Replays Cache false held has settles = ap (λ b. b && true) settles
+name_turn Replays Export true held has settles = ap (λ b. b && true) settles
+name_turn Replays Export false held has settles = ap (λ b. b && true) settles
+name_turn Serves Port true held has settles = ap (λ b. b && true) settles
+name_turn Serves Port false held has settles = ap (λ b. b && true) settles
+name_turn Serves Workers true held has settles = ap (λ b. b && true) settles
+name_turn Serves Workers false held has settles = ap (λ b. b && true) settles
+name_turn Serves Sessions true held has settles = ap (λ b. b && true) settles
+name_turn Serves Sessions false held has settles = ap (λ b. b && true) settles
+name_turn Serves Events true held has settles = ap (λ b. b && true) settles
+name_turn Serves Events false held has settles = ap (λ b. b && true) settles
+name_turn Serves Tasks true held has settles = ap (λ b. b && true) settles
+name_turn Serves Tasks false held has settles = ap (λ b. b && true) settles
+name_turn Serves Messages true held has settles = ap (λ b. b && true) settles
+name_turn Serves Messages false held has settles = ap (λ b. b && true) settles
+name_turn Serves Cache true held has settles = ap (λ b. b && true) settles
+name_turn Serves Cache false held has settles = ap (λ b. b && true) settles
+name_turn verb role after_tenant held has settles = cc
+
+name_step : (verb : Verb) (role : Role) (after_tenant : Bool) (held : Held) → has_option verb role ≡ true
+    → walked (rules verb) [] (at held after_tenant) (option_of role) ≡ before_value verb role held
 unfolding walked
-option_step after_tenant held words Tenant word limit settles plain = cc
-option_step true held words Events word limit settles plain =
-    let first = one_more (at held true) (before_value Events held) (codes "--events") (word ∷ words) (ap (λ b. b && true) settles) refl in
-    let second = one_more (before_value Events held) (at (met Events word held) false) word words (value_turn Events word held refl plain) (value_step Events word held refl plain) in
-    (first.0 ∙ second.0, first.1 ∙ second.1)
-option_step false held words Events word limit settles plain =
-    let first = one_more (at held false) (before_value Events held) (codes "--events") (word ∷ words) (ap (λ b. b && true) settles) refl in
-    let second = one_more (before_value Events held) (at (met Events word held) false) word words (value_turn Events word held refl plain) (value_step Events word held refl plain) in
-    (first.0 ∙ second.0, first.1 ∙ second.1)
-option_step true held words Tasks word limit settles plain =
-    let first = one_more (at held true) (before_value Tasks held) (codes "--tasks") (word ∷ words) (ap (λ b. b && true) settles) refl in
-    let second = one_more (before_value Tasks held) (at (met Tasks word held) false) word words (value_turn Tasks word held refl plain) (value_step Tasks word held refl plain) in
-    (first.0 ∙ second.0, first.1 ∙ second.1)
-option_step false held words Tasks word limit settles plain =
-    let first = one_more (at held false) (before_value Tasks held) (codes "--tasks") (word ∷ words) (ap (λ b. b && true) settles) refl in
-    let second = one_more (before_value Tasks held) (at (met Tasks word held) false) word words (value_turn Tasks word held refl plain) (value_step Tasks word held refl plain) in
-    (first.0 ∙ second.0, first.1 ∙ second.1)
-option_step true held words Messages word limit settles plain =
-    let first = one_more (at held true) (before_value Messages held) (codes "--messages") (word ∷ words) (ap (λ b. b && true) settles) refl in
-    let second = one_more (before_value Messages held) (at (met Messages word held) false) word words (value_turn Messages word held refl plain) (value_step Messages word held refl plain) in
-    (first.0 ∙ second.0, first.1 ∙ second.1)
-option_step true held words Cache word limit settles plain =
-    let first = one_more (at held true) (before_value Cache held) (codes "--cache") (word ∷ words) (ap (λ b. b && true) settles) refl in
-    let second = one_more (before_value Cache held) (at (met Cache word held) false) word words (value_turn Cache word held refl plain) (value_step Cache word held refl plain) in
-    (first.0 ∙ second.0, first.1 ∙ second.1)
-option_step false held words Messages word limit settles plain =
-    let first = one_more (at held false) (before_value Messages held) (codes "--messages") (word ∷ words) (ap (λ b. b && true) settles) refl in
-    let second = one_more (before_value Messages held) (at (met Messages word held) false) word words (value_turn Messages word held refl plain) (value_step Messages word held refl plain) in
-    (first.0 ∙ second.0, first.1 ∙ second.1)
-option_step false held words Cache word limit settles plain =
-    let first = one_more (at held false) (before_value Cache held) (codes "--cache") (word ∷ words) (ap (λ b. b && true) settles) refl in
-    let second = one_more (before_value Cache held) (at (met Cache word held) false) word words (value_turn Cache word held refl plain) (value_step Cache word held refl plain) in
-    (first.0 ∙ second.0, first.1 ∙ second.1)
-option_step true held words Export word limit settles plain =
-    let first = one_more (at held true) (before_value Export held) (codes "--export") (word ∷ words) (ap (λ b. b && true) settles) refl in
-    let second = one_more (before_value Export held) (at (met Export word held) false) word words (value_turn Export word held refl plain) (value_step Export word held refl plain) in
-    (first.0 ∙ second.0, first.1 ∙ second.1)
-option_step false held words Export word limit settles plain =
-    let first = one_more (at held false) (before_value Export held) (codes "--export") (word ∷ words) (ap (λ b. b && true) settles) refl in
-    let second = one_more (before_value Export held) (at (met Export word held) false) word words (value_turn Export word held refl plain) (value_step Export word held refl plain) in
+name_step Replays Events true held has = refl
+name_step Replays Events false held has = refl
+name_step Replays Tasks true held has = refl
+name_step Replays Tasks false held has = refl
+name_step Replays Messages true held has = refl
+name_step Replays Messages false held has = refl
+name_step Replays Cache true held has = refl
+name_step Replays Cache false held has = refl
+name_step Replays Export true held has = refl
+name_step Replays Export false held has = refl
+name_step Serves Port true held has = refl
+name_step Serves Port false held has = refl
+name_step Serves Workers true held has = refl
+name_step Serves Workers false held has = refl
+name_step Serves Sessions true held has = refl
+name_step Serves Sessions false held has = refl
+name_step Serves Events true held has = refl
+name_step Serves Events false held has = refl
+name_step Serves Tasks true held has = refl
+name_step Serves Tasks false held has = refl
+name_step Serves Messages true held has = refl
+name_step Serves Messages false held has = refl
+name_step Serves Cache true held has = refl
+name_step Serves Cache false held has = refl
+name_step verb role after_tenant held has = cc
+
+option_step : (verb : Verb) (after_tenant : Bool) (held : Held) (words : List Text) (role : Role) (word : Text) → has_option verb role ≡ true
+    → settle_passes (rules verb) false held ≡ true → is_plain word ≡ true
+    → Same verb (at held after_tenant) (option_of role ∷ word ∷ words) (at (record (settled (rules verb) held) { pending = Some (id_of role, word ∷ []) }) false) words
+option_step verb after_tenant held words role word has settles plain =
+    let first = one_more verb (at held after_tenant) (before_value verb role held) (option_of role) (word ∷ words) (name_turn verb role after_tenant held has settles)
+    (name_step verb role after_tenant held has) in
+    let second = one_more verb (before_value verb role held) (at (record (settled (rules verb) held) { pending = Some (id_of role, word ∷ []) }) false) word words
+    (value_turn verb role word held plain) (value_step verb role word held has plain) in
     (first.0 ∙ second.0, first.1 ∙ second.1)
 
 abbrev is_tenant : Role → Bool
 is_tenant role = is_role Tenant role
 
-part_step : (after_tenant : Bool) (held : Held) (words : List Text) (before : List Text) (role : Role) (word : Text) → settle_passes rules false held ≡ true
-    → FitsNow role before word → Same (at held after_tenant) (spelled_with role word words) (at (met role word held) (is_tenant role)) words
-part_step after_tenant held words before Tenant word settles fits =
-    one_more (at held after_tenant) (at (met Tenant word held) true) word words (tenant_turn after_tenant word held fits settles) (tenant_step after_tenant word held fits)
-part_step after_tenant held words before Events word settles fits = option_step after_tenant held words Events word refl settles fits.1
-part_step after_tenant held words before Tasks word settles fits = option_step after_tenant held words Tasks word refl settles fits.1
-part_step after_tenant held words before Messages word settles fits = option_step after_tenant held words Messages word refl settles fits.1
-part_step after_tenant held words before Cache word settles fits = option_step after_tenant held words Cache word refl settles fits.1
-part_step after_tenant held words before Export word settles fits = option_step after_tenant held words Export word refl settles fits.1
+part_step : (verb : Verb) (after_tenant : Bool) (held : Held) (words : List Text) (before : List Text) (role : Role) (word : Text) → has_role verb role ≡ true
+    → settle_passes (rules verb) false held ≡ true → FitsNow role before word
+    → Same verb (at held after_tenant) (spelled_with role word words) (at (met verb role word held) (is_tenant role)) words
+part_step verb after_tenant held words before Tenant word has settles fits =
+    one_more verb (at held after_tenant) (at (met verb Tenant word held) true) word words (tenant_turn verb after_tenant word held fits settles)
+    (tenant_step verb after_tenant word held fits)
+part_step verb after_tenant held words before Events word has settles fits = option_step verb after_tenant held words Events word has settles fits.1
+part_step verb after_tenant held words before Tasks word has settles fits = option_step verb after_tenant held words Tasks word has settles fits.1
+part_step verb after_tenant held words before Messages word has settles fits = option_step verb after_tenant held words Messages word has settles fits.1
+part_step verb after_tenant held words before Cache word has settles fits = option_step verb after_tenant held words Cache word has settles fits.1
+part_step verb after_tenant held words before Export word has settles fits = option_step verb after_tenant held words Export word has settles fits.1
+part_step verb after_tenant held words before Port word has settles fits = option_step verb after_tenant held words Port word has settles fits.1
+part_step verb after_tenant held words before Workers word has settles fits = option_step verb after_tenant held words Workers word has settles fits.1
+part_step verb after_tenant held words before Sessions word has settles fits = option_step verb after_tenant held words Sessions word has settles fits.1
 
 -- ---- all the parts
 
@@ -409,6 +544,9 @@ Fits Tasks words = FitsOnce 2048 words
 Fits Messages words = FitsOnce 16384 words
 Fits Cache words = FitsOnce 65536 words
 Fits Export words = PlainOnce words
+Fits Port words = FitsOnce 65535 words
+Fits Workers words = FitsOnce 32 words
+Fits Sessions words = FitsOnce 1048576 words
 
 once : (most : ℕ) (before : List Text) (word : Text) (words : List Text) → FitsOnce most (before ++ word ∷ words)
     → (before ≡ []) × (is_plain word ≡ true) × (is_unsigned_in 1 most word ≡ true)
@@ -435,7 +573,10 @@ fits_now Events before word words fits = once 16384 before word words fits
 fits_now Tasks before word words fits = once 2048 before word words fits
 fits_now Messages before word words fits = once 16384 before word words fits
 fits_now Cache before word words fits = once 65536 before word words fits
-fits_now Export before word words fits = plain_once before word words fits
+fits_now Export before word words fits = let is = plain_once before word words fits in (is.0, is.1, tt)
+fits_now Port before word words fits = once 65535 before word words fits
+fits_now Workers before word words fits = once 32 before word words fits
+fits_now Sessions before word words fits = once 1048576 before word words fits
 
 first_word : (part : Part) (parts : List Part) → words_for part.role (part ∷ parts) ≡ part.word ∷ words_for part.role parts
 first_word part parts = rw (itself_role part.role) refl
@@ -447,46 +588,56 @@ first_word part parts = rw (itself_role part.role) refl
     itself_role Messages = refl
     itself_role Cache = refl
     itself_role Export = refl
+    itself_role Port = refl
+    itself_role Workers = refl
+    itself_role Sessions = refl
+
+-- whether the command has the roles of all parts
+abbrev pub have_roles : Verb → List Part → Bool
+have_roles verb parts = list_all (λ part. has_role verb part.role) parts
 
 -- where the words of the parts lead
-record Leads (start : Held) (after_tenant : Bool) (seen : Seen) (count : ℕ) (parts : List Part) : Type 0 where
-  passes : walk_passes replay_shape [] (at start after_tenant) (spelled parts) ≡ true
+record Leads (verb : Verb) (start : Held) (after_tenant : Bool) (seen : Seen) (count : ℕ) (parts : List Part) : Type 0 where
+  passes : walk_passes (shape verb) [] (at start after_tenant) (spelled parts) ≡ true
   end : Held
   last : Bool
-  walks : fold (walked rules []) (at start after_tenant) (spelled parts) ≡ at end last
-  holds : Holds (all_seen seen parts) (count + length parts) end
+  walks : fold (walked (rules verb) []) (at start after_tenant) (spelled parts) ≡ at end last
+  holds : Holds verb (all_seen seen parts) (count + length parts) end
 
-leads : (parts : List Part) (start : Held) (after_tenant : Bool) (seen : Seen) (count : ℕ) → Holds seen count start
-    → ((role : Role) → Fits role (seen role ++ words_for role parts)) → count + length parts ≤ usize_max → Leads start after_tenant seen count parts
+leads : (verb : Verb) (parts : List Part) (start : Held) (after_tenant : Bool) (seen : Seen) (count : ℕ) → have_roles verb parts ≡ true → Holds verb seen count start
+    → ((role : Role) → Fits role (seen role ++ words_for role parts)) → count + length parts ≤ usize_max → Leads verb start after_tenant seen count parts
 unfolding walk_passes
-leads [] start after_tenant seen count holds fits few = record {
+leads verb [] start after_tenant seen count have holds fits few = record {
   passes = refl;
   end = start;
   last = after_tenant;
   walks = refl;
-  holds = subst (λ n. Holds seen n start) (omega arith) holds;
+  holds = subst (λ n. Holds verb seen n start) (omega arith) holds;
 }
-leads (part ∷ parts) start after_tenant seen count holds fits few =
+leads verb (part ∷ parts) start after_tenant seen count have holds fits few =
+    let has = and_is_true _ _ have in
     let now = fits_now part.role (seen part.role) part.word (words_for part.role parts)
     (subst (λ words. Fits part.role (seen part.role ++ words)) (first_word part parts) (fits part.role)) in
-    let turn = part_step after_tenant start (spelled parts) (seen part.role) part.role part.word holds.settles now in
-    let kept = keeps seen count part.role part.word start holds now (omega arith) in
+    let turn = part_step verb after_tenant start (spelled parts) (seen part.role) part.role part.word has.0 holds.settles now in
+    let kept = keeps verb seen count part.role part.word start has.0 holds now (omega arith) in
     let later_fits : (role : Role) → Fits role (with_word seen part.role part.word role ++ words_for role parts) =
     λ role. subst (Fits role) (sym (seen_is (part ∷ parts) seen role) ∙ seen_is parts (with_word seen part.role part.word) role) (fits role) in
-    let later = leads parts (met part.role part.word start) (is_tenant part.role) (with_word seen part.role part.word) (suc count) kept later_fits (omega arith) in
+    let later = leads verb parts (met verb part.role part.word start) (is_tenant part.role) (with_word seen part.role part.word) (suc count) has.1 kept later_fits (omega arith) in
     record {
       passes = turn.0 ∙ later.passes;
       end = later.end;
       last = later.last;
       walks = turn.1 ∙ later.walks;
-      holds = subst (λ n. Holds (all_seen seen (part ∷ parts)) n later.end) (omega arith) later.holds;
+      holds = subst (λ n. Holds verb (all_seen seen (part ∷ parts)) n later.end) (omega arith) later.holds;
     }
 
 abbrev nothing_seen : Seen
 nothing_seen role = []
 
-from_nothing : (parts : List Part) → ((role : Role) → Fits role (words_for role parts)) → length parts ≤ usize_max → Leads nothing_held false nothing_seen 0 parts
-from_nothing parts fits few = leads parts nothing_held false nothing_seen 0 (record { rows = λ role. refl; settles = refl; pending = omega arith }) fits (omega arith)
+from_nothing : (verb : Verb) (parts : List Part) → have_roles verb parts ≡ true → ((role : Role) → Fits role (words_for role parts)) → length parts ≤ usize_max
+    → Leads verb nothing_held false nothing_seen 0 parts
+from_nothing verb parts have fits few =
+    leads verb parts nothing_held false nothing_seen 0 have (record { rows = λ role. refl; settles = refl; pending = omega arith }) fits (omega arith)
 
 -- ---- the end
 
@@ -495,57 +646,89 @@ same_either true x = refl
 same_either false x = refl
 
 -- no argument has a default
-no_defaults : (rows : List Row) → fold with_default rows rules ≡ rows
-no_defaults rows =
-    ap (λ left. fold with_default left (Rattle.std.specs.Prelude.drop 1 rules)) (same_either (has_row (codes "events") rows) rows)
-    ∙ (ap (λ left. fold with_default left (Rattle.std.specs.Prelude.drop 2 rules)) (same_either (has_row (codes "tasks") rows) rows)
-    ∙ (ap (λ left. fold with_default left (Rattle.std.specs.Prelude.drop 3 rules)) (same_either (has_row (codes "messages") rows) rows)
-    ∙ (ap (λ left. fold with_default left (Rattle.std.specs.Prelude.drop 4 rules)) (same_either (has_row (codes "cache") rows) rows)
-    ∙ (ap (λ left. fold with_default left (Rattle.std.specs.Prelude.drop 5 rules)) (same_either (has_row (codes "export") rows) rows)
-    ∙ (ap (λ left. fold with_default left (Rattle.std.specs.Prelude.drop 6 rules)) (same_either (has_row (codes "TENANT") rows) rows)
+no_defaults : (verb : Verb) (rows : List Row) → fold with_default rows (rules verb) ≡ rows
+no_defaults Replays rows =
+    ap (λ left. fold with_default left (Rattle.std.specs.Prelude.drop 1 (rules Replays))) (same_either (has_row (codes "events") rows) rows)
+    ∙ (ap (λ left. fold with_default left (Rattle.std.specs.Prelude.drop 2 (rules Replays))) (same_either (has_row (codes "tasks") rows) rows)
+    ∙ (ap (λ left. fold with_default left (Rattle.std.specs.Prelude.drop 3 (rules Replays))) (same_either (has_row (codes "messages") rows) rows)
+    ∙ (ap (λ left. fold with_default left (Rattle.std.specs.Prelude.drop 4 (rules Replays))) (same_either (has_row (codes "cache") rows) rows)
+    ∙ (ap (λ left. fold with_default left (Rattle.std.specs.Prelude.drop 5 (rules Replays))) (same_either (has_row (codes "export") rows) rows)
+    ∙ (ap (λ left. fold with_default left (Rattle.std.specs.Prelude.drop 6 (rules Replays))) (same_either (has_row (codes "TENANT") rows) rows)
     ∙ same_either (has_row (codes "help") rows) rows)))))
+no_defaults Serves rows =
+    ap (λ left. fold with_default left (Rattle.std.specs.Prelude.drop 1 (rules Serves))) (same_either (has_row (codes "port") rows) rows)
+    ∙ (ap (λ left. fold with_default left (Rattle.std.specs.Prelude.drop 2 (rules Serves))) (same_either (has_row (codes "workers") rows) rows)
+    ∙ (ap (λ left. fold with_default left (Rattle.std.specs.Prelude.drop 3 (rules Serves))) (same_either (has_row (codes "sessions") rows) rows)
+    ∙ (ap (λ left. fold with_default left (Rattle.std.specs.Prelude.drop 4 (rules Serves))) (same_either (has_row (codes "events") rows) rows)
+    ∙ (ap (λ left. fold with_default left (Rattle.std.specs.Prelude.drop 5 (rules Serves))) (same_either (has_row (codes "tasks") rows) rows)
+    ∙ (ap (λ left. fold with_default left (Rattle.std.specs.Prelude.drop 6 (rules Serves))) (same_either (has_row (codes "messages") rows) rows)
+    ∙ (ap (λ left. fold with_default left (Rattle.std.specs.Prelude.drop 7 (rules Serves))) (same_either (has_row (codes "cache") rows) rows)
+    ∙ (ap (λ left. fold with_default left (Rattle.std.specs.Prelude.drop 8 (rules Serves))) (same_either (has_row (codes "TENANT") rows) rows)
+    ∙ same_either (has_row (codes "help") rows) rows)))))))
 
 -- the rows in the end
-rows_end : (parts : List Part) (leads : Leads nothing_held false nothing_seen 0 parts) (role : Role)
-    → row_in (id_of role) (finished rules leads.end) ≡ row_of role (words_for role parts)
-rows_end parts leads role =
-    ap (row_in (id_of role)) (no_defaults (settled_rows rules leads.end.pending leads.end.rows))
+rows_end : (verb : Verb) (parts : List Part) (leads : Leads verb nothing_held false nothing_seen 0 parts) (role : Role)
+    → row_in (id_of role) (finished (rules verb) leads.end) ≡ row_of role (words_for role parts)
+rows_end verb parts leads role =
+    ap (row_in (id_of role)) (no_defaults verb (settled_rows (rules verb) leads.end.pending leads.end.rows))
     ∙ (leads.holds.rows role ∙ ap (row_of role) (seen_is parts nothing_seen role))
 
-abbrev ends_well : Walk → Bool
-ends_well end = settle_passes rules false end.held
-    && (list_all default_passes rules && is_valid replay_shape (finished rules end.held) false)
+abbrev ends_well : Verb → Walk → Bool
+ends_well verb end = settle_passes (rules verb) false end.held
+    && (list_all default_passes (rules verb) && is_valid (shape verb) (finished (rules verb) end.held) false)
 
-tenant_given : (parts : List Part) (leads : Leads nothing_held false nothing_seen 0 parts) (tenant : Text) (tenants : List Text)
-    → words_for Tenant parts ≡ tenant ∷ tenants → is_given (codes "TENANT") (finished rules leads.end) ≡ true
-tenant_given parts leads tenant tenants are =
+given : (verb : Verb) (role : Role) (parts : List Part) (leads : Leads verb nothing_held false nothing_seen 0 parts) (word : Text) (words : List Text)
+    → words_for role parts ≡ word ∷ words → is_given (id_of role) (finished (rules verb) leads.end) ≡ true
+given verb role parts leads word words are =
     ap (λ row. Rattle.std.specs.Option.option_map_or (λ (r : Row). Rattle.clap.specs.Facts.explicit_source r.source) row false)
-    (rows_end parts leads Tenant ∙ ap (row_of Tenant) are)
+    (rows_end verb parts leads role ∙ ap (row_of role) are)
 
-level : (parts : List Part) (leads : Leads nothing_held false nothing_seen 0 parts) (tenant : Text) (tenants : List Text)
-    → words_for Tenant parts ≡ tenant ∷ tenants → level_passes replay_shape [] nothing_held (spelled parts) false ≡ true
-level parts leads tenant tenants are =
-    ap₂ ◌&&◌ leads.passes (ap ends_well leads.walks ∙ ap₂ ◌&&◌ leads.holds.settles (ap (λ b. b && true) (tenant_given parts leads tenant tenants are)))
+-- There is a tenant.
+abbrev pub HasTenant : List Part → Type 0
+HasTenant parts = (tenant : Text) × (tenants : List Text) × (words_for Tenant parts ≡ tenant ∷ tenants)
+
+-- What has to be there is there.
+abbrev pub Needs : Verb → List Part → Type 0
+Needs Replays parts = HasTenant parts
+Needs Serves parts = HasTenant parts × ((port : Text) × (words_for Port parts ≡ port ∷ []))
+
+valid : (verb : Verb) (parts : List Part) (leads : Leads verb nothing_held false nothing_seen 0 parts) → Needs verb parts
+    → list_all default_passes (rules verb) && is_valid (shape verb) (finished (rules verb) leads.end) false ≡ true
+valid Replays parts leads needs = ap (λ b. b && true) (given Replays Tenant parts leads needs.0 needs.1 needs.2)
+valid Serves parts leads needs =
+    ap₂ ◌&&◌ (given Serves Port parts leads needs.1.0 [] needs.1.1) (ap (λ b. b && true) (given Serves Tenant parts leads needs.0.0 needs.0.1 needs.0.2))
+
+level : (verb : Verb) (parts : List Part) (leads : Leads verb nothing_held false nothing_seen 0 parts) → Needs verb parts
+    → level_passes (shape verb) [] nothing_held (spelled parts) false ≡ true
+level Replays parts leads needs = ap₂ ◌&&◌ leads.passes (ap (ends_well Replays) leads.walks ∙ ap₂ ◌&&◌ leads.holds.settles (valid Replays parts leads needs))
+level Serves parts leads needs = ap₂ ◌&&◌ leads.passes (ap (ends_well Serves) leads.walks ∙ ap₂ ◌&&◌ leads.holds.settles (valid Serves parts leads needs))
 
 -- ---- the whole command line
 
--- the walk over the words of the whole command line stops at `replay`
-stop_is : (words : List Text) → stop_after (built program_app).top.rules (names_of (built program_app)) (codes "replay" ∷ words) ≡ Some (codes "replay", words)
+-- the walk over the words of the whole command line stops at the command
+stop_is : (verb : Verb) (words : List Text) → stop_after (built program_app).top.rules (names_of (built program_app)) (name_of verb ∷ words) ≡ Some (name_of verb, words)
 unfolding walked
-stop_is words = ap (λ (w : Walk). w.stopped) (sym (walk_stopped (built program_app).top.rules (names_of (built program_app)) (walk_from nothing_held) (codes "replay") [] words))
+stop_is Replays words = ap (λ (w : Walk). w.stopped) (sym (walk_stopped (built program_app).top.rules (names_of (built program_app)) (walk_from nothing_held) (codes "replay") [] words))
+stop_is Serves words = ap (λ (w : Walk). w.stopped) (sym (walk_stopped (built program_app).top.rules (names_of (built program_app)) (walk_from nothing_held) (codes "serve") [] words))
+
+-- the command is found with the rows in which its walk ends
+entered_is : (verb : Verb) (words : List Text) → entered (built program_app) (Some (name_of verb, words)) ≡ Some (name_of verb, finished (rules verb) (fold (walked (rules verb) []) (walk_from nothing_held) words).held)
+entered_is Replays words = refl
+entered_is Serves words = refl
 
 -- what is found
-pub finds : (parts : List Part) → ((role : Role) → Fits role (words_for role parts)) → length parts ≤ usize_max
-    → (rows : List Row) × (subcommand_of program_app (codes "replay" ∷ spelled parts) ≡ Some (codes "replay", rows))
+pub finds : (verb : Verb) (parts : List Part) → have_roles verb parts ≡ true → ((role : Role) → Fits role (words_for role parts)) → length parts ≤ usize_max
+    → (rows : List Row) × (subcommand_of program_app (name_of verb ∷ spelled parts) ≡ Some (name_of verb, rows))
     × ((role : Role) → row_in (id_of role) rows ≡ row_of role (words_for role parts))
-finds parts fits few =
-    let leads = from_nothing parts fits few in (
-      finished rules leads.end,
-      ap (λ stop. entered (built program_app) stop) (stop_is (spelled parts)) ∙ ap (λ (walk : Walk). Some (codes "replay", finished rules walk.held)) leads.walks,
-      rows_end parts leads,
+finds verb parts have fits few =
+    let leads = from_nothing verb parts have fits few in (
+      finished (rules verb) leads.end,
+      ap (λ stop. entered (built program_app) stop) (stop_is verb (spelled parts))
+          ∙ (entered_is verb (spelled parts) ∙ ap (λ (walk : Walk). Some (name_of verb, finished (rules verb) walk.held)) leads.walks),
+      rows_end verb parts leads,
     )
 
--- after `replay` nothing is looked at
+-- after the command nothing is looked at
 stopped_passes : (w : Walk) (name : Text) (seen words : List Text)
     → walk_passes (built program_app).top (names_of (built program_app)) (record w { stopped = Some (name, seen) }) words ≡ true
 unfolding walk_passes walked
@@ -556,16 +739,25 @@ abbrev top_ends_well : Walk → Bool
 top_ends_well end = settle_passes (built program_app).top.rules (built program_app).top.args_override_self end.held
     && (list_all default_passes (built program_app).top.rules && is_valid (built program_app).top (finished (built program_app).top.rules end.held) true)
 
-top_level : (words : List Text) → level_passes (built program_app).top (names_of (built program_app)) nothing_held (codes "replay" ∷ words) true ≡ true
+top_level : (verb : Verb) (words : List Text) → level_passes (built program_app).top (names_of (built program_app)) nothing_held (name_of verb ∷ words) true ≡ true
 unfolding walk_passes walked
-top_level words = ap₂ ◌&&◌ (stopped_passes (walk_from nothing_held) (codes "replay") [] words)
+top_level Replays words = ap₂ ◌&&◌ (stopped_passes (walk_from nothing_held) (codes "replay") [] words)
     (ap top_ends_well (sym (walk_stopped (built program_app).top.rules (names_of (built program_app)) (walk_from nothing_held) (codes "replay") [] words)))
+top_level Serves words = ap₂ ◌&&◌ (stopped_passes (walk_from nothing_held) (codes "serve") [] words)
+    (ap top_ends_well (sym (walk_stopped (built program_app).top.rules (names_of (built program_app)) (walk_from nothing_held) (codes "serve") [] words)))
 
 -- the words are taken
-pub takes_parts : (parts : List Part) (tenant : Text) (tenants : List Text) → words_for Tenant parts ≡ tenant ∷ tenants
-    → ((role : Role) → Fits role (words_for role parts)) → length parts ≤ usize_max → takes program_app (codes "replay" ∷ spelled parts) ≡ true
-takes_parts parts tenant tenants are fits few =
+pub takes_parts : (verb : Verb) (parts : List Part) → Needs verb parts → have_roles verb parts ≡ true → ((role : Role) → Fits role (words_for role parts))
+    → length parts ≤ usize_max → takes program_app (name_of verb ∷ spelled parts) ≡ true
+takes_parts verb parts needs have fits few =
     ap (λ stop. entered_passes (built program_app) stop
-    && level_passes (built program_app).top (names_of (built program_app)) nothing_held (codes "replay" ∷ spelled parts) (is_some (entered (built program_app) stop)))
-    (stop_is (spelled parts))
-    ∙ ap₂ ◌&&◌ (level parts (from_nothing parts fits few) tenant tenants are) (top_level (spelled parts))
+    && level_passes (built program_app).top (names_of (built program_app)) nothing_held (name_of verb ∷ spelled parts) (is_some (entered (built program_app) stop)))
+    (stop_is verb (spelled parts))
+    ∙ entered_level verb (spelled parts) (level verb parts (from_nothing verb parts have fits few) needs) (top_level verb (spelled parts))
+  where
+    entered_level : (verb : Verb) (words : List Text) → level_passes (shape verb) [] nothing_held words false ≡ true
+        → level_passes (built program_app).top (names_of (built program_app)) nothing_held (name_of verb ∷ words) true ≡ true
+        → (entered_passes (built program_app) (Some (name_of verb, words))
+        && level_passes (built program_app).top (names_of (built program_app)) nothing_held (name_of verb ∷ words) (is_some (entered (built program_app) (Some (name_of verb, words))))) ≡ true
+    entered_level Replays words low top = ap₂ ◌&&◌ low top
+    entered_level Serves words low top = ap₂ ◌&&◌ low top

@@ -13,9 +13,20 @@ pub record AskedReplay : Type 0 where
   pub tenants : List Text
   pub export : Option Text
 
+-- what a service is asked for: the port, how many sessions are held at once, after how many connections no more is taken,
+-- and, as of a replay, limits, comparisons and tenants
+pub record AskedService : Type 0 where
+  pub port : ℕ
+  pub workers : ℕ
+  pub sessions : ℕ
+  pub limits : Limits
+  pub cache : ℕ
+  pub tenants : List Text
+
 -- what the program is asked to do
 pub data Demand : Type 0 where
   ToReplay : AskedReplay → Demand
+  ToServe : AskedService → Demand
   ToCheck : Demand
 
 -- what a word is: a tenant, or the number or the name of an option
@@ -26,6 +37,9 @@ pub data Role : Type 0 where
   Messages : Role
   Cache : Role
   Export : Role
+  Port : Role
+  Workers : Role
+  Sessions : Role
 
 -- whether two roles are the same
 abbrev pub is_role : Role → Role → Bool
@@ -35,6 +49,9 @@ is_role Tasks Tasks = true
 is_role Messages Messages = true
 is_role Cache Cache = true
 is_role Export Export = true
+is_role Port Port = true
+is_role Workers Workers = true
+is_role Sessions Sessions = true
 is_role a b = false
 
 -- a word and its role
@@ -47,30 +64,45 @@ abbrev pub is_plain : Text → Bool
 is_plain [] = true
 is_plain (byte ∷ bytes) = not (byte == 45)
 
--- the role of the word after this one, where this one is an option
-abbrev pub option_named : Text → Option Role
-option_named word =
-    if is_same word (codes "--events") then Some Events
-    else if is_same word (codes "--tasks") then Some Tasks
-    else if is_same word (codes "--messages") then Some Messages
-    else if is_same word (codes "--cache") then Some Cache
-    else if is_same word (codes "--export") then Some Export
-    else None
+-- the option whose number or name has this role; tenants have none
+abbrev pub option_of : Role → Text
+option_of Tenant = []
+option_of Events = codes "--events"
+option_of Tasks = codes "--tasks"
+option_of Messages = codes "--messages"
+option_of Cache = codes "--cache"
+option_of Export = codes "--export"
+option_of Port = codes "--port"
+option_of Workers = codes "--workers"
+option_of Sessions = codes "--sessions"
+
+-- the role of the word after this one, where this one is the option of one of these roles
+abbrev pub option_named : List Role → Text → Option Role
+option_named [] word = None
+option_named (role ∷ roles) word = if is_same word (option_of role) then Some role else option_named roles word
+
+-- the options of a replay
+abbrev pub replay_options : List Role
+replay_options = Events ∷ Tasks ∷ Messages ∷ Cache ∷ Export ∷ []
+
+-- the options of a service
+abbrev pub service_options : List Role
+service_options = Port ∷ Workers ∷ Sessions ∷ Events ∷ Tasks ∷ Messages ∷ Cache ∷ []
 
 -- the parts, and one before them
 abbrev pub with_part : Role → Text → Option (List Part) → Option (List Part)
 with_part role word = option_map (λ parts. record { role = role; word = word } ∷ parts)
 
--- The parts of the words, where the word before them was this option. A plain word is a tenant, and the word after an
--- option is its number or its name. Of words with `-` in front that are no such option, as those that ask for help,
--- nothing is said here.
-abbrev pub parts_after : Option Role → List Text → Option (List Part)
-parts_after None [] = Some []
-parts_after None (word ∷ words) =
-    if is_plain word then with_part Tenant word (parts_after None words)
-    else option_and_then (λ role. parts_after (Some role) words) (option_named word)
-parts_after (Some role) [] = None
-parts_after (Some role) (word ∷ words) = with_part role word (parts_after None words)
+-- The parts of the words, where there are these options, and the word before them was this one. A plain word is a tenant,
+-- and the word after an option is its number or its name. Of words with `-` in front that are no such option, as those that
+-- ask for help, nothing is said here.
+abbrev pub parts_after : List Role → Option Role → List Text → Option (List Part)
+parts_after options None [] = Some []
+parts_after options None (word ∷ words) =
+    if is_plain word then with_part Tenant word (parts_after options None words)
+    else option_and_then (λ role. parts_after options (Some role) words) (option_named options word)
+parts_after options (Some role) [] = None
+parts_after options (Some role) (word ∷ words) = with_part role word (parts_after options None words)
 
 -- the words of this role
 abbrev pub words_for : Role → List Part → List Text
@@ -122,7 +154,28 @@ replay_asked_by parts = asked_by_options (words_for Tenant parts) (limits_by par
 
 -- the replay that the words after `replay` ask for, where they are options, each with its number or name, and tenants
 abbrev pub replay_asked_in : List Text → Option AskedReplay
-replay_asked_in words = option_and_then replay_asked_by (parts_after None words)
+replay_asked_in words = option_and_then replay_asked_by (parts_after replay_options None words)
+
+-- the port by the words of its option, which is used once
+abbrev pub port_by : List Text → Option ℕ
+port_by (word ∷ []) = number_up_to 65535 word
+port_by words = None
+
+-- the service that these ask for, where each is there, and a tenant is
+abbrev pub service_with : List Text → Option ℕ → Option ℕ → Option ℕ → Option Limits → Option ℕ → Option AskedService
+service_with [] port workers sessions limits cache = None
+service_with tenants (Some port) (Some workers) (Some sessions) (Some limits) (Some cache) =
+    Some (record { port = port; workers = workers; sessions = sessions; limits = limits; cache = cache; tenants = tenants })
+service_with tenants port workers sessions limits cache = None
+
+-- the service that the parts ask for
+abbrev pub service_asked_by : List Part → Option AskedService
+service_asked_by parts = service_with (words_for Tenant parts) (port_by (words_for Port parts)) (limit_by 4 32 (words_for Workers parts))
+    (limit_by 1048576 1048576 (words_for Sessions parts)) (limits_by parts) (cache_by parts)
+
+-- the service that the words after `serve` ask for, where they are options, each with its number, and tenants
+abbrev pub service_asked_in : List Text → Option AskedService
+service_asked_in words = option_and_then service_asked_by (parts_after service_options None words)
 
 -- the check that the words after `check` ask for, where there are none
 abbrev pub check_asked_in : List Text → Option Demand
@@ -134,5 +187,6 @@ abbrev pub asked_in : List Text → Option Demand
 asked_in [] = None
 asked_in (first ∷ words) =
     if is_same first (codes "replay") then option_map ToReplay (replay_asked_in words)
+    else if is_same first (codes "serve") then option_map ToServe (service_asked_in words)
     else if is_same first (codes "check") then check_asked_in words
     else None

@@ -1,5 +1,5 @@
 -- The command line as it is built, and what is read of it.
-use Rattle.std.specs.Prelude.{◌≡◌, ℕ, true, List, Option, Some, None, Result, Ok, Err, ◌⊎◌, [], codes, option_map, option_and_then, if◌then◌else◌, map, string_bytes}
+use Rattle.std.specs.Prelude.{◌≡◌, ℕ, Bool, true, false, List, Option, Some, None, Result, Ok, Err, ◌⊎◌, [], codes, option_map, option_and_then, if◌then◌else◌, map, string_bytes}
 use Rattle.std.specs.Option.{option_map_or}
 use Rattle.clap.specs.Words.{App, Row, Rule, Text, all_of, first_of, one_of, new_app, new_rule, subcommand_of, with_rule, with_subcommand}
 use Rattle.clap.specs.Faults.{fault_of}
@@ -11,10 +11,11 @@ use Rattle.clap.specs.declared.builder.value_parser.ValueParser.TheVariants as p
 use Rattle.trace_types.specs.tenant.Limits.{Limits, are_limits, default_limits}
 use Rattle.trace_types.specs.text.Name.{is_between, is_same}
 use Rattle.trace_types.specs.text.Reading.{number_of}
-use Rattle.command_line.specs.Demand.{AskedReplay as Wanted, Demand, ToReplay, ToCheck, limits_of}
+use Rattle.command_line.specs.Demand.{AskedReplay as Wanted, AskedService, Demand, ToReplay, ToServe, ToCheck, limits_of}
 use Rattle.command_line.specs.declared.words.Asked.{Asked}
-use Rattle.command_line.specs.declared.words.Asked.TheVariants.{Replay, Check, Show}
+use Rattle.command_line.specs.declared.words.Asked.TheVariants.{Replay, Serve, Check, Show}
 use Rattle.command_line.specs.declared.wanted.Replay.{Replay as Replays}
+use Rattle.command_line.specs.declared.wanted.Serve.{Serve as Serves}
 use Rattle.command_line.specs.declared.words.Refusal.{Refusal}
 use Rattle.command_line.specs.declared.words.Refusal.TheVariants.{Words, Memory}
 
@@ -35,6 +36,10 @@ limit_rule name most = record (new_rule name) {
   parser = Some (parser.Unsigned 1 most);
 }
 
+-- the option for the port, which has to be used
+abbrev pub port_rule : Rule
+port_rule = record (limit_rule (codes "port") 65535) { required = true }
+
 -- the option for the tenant to be exported
 abbrev pub export_rule : Rule
 export_rule = record (new_rule (codes "export")) { long = Some (codes "export"); action = Some Set; value_names = 1 }
@@ -43,6 +48,12 @@ abbrev pub replay_app : App
 replay_app =
     with_rule (with_rule (with_rule (with_rule (with_rule (with_rule (new_app (codes "replay")) (limit_rule (codes "events") 16384))
     (limit_rule (codes "tasks") 2048)) (limit_rule (codes "messages") 16384)) (limit_rule (codes "cache") 65536)) export_rule) tenant_rule
+
+abbrev pub serve_app : App
+serve_app =
+    with_rule (with_rule (with_rule (with_rule (with_rule (with_rule (with_rule (with_rule (new_app (codes "serve")) port_rule)
+    (limit_rule (codes "workers") 32)) (limit_rule (codes "sessions") 1048576)) (limit_rule (codes "events") 16384))
+    (limit_rule (codes "tasks") 2048)) (limit_rule (codes "messages") 16384)) (limit_rule (codes "cache") 65536)) tenant_rule
 
 abbrev pub check_app : App
 check_app = new_app (codes "check")
@@ -54,7 +65,7 @@ bare_app = record (new_app (codes "itc_trace")) {
 
 -- the whole command line
 abbrev pub program_app : App
-program_app = with_subcommand (with_subcommand bare_app replay_app.top) check_app.top
+program_app = with_subcommand (with_subcommand (with_subcommand bare_app replay_app.top) serve_app.top) check_app.top
 
 -- why the command line does not take the words: the kinds of fault that may come, and none where it takes them
 abbrev pub kinds_of : List (List ℕ) → List ErrorKind
@@ -64,6 +75,7 @@ kinds_of words = fault_of program_app words
 pub data Work : Type 0 where
   Replaying : Work
   Exporting : Work
+  Serving : Work
   Checking : Work
 
 -- the tenant to be exported, if any, among what was found of a subcommand
@@ -75,10 +87,17 @@ abbrev pub work_with : Option Text → Work
 work_with None = Replaying
 work_with (Some name) = Exporting
 
+-- whether what was found of a subcommand is of the one of this name
+abbrev pub is_found : Text → Option (Text × List Row) → Bool
+is_found name None = false
+is_found name (Some found) = is_same found.0 name
+
 -- the work by what was found of a subcommand
 abbrev pub work_found : Option (Text × List Row) → Work
-work_found None = Replaying
-work_found (Some found) = if is_same found.0 (codes "check") then Checking else work_with (first_of (codes "export") found.1)
+work_found found =
+    if is_found (codes "check") found then Checking
+    else if is_found (codes "serve") found then Serving
+    else work_with (export_found found)
 
 -- the work that the words name, where the command line takes them
 abbrev pub work_of : List Text → Work
@@ -99,6 +118,7 @@ MayBeRefused kinds = (kinds ≡ []) ⊎ ((kind : ErrorKind) × IsAmong kind kind
 -- what is made of a fault of this kind
 abbrev pub IsToldOf : ErrorKind → Result Asked Refusal → Type 0
 IsToldOf kind (Ok (Replay replay)) = ⊥
+IsToldOf kind (Ok (Serve service)) = ⊥
 IsToldOf kind (Ok Check) = ⊥
 IsToldOf kind (Ok (Show text)) = IsShown kind
 IsToldOf kind (Err (Words text)) = IsShown kind → ⊥
@@ -107,6 +127,7 @@ IsToldOf kind (Err Memory) = Unit {0}
 -- what is made of words for which these kinds of fault may come, and which name this work
 abbrev pub IsAnswer : List ErrorKind → Work → Result Asked Refusal → Type 0
 IsAnswer kinds work (Ok (Replay replay)) = (kinds ≡ []) × (work ≡ work_with (option_map string_bytes replay.export))
+IsAnswer kinds work (Ok (Serve service)) = (kinds ≡ []) × (work ≡ Serving)
 IsAnswer kinds work (Ok Check) = (kinds ≡ []) × (work ≡ Checking)
 IsAnswer kinds work (Ok (Show text)) = AsksForHelp kinds
 IsAnswer kinds work (Err (Words text)) = MayBeRefused kinds
@@ -138,15 +159,25 @@ limits_found = option_and_then (λ found. limits_in found.1)
 abbrev pub FindsLimits : Option (Text × List Row) → Option Limits → Type 0
 FindsLimits found result = (limits : Limits) → limits_found found ≡ Some limits → result ≡ Some limits
 
--- how many comparisons are to be remembered, among what was found of a subcommand, where the number is in its range
+-- the number of the option of this name among what was found of a subcommand, and this one by default, where it is one from
+-- 1 to this most
+abbrev pub number_found : Text → ℕ → ℕ → Option (Text × List Row) → Option ℕ
+number_found name default most = option_and_then (λ found. option_and_then (λ number. if is_between 1 most number then Some number else None)
+    (amount_in name default found.1))
+
+-- how many comparisons are to be remembered, among what was found of a subcommand
 abbrev pub cache_found : Option (Text × List Row) → Option ℕ
-cache_found = option_and_then (λ found. option_and_then (λ number. if is_between 1 65536 number then Some number else None)
-    (amount_in (codes "cache") 1024 found.1))
+cache_found = number_found (codes "cache") 1024 65536
 
 -- What was found is what is asked for.
 abbrev pub Has : Option (Text × List Row) → Demand → Type 0
 Has found (ToReplay asked) = (work_found found ≡ work_with asked.export) × (tenants_found found ≡ Some asked.tenants)
     × (limits_found found ≡ Some asked.limits) × (cache_found found ≡ Some asked.cache) × (export_found found ≡ asked.export)
+Has found (ToServe asked) = (work_found found ≡ Serving) × (tenants_found found ≡ Some asked.tenants)
+    × (limits_found found ≡ Some asked.limits) × (cache_found found ≡ Some asked.cache)
+    × (number_found (codes "port") 0 65535 found ≡ Some asked.port)
+    × (number_found (codes "workers") 4 32 found ≡ Some asked.workers)
+    × (number_found (codes "sessions") 1048576 1048576 found ≡ Some asked.sessions)
 Has found ToCheck = work_found found ≡ Checking
 
 -- what a replay that was read is asked for
@@ -158,9 +189,21 @@ wanted_of replay = record {
   export = option_map string_bytes replay.export;
 }
 
+-- what a service that was read is asked for
+abbrev pub service_of : Serves → AskedService
+service_of service = record {
+  port = service.port;
+  workers = service.workers;
+  sessions = service.sessions;
+  limits = service.limits;
+  cache = service.cache;
+  tenants = map string_bytes service.tenants.items;
+}
+
 -- What is asked for was read, if there was memory.
 abbrev pub ReadsWords : Demand → Result Asked Refusal → Type 0
 ReadsWords asked (Ok (Replay replay)) = asked ≡ ToReplay (wanted_of replay)
+ReadsWords asked (Ok (Serve service)) = asked ≡ ToServe (service_of service)
 ReadsWords asked (Ok Check) = asked ≡ ToCheck
 ReadsWords asked (Ok (Show text)) = ⊥
 ReadsWords asked (Err (Words text)) = ⊥

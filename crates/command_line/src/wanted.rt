@@ -1,4 +1,4 @@
-//! What a replay is asked for.
+//! What a replay or a service is asked for.
 ghost use Rattle.std.specs.Prelude.{IsTrue};
 ghost use Rattle.trace_types.specs.text.Name.{is_between};
 
@@ -15,4 +15,24 @@ pub struct Replay {
     /// The tenant whose export is to be written in place of replies.
     pub export: Option<String>,
     ghost in_range: { IsTrue (is_between 1 65536 cache) },
+}
+
+/// A service that is asked for.
+#[derive(Drop)]
+pub struct Serve {
+    /// The port of 127.0.0.1 at which programs connect: 1 to 65535.
+    pub port: u64,
+    /// How many sessions are held at once: 1 to 32.
+    pub workers: u64,
+    /// After how many connections no more is taken: 1 to 1048576.
+    pub sessions: u64,
+    /// The limits that each of the tenants has.
+    pub limits: Limits,
+    /// How many comparisons are remembered, of all tenants together: 1 to 65536.
+    pub cache: u64,
+    pub tenants: Vec<String>,
+    ghost cache_in_range: { IsTrue (is_between 1 65536 cache) },
+    ghost port_in_range: { IsTrue (is_between 1 65535 port) },
+    ghost workers_in_range: { IsTrue (is_between 1 32 workers) },
+    ghost sessions_in_range: { IsTrue (is_between 1 1048576 sessions) },
 }

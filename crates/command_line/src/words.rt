@@ -3,10 +3,10 @@ ghost use Rattle.std.specs.Prelude.{◌≡◌, ◌↔◌, IsTrue, ℕ, false, []
 ghost use Rattle.clap.specs.Words.{app_of, found_of, kind_of, rows_of, rule_of, subcommand_rows_of};
 ghost use Rattle.clap.specs.declared.builder.Command.TheViews.{out-Command as fields_of};
 ghost use Rattle.trace_types.specs.text.Name.{is_between};
-ghost use Rattle.command_line.specs.Demand.{Demand, asked_in};
-ghost use Rattle.command_line.specs.Reading.{Checking, FindsTenants, FindsLimits, Has, IsAnswer, IsToldOf, ReadsWords, amount_in, cache_found, check_app, export_found, export_rule, kinds_of, limit_rule, program_app, replay_app, tenant_rule, work_found, work_of};
+ghost use Rattle.command_line.specs.Demand.{AskedReplay, AskedService, Demand, ToReplay, ToServe, asked_in};
+ghost use Rattle.command_line.specs.Reading.{FindsTenants, FindsLimits, Has, IsAnswer, IsToldOf, ReadsWords, Serving, amount_in, check_app, export_found, export_rule, is_found, kinds_of, limit_rule, number_found, port_rule, program_app, replay_app, serve_app, tenant_rule, work_found, work_of, work_with};
 
-use crate::wanted::Replay;
+use crate::wanted::{Replay, Serve};
 use clap::builder::ValueParser;
 use clap::error::ErrorKind;
 use clap::{Arg, ArgAction, ArgMatches, Command, Error};
@@ -23,7 +23,8 @@ tenant's trace as lines of JSON, one for each event, with its stamp and the even
 Example:
   printf 'x local root\\nx local root\\nx order 1 2\\n' | itc_trace replay x
 
-`itc_trace help replay` tells of the lines and the options, `itc_trace help check` of exports.";
+`itc_trace help replay` tells of the lines and the options, `itc_trace help serve` of programs that
+connect, `itc_trace help check` of exports.";
 
 /// What help on `replay` says after the options.
 const REPLAY_HELP: &str = "\
@@ -46,6 +47,22 @@ Examples:
   x 200 [1;1]
   printf 'x local root\\n' | itc_trace replay --export x x
   {\"event\":1,\"kind\":\"local\",\"name\":\"-\",\"preds\":[],\"stamp\":\"[1;1]\",\"task\":\"root\"}";
+
+/// What help on `serve` says after the options.
+const SERVE_HELP: &str = "\
+Programs connect to the port at 127.0.0.1, and each connection is a session. Its first line is
+`report TENANT`, for one session at a time, which reports and asks, or `view TENANT`, for up to
+eight at a time, which ask. Each further line is a request as of `replay`, without the tenant, and
+is answered by a line; `quit` or the end of the lines ends the session.
+
+`listening N` is written once programs can connect. After as many connections as --sessions says
+no more is taken, and once their sessions have ended `served S faults F` tells how many there were,
+and how many of them broke off.
+
+Example:
+  itc_trace serve --port 7117 x &
+  printf 'report x\\nlocal root\\nquit\\n' | nc 127.0.0.1 7117
+  201 1";
 
 /// What help on `check` says after the options.
 const CHECK_HELP: &str = "\
@@ -73,16 +90,36 @@ const MESSAGES_HELP: &str = "The most messages of each tenant: 1 to 16384 [defau
 const CACHE_HELP: &str =
     "How many comparisons are remembered, of all tenants together: 1 to 65536 [default: 1024]";
 
+const PORT_HELP: &str = "The port of 127.0.0.1 at which programs connect: 1 to 65535";
+
+const WORKERS_HELP: &str = "How many sessions are held at once: 1 to 32 [default: 4]";
+
+const SESSIONS_HELP: &str =
+    "After how many connections no more is taken: 1 to 1048576 [default: 1048576]";
+
 /// How many comparisons are remembered where the words do not say it.
 const DEFAULT_CACHE: u64 = 1024;
 
 /// The most comparisons that may be remembered.
 const MOST_CACHE: u64 = 65536;
 
+/// The greatest port.
+const MOST_PORT: u64 = 65535;
+
+/// How many sessions are held at once where the words do not say it.
+const DEFAULT_WORKERS: u64 = 4;
+
+/// The most sessions that may be held at once.
+const MOST_WORKERS: u64 = 32;
+
+/// The most connections that may be taken, which is also how many are where the words do not say it.
+const MOST_SESSIONS: u64 = 1048576;
+
 /// What the words ask for.
 #[derive(Drop)]
 pub enum Asked {
     Replay(Replay),
+    Serve(Serve),
     /// The check of an export.
     Check,
     /// To show this text: help.
@@ -129,6 +166,7 @@ fn command<'a>(alloc: Global) -> Result<Command<'a>, AllocError>
         .no_binary_name(true)
         .subcommand_required(true)
         .subcommand(replay_command(alloc)?)?
+        .subcommand(serve_command(alloc)?)?
         .subcommand(check_command(alloc))
 }
 
@@ -145,6 +183,24 @@ fn replay_command<'a>(alloc: Global) -> Result<Command<'a>, AllocError>
         .arg(limit(alloc, "messages", MESSAGES_HELP, Limits::MOST_MESSAGES))?
         .arg(limit(alloc, "cache", CACHE_HELP, MOST_CACHE))?
         .arg(export(alloc))?
+        .arg(tenants(alloc))
+}
+
+/// The command `serve`.
+fn serve_command<'a>(alloc: Global) -> Result<Command<'a>, AllocError>
+    ensures app { IfOk result (λ command. app_of command ≡ serve_app) }
+    ensures local { IfOk result (λ command. (fields_of command).has_globals ≡ false) }
+{
+    Command::new(alloc, "serve")
+        .about("Takes requests of programs that connect, and answers each by a line")
+        .after_help(SERVE_HELP)
+        .arg(port(alloc))?
+        .arg(limit(alloc, "workers", WORKERS_HELP, MOST_WORKERS))?
+        .arg(limit(alloc, "sessions", SESSIONS_HELP, MOST_SESSIONS))?
+        .arg(limit(alloc, "events", EVENTS_HELP, Limits::MOST_EVENTS))?
+        .arg(limit(alloc, "tasks", TASKS_HELP, Limits::MOST_TASKS))?
+        .arg(limit(alloc, "messages", MESSAGES_HELP, Limits::MOST_MESSAGES))?
+        .arg(limit(alloc, "cache", CACHE_HELP, MOST_CACHE))?
         .arg(tenants(alloc))
 }
 
@@ -183,6 +239,14 @@ fn limit<'a>(alloc: Global, name: &'a str, help: &'a str, most: u64) -> Arg<'a>
         .action(ArgAction::Set)
 }
 
+/// The option for the port.
+fn port<'a>(alloc: Global) -> Arg<'a>
+    ensures rule { rule_of result ≡ port_rule }
+    ensures local { result.global ≡ false }
+{
+    limit(alloc, "port", PORT_HELP, MOST_PORT).required(true)
+}
+
 /// The option for the tenant to be exported.
 fn export<'a>(alloc: Global) -> Arg<'a>
     ensures rule { rule_of result ≡ export_rule }
@@ -199,7 +263,8 @@ fn export<'a>(alloc: Global) -> Arg<'a>
 ///
 /// Taken are `replay` and then, in any order, 1 or more tenants, each of the options `--events N`, `--tasks N`,
 /// `--messages N` and `--cache N` once at most, with a whole number in its range, and `--export NAME` once at most; or
-/// `check` alone.
+/// `serve` and then, in any order, 1 or more tenants, `--port N`, the same options with numbers, `--workers N` and
+/// `--sessions N`; or `check` alone.
 pub fn read_words<S: AsStr>(alloc: Global, words: &[S]) -> Result<Asked, Refusal>
     // Limits and tenants are read as they stand, and want of memory alone prevents it.
     ensures asked { IfSome (asked_in (map S.text words.now)) (λ asked. ReadsWords asked result) }
@@ -217,12 +282,26 @@ fn asked_of(alloc: Global, matches: &ArgMatches) -> Result<Asked, Refusal>
     ensures asked { (asked : Demand) → Has (subcommand_rows_of matches.now) asked → ReadsWords asked result }
     ensures kinds { IsAnswer [] (work_found (subcommand_rows_of matches.now)) result }
 {
-    if is_check(matches) {
+    if is_named(matches, "check") {
         return Ok(Asked::Check);
     }
+    if is_named(matches, "serve") {
+        return serve_of(alloc, matches);
+    }
+    replay_of(alloc, matches)
+}
+
+/// The replay that was found.
+fn replay_of(alloc: Global, matches: &ArgMatches) -> Result<Asked, Refusal>
+    ensures asked { (asked : AskedReplay) → Has (subcommand_rows_of matches.now) (ToReplay asked) → ReadsWords (ToReplay asked) result }
+    ensures work { IsAnswer [] (work_with (export_found (subcommand_rows_of matches.now))) result }
+{
     let tenants = tenants_of(alloc, matches)?;
     let export = export_of(alloc, matches)?;
-    match (limits_of(matches), cache_of(matches)) {
+    match (
+        limits_of(matches),
+        number_of(matches, "cache", DEFAULT_CACHE, MOST_CACHE),
+    ) {
         (Some(limits), Some(cache)) => Ok(Asked::Replay(Replay {
             limits,
             cache,
@@ -233,11 +312,37 @@ fn asked_of(alloc: Global, matches: &ArgMatches) -> Result<Asked, Refusal>
     }
 }
 
-/// Whether the command `check` was found.
-fn is_check(matches: &ArgMatches) -> bool
-    ensures { IsTrue result ↔ (work_found (subcommand_rows_of matches.now) ≡ Checking) }
+/// The service that was found.
+fn serve_of(alloc: Global, matches: &ArgMatches) -> Result<Asked, Refusal>
+    ensures asked { (asked : AskedService) → Has (subcommand_rows_of matches.now) (ToServe asked) → ReadsWords (ToServe asked) result }
+    ensures work { IsAnswer [] Serving result }
 {
-    matches.subcommand_matches("check").is_some()
+    let tenants = tenants_of(alloc, matches)?;
+    let limits = limits_of(matches);
+    let cache = number_of(matches, "cache", DEFAULT_CACHE, MOST_CACHE);
+    let port = number_of(matches, "port", 0, MOST_PORT);
+    let workers = number_of(matches, "workers", DEFAULT_WORKERS, MOST_WORKERS);
+    let sessions = number_of(matches, "sessions", MOST_SESSIONS, MOST_SESSIONS);
+    match (limits, cache, port, workers, sessions) {
+        (Some(limits), Some(cache), Some(port), Some(workers), Some(sessions)) => {
+            Ok(Asked::Serve(Serve {
+                port,
+                workers,
+                sessions,
+                limits,
+                cache,
+                tenants,
+            }))
+        }
+        _ => Err(Refusal::Words(String::new(alloc))),
+    }
+}
+
+/// Whether the command of this name was found.
+fn is_named(matches: &ArgMatches, name: &str) -> bool
+    ensures { result ≡ is_found name.now (subcommand_rows_of matches.now) }
+{
+    matches.subcommand_matches(name).is_some()
 }
 
 /// The tenants that were found.
@@ -277,15 +382,15 @@ fn limits_of(matches: &ArgMatches) -> Option<Limits>
     )
 }
 
-/// How many comparisons are to be remembered; `None` where the number is out of its range.
-fn cache_of(matches: &ArgMatches) -> Option<u64>
-    ensures found { (cache : ℕ) → cache_found (subcommand_rows_of matches.now) ≡ Some cache → result ≡ Some cache }
-    ensures in_range { IfSome result (λ cache. IsTrue (is_between 1 65536 cache)) }
+/// The number of the option of this name, or the default where it was not used; `None` where it is not one from 1 to this most.
+fn number_of(matches: &ArgMatches, name: &str, default: u64, most: u64) -> Option<u64>
+    ensures found { (number : ℕ) → number_found name.now default most (subcommand_rows_of matches.now) ≡ Some number → result ≡ Some number }
+    ensures in_range { IfSome result (λ number. IsTrue (is_between 1 most number)) }
 {
-    let (_, replay) = matches.subcommand()?;
-    let cache = amount_of(replay, "cache", DEFAULT_CACHE);
-    if 1 <= cache && cache <= MOST_CACHE {
-        Some(cache)
+    let (_, found) = matches.subcommand()?;
+    let number = amount_of(found, name, default);
+    if 1 <= number && number <= most {
+        Some(number)
     } else {
         None
     }

@@ -8,13 +8,19 @@ use Rattle.trace_world.specs.declared.replay_fault.ReplayFault.{ReplayFault}
 use Rattle.trace_world.specs.declared.replay_fault.ReplayFault.TheVariants as replay
 use Rattle.trace_export.specs.declared.check_fault.CheckFault.{CheckFault}
 use Rattle.trace_export.specs.declared.check_fault.CheckFault.TheVariants as check
+use Rattle.tcp_door.specs.declared.tcp_door.DoorRefusal.{DoorRefusal}
+use Rattle.tcp_door.specs.declared.tcp_door.DoorRefusal.TheVariants as door
+use Rattle.trace_session.specs.declared.serving.ServeFault.{ServeFault}
+use Rattle.trace_session.specs.declared.serving.ServeFault.TheVariants as serving
 use Rattle.itc_trace.specs.declared.fault.Fault.{Fault}
-use Rattle.itc_trace.specs.declared.fault.Fault.TheVariants.{Words, Tenants, Read, Write, TooLong, Memory}
+use Rattle.itc_trace.specs.declared.fault.Fault.TheVariants.{Words, Tenants, Port, Accept, Read, Write, TooLong, Memory}
 
 -- the status with which the program ends
 abbrev pub status_of : Fault → ℕ
 status_of Words = 2
 status_of Tenants = 2
+status_of Port = 3
+status_of Accept = 3
 status_of Read = 3
 status_of Write = 3
 status_of TooLong = 3
@@ -24,6 +30,8 @@ status_of Memory = 4
 abbrev pub line_of_fault : Fault → List ℕ
 line_of_fault Words = codes "itc_trace: words\n"
 line_of_fault Tenants = codes "itc_trace: tenants\n"
+line_of_fault Port = codes "itc_trace: port\n"
+line_of_fault Accept = codes "itc_trace: accept fault\n"
 line_of_fault Read = codes "itc_trace: read fault\n"
 line_of_fault Write = codes "itc_trace: write fault\n"
 line_of_fault TooLong = codes "itc_trace: input too long\n"
@@ -47,6 +55,17 @@ abbrev pub fault_of_check : CheckFault → Fault
 fault_of_check check.Read = Read
 fault_of_check check.TooLong = TooLong
 fault_of_check check.Memory = Memory
+
+-- the program's fault where no door is opened
+abbrev pub fault_of_refusal : DoorRefusal → Fault
+fault_of_refusal door.Port = Port
+fault_of_refusal door.Memory = Memory
+
+-- the program's fault where no more is served
+abbrev pub fault_of_serving : ServeFault → Fault
+fault_of_serving serving.Workers = Words
+fault_of_serving serving.Door = Accept
+fault_of_serving serving.Memory = Memory
 
 -- the program's fault where its words cannot be had
 abbrev pub fault_of_words : ErrorKind → Fault

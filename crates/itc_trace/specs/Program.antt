@@ -1,6 +1,6 @@
 -- What the program did.
 use Rattle.std.specs.Prelude.{◌≡◌, ◌≢◌, ℕ, ◌+◌, ◌<◌, ◌^◌, Bool, true, false, IsTrue, List, ◌++◌, ◌⊎◌, codes, decimal, length, map, Option, Some, None, is_some, IfSome}
-use Rattle.trace_types.specs.text.Name.{Text}
+use Rattle.trace_types.specs.text.Name.{Text, is_between}
 use Rattle.trace_types.specs.tenant.Limits.{Limits, are_limits}
 use Rattle.trace_types.specs.tenant.Tenant.{fresh}
 use Rattle.trace_types.specs.world.Replay.{place_of}
@@ -16,12 +16,14 @@ use Rattle.trace_world.specs.Exported.{BreaksExport, Exports}
 use Rattle.trace_world.specs.Replayed.{Replays, ReplaysInPart}
 use Rattle.trace_world.specs.declared.counts.Counts.{Counts}
 use Rattle.trace_world.specs.declared.replay_fault.ReplayFault.{ReplayFault}
-use Rattle.command_line.specs.Demand.{Demand, ToReplay, ToCheck}
+use Rattle.command_line.specs.Demand.{Demand, ToReplay, ToServe, ToCheck}
 use Rattle.itc_trace.specs.Taking.{are_taken}
 use Rattle.itc_trace.specs.Fault.{line_of_fault, fault_of_replay}
-use Rattle.command_line.specs.Reading.{Work, Replaying, Exporting, Checking}
+use Rattle.command_line.specs.Reading.{Work, Replaying, Exporting, Serving, Checking}
+use Rattle.itc_trace.specs.Serving.{Serves, ServesInPart, line_of_port}
+use Rattle.itc_trace.specs.Showing.{Shows, ShowsAll, ShowsFront}
 use Rattle.itc_trace.specs.declared.fault.Fault.{Fault}
-use Rattle.itc_trace.specs.declared.fault.Fault.TheVariants.{Tenants, Read, Write, TooLong, Memory}
+use Rattle.itc_trace.specs.declared.fault.Fault.TheVariants.{Tenants, Port, Accept, Read, Write, TooLong, Memory}
 
 -- tenants of these names that have these limits and have reported nothing
 abbrev pub fresh_world : Limits → List Text → World
@@ -95,29 +97,14 @@ abbrev pub GoesThrough : (before after : Given) (taken taken' : Taken) → Type 
 GoesThrough before after taken taken' =
     (before.failures < after.failures → ⊥) × (taken.failures < taken'.failures → ⊥) × IsTrue taken'.is_flushed
 
--- Why a run fails: by what is seen of the reader and the writer before and after it.
+-- Why a run fails: by what is seen of the reader and the writer before and after it. Of ports and connections nothing is seen.
 abbrev pub IsFailure : (before after : Given) (taken taken' : Taken) → Fault → Type 0
 IsFailure before after taken taken' Read = before.failures < after.failures
 IsFailure before after taken taken' TooLong = after.reads ≡ before.reads + 2 ^ 30
 IsFailure before after taken taken' Write = EndsInFault taken taken'
+IsFailure before after taken taken' Port = Unit {0}
+IsFailure before after taken taken' Accept = Unit {0}
 IsFailure before after taken taken' fault = ⊥
-
--- The text was written and handed on, and no call failed.
-abbrev pub ShowsAll : Taken → Taken → Text → Type 0
-ShowsAll before after text = (after.bytes ≡ before.bytes ++ text) × IsTrue after.is_flushed × (after.failures ≡ before.failures)
-
--- Of the text a front was written, perhaps all of it.
-pub record ShowsFront (old new text : List ℕ) : Type 0 where
-  pub written : List ℕ
-  pub rest : List ℕ
-  pub grows : new ≡ old ++ written
-  pub front : text ≡ written ++ rest
-
--- The text was written and handed on; or a call failed, and a front of it was written, perhaps all of it.
-abbrev pub Shows : Taken → Taken → Text → Type 0
-Shows before after text =
-    ShowsAll before after text
-    ⊎ (ShowsFront before.bytes after.bytes text × EndsInFault before after)
 
 -- The line of a fault was shown.
 abbrev pub TellsFault : Taken → Taken → Fault → Type 0
@@ -136,6 +123,12 @@ ShowsSome before after = (text : Text) × (0 < length text) × Shows before afte
 abbrev pub RefusesTenants : Bool → Taken → Taken → ℕ → Type 0
 RefusesTenants true before after status = status ≢ 2
 RefusesTenants false before after status = ((status ≡ 2) × TellsFault before after Tenants) ⊎ (status ≡ 4)
+
+-- What a fault tells of whether the tenants are taken.
+abbrev pub TellsOfTenants : Fault → Bool → Type 0
+TellsOfTenants Tenants taken = taken ≡ false
+TellsOfTenants Memory taken = Unit {0}
+TellsOfTenants fault taken = taken ≡ true
 
 -- the line that tells a verdict
 abbrev pub line_of_verdict : Verdict → Text
@@ -179,31 +172,40 @@ DoesReplayInPart (Some name) fault limits names before after taken taken' = Expo
 abbrev pub Does : (asked : Demand) (before after : Given) (taken taken' : Taken) (status : ℕ) → Type 0
 Does (ToReplay asked) before after taken taken' status =
     (status ≡ 0) × DoesReplay asked.export asked.limits asked.tenants before after taken taken'
+Does (ToServe asked) before after taken taken' status = (status ≡ 0) × (after ≡ before) × Serves asked.port taken taken'
 Does ToCheck before after taken taken' status = TellsVerdict before after taken taken' status
 
 -- What is asked for was broken off by this fault.
 abbrev pub DoesInPart : (asked : Demand) (fault : Fault) (before after : Given) (taken taken' : Taken) → Type 0
 DoesInPart (ToReplay asked) fault before after taken taken' =
     DoesReplayInPart asked.export fault asked.limits asked.tenants before after taken taken'
+DoesInPart (ToServe asked) fault before after taken taken' = (after ≡ before) × ServesInPart fault asked.port taken taken'
 DoesInPart ToCheck fault before after taken taken' = ChecksInPart fault before after taken taken'
 
 -- Such work was done, and this status tells it.
 abbrev pub DoesSome : (work : Work) (before after : Given) (taken taken' : Taken) (status : ℕ) → Type 0
 DoesSome Replaying before after taken taken' status = (status ≡ 0) × ReplaysSome before after taken taken'
 DoesSome Exporting before after taken taken' status = (status ≡ 0) × ExportsSome before after taken taken'
+DoesSome Serving before after taken taken' status = (status ≡ 0) × (after ≡ before)
+    × ((port : ℕ) × IsTrue (is_between 1 65535 port) × Serves port taken taken')
 DoesSome Checking before after taken taken' status = TellsVerdict before after taken taken' status
 
 -- Such work was broken off by this fault.
 abbrev pub DoesSomeInPart : (work : Work) (fault : Fault) (before after : Given) (taken taken' : Taken) → Type 0
 DoesSomeInPart Replaying fault before after taken taken' = ReplaysSomeInPart fault before after taken taken'
 DoesSomeInPart Exporting fault before after taken taken' = ExportsSomeInPart fault before after taken taken'
+DoesSomeInPart Serving fault before after taken taken' = (after ≡ before)
+    × ((port : ℕ) × IsTrue (is_between 1 65535 port) × ServesInPart fault port taken taken')
 DoesSomeInPart Checking fault before after taken taken' = ChecksInPart fault before after taken taken'
 
--- What want of memory leaves: nothing was read or written, unless an export was broken off, or a check before its verdict.
+-- What want of memory leaves: nothing was read or written, unless an export was broken off, or a check before its verdict, or
+-- serving after its first line.
 abbrev pub LacksMemory : {R W : Type 0} (given : R → Given) (taken : W → Taken) (work : Work) → R → R → W → W → Type 0
 LacksMemory given taken Replaying reader reader' writer writer' = IsUntouched reader reader' writer writer'
 LacksMemory given taken Exporting reader reader' writer writer' = IsUntouched reader reader' writer writer'
     ⊎ ExportsSomeInPart Memory (given reader) (given reader') (taken writer) (taken writer')
+LacksMemory given taken Serving reader reader' writer writer' = (reader' ≡ reader)
+    × ((port : ℕ) × ServesInPart Memory port (taken writer) (taken writer'))
 LacksMemory given taken Checking reader reader' writer writer' = writer' ≡ writer
 
 -- What a run that fails leaves: the fault's cause, and in part what is asked for.

@@ -18,22 +18,23 @@ pub record Runs {R W E : Type 0} (given : R → Given) (taken : W → Taken) (to
   -- written, but for a text on standard error.
   pub words_refused : status ≡ 2
       → MayBeRefused (kinds_of words) × IsUntouched reader reader' writer writer' × ShowsSome (told errors) (told errors')
-  -- Where the words ask for a replay, its tenants and the one to be exported alone decide whether they are refused, and the
-  -- line says so. Words that ask for a check are not refused.
+  -- Where the words ask for a replay or a service, its tenants and the one to be exported alone decide whether they are
+  -- refused, and the line says so. Words that ask for a check are not refused.
   pub tenants_refused : IfSome (asked_in words) (λ asked. RefusesTenants (is_taken asked) (told errors) (told errors') status)
   -- Status 4: nothing was read, and nothing written on the output, unless the words name an export, of which a front was
-  -- written, or a check, which had read and written no verdict.
+  -- written, a service, whose first line was written, or a check, which had read and written no verdict.
   pub memory : status ≡ 4
       → LacksMemory given taken (work_of words) reader reader' writer writer' × TellsFault (told errors) (told errors') Memory
   -- Status 0 and 1: no read or write failed, and all that was written was handed on. Help was asked for and the whole of
   -- it shown, and nothing was read; or the words are taken, and the work that they name was done: all lines of some
-  -- tenants were replayed, or the export of one of them was written, or a verdict was told, with status 1 where it is a no.
+  -- tenants were replayed, or the export of one of them was written, or programs were served, or a verdict was told, with
+  -- status 1 where it is a no.
   pub done : status < 2 → (errors' ≡ errors)
       × GoesThrough (given reader) (given reader') (taken writer) (taken writer')
       × (((status ≡ 0) × AsksForHelp (kinds_of words) × (reader' ≡ reader) × ShowsSomeAll (taken writer) (taken writer'))
       ⊎ ((kinds_of words ≡ []) × DoesSome (work_of words) (given reader) (given reader') (taken writer) (taken writer') status))
-  -- Where the words ask for a replay or an export, it is done for these tenants, with these limits; where for a check, a
-  -- verdict is told.
+  -- Where the words ask for a replay or an export, it is done for these tenants, with these limits; where for a service,
+  -- programs are served at this port; where for a check, a verdict is told.
   pub did : status < 2 → IfSome (asked_in words) (λ asked.
       Does asked (given reader) (given reader') (taken writer) (taken writer') status)
   -- Any other status is 3, and the fault that broke the run off is told. Help was asked for, nothing was read, and a

@@ -1,10 +1,12 @@
 //! Why the program does not do what it was asked.
 ghost use Rattle.std.specs.Prelude.{◌≡◌};
-ghost use Rattle.itc_trace.specs.Fault.{status_of, line_of_fault, fault_of_world, fault_of_replay, fault_of_check};
+ghost use Rattle.itc_trace.specs.Fault.{status_of, line_of_fault, fault_of_world, fault_of_replay, fault_of_check, fault_of_refusal, fault_of_serving};
 ghost use Rattle.itc_trace.specs.Program.{TellsFault};
 
 use line_protocol::{Sink, flush, write_bytes};
+use tcp_door::DoorRefusal;
 use trace_export::CheckFault;
+use trace_session::ServeFault;
 use trace_types::WorldFault;
 use trace_world::ReplayFault;
 
@@ -15,6 +17,10 @@ pub(crate) enum Fault {
     Words,
     /// A tenant's name is no name, a tenant stands twice, there are more than 16, or the one to be exported is none of them.
     Tenants,
+    /// The port could not be bound.
+    Port,
+    /// No connection could be accepted.
+    Accept,
     Read,
     Write,
     TooLong,
@@ -28,7 +34,7 @@ impl Fault {
     {
         match self {
             Fault::Words | Fault::Tenants => 2,
-            Fault::Read | Fault::Write | Fault::TooLong => 3,
+            Fault::Port | Fault::Accept | Fault::Read | Fault::Write | Fault::TooLong => 3,
             Fault::Memory => 4,
         }
     }
@@ -40,6 +46,8 @@ impl Fault {
         match self {
             Fault::Words => "itc_trace: words\n",
             Fault::Tenants => "itc_trace: tenants\n",
+            Fault::Port => "itc_trace: port\n",
+            Fault::Accept => "itc_trace: accept fault\n",
             Fault::Read => "itc_trace: read fault\n",
             Fault::Write => "itc_trace: write fault\n",
             Fault::TooLong => "itc_trace: input too long\n",
@@ -92,6 +100,29 @@ impl From<CheckFault> for Fault {
             CheckFault::Read => Fault::Read,
             CheckFault::TooLong => Fault::TooLong,
             CheckFault::Memory => Fault::Memory,
+        }
+    }
+}
+
+impl From<DoorRefusal> for Fault {
+    ghost from_gives = { λ refusal gives. gives ≡ fault_of_refusal refusal };
+
+    fn from(refusal: DoorRefusal) -> Fault {
+        match refusal {
+            DoorRefusal::Port => Fault::Port,
+            DoorRefusal::Memory => Fault::Memory,
+        }
+    }
+}
+
+impl From<ServeFault> for Fault {
+    ghost from_gives = { λ fault gives. gives ≡ fault_of_serving fault };
+
+    fn from(fault: ServeFault) -> Fault {
+        match fault {
+            ServeFault::Workers => Fault::Words,
+            ServeFault::Door => Fault::Accept,
+            ServeFault::Memory => Fault::Memory,
         }
     }
 }

@@ -18,13 +18,16 @@ ghost use Rattle.itc_trace.specs.Runs.{Runs};
 
 mod fault;
 mod program;
+mod serving;
 
 use fault::Fault;
 use line_protocol::{Buffered, FromReader, IntoWriter, Sink, Source};
 use program::run;
 use std::io::ErrorKind;
+use std::net::{Net, TcpListener, TcpStream};
 use std::process::ExitCode;
 use std::sync::Wait;
+use std::thread::Threads;
 use std::{env, io};
 
 fn main(rt: HostRuntime) -> ExitCode {
@@ -46,13 +49,15 @@ fn all_words(rt: &HostRuntime) -> io::Result<Vec<String>> {
 
 /// Runs what these words ask, of which the first is the program's own name; the status of the run is that with which the
 /// program ends.
-fn start<T: AllocGlobal + Wait, R: Source, W: Sink, E: Sink>(
+fn start<T, R: Source, W: Sink, E: Sink>(
     rt: &T,
     words: io::Result<Vec<String>>,
     reader: &mut R,
     writer: &mut W,
     errors: &mut E,
 ) -> ExitCode
+where
+    T: AllocGlobal + Threads + Wait + Sync + Net<Listener = TcpListener, Stream = TcpStream>,
     ensures run { IfOk words (λ words. Runs R.seen W.seen E.seen (map string_bytes (drop 1 words.items))
         (exit_status result) reader.old reader.new writer.old writer.new errors.old errors.new) }
     ensures no_words { IfErr words (λ error. (exit_status result ≡ status_of (fault_of_words (error_kind error)))

@@ -8,16 +8,20 @@ ghost use Rattle.trace_types.specs.tenant.Limits.{Limits as Bounds, are_limits};
 ghost use Rattle.command_line.specs.Demand.{ToReplay};
 ghost use Rattle.itc_trace.specs.Taking.{are_taken, can_export, is_taken};
 ghost use Rattle.itc_trace.specs.Fault.{status_of};
-ghost use Rattle.itc_trace.specs.Program.{ChecksInPart, DoesReplay, DoesReplayInPart, ExportsFreshInPart, GoesThrough, IsExportPlace, IsUntouched, TellsFault, TellsVerdict, line_of_verdict, status_of_verdict, IsFailure, Shows, ShowsAll, ShowsSome, ShowsSomeAll};
+ghost use Rattle.itc_trace.specs.Program.{ChecksInPart, DoesReplay, DoesReplayInPart, ExportsFreshInPart, GoesThrough, IsExportPlace, IsUntouched, TellsFault, TellsVerdict, line_of_verdict, status_of_verdict, IsFailure, ShowsSome, ShowsSomeAll};
+ghost use Rattle.itc_trace.specs.Showing.{Shows, ShowsAll};
 ghost use Rattle.command_line.specs.Reading.{wanted_of};
 ghost use Rattle.itc_trace.specs.Runs.{Runs};
 
 use crate::fault::Fault;
+use crate::serving::serve_programs;
 use command_line::{Asked, Refusal, Replay, read_words};
 use line_protocol::{Sink, Source, flush, write_bytes};
 use std::alloc::{AllocError, Global};
 use std::convert::AsStr;
+use std::net::{Net, TcpListener, TcpStream};
 use std::sync::Wait;
+use std::thread::Threads;
 use trace_export::{Verdict, check};
 use trace_types::Name;
 use trace_world::{World, replay, replay_export};
@@ -27,17 +31,21 @@ use trace_world::{World, replay, replay_export};
 /// Taken are `replay` and then, in any order, 1 to 16 tenants, none twice, and each of these options once at most:
 /// `--events N` with N from 1 to 16384 (4096 where it is left out), `--tasks N` with N from 1 to 2048 (512),
 /// `--messages N` with N from 1 to 16384 (2048), `--cache N` with N from 1 to 65536 (1024) and `--export NAME` with the name
-/// of one of the tenants; or `check` alone.
-/// The status is 0 where all lines were replayed, the export was written or is right, or all of the help was shown, 1 where
-/// the export is faulty, 2 where the words or the tenants are refused, 3 for a failed read or write or too long an input,
-/// and 4 for want of memory.
-pub fn run<T: AllocGlobal + Wait, S: AsStr, R: Source, W: Sink, E: Sink>(
+/// of one of the tenants; or `serve` and then, in any order, tenants and options as these but `--export`, `--port N` with N
+/// from 1 to 65535, and, once at most, `--workers N` with N from 1 to 32 (4) and `--sessions N` with N from 1 to 1048576
+/// (1048576); or `check` alone.
+/// The status is 0 where all lines were replayed, the export was written or is right, programs were served, or all of the
+/// help was shown, 1 where the export is faulty, 2 where the words or the tenants are refused, 3 for a failed read or write,
+/// too long an input, a port that cannot be bound or connections that cannot be accepted, and 4 for want of memory.
+pub fn run<T, S: AsStr, R: Source, W: Sink, E: Sink>(
     rt: &T,
     words: &[S],
     reader: &mut R,
     writer: &mut W,
     errors: &mut E,
 ) -> u8
+where
+    T: AllocGlobal + Threads + Wait + Sync + Net<Listener = TcpListener, Stream = TcpStream>,
     ensures { Runs R.seen W.seen E.seen (map S.text words.now) result reader.old reader.new writer.old writer.new errors.old errors.new }
 {
     let alloc = rt.alloc();
@@ -48,6 +56,7 @@ pub fn run<T: AllocGlobal + Wait, S: AsStr, R: Source, W: Sink, E: Sink>(
             drop(wanted);
             done
         }
+        Ok(Asked::Serve(wanted)) => return serve_programs(rt, alloc, wanted, writer, errors),
         Ok(Asked::Check) => return check_input(alloc, reader, writer, errors),
         Ok(Asked::Show(text)) => show_help(writer, text.as_str()),
         Err(Refusal::Words(text)) => return refuse(errors, text.as_str()),
@@ -217,7 +226,7 @@ fn verdict_status(verdict: Verdict) -> u8
 }
 
 /// The tenants' names. Too many are refused before any memory is taken.
-fn read_names(alloc: Global, tenants: &[String]) -> Result<Vec<Name>, Fault>
+pub(crate) fn read_names(alloc: Global, tenants: &[String]) -> Result<Vec<Name>, Fault>
     ensures ok { IfOk result (λ names. (names.items ≡ map string_bytes tenants.now) × (list_all is_name (map string_bytes tenants.now) ≡ true)) }
     ensures err { IfErr result (λ fault. ((fault ≡ Fault.Memory) × (length tenants.now ≤ 16)) ⊎ ((fault ≡ Fault.Tenants) × (are_taken (map string_bytes tenants.now) ≡ false))) }
 {
@@ -235,10 +244,11 @@ fn read_names(alloc: Global, tenants: &[String]) -> Result<Vec<Name>, Fault>
 }
 
 /// Writes a text, and hands it on.
-fn show<W: Sink>(writer: &mut W, text: &str) -> Result<(), Fault>
+pub(crate) fn show<W: Sink>(writer: &mut W, text: &str) -> Result<(), Fault>
     ensures shown { Shows (W.seen writer.old) (W.seen writer.new) text.now }
     ensures ok { OnOk result (ShowsAll (W.seen writer.old) (W.seen writer.new) text.now) }
     ensures err { IfErr result (λ fault. (fault ≡ Fault.Write) × EndsInFault (W.seen writer.old) (W.seen writer.new)) }
+    ensures more { (W.seen writer.old).interruptions ≤ (W.seen writer.new).interruptions }
     ensures failed { (W.seen writer.old).failures < (W.seen writer.new).failures → IsErr result }
 {
     write_bytes(writer, text.as_bytes()).map_err(|_| Fault::Write)?;

@@ -9,5 +9,7 @@ returns c =
     let bare_is : app_of c.subcommand_required.result ≡ bare_app = search rules in
     let replay_is = c.in_ok-subcommand.ensures.shape c.in_ok-replay_command.ensures.local
     ∙ ap₂ with_subcommand bare_is (ap (λ app. app.top) c.in_ok-replay_command.ensures.app) in
-    IfOk-weaker c.subcommand-2.result _ _ (λ command adds. adds.shape c.check_command.ensures.local
-    ∙ ap₂ with_subcommand replay_is (ap (λ app. app.top) c.check_command.ensures.app)) c.subcommand-2.ensures
+    let serve_is = c.in_ok-subcommand-2.ensures.shape c.in_ok-serve_command.ensures.local
+    ∙ ap₂ with_subcommand replay_is (ap (λ app. app.top) c.in_ok-serve_command.ensures.app) in
+    IfOk-weaker c.subcommand-3.result _ _ (λ command adds. adds.shape c.check_command.ensures.local
+    ∙ ap₂ with_subcommand serve_is (ap (λ app. app.top) c.check_command.ensures.app)) c.subcommand-3.ensures

@@ -1,20 +1,22 @@
-use Rattle.std.proofs.Common.{rules, ◌≡◌, ◌∙◌, ◌⊎◌, inl, inr, Bool, true, false, Option, Some, None, Result, Ok, Err, IfSome, IfErr, OnOk, ◌≢◌, ◌<◌, ◌≤◌, map, refl, sym, ap, subst, arith}
-use Rattle.command_line.specs.Demand.{Demand, ToReplay, ToCheck}
+use Rattle.std.proofs.Common.{rules, ℕ, ◌≡◌, ◌∙◌, ◌⊎◌, inl, inr, Bool, true, false, Option, Some, None, Result, Ok, Err, IfSome, IfErr, OnOk, ◌≢◌, ◌<◌, ◌≤◌, map, refl, sym, ap, subst, arith}
+use Rattle.command_line.specs.Demand.{Demand, ToReplay, ToServe, ToCheck}
 use Rattle.itc_trace.specs.Taking.{are_taken, is_taken}
 use Rattle.itc_trace.specs.Fault.{status_of}
-use Rattle.itc_trace.specs.Program.{Does, DoesInPart, DoesReplay, DoesReplayInPart, DoesSome, DoesSomeInPart, ExportsFreshInPart, IsUntouched, LacksMemory, RefusesTenants, TellsFault}
+use Rattle.itc_trace.specs.Program.{Does, DoesInPart, DoesReplay, DoesReplayInPart, DoesSome, DoesSomeInPart, ExportsFreshInPart, GoesThrough, IsFailure, IsUntouched, LacksMemory, RefusesTenants, ShowsSome, TellsFault}
+use Rattle.itc_trace.specs.Serving.{Serves, ServesInPart}
+use Rattle.itc_trace.specs.Showing.{ShowsAll}
 use Rattle.line_protocol.specs.Source.{Given}
 use Rattle.line_protocol.specs.Sink.{Taken}
 use Rattle.std.proofs.lemmas.Bool.{and_parts}
 use Rattle.std.specs.Global.{Global}
 use Rattle.std.specs.Prelude.{String, option_map, IsSomeAnd, IsTrue, List, string_bytes}
 use Rattle.trace_types.specs.tenant.Limits.{Limits, are_limits}
-use Rattle.trace_types.specs.text.Name.{Text}
+use Rattle.trace_types.specs.text.Name.{Text, is_between}
 use Rattle.command_line.specs.declared.wanted.Replay.{Replay as Replays}
 use Rattle.itc_trace.specs.declared.fault.Fault.{Fault}
-use Rattle.itc_trace.specs.declared.fault.Fault.TheVariants.{Words, Tenants, Read, Write, TooLong, Memory}
-use Rattle.command_line.specs.Reading.{IsAnswer, ReadsWords, Work, Replaying, Exporting, Checking, kinds_of, wanted_of, work_of, work_with}
-use Rattle.command_line.specs.declared.words.Asked.TheVariants.{Replay, Check, Show}
+use Rattle.itc_trace.specs.declared.fault.Fault.TheVariants.{Words, Tenants, Port, Accept, Read, Write, TooLong, Memory}
+use Rattle.command_line.specs.Reading.{IsAnswer, ReadsWords, Work, Replaying, Exporting, Serving, Checking, kinds_of, service_of, wanted_of, work_of, work_with}
+use Rattle.command_line.specs.declared.words.Asked.TheVariants.{Replay, Serve, Check, Show}
 use Rattle.command_line.specs.declared.words.Refusal.TheVariants as refusal
 use Rattle.itc_trace.proofs.program.run.Goals as goal
 use Rattle.itc_trace.proofs.program.run.Goals.{in-Ok-Replay, in-Ok-Show, in-Err-Memory}
@@ -42,6 +44,10 @@ status_taken before after Words true told refused in_part = let no = (refused re
 status_taken before after Words false told refused in_part = let no = (refused refl).0 in cc
 status_taken before after Tenants true told refused in_part = let no = (refused refl).1 in cc
 status_taken before after Tenants false told refused in_part = inl (refl, told)
+status_taken before after Port true told refused in_part = λ e. omega arith
+status_taken before after Port false told refused in_part = let no = in_part refl in cc
+status_taken before after Accept true told refused in_part = λ e. omega arith
+status_taken before after Accept false told refused in_part = let no = in_part refl in cc
 status_taken before after Read true told refused in_part = λ e. omega arith
 status_taken before after Read false told refused in_part = let no = in_part refl in cc
 status_taken before after Write true told refused in_part = λ e. omega arith
@@ -58,6 +64,8 @@ memory_taken before after false = inr refl
 three_only : (fault : Fault) → 2 < status_of fault → status_of fault ≢ 4 → status_of fault ≡ 3
 three_only Words more four = absurd (omega arith)
 three_only Tenants more four = absurd (omega arith)
+three_only Port more four = refl
+three_only Accept more four = refl
 three_only Read more four = refl
 three_only Write more four = refl
 three_only TooLong more four = refl
@@ -66,6 +74,8 @@ three_only Memory more four = absurd (four refl)
 four_only : (fault : Fault) → status_of fault ≡ 4 → fault ≡ Memory
 four_only Words four = absurd (omega arith)
 four_only Tenants four = absurd (omega arith)
+four_only Port four = absurd (omega arith)
+four_only Accept four = absurd (omega arith)
 four_only Read four = absurd (omega arith)
 four_only Write four = absurd (omega arith)
 four_only TooLong four = absurd (omega arith)
@@ -74,6 +84,8 @@ four_only Memory four = refl
 two_at_least : (fault : Fault) → 2 ≤ status_of fault
 two_at_least Words = omega arith
 two_at_least Tenants = omega arith
+two_at_least Port = omega arith
+two_at_least Accept = omega arith
 two_at_least Read = omega arith
 two_at_least Write = omega arith
 two_at_least TooLong = omega arith
@@ -83,6 +95,7 @@ untouched_lacks : {R W : Type 0} (given : R → Given) (taken : W → Taken) (wo
     → LacksMemory given taken work reader reader' writer writer'
 untouched_lacks given taken Replaying reader reader' writer writer' untouched = untouched
 untouched_lacks given taken Exporting reader reader' writer writer' untouched = inl untouched
+untouched_lacks given taken Serving reader reader' writer writer' untouched = (untouched.0, (0, inl (ap taken untouched.1)))
 untouched_lacks given taken Checking reader reader' writer writer' untouched = untouched.1
 
 -- what want of memory leaves of a replay
@@ -123,6 +136,84 @@ some_in_part : (export : Option Text) (fault : Fault) (limits : Limits) (tenants
     → DoesReplayInPart export fault limits tenants before after taken taken' → DoesSomeInPart (work_with export) fault before after taken taken'
 some_in_part None fault limits tenants before after taken taken' ranges names does = (limits, tenants, ranges, names, does)
 some_in_part (Some name) fault limits tenants before after taken taken' ranges names does = (name, limits, tenants, ranges, names, does)
+
+-- why serving was broken off
+serving_failed : (fault : Fault) (port : ℕ) (before after : Given) (taken taken' : Taken) → status_of fault ≡ 3 → ServesInPart fault port taken taken'
+    → IsFailure before after taken taken' fault
+serving_failed Words port before after taken taken' three part = cc
+serving_failed Tenants port before after taken taken' three part = cc
+serving_failed Port port before after taken taken' three part = tt
+serving_failed Accept port before after taken taken' three part = tt
+serving_failed Read port before after taken taken' three part = absurd part
+serving_failed Write port before after taken taken' three part = part.ends
+serving_failed TooLong port before after taken taken' three part = absurd part
+serving_failed Memory port before after taken taken' three part = cc
+
+-- what was served went through
+served_through : (port : ℕ) (given : Given) (taken taken' : Taken) → Serves port taken taken' → GoesThrough given given taken taken'
+served_through port given taken taken' serves = (λ e. omega (arith, e), λ e. omega (arith, e, serves.lines.2), serves.lines.1)
+
+-- some text was shown
+told_some : (before after : Taken) → TellsFault before after Tenants → ShowsSome before after
+told_some before after told = (_, omega arith, told)
+
+pub returns-in-Ok-Serve : goal.returns-in-Ok-Serve
+returns-in-Ok-Serve g c =
+    let words = map g.S.AsStr.text c.args.words.now in
+    let field : c.in-Ok-Serve.field-0 ≡ Serve c.in-Ok-Serve.wanted = search rules in
+    let answer = subst (λ one. IsAnswer (kinds_of words) (work_of words) (Ok one)) field c.in-Ok-Serve.ensures.kinds in
+    let asked_is = ToServe (service_of c.in-Ok-Serve.wanted) in
+    let read = on_asked _ (λ asked. ReadsWords asked (Ok c.in-Ok-Serve.field-0)) (λ asked. asked ≡ asked_is) c.in-Ok-Serve.ensures.asked
+    (λ asked read. subst (λ one. ReadsWords asked (Ok one)) field read) in
+    let given = g.R.Source.seen c.args.reader.now in
+    let taken = g.W.Sink.seen c.args.writer.now in
+    let taken' = g.W.Sink.seen c.serve_programs.new.writer in
+    let port = c.in-Ok-Serve.wanted.port in
+    let in_range : IsTrue (is_between 1 65535 port) = search rules in
+    record {
+      words_refused = λ two.
+          let refused = c.serve_programs.ensures.refused two in
+          (inl answer.0, (search rules, refused.0), told_some (g.E.Sink.seen c.args.errors.now) (g.E.Sink.seen c.serve_programs.new.errors) refused.1);
+      tenants_refused = on_asked _ (λ asked. asked ≡ asked_is) _ read (λ asked is.
+          subst (λ one. RefusesTenants (is_taken one) (g.E.Sink.seen c.args.errors.now) (g.E.Sink.seen c.serve_programs.new.errors) c.serve_programs.result) (sym is)
+          c.serve_programs.ensures.taken);
+      memory = λ four.
+          let broken = c.serve_programs.ensures.broken_off (omega arith) in
+          let fault_is = four_only broken.0 (sym broken.1 ∙ four) in (
+            subst (λ work. LacksMemory g.R.Source.seen g.W.Sink.seen work c.args.reader.now c.args.reader.now c.args.writer.now c.serve_programs.new.writer) (sym answer.1)
+                (refl, (port, subst (λ fault. ServesInPart fault port taken taken') fault_is broken.2)),
+            subst (λ fault. TellsFault (g.E.Sink.seen c.args.errors.now) (g.E.Sink.seen c.serve_programs.new.errors) fault) fault_is broken.3,
+          );
+      done = λ few.
+          let did = c.serve_programs.ensures.done few in (
+            did.1,
+            served_through port given taken taken' did.2,
+            inr (
+              answer.0,
+              subst (λ work. DoesSome work given given taken taken' c.serve_programs.result) (sym answer.1) (did.0, refl, (port, in_range, did.2)),
+            ),
+          );
+      did = λ few.
+          let did = c.serve_programs.ensures.done few in
+          on_asked _ (λ asked. asked ≡ asked_is) _ read (λ asked is.
+          subst (λ one. Does one given given taken taken' c.serve_programs.result) (sym is) (did.0, refl, did.2));
+      broken_off = λ others.
+          let broken = c.serve_programs.ensures.broken_off others.0 in
+          let is = three_only broken.0 (subst (λ n. 2 < n) broken.1 others.0) (λ e. others.1 (broken.1 ∙ e)) in (
+            broken.1 ∙ is,
+            broken.0,
+            (
+              serving_failed broken.0 port given given taken taken' is broken.2,
+              on_asked _ (λ asked. asked ≡ asked_is) _ read (λ asked same.
+                  subst (λ one. DoesInPart one broken.0 given given taken taken') (sym same) (refl, broken.2)),
+            ),
+            broken.3,
+            inr (
+              answer.0,
+              subst (λ work. DoesSomeInPart work broken.0 given given taken taken') (sym answer.1) (refl, (port, in_range, broken.2)),
+            ),
+          );
+    }
 
 pub returns-in-Err-Words : goal.returns-in-Err-Words
 returns-in-Err-Words g c = record {

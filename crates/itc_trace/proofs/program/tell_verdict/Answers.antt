@@ -5,15 +5,12 @@ use Rattle.line_protocol.specs.Writing.{EndsInFault}
 use Rattle.trace_types.specs.text.Name.{Text}
 use Rattle.trace_export.specs.Checked.{Judges}
 use Rattle.trace_export.specs.declared.verdict.Verdict.{Verdict}
-use Rattle.itc_trace.specs.Program.{ChecksInPart, IsFailure, Shows, ShowsFront, line_of_verdict}
+use Rattle.itc_trace.specs.Program.{ChecksInPart, IsFailure, line_of_verdict}
+use Rattle.itc_trace.specs.Showing.{Shows, ShowsFront}
 use Rattle.itc_trace.specs.declared.fault.Fault.{Fault}
 use Rattle.itc_trace.specs.declared.fault.Fault.TheVariants.{Memory, Write}
+use Rattle.itc_trace.proofs.Fronts.{front}
 use Rattle.itc_trace.proofs.program.tell_verdict.Goals as goal
-
--- of a text that was shown, or not, a front was written
-front : (taken taken' : Taken) (text : Text) → Shows taken taken' text → ShowsFront taken.bytes taken'.bytes text
-front taken taken' text (inl all) = record { written = text; rest = []; grows = all.0; front = sym (append-nil text) }
-front taken taken' text (inr part) = part.0
 
 -- the verdict could not be written
 unwritten : (before after : Given) (taken taken' : Taken) (verdict : Verdict) (text : Text) (result : Result ℕ Fault) → result ≡ Err Write

@@ -1,0 +1,82 @@
+use Rattle.std.proofs.Common.{rules, ◌≡◌, ℕ, ◌++◌, ◌≤◌, Result, Ok, Err, IfErr, OnOk, subst, sym}
+use denote.Param.Send.{sendable}
+use Rattle.std.proofs.Crossing.{crosses}
+use Rattle.line_protocol.specs.Sink.{Taken}
+use Rattle.line_protocol.specs.Writing.{EndsInFault}
+use Rattle.tcp_door.proofs.Crossing.{reader_send, writer_send}
+use Rattle.trace_session.specs.declared.serving.ServeCounts.{ServeCounts}
+use Rattle.trace_types.specs.text.Name.{Text}
+use Rattle.itc_trace.specs.Serving.{Serves, ServesInPart, line_of_counts, line_of_port}
+use Rattle.itc_trace.specs.Showing.{Shows, ShowsAll, ShowsFront}
+use Rattle.itc_trace.specs.declared.fault.Fault.{Fault}
+use Rattle.itc_trace.specs.declared.fault.Fault.TheVariants.{Write}
+use Rattle.itc_trace.proofs.Fronts.{both, front, front_behind, front_of_both, later_fault}
+use Rattle.itc_trace.proofs.serving.serve_hub.Goals as goal
+
+-- the first line could not be written
+unwritten : {T : Type 0} (port : ℕ) (taken taken' : Taken) (text : Text) (result : Result T Fault) → result ≡ Err Write
+    → text ≡ line_of_port port → Shows taken taken' text → EndsInFault taken taken'
+    → IfErr result (λ fault. ServesInPart fault port taken taken')
+unwritten port taken taken' text result is text_is shows ends =
+    subst (λ r. IfErr r (λ fault. ServesInPart fault port taken taken')) (sym is)
+    (record {
+      counts = record { sessions = 0; faults = 0 };
+      lines = front_of_both taken.bytes taken'.bytes (line_of_port port) (line_of_counts (record { sessions = 0; faults = 0 }))
+          (subst (ShowsFront taken.bytes taken'.bytes) text_is (front taken taken' text shows));
+      ends = ends;
+    })
+
+-- both lines were written
+served : {T E : Type 0} (result : Result T E) (port : ℕ) (counts : ServeCounts) (first second third : Taken) (one other : Text)
+    → one ≡ line_of_port port → other ≡ line_of_counts counts → ShowsAll first second one → OnOk result (ShowsAll second third other)
+    → OnOk result (Serves port first third)
+served (Ok done) port counts first second third one other one_is other_is all rest = record {
+  counts = counts;
+  lines = subst (λ text. ShowsAll first third (text ++ line_of_counts counts)) one_is
+      (subst (λ text. ShowsAll first third (one ++ text)) other_is (both first second third one other all rest));
+}
+served (Err fault) port counts first second third one other one_is other_is all rest = tt
+
+-- the second line could not be written
+stopped : {T : Type 0} (result : Result T Fault) (port : ℕ) (counts : ServeCounts) (first second third : Taken) (one other : Text)
+    → one ≡ line_of_port port → other ≡ line_of_counts counts → ShowsAll first second one → first.interruptions ≤ second.interruptions
+    → Shows second third other → IfErr result (λ fault. (fault ≡ Write) × EndsInFault second third)
+    → IfErr result (λ fault. ServesInPart fault port first third)
+stopped (Ok done) port counts first second third one other one_is other_is all more shows failed = tt
+stopped (Err fault) port counts first second third one other one_is other_is all more shows failed =
+    subst (λ one. ServesInPart one port first third) (sym failed.0)
+    (record {
+      counts = counts;
+      lines = subst (λ text. ShowsFront first.bytes third.bytes (text ++ line_of_counts counts)) one_is
+          (subst (λ text. ShowsFront first.bytes third.bytes (one ++ text)) other_is
+          (front_behind first second third one other all (front second third other shows)));
+      ends = later_fault first second third one all more failed.1;
+    })
+
+pub returns-in_err-show-clause-err : goal.returns-in_err-show-clause-err
+returns-in_err-show-clause-err g c =
+    let is : c.from_residual-in_err-show.result ≡ Err Write = search rules in
+    let text : c.as_str.result.now ≡ line_of_port c.args.wanted.now.port = search rules in
+    unwritten _ _ _ c.as_str.result.now _ is text c.show.ensures.shown c.in_err-show.ensures.err.1
+
+pub serve-requires-send-D-Reader : goal.serve-requires-send-D-Reader
+serve-requires-send-D-Reader g c κs within = search (sendable, crosses, reader_send) depth 20
+
+pub serve-requires-send-D-Writer : goal.serve-requires-send-D-Writer
+serve-requires-send-D-Writer g c κs within = search (sendable, crosses, writer_send) depth 20
+
+pub returns-clause-ok : goal.returns-clause-ok
+returns-clause-ok g c =
+    let port : c.as_str.result.now ≡ line_of_port c.args.wanted.now.port = search rules in
+    let counts : c.as_str-2.result.now ≡ line_of_counts c.in_ok-counts.counts = search rules in
+    let seen = g.W.Sink.seen in
+    served c.show-2.result _ c.in_ok-counts.counts (seen c.args.writer.now) (seen c.show.new.writer) (seen c.show-2.new.writer) c.as_str.result.now c.as_str-2.result.now port counts c.in_ok-show.ensures.ok
+    c.show-2.ensures.ok
+
+pub returns-clause-err : goal.returns-clause-err
+returns-clause-err g c =
+    let port : c.as_str.result.now ≡ line_of_port c.args.wanted.now.port = search rules in
+    let counts : c.as_str-2.result.now ≡ line_of_counts c.in_ok-counts.counts = search rules in
+    let seen = g.W.Sink.seen in
+    stopped c.show-2.result _ c.in_ok-counts.counts (seen c.args.writer.now) (seen c.show.new.writer) (seen c.show-2.new.writer) c.as_str.result.now c.as_str-2.result.now port counts c.in_ok-show.ensures.ok
+    c.show.ensures.more c.show-2.ensures.shown c.show-2.ensures.err
