@@ -1,0 +1,3 @@
+module itctrace
+
+go 1.21
