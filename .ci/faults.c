@@ -1,22 +1,22 @@
 /* To be loaded before the C library: bends calls of a program, as these words of its environment say.
  *
- * BENT names the calls: `memory`, requests for memory; `read`, of standard input; `write`, on standard output. HOW says how:
- * `fails` that call number AT of them fails; `none` that it moves nothing; `interrupted` that this one and those after it
- * do, TIMES in all, as by a signal; `one byte` that each moves one byte; `counted` that their number is told on standard
- * error at the end. It stands without headers, so that any C compiler makes it. */
+ * BENT names the calls. `memory`: of the requests for memory, by any thread, number AT is refused, and a byte is written to
+ * the open file number TOLD. `read`, of standard input, and `write`, on standard output, are bent as HOW says: `fails` that
+ * call number AT of them fails; `none` that it moves nothing; `interrupted` that this one and those after it do, TIMES in
+ * all, as by a signal; `one byte` that each moves one byte. It stands without headers, so that any C compiler makes it. */
 typedef __SIZE_TYPE__ size;
 typedef __PTRDIFF_TYPE__ count;
 
 extern void *__libc_malloc(size);
 extern void *__libc_realloc(void *, size);
 extern int *__errno_location(void);
-extern int dprintf(int, const char *, ...);
 extern char *getenv(const char *);
 extern int strcmp(const char *, const char *);
 extern long strtol(const char *, char **, int);
 extern long syscall(long, ...);
 
-enum { INTERRUPTED = 4, INPUT_OUTPUT = 5 };
+enum { INTERRUPTED = 4, INPUT_OUTPUT = 5, NO_MEMORY = 12 };
+enum { READ = 0, WRITE = 1 };
 
 static long calls;
 
@@ -35,9 +35,17 @@ static int fails(int error) {
     return 1;
 }
 
+/* How many calls there were before this one. */
+static long counted(void) {
+    return __atomic_fetch_add(&calls, 1, __ATOMIC_RELAXED);
+}
+
 /* Whether this request for memory is refused. */
 static int is_refused(void) {
-    return is("BENT", "memory") && calls++ == number("AT") && is("HOW", "fails");
+    if (!is("BENT", "memory") || counted() != number("AT"))
+        return 0;
+    syscall(WRITE, number("TOLD"), "x", 1L);
+    return fails(NO_MEMORY);
 }
 
 void *malloc(size bytes) {
@@ -51,7 +59,7 @@ void *realloc(void *block, size bytes) {
 /* Makes a call that moves bytes, unless it is bent. */
 static count moved(long call, const char *name, int own, int file, void *bytes, size len) {
     if (file == own && is("BENT", name)) {
-        long now = calls++, at = number("AT");
+        long now = counted(), at = number("AT");
         if (now == at && is("HOW", "fails") && fails(INPUT_OUTPUT))
             return -1;
         if (now == at && is("HOW", "none"))
@@ -65,14 +73,9 @@ static count moved(long call, const char *name, int own, int file, void *bytes, 
 }
 
 count read(int file, void *bytes, size len) {
-    return moved(0, "read", 0, file, bytes, len);
+    return moved(READ, "read", 0, file, bytes, len);
 }
 
 count write(int file, const void *bytes, size len) {
-    return moved(1, "write", 1, file, (void *)bytes, len);
-}
-
-__attribute__((destructor)) static void tell(void) {
-    if (is("HOW", "counted"))
-        dprintf(2, "%ld\n", calls);
+    return moved(WRITE, "write", 1, file, (void *)bytes, len);
 }

@@ -1,0 +1,136 @@
+"""What the scripts of this folder share: the programs as they were built, with calls that are bent or not; the stored runs;
+and clients of a program that serves."""
+import itertools
+import os
+import shutil
+import socket
+import subprocess
+import sys
+
+TOP = os.path.dirname(os.path.dirname(os.path.abspath(__file__)))
+NO_MEMORY = (4, b"", b"itc_trace: no memory\n")
+
+
+def check(holds, what):
+    if not holds:
+        sys.exit(f"{os.path.basename(sys.argv[0])}: wrong: {what}")
+
+
+def file_of(run, file):
+    """A file of a stored run."""
+    with open(os.path.join(TOP, "crates/itc_trace/runs", run, file), "rb") as stored:
+        return stored.read()
+
+
+def exports():
+    """A good export, and the same with another stamp, each with how its check ends and how many reads that takes."""
+    yield file_of("an_export_is_right", "stdin"), (0, b"yes 8\n", b""), 2
+    yield file_of("an_export_has_another_stamp", "stdin"), (1, b"no 6 6\n", b""), 1
+
+
+def written_export():
+    """Words that ask for an export, the lines of a replay, and the export that they get."""
+    words, data, whole = (file_of("an_export_is_written", file) for file in ("words", "stdin", "stdout"))
+    return words.decode().split(), data, whole
+
+
+def shim_in(folder):
+    """The library that bends calls, as it is loaded before the C library. `cc` makes it, or where there is none the
+    toolchain's own C compiler."""
+    toolchain = os.path.dirname(subprocess.run(["rt", "doc"], capture_output=True, text=True, check=True).stdout.strip())
+    compiler = shutil.which("cc") or os.path.join(toolchain, "toolchain/bin/clang")
+    shim = os.path.join(folder, "faults.so")
+    source = os.path.join(TOP, ".ci/faults.c")
+    subprocess.run([compiler, "-O2", "-shared", "-fPIC", "-nostdlib", "-o", shim, source], check=True)
+    return shim
+
+
+class Program:
+    """A program as it was built, of which calls may be bent."""
+
+    def __init__(self, path, shim=None):
+        self.path = path
+        self.shim = shim
+        self.refused = 0
+
+    def start(self, *words, stdout=subprocess.PIPE, **bent):
+        """The program as it runs."""
+        loaded = {"LD_PRELOAD": self.shim, **{word.upper(): str(value) for word, value in bent.items()}}
+        files = [bent["told"]] if "told" in bent else []
+        pipes = {"stdin": subprocess.PIPE, "stdout": stdout, "stderr": subprocess.PIPE}
+        return subprocess.Popen([self.path, *words], bufsize=0, env=loaded if bent else {}, pass_fds=files, **pipes)
+
+    def run(self, words=(), data=b"", **bent):
+        """Its status, output and standard error."""
+        return ended(self.start(*words, **bent), data)
+
+    def each_refusal(self):
+        """How to bend its calls so that each of its requests for memory is refused, in turn, until a run meets no refusal."""
+        for at in itertools.count():
+            reads, writes = os.pipe()
+            yield {"bent": "memory", "at": at, "told": writes}
+            os.close(writes)
+            met = os.read(reads, 1)
+            os.close(reads)
+            if not met:
+                break
+            self.refused += 1
+        check(at > 0, f"{self.path} asks for no memory")
+
+
+def ended(program, data=None):
+    """The status, output and standard error of a program that has run to its end, with this as the rest of its input."""
+    output, errors = program.communicate(data, timeout=60)
+    return program.returncode, output, errors
+
+
+def built(name, shim=None):
+    """The builds of a program: that of LLVM, and where it is there that of Rattle's own compiler."""
+    path = os.path.join(TOP, "crates", name, "out", name)
+    check(os.path.exists(path), f"{path} is not built")
+    return [Program(way, shim) for way in (path, path + ".by-rattle") if os.path.exists(way)]
+
+
+def serving(program, *words, **bent):
+    """A program that serves at the first port from 40000 that can be bound, and the port; none where it ended."""
+    for port in range(40000, 40100):
+        server = program.start("serve", "--port", str(port), *words, **bent)
+        line = server.stdout.readline()
+        if line:
+            check(line == f"listening {port}\n".encode(), f"{program.path}: {line}")
+            return server, port
+        if server.wait(60) != 3:
+            return server, None
+        check(ended(server) == (3, b"", b"itc_trace: port\n"), f"{program.path}: a port in use")
+    sys.exit("no port can be bound")
+
+
+class Client:
+    """A client of a program that serves, with a session that begins so."""
+
+    def __init__(self, port, *lines):
+        self.socket = socket.create_connection(("127.0.0.1", port), timeout=60)
+        self.replies = self.socket.makefile("rb")
+        self.put(*lines)
+
+    def put(self, *lines):
+        self.socket.sendall("".join(f"{line}\n" for line in lines).encode())
+
+    def ask(self, line):
+        """The reply to a line; nothing where the session has ended."""
+        try:
+            self.put(line)
+            return self.replies.readline().decode().removesuffix("\n")
+        except ConnectionError:
+            return ""
+
+    def end(self, *lines):
+        """What is still answered, if it ends with these lines."""
+        self.put(*lines)
+        rest = self.replies.read().decode()
+        self.close()
+        return rest
+
+    def close(self):
+        self.replies.close()
+        self.socket.close()
