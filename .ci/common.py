@@ -1,5 +1,6 @@
 """What the scripts of this folder share: the programs as they were built, with calls that are bent or not; the stored runs;
 and clients of a program that serves."""
+import contextlib
 import itertools
 import os
 import shutil
@@ -62,7 +63,7 @@ class Program:
 
     def run(self, words=(), data=b"", **bent):
         """Its status, output and standard error."""
-        return ended(self.start(*words, **bent), data)
+        return end_of(self.start(*words, **bent), data)
 
     def each_refusal(self):
         """How to bend its calls so that each of its requests for memory is refused, in turn, until a run meets no refusal."""
@@ -78,7 +79,7 @@ class Program:
         check(at > 0, f"{self.path} asks for no memory")
 
 
-def ended(program, data=None):
+def end_of(program, data=None):
     """The status, output and standard error of a program that has run to its end, with this as the rest of its input."""
     output, errors = program.communicate(data, timeout=60)
     return program.returncode, output, errors
@@ -92,17 +93,28 @@ def built(name, shim=None):
 
 
 def serving(program, *words, **bent):
-    """A program that serves at the first port from 40000 that can be bound, and the port; none where it ended."""
+    """A program that serves at the first port from 40000 that can be bound, and the port; or how it ended, and no port."""
     for port in range(40000, 40100):
         server = program.start("serve", "--port", str(port), *words, **bent)
         line = server.stdout.readline()
         if line:
             check(line == f"listening {port}\n".encode(), f"{program.path}: {line}")
             return server, port
-        if server.wait(60) != 3:
-            return server, None
-        check(ended(server) == (3, b"", b"itc_trace: port\n"), f"{program.path}: a port in use")
+        told = end_of(server)
+        if told != (3, b"", b"itc_trace: port\n"):
+            return told, None
     sys.exit("no port can be bound")
+
+
+def served(server, port):
+    """How a server ends that takes no more than some connections more."""
+    for _ in range(1000):
+        with contextlib.suppress(ConnectionError):
+            Client(port).close()
+        with contextlib.suppress(subprocess.TimeoutExpired):
+            server.wait(0.05)
+            break
+    return end_of(server)
 
 
 class Client:
