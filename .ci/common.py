@@ -23,10 +23,27 @@ def file_of(run, file):
         return stored.read()
 
 
+def deep_export(owned, known):
+    """The lines of two events, with stamps nested 40 deep, of which the second owns and knows this at the bottom, and with a
+    member that a later one of its key hides."""
+    for event, bottom, value in ((1, "1", 1), (2, owned, known)):
+        stamp = f"[{'(0,' * 40}{bottom}{')' * 40};{'(0,0,' * 40}{value}{')' * 40}]"
+        preds, hidden = [1][:event - 1], '[[[[]]],{"a":{"b":1.5}},"\\u0061"]'
+        yield f'{{"event":{hidden},"event":{event},"kind":"local","name":"-","preds":{preds},"stamp":"{stamp}","task":"root"}}\n'
+
+
 def exports():
-    """A good export, and the same with another stamp, each with how its check ends and how many reads that takes."""
+    """A good export, and the same with another stamp; and good and spoilt ones of deep stamps. Each has how its check ends
+    and how many reads that takes."""
     yield file_of("an_export_is_right", "stdin"), (0, b"yes 8\n", b""), 2
     yield file_of("an_export_has_another_stamp", "stdin"), (1, b"no 6 6\n", b""), 1
+    for owned, known, ended, reads in (
+        ("1", 2, (0, b"yes 2\n", b""), 2),
+        ("(1,1)", 2, (1, b"no 2 5\n", b""), 1),
+        ("1", "(1,1,2)", (1, b"no 2 5\n", b""), 1),
+        ("1", "(0,0,2)", (1, b"no 2 6\n", b""), 1),
+    ):
+        yield "".join(deep_export(owned, known)).encode(), ended, reads
 
 
 def written_export():
