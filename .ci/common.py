@@ -124,12 +124,12 @@ def serving(program, *words, **bent):
 
 
 def served(server, port):
-    """How a server ends that takes no more than some connections more."""
-    for _ in range(1000):
+    """How a server ends once it has taken all connections that it was asked for."""
+    for _ in range(2000):
         with contextlib.suppress(ConnectionError):
             Client(port).close()
         with contextlib.suppress(subprocess.TimeoutExpired):
-            server.wait(0.05)
+            server.wait(0.005)
             break
     return end_of(server)
 
