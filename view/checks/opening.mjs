@@ -11,14 +11,17 @@ const LINE = '{"event":1,"kind":"local","name":"-","preds":[],"stamp":"[1;1]","t
 const HOSTILE = '</script><script>window.wasRead = 1</script><img src="x" onerror="window.wasRead = 1"><!--';
 const WRONG = ["[((0,1),0);(2,(1,0,2),0)]", "[((0,1),0);(3,(0,0,2),1)]"];
 
-/** The page's policy names its script and its style by their hashes. */
+/** The page's policy allows its script and its style, which it names by their hashes, and nothing else. */
 export function policyFits() {
   const html = readFileSync(TEMPLATE, "utf8");
-  for (const tag of ["script", "style"]) {
+  const hashes = ["script", "style"].map((tag) => {
     const source = html.split(`<${tag}>`)[1].split(`</${tag}>`)[0];
-    const hash = `sha256-${createHash("sha256").update(source).digest("base64")}`;
-    assert.ok(html.includes(`${tag}-src '${hash}'`), `the policy of view/trace.html has to say: ${tag}-src '${hash}'`);
-  }
+    return `${tag}-src 'sha256-${createHash("sha256").update(source).digest("base64")}'`;
+  });
+  const policy = ["default-src 'none'", ...hashes, "require-trusted-types-for 'script'", "trusted-types 'none'", "base-uri 'none'",
+    "form-action 'none'"].join("; ");
+  assert.ok(html.includes(`<meta http-equiv="Content-Security-Policy" content="${policy}">`),
+    `the policy of view/trace.html has to be: ${policy}`);
 }
 
 /** The page answers to each export as the check does, and says the line and the reason. */
@@ -100,7 +103,7 @@ export async function hostileText(tab) {
   await nothingGetsOut(tab);
 }
 
-/** The policy lets nothing be asked of the network, and no text become HTML or a script. */
+/** The policy, and not only a want of network, refuses whatever would ask for something or make text into HTML or a script. */
 async function nothingGetsOut(tab) {
   const before = tab.complaints.length;
   const refused = await tab.run(async () => {
@@ -112,9 +115,15 @@ async function nothingGetsOut(tab) {
       async () => Object.assign(document.body, { innerHTML: "<p>x</p>" }),
       async () => Object.assign(document.createElement("script"), { text: "0" }),
       async () => new Worker(URL.createObjectURL(new Blob(["1"])))];
-    return Promise.all(attempts.map((attempt) => attempt().then(() => false, () => true)));
+    const told = [];
+    document.addEventListener("securitypolicyviolation", (violation) => told.push(violation.effectiveDirective));
+    for (const attempt of attempts) told.push(await attempt().then(() => "allowed", () => "refused"));
+    await new Promise((resolve) => setTimeout(resolve, 100));
+    return told.sort();
   });
-  assert.deepEqual(refused, [true, true, true, true, true, true]);
+  const by = ["connect-src", "connect-src", "img-src", "require-trusted-types-for", "require-trusted-types-for",
+    "require-trusted-types-for"];
+  assert.deepEqual(refused, [...by, ...by.map(() => "refused")].sort());
   tab.complaints.length = before;
   tab.requests = tab.requests.filter((address) => !/example\.com|^data:|^blob:/.test(address));
 }

@@ -1,8 +1,8 @@
 // The checks of what the picture shows: lanes, events, edges, and how events stand to one another.
 import assert from "node:assert/strict";
-import { answers, inWork, lists } from "./program.mjs";
+import { answers, exportOf, inWork, lists, pictureOf } from "./program.mjs";
 import { chosen, notice, opened, pause, placeOf } from "./tab.mjs";
-import { BUSY, seeded, WORKED } from "./traces.mjs";
+import { BUSY, mostAlive, seeded, shortTasks, WORKED } from "./traces.mjs";
 
 const upTo = (most) => Array.from({ length: most }, (_, place) => place + 1);
 
@@ -10,6 +10,8 @@ export async function workedExport(tab) {
   await opened(tab, inWork("worked.html"));
   assert.deepEqual(await tab.run(() => [page.view.layout.lanes, page.trace.events, page.trace.edges]), [2, 8, 9]);
   assert.equal(await notice(tab), "8 events, 2 tasks, 1 message, 9 edges. Checked: yes 8.");
+  await marksAndLines(tab);
+  await names(tab);
   const events = upTo(8), past = lists(WORKED, "past", events), concurrent = lists(WORKED, "concurrent", events);
   for (const event of events) {
     await tab.click(...await placeOf(tab, event));
@@ -19,8 +21,101 @@ export async function workedExport(tab) {
     assert.deepEqual(await listed(tab), wanted.map((list) => list.join(" ")));
     await colouredMarks(tab, wanted);
   }
+  await rows(tab, WORKED, events);
   await orderOfPairs(tab, WORKED, events.flatMap((one) => events.map((other) => [one, other])));
-  await layoutIsSound(tab);
+  await layoutIsSound(tab, WORKED);
+}
+
+/** Each event has one mark, of its kind and at its place; and the lines are the edges between lanes, with an arrow for a message. */
+async function marksAndLines(tab) {
+  const { marks, lines, heads, places } = await tab.run(() => {
+    const { view } = page, shown = { marks: [], lines: [], heads: [] }, draw = addMark;
+    const rounded = (...values) => values.map(Math.round), placeOf = (time, lane) => rounded(view.x(time), view.y(lane));
+    addMark = (context, kind, x, y) => shown.marks.push([KINDS[kind], ...rounded(x, y)]);
+    view.addHead = (edge) => shown.heads.push(view.layout.trace.nameOf[view.layout.edgeEvents[edge]]);
+    for (const step of ["moveTo", "lineTo"]) view.context[step] = (x, y) => shown.lines.push(rounded(x, y));
+    view.draw();
+    addMark = draw;
+    for (const step of ["moveTo", "lineTo"]) delete view.context[step];
+    delete view.addHead;
+    const { times } = view.layout, events = [1, 2, 3, 4, 5, 6, 7, 8];
+    shown.places = events.map((event) => placeOf(times[event], view.layout.lane(event)));
+    shown.places.push(placeOf(times[2] + 0.5, view.layout.lane(3)));
+    return shown;
+  });
+  const byText = (list) => list.map(String).sort(), kinds = WORKED.map((report) => report.split(" ")[0]);
+  assert.deepEqual(byText(marks), byText(kinds.map((kind, place) => [kind, ...places[place]])));
+  assert.equal(new Set(places.map(String)).size, 9);
+  // From the spawn to the beginning of a's lane, from the send to the receive, from the end to the join.
+  const wanted = [[2, 9], [5, 6], [7, 8]].map((ends) => ends.map((event) => places[event - 1]).join(" to "));
+  const pairs = lines.flatMap((end, place) => place % 2 === 0 ? [`${end} to ${lines[place + 1]}`] : []);
+  assert.deepEqual([byText(pairs), heads], [byText(wanted), ["m"]]);
+}
+
+/** Below each mark stands its number, above each lane its task, and beside its arrow the message. */
+async function names(tab) {
+  const { texts, places } = await tab.run(() => {
+    const { view } = page, written = [];
+    view.context.fillText = (text, x, y) => written.push([text, x + text.length * view.letter / 2, y]);
+    view.draw();
+    delete view.context.fillText;
+    const place = (_, event) => [view.x(view.layout.times[event]), view.y(view.layout.lane(event))];
+    return { texts: written, places: Array.from({ length: page.trace.events + 1 }, place) };
+  });
+  const found = new Map(texts.map(([text, ...place]) => [text, place]));
+  assert.equal(texts.length, 11);
+  const isBy = (text, [x, y], aside, least, most) => {
+    const [atX, atY] = found.get(text) ?? [];
+    assert.ok(Math.abs(atX - x) < aside && atY - y > least && atY - y < most, `${text} is at ${atX} ${atY}, not by ${x} ${y}`);
+  };
+  for (let event = 1; event <= 8; event++) isBy(String(event), places[event], 2, 8, 30);
+  isBy("root", places[1], 30, -40, -8);
+  isBy("a", [(places[2][0] + places[3][0]) / 2, places[3][1]], 30, -40, -8);
+  isBy("m", [(places[5][0] + places[6][0]) / 2, (places[5][1] + places[6][1]) / 2], 30, -20, 20);
+}
+
+/** Of no two kinds the marks have one shape, nor the shapes behind them for how events stand. */
+export async function shapes(tab) {
+  await opened(tab, inWork("worked.html"));
+  const [kinds, standings] = await tab.run(() => {
+    const isInside = (add, shape) => (x, y) => {
+      const context = document.createElement("canvas").getContext("2d");
+      context.beginPath();
+      add(context, shape, 0, 0, 100);
+      return context.isPointInPath(x, y, "evenodd");
+    };
+    const told = (isIn) => ({ middle: isIn(0, 0), bottom: isIn(0, 80), above: isIn(-80, -70), below: isIn(-80, 70), left: isIn(-105, 0),
+      right: isIn(105, 0), corner: isIn(60, 70) });
+    const words = (isIn) => Object.entries(told(isIn)).filter(([, isSo]) => isSo).map(([word]) => word).join(" ");
+    return [KINDS.map((_, kind) => words(isInside(addMark, kind))),
+      [PAST, FUTURE, CONCURRENT, ITSELF].map((standing) => words(isInside(addStanding, standing)))];
+  });
+  assert.deepEqual(kinds, ["middle", "middle bottom below corner", "middle bottom corner", "bottom corner",
+    "middle bottom above below corner", "middle bottom above"]);
+  assert.deepEqual(standings, ["middle bottom left corner", "middle bottom above below right", "middle bottom", "middle bottom corner"]);
+}
+
+/** What the panel says of each event is what the program answers to `event` and `stamp`. */
+async function rows(tab, reports, events) {
+  const told = answers(reports, events.map((event) => `event ${event}`));
+  const stamps = answers(reports, events.map((event) => `stamp ${event}`));
+  const shown = await tab.run((asked) => asked.map((event) => {
+    page.choose(event);
+    const values = [...document.querySelectorAll("#chosen dd")].map((value) =>
+      [...value.querySelectorAll("button")].map((button) => button.textContent).join(" ") || value.textContent);
+    return [...document.querySelectorAll("#chosen dt")].map((term, place) => [term.textContent, values[place]]);
+  }), events);
+  const named = { spawn: "starts", send: "message", recv: "message", join: "takes in" };
+  const following = new Map();
+  answers(reports, reports.map((_, place) => `event ${place + 1}`)).forEach((reply, place) => {
+    for (const pred of reply.split(" ").slice(5)) following.set(pred, [...following.get(pred) ?? [], place + 1]);
+  });
+  events.forEach((event, place) => {
+    const [, kind, task, name, , ...preds] = told[place].split(" "), list = (numbers) => numbers.join(" ") || "nothing";
+    assert.deepEqual(shown[place], [["kind", kind], ["task", task], ...(named[kind] ? [[named[kind], name]] : []),
+      ["follows", list(preds)], ["followed by", list(following.get(String(event)) ?? [])],
+      ["stamp", stamps[place].split(" ")[1]]], `event ${event}`);
+  });
 }
 
 /** The three lists of events that stand below the chosen one. */
@@ -79,12 +174,21 @@ export async function busyTrace(tab) {
     }, event);
     assert.deepEqual(shown, [past[place], upTo(500).filter((other) => !others.has(other)), concurrent[place]], `event ${event}`);
   }
+  await rows(tab, BUSY, asked);
   await orderOfPairs(tab, BUSY, Array.from({ length: 200 }, () => [some(), some()]));
-  await layoutIsSound(tab);
+  await layoutIsSound(tab, BUSY);
 }
 
-/** Each event is at its time, so edges go forward; no two tasks are in one lane at a time; no two events at one place. */
-export async function layoutIsSound(tab) {
+/** 300 tasks share the lanes of a few. */
+export async function lanes(tab) {
+  const short = shortTasks(seeded(2), 300, 8);
+  await opened(tab, pictureOf("short.html", exportOf(short)));
+  await layoutIsSound(tab, short);
+}
+
+/** Each event is at its time, so edges go forward; no two tasks are in one lane at a time; no two events at one place. By event
+ * number there are so many lanes as there are tasks at once at most. */
+async function layoutIsSound(tab, reports) {
   const faults = await tab.run(() => ["chain", "number"].flatMap((time) => {
     const { trace } = page, layout = new Layout(trace, time === "number"), found = [], places = new Set();
     for (let event = 1; event <= trace.events; event++) {
@@ -99,4 +203,5 @@ export async function layoutIsSound(tab) {
     return found;
   }));
   assert.deepEqual(faults, []);
+  assert.equal(await tab.run(() => new Layout(page.trace, true).lanes), mostAlive(reports));
 }

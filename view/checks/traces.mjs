@@ -72,6 +72,16 @@ export function shortTasks(random, tasks, alive) {
   return reports;
 }
 
+/** How many tasks there are at once at most. */
+export function mostAlive(reports) {
+  let alive = 1, most = 1;
+  for (const report of reports) {
+    if (report.startsWith("spawn ")) most = Math.max(most, ++alive);
+    if (report.startsWith("end ")) alive--;
+  }
+  return most;
+}
+
 /** The trace of 500 events that most checks use. */
 export const BUSY = busy(seeded(19), 500, 14, 60);
 

@@ -84,6 +84,8 @@ export async function address(tab) {
   await opened(tab, inWork("worked.html"), "#event=6&other=4&time=number");
   assert.deepEqual([await chosen(tab), await text(tab, "#words"), await tab.run(time)],
     ["Event 6", "Event 6 happened after event 4.", "number"]);
+  const times = () => [3, 4, 8].map((event) => page.view.layout.times[event]);
+  assert.deepEqual(await tab.run(times), [3, 4, 8]);
   await tab.click(...await placeOf(tab, 3));
   await tab.click(...await placeOf(tab, 4), SHIFT);
   assert.equal(await text(tab, "#words"), "Event 3 and event 4 are concurrent: nothing kept them in order.");
@@ -92,8 +94,13 @@ export async function address(tab) {
     location.hash = "#event=8";
   });
   await tab.frame();
-  assert.deepEqual([await chosen(tab), await tab.run(time)], ["Event 8", "chain"]);
-  for (const hash of ["#event=9", "#event=-1", "#event=<b>", "#event=1e0&other=2", "#%"]) {
+  assert.deepEqual([await chosen(tab), await tab.run(time), ...await tab.run(times)], ["Event 8", "chain", 3, 3, 6]);
+  await tab.run(() => {
+    location.hash = "#time=chain";
+  });
+  await tab.frame();
+  assert.match(await text(tab, "#chosen"), /^Choose an event/);
+  for (const hash of ["#event=9", "#event=9&other=2", "#event=-1", "#event=<b>", "#event=1e0&other=2", "#%"]) {
     await opened(tab, inWork("worked.html"), hash);
     assert.match(await text(tab, "#chosen"), /^Choose an event/);
   }
