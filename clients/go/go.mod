@@ -1,3 +1,3 @@
 module itctrace
 
-go 1.21
+go 1.19

@@ -11,10 +11,11 @@ import (
 	"sync"
 )
 
-// Refused says that a request was refused.
+// Refused says that a request was refused, with this code.
 type Refused struct {
+	Code    int
 	Request string
-	// Reply is a code and its text, as in "401 no task".
+	// Reply is the code and its text, as in "401 no task".
 	Reply string
 }
 
@@ -44,11 +45,8 @@ func Open(kind, tenant string, port int) (*Session, error) {
 		return nil, err
 	}
 	session := &Session{connection: connection, replies: bufio.NewReader(connection)}
-	if _, err = fmt.Fprintf(connection, "%s %s\n", kind, tenant); err == nil {
-		// A session that is refused is told so in place of this answer.
-		_, err = session.numbers("count")
-	}
-	if err != nil {
+	// A session that is refused is told so in place of the count.
+	if _, err = session.answer(kind+" "+tenant, "count"); err != nil {
 		connection.Close()
 		return nil, err
 	}
@@ -61,21 +59,30 @@ func (s *Session) Close() error {
 }
 
 // Request gives the words of the reply to one line, after its code.
-func (s *Session) Request(line string) ([]string, error) {
+func (s *Session) Request(line string) ([]string, error) { return s.answer(line) }
+
+// answer gives the words of the one reply to these lines.
+func (s *Session) answer(lines ...string) ([]string, error) {
+	text := strings.Join(lines, "\n") + "\n"
+	if strings.Count(text, "\n") > len(lines) {
+		return nil, Refused{400, lines[0], "400 line"} // It would be read as two, and answered twice.
+	}
 	s.mutex.Lock()
 	defer s.mutex.Unlock()
-	if _, err := io.WriteString(s.connection, line+"\n"); err != nil {
+	if _, err := io.WriteString(s.connection, text); err != nil {
 		return nil, err
 	}
 	reply, err := s.replies.ReadString('\n')
 	if err != nil {
-		return nil, err
+		return nil, fmt.Errorf("the collector has ended the session: %w", err)
 	}
 	reply = strings.TrimSuffix(reply, "\n")
-	if !strings.HasPrefix(reply, "200 ") && !strings.HasPrefix(reply, "201 ") {
-		return nil, Refused{line, reply}
+	word, rest, _ := strings.Cut(reply, " ")
+	code, _ := strconv.Atoi(word)
+	if code != 200 && code != 201 {
+		return nil, Refused{code, lines[0], reply}
 	}
-	return strings.Split(reply[4:], " "), nil
+	return strings.Split(rest, " "), nil
 }
 
 func toNumbers(words []string) ([]int, error) {

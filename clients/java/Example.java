@@ -32,7 +32,13 @@ public final class Example {
         void release(String task) throws IOException {
             releases++;
             session.send(task, name + "_" + releases);
-            lock.unlock();
+        }
+
+        /** Whatever became of the reports, nobody waits for a thread that has ended. */
+        void unlock() {
+            if (lock.isHeldByCurrentThread()) {
+                lock.unlock();
+            }
         }
     }
 
@@ -53,6 +59,15 @@ public final class Example {
         @Override
         public void run() {
             try {
+                sell();
+                session.end(task);
+            } catch (IOException failure) {
+                throw new UncheckedIOException(failure);
+            }
+        }
+
+        private void sell() throws IOException {
+            try {
                 if (lock != null) {
                     lock.acquire(task);
                 }
@@ -63,9 +78,10 @@ public final class Example {
                 if (lock != null) {
                     lock.release(task);
                 }
-                session.end(task);
-            } catch (IOException failure) {
-                throw new UncheckedIOException(failure);
+            } finally {
+                if (lock != null) {
+                    lock.unlock();
+                }
             }
         }
     }

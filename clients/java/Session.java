@@ -1,7 +1,7 @@
-import java.io.BufferedReader;
+import java.io.BufferedInputStream;
 import java.io.EOFException;
 import java.io.IOException;
-import java.io.InputStreamReader;
+import java.io.InputStream;
 import java.io.OutputStream;
 import java.net.Socket;
 import java.nio.charset.StandardCharsets;
@@ -34,7 +34,7 @@ public final class Session implements AutoCloseable {
 
     private final Socket socket;
     private final OutputStream requests;
-    private final BufferedReader replies;
+    private final InputStream replies;
 
     /** With the kind "report" it reports and asks, and is the only one that does; with "view" it asks. */
     public Session(String kind, String tenant, int port) throws IOException {
@@ -42,9 +42,8 @@ public final class Session implements AutoCloseable {
         try {
             socket.setTcpNoDelay(true);
             requests = socket.getOutputStream();
-            replies = new BufferedReader(new InputStreamReader(socket.getInputStream(), StandardCharsets.US_ASCII));
-            write(kind + " " + tenant);
-            count(); // A session that is refused is told so in place of this answer.
+            replies = new BufferedInputStream(socket.getInputStream());
+            answer(kind + " " + tenant, "count"); // A session that is refused is told so in place of the count.
         } catch (IOException failure) {
             socket.close();
             throw failure;
@@ -56,22 +55,35 @@ public final class Session implements AutoCloseable {
         socket.close();
     }
 
-    private void write(String line) throws IOException {
-        requests.write((line + "\n").getBytes(StandardCharsets.US_ASCII));
-        requests.flush();
+    /** The words of the reply to one line, after its code. */
+    public List<String> request(String line) throws IOException {
+        return answer(line);
     }
 
-    /** The words of the reply to one line, after its code. */
-    public synchronized List<String> request(String line) throws IOException {
-        write(line);
-        String reply = replies.readLine();
-        if (reply == null) {
-            throw new EOFException("the collector has ended the session");
+    /** The words of the one reply to these lines. */
+    private synchronized List<String> answer(String... lines) throws IOException {
+        String text = String.join("\n", lines) + "\n";
+        if (text.chars().filter(next -> next == '\n').count() > lines.length) {
+            throw new Refused(lines[0], "400 line"); // It would be read as two, and answered twice.
         }
+        requests.write(text.getBytes(StandardCharsets.UTF_8));
+        requests.flush();
+        String reply = readReply();
         if (!reply.startsWith("200 ") && !reply.startsWith("201 ")) {
-            throw new Refused(line, reply);
+            throw new Refused(lines[0], reply);
         }
         return Arrays.asList(reply.substring(4).split(" "));
+    }
+
+    private String readReply() throws IOException {
+        StringBuilder reply = new StringBuilder();
+        for (int next = replies.read(); next != '\n'; next = replies.read()) {
+            if (next < 0) {
+                throw new EOFException("the collector has ended the session");
+            }
+            reply.append((char) next);
+        }
+        return reply.toString();
     }
 
     private int number(String line) throws IOException {

@@ -4,6 +4,7 @@ Usage: python3 example.py PORT TENANT
 """
 import sys
 import threading
+from contextlib import contextmanager, nullcontext
 
 from itc_trace import Session
 
@@ -17,26 +18,22 @@ class TracedLock:
         self._lock = threading.Lock()
         self._releases = 0
 
-    def acquire(self, task):
-        self._lock.acquire()
-        if self._releases > 0:
-            self._session.recv(task, f"{self._name}_{self._releases}")
-
-    def release(self, task):
-        self._releases += 1
-        self._session.send(task, f"{self._name}_{self._releases}")
-        self._lock.release()
+    @contextmanager
+    def held(self, task):
+        with self._lock:
+            if self._releases > 0:
+                self._session.recv(task, f"{self._name}_{self._releases}")
+            yield
+            self._releases += 1
+            self._session.send(task, f"{self._name}_{self._releases}")
 
 
 def sell(session, task, stock, events, lock):
-    if lock is not None:
-        lock.acquire(task)
-    left = stock["left"]
-    read = session.local(task)
-    stock["left"] = left - 1
-    write = session.local(task)
-    if lock is not None:
-        lock.release(task)
+    with nullcontext() if lock is None else lock.held(task):
+        left = stock["left"]
+        read = session.local(task)
+        stock["left"] = left - 1
+        write = session.local(task)
     session.end(task)
     events[task] = (read, write)
 

@@ -21,8 +21,7 @@ class Session:
         self._socket.setsockopt(socket.IPPROTO_TCP, socket.TCP_NODELAY, 1)
         self._replies = self._socket.makefile("r", encoding="ascii", newline="\n")
         try:
-            self._socket.sendall(f"{kind} {tenant}\n".encode("ascii"))
-            self.count()  # A session that is refused is told so in place of this answer.
+            self._answer(f"{kind} {tenant}", "count")  # A session that is refused is told so in place of the count.
         except BaseException:
             self.close()
             raise
@@ -39,13 +38,23 @@ class Session:
 
     def request(self, line):
         """The words of the reply to one line, after its code."""
+        return self._answer(line)
+
+    def _answer(self, *lines):
+        """The words of the one reply to these lines."""
+        if any("\n" in line for line in lines):
+            raise Refused(lines[0], "400 line")  # It would be read as two, and answered twice.
         with self._lock:
-            self._socket.sendall(line.encode("ascii") + b"\n")
-            reply = self._replies.readline()
+            try:
+                self._socket.sendall("".join(f"{line}\n" for line in lines).encode())
+                reply = self._replies.readline()
+            except BaseException:
+                self.close()  # The next request would be given the reply to this one.
+                raise
         if not reply.endswith("\n"):
             raise ConnectionError("the collector has ended the session")
         if reply[:3] not in ("200", "201"):
-            raise Refused(line, reply.rstrip("\n"))
+            raise Refused(lines[0], reply.rstrip("\n"))
         return reply[4:].split()
 
     def _number(self, line):

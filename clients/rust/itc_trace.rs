@@ -8,15 +8,15 @@ use std::sync::Mutex;
 /// Why a request has no answer.
 #[derive(Debug)]
 pub enum Error {
-    /// It was refused: the request, and the reply with its code.
-    Refused(String, String),
+    /// It was refused with this code; the reply is the code and its text, as in `401 no task`.
+    Refused { code: u16, request: String, reply: String },
     Io(io::Error),
 }
 
 impl Display for Error {
     fn fmt(&self, f: &mut fmt::Formatter<'_>) -> fmt::Result {
         match self {
-            Error::Refused(request, reply) => write!(f, "{request}: {reply}"),
+            Error::Refused { request, reply, .. } => write!(f, "{request}: {reply}"),
             Error::Io(error) => error.fmt(f),
         }
     }
@@ -57,30 +57,45 @@ pub struct Session {
 
 impl Session {
     pub fn new(kind: Kind, tenant: &str, port: u16) -> Result<Session, Error> {
-        let mut stream = TcpStream::connect(("127.0.0.1", port))?;
+        let stream = TcpStream::connect(("127.0.0.1", port))?;
         stream.set_nodelay(true)?;
         let kind = match kind {
             Kind::Report => "report",
             Kind::View => "view",
         };
-        stream.write_all(format!("{kind} {tenant}\n").as_bytes())?;
         let session = Session { connection: Mutex::new(BufReader::new(stream)) };
-        session.count()?; // A session that is refused is told so in place of this answer.
+        // A session that is refused is told so in place of the count.
+        session.answer(&[&format!("{kind} {tenant}"), "count"])?;
         Ok(session)
     }
 
     /// The words of the reply to one line, after its code.
     pub fn request(&self, line: &str) -> Result<Vec<String>, Error> {
-        let mut connection = self.connection.lock().unwrap();
-        connection.get_mut().write_all(format!("{line}\n").as_bytes())?;
+        self.answer(&[line])
+    }
+
+    /// The words of the one reply to these lines.
+    fn answer(&self, lines: &[&str]) -> Result<Vec<String>, Error> {
+        let refused = |reply: &str| Error::Refused {
+            code: reply.get(..3).and_then(|code| code.parse().ok()).unwrap_or(0),
+            request: lines[0].into(),
+            reply: reply.into(),
+        };
+        if lines.iter().any(|line| line.contains('\n')) {
+            return Err(refused("400 line")); // It would be read as two, and answered twice.
+        }
         let mut reply = String::new();
-        connection.read_line(&mut reply)?;
+        {
+            let mut connection = self.connection.lock().unwrap();
+            connection.get_mut().write_all(format!("{}\n", lines.join("\n")).as_bytes())?;
+            connection.read_line(&mut reply)?;
+        }
         let Some(reply) = reply.strip_suffix('\n') else {
-            return Err(io::Error::from(io::ErrorKind::UnexpectedEof).into());
+            return Err(io::Error::new(io::ErrorKind::UnexpectedEof, "the collector has ended the session").into());
         };
         match reply.strip_prefix("200 ").or(reply.strip_prefix("201 ")) {
             Some(words) => Ok(words.split(' ').map(String::from).collect()),
-            None => Err(Error::Refused(line.into(), reply.into())),
+            None => Err(refused(reply)),
         }
     }
 
