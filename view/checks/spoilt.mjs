@@ -23,7 +23,7 @@ const CHANGES = [[2, /.*/, ""], [3, ',"task":"a"', ""], [4, '"event":4', '"event
   [8, "[6,7]", "[6,6]"], [3, '"event":3', '"event":3.0'], [3, '"event":3', '"event":18446744073709551615'], [3, "[2]", "[2.0]"],
   [3, "[2]", "[9007199254740993]"], [3, '"task":"a"', '"\\u0074ask":"\\u0061"'], [3, /(.*)/, "  $1\t\r"],
   [7, '"a"', '"__proto__"'], [7, '"task"', '"__proto__"'], [7, '"end"', '"constructor"'], [7, '"a"', `"${"a".repeat(25)}"`],
-  [1, /$/, " ".repeat(65536 - 78)], [1, /$/, " ".repeat(65536)],
+  [1, /$/, " ".repeat(65536 - 78)], [1, /$/, " ".repeat(65537 - 78)],
   ...VALUES.map((value) => [3, '{"event":3', `{"event":${value},"event":3`]), ...STAMPS.map((stamp) => [1, "[1;1]", stamp])];
 
 // Numbers of two events, one after the other: only the greater one may follow.
