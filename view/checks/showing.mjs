@@ -26,7 +26,7 @@ export async function workedExport(tab) {
   await layoutIsSound(tab, WORKED);
 }
 
-/** Each event has one mark, of its kind and at its place; and the lines are the edges between lanes, with an arrow for a message. */
+/** Each event has one mark, of its kind and at its place; the lines are the edges between lanes, with an arrow for a message. */
 async function marksAndLines(tab) {
   const { marks, lines, heads, places } = await tab.run(() => {
     const { view } = page, shown = { marks: [], lines: [], heads: [] }, draw = addMark;
@@ -84,15 +84,16 @@ export async function shapes(tab) {
       add(context, shape, 0, 0, 100);
       return context.isPointInPath(x, y, "evenodd");
     };
-    const told = (isIn) => ({ middle: isIn(0, 0), bottom: isIn(0, 80), above: isIn(-80, -70), below: isIn(-80, 70), left: isIn(-105, 0),
-      right: isIn(105, 0), corner: isIn(60, 70) });
+    const told = (isIn) => ({ middle: isIn(0, 0), bottom: isIn(0, 80), above: isIn(-80, -70), below: isIn(-80, 70),
+      left: isIn(-105, 0), right: isIn(105, 0), corner: isIn(60, 70) });
     const words = (isIn) => Object.entries(told(isIn)).filter(([, isSo]) => isSo).map(([word]) => word).join(" ");
     return [KINDS.map((_, kind) => words(isInside(addMark, kind))),
       [PAST, FUTURE, CONCURRENT, ITSELF].map((standing) => words(isInside(addStanding, standing)))];
   });
   assert.deepEqual(kinds, ["middle", "middle bottom below corner", "middle bottom corner", "bottom corner",
     "middle bottom above below corner", "middle bottom above"]);
-  assert.deepEqual(standings, ["middle bottom left corner", "middle bottom above below right", "middle bottom", "middle bottom corner"]);
+  assert.deepEqual(standings,
+    ["middle bottom left corner", "middle bottom above below right", "middle bottom", "middle bottom corner"]);
 }
 
 /** What the panel says of each event is what the program answers to `event` and `stamp`. */
