@@ -172,7 +172,7 @@ DoesReplayInPart (Some name) fault limits names before after taken taken' = Expo
 abbrev pub Does : (asked : Demand) (before after : Given) (taken taken' : Taken) (status : ℕ) → Type 0
 Does (ToReplay asked) before after taken taken' status =
     (status ≡ 0) × DoesReplay asked.export asked.limits asked.tenants before after taken taken'
-Does (ToServe asked) before after taken taken' status = (status ≡ 0) × (after ≡ before) × Serves asked.port taken taken'
+Does (ToServe asked) before after taken taken' status = (status ≡ 0) × (after ≡ before) × Serves asked.port asked.sessions taken taken'
 Does ToCheck before after taken taken' status = TellsVerdict before after taken taken' status
 
 -- What is asked for was broken off by this fault.
@@ -187,7 +187,7 @@ abbrev pub DoesSome : (work : Work) (before after : Given) (taken taken' : Taken
 DoesSome Replaying before after taken taken' status = (status ≡ 0) × ReplaysSome before after taken taken'
 DoesSome Exporting before after taken taken' status = (status ≡ 0) × ExportsSome before after taken taken'
 DoesSome Serving before after taken taken' status = (status ≡ 0) × (after ≡ before)
-    × ((port : ℕ) × IsTrue (is_between 1 65535 port) × Serves port taken taken')
+    × ((port : ℕ) × (sessions : ℕ) × IsTrue (is_between 1 65535 port) × IsTrue (is_between 1 1048576 sessions) × Serves port sessions taken taken')
 DoesSome Checking before after taken taken' status = TellsVerdict before after taken taken' status
 
 -- Such work was broken off by this fault.

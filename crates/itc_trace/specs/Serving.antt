@@ -16,9 +16,10 @@ line_of_port port = codes "listening " ++ decimal port ++ codes "\n"
 abbrev pub line_of_counts : ServeCounts → Text
 line_of_counts counts = codes "served " ++ decimal counts.sessions ++ codes " faults " ++ decimal counts.faults ++ codes "\n"
 
--- Programs were served at this port: so two lines tell, and what they were served was counted.
-pub record Serves (port : ℕ) (taken taken' : Taken) : Type 0 where
+-- Programs were served at this port: so two lines tell, and as many connected as was asked for.
+pub record Serves (port sessions : ℕ) (taken taken' : Taken) : Type 0 where
   pub counts : ServeCounts
+  pub all : counts.sessions ≡ sessions
   pub lines : ShowsAll taken taken' (line_of_port port ++ line_of_counts counts)
 
 -- Of such two lines a front was written, and a write failed.

@@ -28,7 +28,7 @@ pub(crate) fn serve_programs<T, W: Sink, E: Sink>(
 ) -> u8
 where
     T: Threads + Wait + Sync + Net<Listener = TcpListener, Stream = TcpStream>,
-    ensures done { result < 2 → (result ≡ 0) × (errors.new ≡ errors.old) × Serves wanted.port (W.seen writer.old) (W.seen writer.new) }
+    ensures done { result < 2 → (result ≡ 0) × (errors.new ≡ errors.old) × Serves wanted.port wanted.sessions (W.seen writer.old) (W.seen writer.new) }
     ensures taken { RefusesTenants (is_taken (ToServe (service_of wanted))) (E.seen errors.old) (E.seen errors.new) result }
     ensures refused { result ≡ 2 → (writer.new ≡ writer.old) × TellsFault (E.seen errors.old) (E.seen errors.new) Fault.Tenants }
     ensures broken_off { 2 < result → (fault : Fault) × (result ≡ status_of fault)
@@ -49,7 +49,7 @@ fn serve_tenants<T, W: Sink>(
 ) -> Result<(), Fault>
 where
     T: Threads + Wait + Sync + Net<Listener = TcpListener, Stream = TcpStream>,
-    ensures ok { OnOk result (Serves wanted.now.port (W.seen writer.old) (W.seen writer.new)) }
+    ensures ok { OnOk result (Serves wanted.now.port wanted.now.sessions (W.seen writer.old) (W.seen writer.new)) }
     ensures taken { OnOk result (is_taken (ToServe (service_of wanted.now)) ≡ true) }
     ensures err { IfErr result (λ fault. ServesInPart fault wanted.now.port (W.seen writer.old) (W.seen writer.new)) }
     ensures tenants { IfErr result (λ fault. TellsOfTenants fault (is_taken (ToServe (service_of wanted.now)))) }
@@ -72,7 +72,7 @@ fn serve_hub<T, W: Sink>(
 ) -> Result<(), Fault>
 where
     T: Threads + Wait + Sync + Net<Listener = TcpListener, Stream = TcpStream>,
-    ensures ok { OnOk result (Serves wanted.now.port (W.seen writer.old) (W.seen writer.new)) }
+    ensures ok { OnOk result (Serves wanted.now.port wanted.now.sessions (W.seen writer.old) (W.seen writer.new)) }
     ensures err { IfErr result (λ fault. ServesInPart fault wanted.now.port (W.seen writer.old) (W.seen writer.new)) }
     ensures other { IfErr result (λ fault. fault ≢ Fault.Tenants) }
 {

@@ -1,5 +1,5 @@
 //! A door over a listener.
-ghost use Rattle.std.specs.Prelude.{◌≡◌, ◌+◌, ◌≤◌, IfOk, MatchResult, MatchOption, IsTrue, false, if◌then◌else◌};
+ghost use Rattle.std.specs.Prelude.{◌≡◌, ◌+◌, ◌≤◌, IfOk, IfNone, MatchResult, MatchOption, IsTrue, false, if◌then◌else◌};
 
 use crate::Half;
 use crate::place::Place;
@@ -94,6 +94,8 @@ impl Door for TcpDoor {
     ghost given = { λ door. door.given };
 
     ghost failures = { λ door. if door.has_failed then 1 else 0 };
+
+    ghost most = { λ door. door.most };
 
     fn accept<R: Wait>(&mut self, rt: &R) -> Result<Option<Ends>, DoorFault> {
         if self.has_failed || self.given >= self.most {

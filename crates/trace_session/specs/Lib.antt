@@ -6,6 +6,7 @@ pub mod Hubs
 pub mod Lent
 pub mod Openings
 pub mod Reading
+pub mod Resting
 pub mod Runs
 pub mod Serving
 pub mod Sessions

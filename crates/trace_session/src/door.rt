@@ -1,5 +1,5 @@
 //! Where connections come from.
-ghost use Rattle.std.specs.Prelude.{◌≡◌, ◌+◌, ℕ, MatchResult, MatchOption};
+ghost use Rattle.std.specs.Prelude.{◌≡◌, ◌+◌, ◌≤◌, ℕ, IfOk, IfNone, MatchResult, MatchOption};
 
 use line_protocol::{Sink, Source};
 use std::sync::Wait;
@@ -24,10 +24,15 @@ pub trait Door {
     // how often it failed
     ghost failures: { Self → ℕ };
 
+    // how many connections it is to give before it closes, where that is known
+    ghost most: { Self → ℕ } = { λ _. 0 };
+
     /// The next connection; `None` where no more will come. It may wait for one.
     fn accept<R: Wait>(&mut self, rt: &R) -> Result<Option<(Self::Reader, Self::Writer)>, DoorFault>
         ensures given { MatchResult result
             (λ came. MatchOption came (given self.new ≡ given self.old) (λ _. given self.new ≡ given self.old + 1))
             (λ _. given self.new ≡ given self.old) }
-        ensures failures { MatchResult result (λ _. failures self.new ≡ failures self.old) (λ _. failures self.new ≡ failures self.old + 1) };
+        ensures failures { MatchResult result (λ _. failures self.new ≡ failures self.old) (λ _. failures self.new ≡ failures self.old + 1) }
+        ensures most { most self.new ≡ most self.old }
+        ensures closed { failures self.old ≡ 0 → IfOk result (λ came. IfNone came (most self.new ≤ given self.new)) };
 }

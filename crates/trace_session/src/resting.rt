@@ -1,5 +1,7 @@
 //! What no session uses of one tenant.
-ghost use Rattle.std.specs.Prelude.{◌≡◌, IfOk, IfSome, length, All};
+ghost use Rattle.std.specs.Prelude.{◌≡◌, ◌<◌, ◌≤◌, ◌++◌, ◌∷◌, [], Some, None, IfNone, IfOk, IfSome, IsSomeAnd, length, vec_capacity, All};
+ghost use Rattle.std.specs.Option.{option_to_list};
+ghost use Rattle.trace_types.specs.tenant.Tenant.{fresh};
 ghost use Rattle.trace_session.specs.Lent.{IsSoundDesk, IsSoundView};
 
 use std::alloc::Global;
@@ -18,14 +20,15 @@ pub(crate) struct Resting {
 }
 
 impl Model for Resting {
-    ghost use Rattle.std.specs.Prelude.{All, IfSome};
+    ghost use Rattle.std.specs.Prelude.{◌≤◌, All, IfSome, vec_capacity};
     ghost use Rattle.trace_session.specs.Lent.{IsSoundDesk, IsSoundView};
+    ghost use Rattle.trace_session.specs.Resting.{Rests};
 
-    ghost Value = { Unit {0} };
+    ghost Value = { Rests };
 
-    ghost view = { λ _. tt };
+    ghost view = { λ r. record { desk = r.desk; views = r.views.items } };
 
-    ghost invariant = { λ r. IfSome r.desk IsSoundDesk × All IsSoundView r.views.items };
+    ghost invariant = { λ r. IfSome r.desk IsSoundDesk × All IsSoundView r.views.items × (8 ≤ vec_capacity r.views) };
 }
 
 impl Resting {
@@ -35,7 +38,10 @@ impl Resting {
         alloc: Global,
         limits: Limits,
         shared: Arc<Shared>,
-    ) -> Result<Resting, Memory> {
+    ) -> Result<Resting, Memory>
+        ensures desk { IfOk result (λ resting. IsSomeAnd resting.desk (λ desk. desk.tenant ≡ fresh limits)) }
+        ensures views { IfOk result (λ resting. length resting.views ≡ 8) }
+    {
         let (desk, views) = desk_and_views(rt, alloc, limits, shared)?;
         match all_views(alloc, views) {
             Ok(views) => Ok(Resting {
@@ -51,7 +57,9 @@ impl Resting {
 
     /// Lends the desk, if no session has it.
     pub(crate) fn take_desk(&mut self) -> Option<Desk>
-        ensures { IfSome result IsSoundDesk }
+        ensures sound { IfSome result IsSoundDesk }
+        ensures lent { result ≡ self.old.desk }
+        ensures rests { self.new ≡ record self.old { desk = None } }
     {
         self.desk.take()
     }
@@ -59,13 +67,18 @@ impl Resting {
     /// Takes the desk back. One that was there comes out.
     pub(crate) fn put_desk(&mut self, desk: Desk) -> Option<Desk>
         requires { IsSoundDesk desk }
+        ensures other { result ≡ self.old.desk }
+        ensures rests { self.new ≡ record self.old { desk = Some desk } }
     {
         self.desk.replace(desk)
     }
 
     /// Lends a view, if there is one that no session has.
     pub(crate) fn take_view(&mut self) -> Option<View>
-        ensures { IfSome result IsSoundView }
+        ensures sound { IfSome result IsSoundView }
+        ensures lent { self.old.views ≡ self.new.views ++ option_to_list result }
+        ensures none { IfNone result (self.old.views ≡ []) }
+        ensures desk { self.new.desk ≡ self.old.desk }
     {
         self.views.pop()
     }
@@ -73,6 +86,8 @@ impl Resting {
     /// Takes a view back. There is room for all that were lent.
     pub(crate) fn put_view(&mut self, view: View)
         requires { IsSoundView view }
+        ensures rests { length self.old.views < 8 → self.new.views ≡ self.old.views ++ view ∷ [] }
+        ensures desk { self.new.desk ≡ self.old.desk }
     {
         let _ = self.views.push(view);
     }
@@ -90,6 +105,7 @@ impl Resting {
 fn all_views(alloc: Global, mut views: Views) -> Result<Vec<View>, Memory>
     ensures count { IfOk result (λ all. length all.items ≡ views.left) }
     ensures sound { IfOk result (λ all. All IsSoundView all.items) }
+    ensures room { IfOk result (λ all. 8 ≤ vec_capacity all) }
 {
     let mut all = Vec::with_capacity(alloc, 8)?;
     while let Some(view) = views.view() {

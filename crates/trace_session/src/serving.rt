@@ -1,5 +1,5 @@
 //! Sessions at once, by workers that connections are handed to.
-ghost use Rattle.std.specs.Prelude.{◌≡◌, ◌↔◌, ◌+◌, ◌<◌, ◌≤◌, ◌^◌, IfOk, IsErrOf};
+ghost use Rattle.std.specs.Prelude.{◌≡◌, ◌↔◌, ◌+◌, ◌<◌, ◌≤◌, ◌^◌, ◌⊎◌, IfOk, IsErrOf};
 ghost use Rattle.trace_session.specs.Serving.{IsWorkers};
 
 use crate::{Door, DoorFault, Gate, Hub, session};
@@ -174,6 +174,8 @@ fn accept_all<T: Wait, D: Door>(
     to: Sender<Connection<D::Reader, D::Writer>>,
 ) -> Result<u64, ServeFault>
     ensures given { IfOk result (λ count. D.given door.new ≡ D.given door.old + count) }
+    ensures most { D.most door.new ≡ D.most door.old }
+    ensures closed { D.failures door.old ≡ 0 → IfOk result (λ count. (D.most door.old ≤ D.given door.new) ⊎ (count ≡ 2 ^ 32)) }
     ensures failed { IsErrOf result ServeFault.Door ↔ (D.failures door.old < D.failures door.new) }
     ensures workers { IsErrOf result ServeFault.Workers → ⊥ }
 {
@@ -202,6 +204,8 @@ fn accept_once<T: Wait, D: Door>(
     to: &mut Option<Sender<Connection<D::Reader, D::Writer>>>,
 ) -> Result<u64, ServeFault>
     ensures given { IfOk result (λ count. D.given door.new ≡ D.given door.old + count) }
+    ensures most { D.most door.new ≡ D.most door.old }
+    ensures closed { D.failures door.old ≡ 0 → IfOk result (λ count. (D.most door.old ≤ D.given door.new) ⊎ (count ≡ 2 ^ 32)) }
     ensures failed { IsErrOf result ServeFault.Door ↔ (D.failures door.old < D.failures door.new) }
     ensures workers { IsErrOf result ServeFault.Workers → ⊥ }
 {
@@ -220,6 +224,8 @@ fn run<'x, T: Threads + Wait + Sync, H: Hall<T> + Sync, D: Door, G: Gate + Sync>
     to: Sender<Connection<D::Reader, D::Writer>>,
 ) -> Result<u64, ServeFault>
     ensures given { IfOk result (λ count. D.given door.new ≡ D.given door.old + count) }
+    ensures most { D.most door.new ≡ D.most door.old }
+    ensures closed { D.failures door.old ≡ 0 → IfOk result (λ count. (D.most door.old ≤ D.given door.new) ⊎ (count ≡ 2 ^ 32)) }
     ensures failed { IsErrOf result ServeFault.Door ↔ (D.failures door.old < D.failures door.new) }
     ensures workers { IsErrOf result ServeFault.Workers → ⊥ }
 {
@@ -229,6 +235,9 @@ fn run<'x, T: Threads + Wait + Sync, H: Hall<T> + Sync, D: Door, G: Gate + Sync>
         &mut || work_all(rt, shop, workers),
         &mut || -> Result<u64, ServeFault>
             ensures given { IfOk result (λ count. D.given door.exit.now ≡ D.given door.entry.now + count) }
+            ensures most { D.most door.exit.now ≡ D.most door.entry.now }
+            ensures closed { D.failures door.entry.now ≡ 0 →
+                IfOk result (λ count. (D.most door.entry.now ≤ D.given door.exit.now) ⊎ (count ≡ 2 ^ 32)) }
             ensures failed { IsErrOf result ServeFault.Door ↔ (D.failures door.entry.now < D.failures door.exit.now) }
             ensures workers { IsErrOf result ServeFault.Workers → ⊥ }
         { accept_once(rt, door, &mut to) },
@@ -251,6 +260,9 @@ pub fn serve<T: Threads + Wait + Sync, D: Door, G: Gate + Sync>(
     gate: &G,
 ) -> Result<ServeCounts, ServeFault>
     ensures sessions { IfOk result (λ counts. D.given door.new ≡ D.given door.old + counts.sessions) }
+    ensures most { D.most door.new ≡ D.most door.old }
+    ensures closed { D.failures door.old ≡ 0 →
+        IfOk result (λ counts. (D.most door.old ≤ D.given door.new) ⊎ (counts.sessions ≡ 2 ^ 32)) }
     ensures workers { IsErrOf result ServeFault.Workers ↔ (IsWorkers workers → ⊥) }
     ensures door { IsErrOf result ServeFault.Door ↔ (D.failures door.old < D.failures door.new) }
     ensures none_taken { IsErrOf result ServeFault.Workers → door.new ≡ door.old }
@@ -271,6 +283,9 @@ fn serve_in<T: Threads + Wait + Sync, H: Hall<T> + Sync, D: Door, G: Gate + Sync
     gate: &G,
 ) -> Result<ServeCounts, ServeFault>
     ensures sessions { IfOk result (λ counts. D.given door.new ≡ D.given door.old + counts.sessions) }
+    ensures most { D.most door.new ≡ D.most door.old }
+    ensures closed { D.failures door.old ≡ 0 →
+        IfOk result (λ counts. (D.most door.old ≤ D.given door.new) ⊎ (counts.sessions ≡ 2 ^ 32)) }
     ensures workers { IsErrOf result ServeFault.Workers → ⊥ }
     ensures door { IsErrOf result ServeFault.Door ↔ (D.failures door.old < D.failures door.new) }
 {

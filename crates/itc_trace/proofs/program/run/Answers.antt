@@ -150,8 +150,8 @@ serving_failed TooLong port before after taken taken' three part = absurd part
 serving_failed Memory port before after taken taken' three part = cc
 
 -- what was served went through
-served_through : (port : ℕ) (given : Given) (taken taken' : Taken) → Serves port taken taken' → GoesThrough given given taken taken'
-served_through port given taken taken' serves = (λ e. omega (arith, e), λ e. omega (arith, e, serves.lines.2), serves.lines.1)
+served_through : (port sessions : ℕ) (given : Given) (taken taken' : Taken) → Serves port sessions taken taken' → GoesThrough given given taken taken'
+served_through port sessions given taken taken' serves = (λ e. omega (arith, e), λ e. omega (arith, e, serves.lines.2), serves.lines.1)
 
 -- some text was shown
 told_some : (before after : Taken) → TellsFault before after Tenants → ShowsSome before after
@@ -170,6 +170,8 @@ returns-in-Ok-Serve g c =
     let taken' = g.W.Sink.seen c.serve_programs.new.writer in
     let port = c.in-Ok-Serve.wanted.port in
     let in_range : IsTrue (is_between 1 65535 port) = search rules in
+    let sessions = c.in-Ok-Serve.wanted.sessions in
+    let sessions_in_range : IsTrue (is_between 1 1048576 sessions) = search rules in
     record {
       words_refused = λ two.
           let refused = c.serve_programs.ensures.refused two in
@@ -187,10 +189,10 @@ returns-in-Ok-Serve g c =
       done = λ few.
           let did = c.serve_programs.ensures.done few in (
             did.1,
-            served_through port given taken taken' did.2,
+            served_through port sessions given taken taken' did.2,
             inr (
               answer.0,
-              subst (λ work. DoesSome work given given taken taken' c.serve_programs.result) (sym answer.1) (did.0, refl, (port, in_range, did.2)),
+              subst (λ work. DoesSome work given given taken taken' c.serve_programs.result) (sym answer.1) (did.0, refl, (port, sessions, in_range, sessions_in_range, did.2)),
             ),
           );
       did = λ few.

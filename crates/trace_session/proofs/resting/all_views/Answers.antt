@@ -13,4 +13,5 @@ loop-view-preserved c =
     record {
       counted = omega (arith, c.loop-view.invariant.counted, c.in-Some.ensures.view.0, ap length items, length-append c.loop-view.all.items (c.in-Some.view ∷ []));
       sound = rw items (All-push IsSoundView c.loop-view.all.items c.in-Some.view c.loop-view.invariant.sound sound);
+      room = omega (arith, c.loop-view.invariant.room, c.in_ok-push.ensures.capacity);
     }

@@ -1,5 +1,5 @@
-use Rattle.std.proofs.Common.{◌≡◌, ◌+◌, length}
-use Rattle.std.specs.Prelude.{All}
+use Rattle.std.proofs.Common.{◌≡◌, ◌+◌, ◌≤◌, length}
+use Rattle.std.specs.Prelude.{All, vec_capacity}
 use Rattle.trace_session.specs.Lent.{IsSoundView}
 use Rattle.trace_session.proofs.resting.all_views.Given as goal
 
@@ -7,6 +7,7 @@ abbrev pub invariant-loop-view : goal.invariant-loop-view
 invariant-loop-view l = record {
   counted : length l.all.items + l.views.left ≡ l.fn.views.left;
   sound : All IsSoundView l.all.items;
+  room : 8 ≤ vec_capacity l.all;
 }
 
 abbrev pub decreases-loop-view : goal.decreases-loop-view

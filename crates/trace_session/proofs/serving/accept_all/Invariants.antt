@@ -6,4 +6,5 @@ invariant-loop-turn g l = record {
   counted : l.count ≡ l.turn;
   given : g.D.Door.given l.door ≡ g.D.Door.given l.fn.door + l.count;
   failures : g.D.Door.failures l.door ≡ g.D.Door.failures l.fn.door;
+  most : g.D.Door.most l.door ≡ g.D.Door.most l.fn.door;
 }
