@@ -1,5 +1,6 @@
 """What the scripts of this folder share: the programs as they were built, with calls that are bent or not; the stored runs;
 and clients of a program that serves."""
+import atexit
 import contextlib
 import itertools
 import os
@@ -98,7 +99,11 @@ class Program:
 
 def end_of(program, data=None):
     """The status, output and standard error of a program that has run to its end, with this as the rest of its input."""
-    output, errors = program.communicate(data, timeout=60)
+    try:
+        output, errors = program.communicate(data, timeout=60)
+    except subprocess.TimeoutExpired:
+        program.kill()
+        sys.exit(f"{os.path.basename(sys.argv[0])}: wrong: {program.args} does not end")
     return program.returncode, output, errors
 
 
@@ -110,9 +115,11 @@ def built(name, shim=None):
 
 
 def serving(program, *words, **bent):
-    """A program that serves at the first port from 40000 that can be bound, and the port; or how it ended, and no port."""
+    """A program that serves at the first port from 40000 that can be bound, and the port; or how it ended, and no port. It
+    does not outlive the script."""
     for port in range(40000, 40100):
         server = program.start("serve", "--port", str(port), *words, **bent)
+        atexit.register(server.kill)
         line = server.stdout.readline()
         if line:
             check(line == f"listening {port}\n".encode(), f"{program.path}: {line}")
