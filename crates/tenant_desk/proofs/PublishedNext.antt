@@ -1,11 +1,13 @@
 -- No events are sound, and sound ones stay so with the next one.
-use Rattle.std.proofs.Common.{◌≡◌, ℕ, suc, List, [], ◌∷◌, ◌++◌, length, refl, sym, ap, ◌∙◌, arith}
-use Rattle.tenant_ledger.proofs.Words.{nat_tests, length-reverse, reverse-append, AreLegal, Limits, EventTree, Id, History, history_of, of_each, id_after, id_of, tree_of, tree_clock, Row}
-use Rattle.tenant_desk.specs.Events.{Events, AreSound, no_events, with_event}
+use Rattle.std.proofs.Common.{◌≡◌, ℕ, suc, List, [], ◌∷◌, ◌++◌, length, Option, refl, sym, ap, ◌∙◌, subst, arith}
+use Rattle.tenant_ledger.proofs.Words.{nat_tests, length-reverse, reverse-append, AreLegal, Limits, EventTree, Id, History, history_of, of_each, id_after, id_of, tree_of, tree_clock, Row, ArePoints, MayHavePoint}
+use Rattle.trace_query.specs.declared.deciding.Deciding.{Deciding}
+use Rattle.tenant_ledger.proofs.keeping.Points.{no_points, points_with_one}
+use Rattle.tenant_desk.specs.Events.{Events, AreSound, no_events, events_with}
 
 -- no events are sound
 pub sound_none : (home : List ℕ) (limits : Limits) → AreSound (no_events home limits)
-sound_none home limits = record { legal = ([], tt, refl); trees = refl; homes = refl; ids = refl }
+sound_none home limits = record { legal = ([], tt, refl); trees = refl; homes = refl; points = no_points; ids = refl }
 
 -- what is told of each event is told of those with one more
 told_next : {A : Type 0} (told : History → ℕ → A) (rows : List Row) (row : Row) (list : List A) (one : A)
@@ -14,10 +16,11 @@ told_next : {A : Type 0} (told : History → ℕ → A) (rows : List Row) (row :
 told_next told rows row list one is newest = (λ i. is i ++ newest i ∷ []) ∙ ap (of_each told) (sym (reverse-append rows (row ∷ [])))
 
 -- With a row after which all are legal, what its event knows and the id of its task after it, sound events stay sound.
-pub sound_next : (events : Events) (row : Row) (tree : EventTree) (home : List ℕ) (id : Id) → AreSound events → AreLegal events.limits (events.rows ++ row ∷ [])
+pub sound_next : (events : Events) (row : Row) (tree : EventTree) (home : List ℕ) (point : Option Deciding) (id : Id) → AreSound events → AreLegal events.limits (events.rows ++ row ∷ [])
     → tree ≡ tree_of tree_clock (row ∷ history_of events.rows) (suc (length events.rows)) → home ≡ events.home
-    → id ≡ id_of tree_clock (row ∷ history_of events.rows) row.task → AreSound (with_event row tree home id events)
-sound_next events row tree home id sound legal tree_is home_is id_is =
+    → MayHavePoint (row ∷ history_of events.rows) (suc (length events.rows)) point
+    → id ≡ id_of tree_clock (row ∷ history_of events.rows) row.task → AreSound (events_with row tree home point id events)
+sound_next events row tree home point id sound legal tree_is home_is raised id_is =
     let history = history_of events.rows in
     let count : suc (length events.rows) ≡ suc (length history) = ap suc (sym (length-reverse events.rows)) in
     let newest : id_after (row ∷ history) (suc (length history)) ≡ id_of tree_clock (row ∷ history) row.task = grind (arith, nat_tests) in
@@ -25,5 +28,7 @@ sound_next events row tree home id sound legal tree_is home_is id_is =
       legal = legal;
       trees = told_next (tree_of tree_clock) events.rows row events.trees tree sound.trees (tree_is ∙ ap (tree_of tree_clock (row ∷ history)) count);
       homes = told_next (λ earlier number. events.home) events.rows row events.homes home sound.homes home_is;
+      points = subst (λ earlier. ArePoints earlier (events.points ++ point ∷ [])) (sym (reverse-append events.rows (row ∷ [])))
+          (points_with_one row history events.points point sound.points (subst (λ number. MayHavePoint (row ∷ history) number point) count raised));
       ids = told_next id_after events.rows row events.ids id sound.ids (id_is ∙ sym newest);
     }

@@ -21,6 +21,7 @@ record HasCount (events : Events) (count : ℕ) : Type 0 where
   pub rows : length events.rows ≡ count
   pub trees : length events.trees ≡ count
   pub homes : length events.homes ≡ count
+  pub points : length events.points ≡ count
   pub ids : length events.ids ≡ count
 
 has_count : (events : Events) → AreSound events → HasCount events (length events.rows)
@@ -28,6 +29,7 @@ has_count events sound = record {
   rows = refl;
   trees = ap length sound.trees ∙ length-of_each (tree_of tree_clock) (history_of events.rows) ∙ length-reverse events.rows;
   homes = ap length sound.homes ∙ length-of_each (λ history event. events.home) (history_of events.rows) ∙ length-reverse events.rows;
+  points = sound.points.counted ∙ length-reverse events.rows;
   ids = ap length sound.ids ∙ length-of_each id_after (history_of events.rows) ∙ length-reverse events.rows;
 }
 
@@ -43,6 +45,7 @@ first_are_all events count has = λ i. record events {
   rows = take_all events.rows count has.rows i;
   trees = take_all events.trees count has.trees i;
   homes = take_all events.homes count has.homes i;
+  points = take_all events.points count has.points i;
   ids = take_all events.ids count has.ids i;
 }
 
@@ -53,6 +56,7 @@ first_before events count (Some event) has = λ i. record events {
   rows = take_first events.rows (event.row ∷ []) count has.rows i;
   trees = take_first events.trees (event.tree.value ∷ []) count has.trees i;
   homes = take_first events.homes (event.tree.home ∷ []) count has.homes i;
+  points = take_first events.points (event.point ∷ []) count has.points i;
   ids = take_first events.ids (event.id.value ∷ []) count has.ids i;
 }
 
@@ -83,7 +87,7 @@ each_next_and count (operation ∷ operations) last next at = (next.0, each_next
 -- sound events stay so with the next one
 sound_with_next : (events : Events) (event : Event) → AreSound events → IsNext events event → AreSound (with_some (Some event) events)
 sound_with_next events event sound next =
-    sound_next events event.row event.tree.value event.tree.home event.id.value sound next.legal next.tree next.home next.id
+    sound_next events event.row event.tree.value event.tree.home event.point event.id.value sound next.legal next.tree next.home next.point next.id
 
 -- The operation for the next event is one.
 pub is_for_next : (published : Published) (event : Event) (operation : Operation) → IsPublished published → IsNext published.events event

@@ -1,12 +1,12 @@
 -- What a report does to a tenant, and to what is published of it.
 use Rattle.std.proofs.Common.{◌≡◌, ℕ, suc, true, false, List, [], ◌∷◌, ◌++◌, length, Option, Some, None, IsTrue, refl, sym, ap, ◌∙◌, subst, inl, inr}
-use Rattle.tenant_ledger.proofs.Words.{AllByRecursion, Row, Tenant, Request, Reply, Code, Steps, AreLegal, Accepted, Refused, step, step_unless, after, fresh, with_row, is_report, may_lack_memory, refusal_of, history_of, reported, Reported, tree_of, tree_clock, id_of}
+use Rattle.tenant_ledger.proofs.Words.{AllByRecursion, Row, Tenant, Request, Reply, Code, Steps, AreLegal, Accepted, Refused, step, step_unless, after, fresh, with_row, is_report, may_lack_memory, refusal_of, history_of, reported, Reported, tree_of, tree_clock, id_of, MayHavePoint}
 use Rattle.trace_types.specs.declared.request.Request.TheVariants as request
 use Rattle.trace_types.specs.text.Text.{CanBeWritten}
 use Rattle.trace_types.proofs.Interleaving.{after-push, limits-after}
 use Rattle.tenant_ledger.specs.Upcoming.{Upcoming}
 use Rattle.tenant_desk.specs.Desks.{IsDone, IsEventOf, AllArePublished}
-use Rattle.tenant_desk.specs.Events.{tenant_of}
+use Rattle.tenant_desk.specs.Events.{published_tenant}
 use Rattle.tenant_desk.specs.Publications.{IsNext, with_next}
 use Rattle.tenant_desk.specs.declared.event.Event.{Event}
 use Rattle.tenant_desk.specs.declared.published.Published.{Published}
@@ -64,7 +64,7 @@ steps_done tenant new upcoming request reply report same stepped (inr lacked) =
 module _ (home : List ℕ) (upcoming : Upcoming) (published : Published) (event : Event) (shown : AllArePublished home upcoming.tenant published) (of : IsEventOf home upcoming event) where
   pub is_next : AreLegal upcoming.tenant.limits (upcoming.tenant.rows ++ upcoming.row ∷ []) → IsNext published.events event
   is_next legal =
-      let tenant : upcoming.tenant ≡ tenant_of published.events = sym shown.tenant in
+      let tenant : upcoming.tenant ≡ published_tenant published.events = sym shown.tenant in
       let row : upcoming.row ≡ event.row = sym of.row in
       record {
         legal = subst (λ (one : Row). AreLegal published.events.limits (published.events.rows ++ one ∷ [])) row
@@ -72,6 +72,8 @@ module _ (home : List ℕ) (upcoming : Upcoming) (published : Published) (event 
         tree = of.tree ∙ (λ i. tree_of tree_clock (row i ∷ history_of (tenant i).rows) (suc (length (tenant i).rows)));
         id = of.id ∙ (λ i. id_of tree_clock (row i ∷ history_of (tenant i).rows) (row i).task);
         home = of.home ∙ sym shown.home;
+        point = subst (λ (one : Row). MayHavePoint (one ∷ history_of published.events.rows) (suc (length published.events.rows)) event.point) row
+            (subst (λ (t : Tenant). MayHavePoint (upcoming.row ∷ history_of t.rows) (suc (length t.rows)) event.point) tenant of.point);
       }
 
   -- and with it all of the tenant's events are published

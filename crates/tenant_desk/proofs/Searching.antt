@@ -37,7 +37,7 @@ abbrev state_with : Bool → Bool → TaskState
 state_with joined ended = cond joined Joined (cond ended Ended Live)
 
 -- a task that a row starts was not known
-started_was_unknown : (earlier : History) (row : Row) (task : Text) (kind : Kind) (named : Option Text) → AllowsNamed earlier kind named
+pub started_was_unknown : (earlier : History) (row : Row) (task : Text) (kind : Kind) (named : Option Text) → AllowsNamed earlier kind named
     → starts task (record row { kind = kind; name = named }) ≡ true → (is_known earlier task ≡ false) × (joins_task kind ≡ false)
 started_was_unknown earlier row task Spawn (Some child) allowed is = (subst (λ name. is_known earlier name ≡ false) ((is_same_iff child task).0 is) allowed, refl)
 started_was_unknown earlier row task Spawn None allowed is = absurd allowed
@@ -136,7 +136,7 @@ sent_is_new earlier row message Send (Some name) allowed is = (subst (λ one. is
 sent_is_new earlier row message Send None allowed is = absurd allowed
 sent_is_new earlier row message kind named allowed is = absurd (false≢true is)
 
-received_is_first : (earlier : History) (row : Row) (message : Text) (kind : Kind) (named : Option Text) → AllowsNamed earlier kind named
+pub received_is_first : (earlier : History) (row : Row) (message : Text) (kind : Kind) (named : Option Text) → AllowsNamed earlier kind named
     → receives message (record row { kind = kind; name = named }) ≡ true → is_received earlier message ≡ false
 received_is_first earlier row message Recv (Some name) allowed is = subst (λ one. is_received earlier one ≡ false) ((is_same_iff name message).0 is) allowed.1
 received_is_first earlier row message Recv None allowed is = absurd allowed

@@ -5,7 +5,7 @@ use mathlib.Core.List.{IsPrefix}
 use Rattle.logbook.specs.Pages.{Book}
 use Rattle.tenant_ledger.proofs.Words.{Limits, Row, Tenant, Request, Reply, Refused, Answers, AreLegal, is_report}
 use Rattle.trace_types.specs.declared.code.Code.TheVariants.{ViewOnly}
-use Rattle.tenant_desk.specs.Events.{tenant_of}
+use Rattle.tenant_desk.specs.Events.{published_tenant}
 use Rattle.tenant_desk.specs.Rules.{IsOfDesk, IsOfLog, StaysOf, HasEntered, Sees}
 use Rattle.tenant_desk.specs.Views.{Known, BeginWithEach, LooksUp, Responds}
 use Rattle.tenant_desk.specs.declared.published.Published.{Published}
@@ -54,11 +54,11 @@ known_of_entered book limits home known now published of sees =
 -- the answer at what was entered is one at the rows that are then seen
 pub looks_up : (old : Known) (home : List ℕ) (known now : Option Sight) (published : Published) (request : Request) (reply : Reply)
     → IsOfDesk old.book old.limits home known → BeginWithEach old.seen old.met → HasEntered known old.seen published now
-    → Answers (tenant_of published.events) request reply
+    → Answers (published_tenant published.events) request reply
     → LooksUp old request reply (record { seen = published.front.rows; met = []; limits = old.limits; book = published.front.book })
 looks_up old home known now published request reply of begin entered answered =
     let is = entered_desk old.book old.limits home known now published of entered.sees in
-    let same : tenant_of published.events ≡ record { limits = old.limits; rows = published.front.rows } =
+    let same : published_tenant published.events ≡ record { limits = old.limits; rows = published.front.rows } =
     λ i. record { limits = is.1 i; rows = (sym entered.sees.0.rows) i } in
     inl (
       subst (λ (tenant : Tenant). Answers tenant request reply) same answered,
@@ -75,7 +75,7 @@ looks_up old home known now published request reply of begin entered answered =
 -- so a view that is asked answers as it is due, where that is what it has seen afterwards
 pub responds : (old new : Known) (home : List ℕ) (known now : Option Sight) (published : Published) (request : Request) (reply : Reply)
     → is_report request ≡ false → IsOfDesk old.book old.limits home known → BeginWithEach old.seen old.met → HasEntered known old.seen published now
-    → Answers (tenant_of published.events) request reply
+    → Answers (published_tenant published.events) request reply
     → new ≡ record { seen = published.front.rows; met = []; limits = old.limits; book = published.front.book }
     → Responds old request reply new
 responds old new home known now published request reply query of begin entered answered is =

@@ -1,5 +1,5 @@
 -- What is published of a tenant's events.
-use Rattle.std.specs.Prelude.{◌≡◌, ℕ, List, [], ◌∷◌, ◌++◌, take}
+use Rattle.std.specs.Prelude.{◌≡◌, ℕ, List, [], ◌∷◌, ◌++◌, take, Option}
 use Rattle.trace_types.specs.tenant.Limits.{Limits}
 use Rattle.trace_types.specs.tenant.Rows.{history_of}
 use Rattle.trace_types.specs.tenant.Tenant.{Tenant, AreLegal}
@@ -8,7 +8,8 @@ use Rattle.trace_types.specs.clock.EventTree.{EventTree}
 use Rattle.trace_types.specs.clock.Id.{Id}
 use Rattle.trace_types.specs.clock.Stamps.{tree_of}
 use Rattle.trace_types.specs.declared.row.Row.{Row}
-use Rattle.tenant_ledger.specs.Ledger.{of_each, id_after}
+use Rattle.trace_query.specs.declared.deciding.Deciding.{Deciding}
+use Rattle.tenant_ledger.specs.Ledger.{of_each, id_after, ArePoints}
 
 -- The rows, and what is kept of each event, in the order of the events. The trees are to lie in the forest of this home.
 pub record Events : Type 0 where
@@ -18,30 +19,40 @@ pub record Events : Type 0 where
   pub trees : List EventTree
   -- where each tree lies
   pub homes : List (List ℕ)
+  pub points : List (Option Deciding)
   pub ids : List Id
 
-abbrev pub tenant_of : Events → Tenant
-tenant_of events = record { limits = events.limits; rows = events.rows }
+abbrev pub published_tenant : Events → Tenant
+published_tenant events = record { limits = events.limits; rows = events.rows }
 
--- The rows are legal; of each event its tree is what it knows, which lies where it is to, and its id that of its task after it.
+-- The rows are legal; of each event its tree is what it knows, which lies where it is to, its point, where it has one, is one
+-- that it raised, and its id that of its task after it.
 pub record AreSound (events : Events) : Type 0 where
   pub legal : AreLegal events.limits events.rows
   pub trees : events.trees ≡ of_each (tree_of tree_clock) (history_of events.rows)
   pub homes : events.homes ≡ of_each (λ history event. events.home) (history_of events.rows)
+  pub points : ArePoints (history_of events.rows) events.points
   pub ids : events.ids ≡ of_each id_after (history_of events.rows)
 
 -- none yet
 abbrev pub no_events : List ℕ → Limits → Events
-no_events home limits = record { home = home; limits = limits; rows = []; trees = []; homes = []; ids = [] }
+no_events home limits = record { home = home; limits = limits; rows = []; trees = []; homes = []; points = []; ids = [] }
 
 -- the first events, and one more behind them
 abbrev pub first_events : ℕ → Events → Events
-first_events count events = record events { rows = take count events.rows; trees = take count events.trees; homes = take count events.homes; ids = take count events.ids }
+first_events count events = record events {
+  rows = take count events.rows;
+  trees = take count events.trees;
+  homes = take count events.homes;
+  points = take count events.points;
+  ids = take count events.ids;
+}
 
-abbrev pub with_event : Row → EventTree → List ℕ → Id → Events → Events
-with_event row tree home id events = record events {
+abbrev pub events_with : Row → EventTree → List ℕ → Option Deciding → Id → Events → Events
+events_with row tree home point id events = record events {
   rows = events.rows ++ row ∷ [];
   trees = events.trees ++ tree ∷ [];
   homes = events.homes ++ home ∷ [];
+  points = events.points ++ point ∷ [];
   ids = events.ids ++ id ∷ [];
 }

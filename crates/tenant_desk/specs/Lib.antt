@@ -1,6 +1,7 @@
 pub mod Desks
 pub mod Events
 pub mod Histories
+pub mod Indexes
 pub mod Kept
 pub mod Publications
 pub mod Rules

@@ -46,6 +46,7 @@ fn event_of<R: Wait>(
     Ok(Event {
         row: prepared.row().share(),
         tree: shared.keep_tree(rt, tree)?,
+        point: prepared.point(),
         id: prepared.id().share()?,
     })
 }

@@ -3,16 +3,19 @@ ghost use Rattle.std.specs.Prelude.{◌≡◌, IfOk};
 
 use event_tree::EvTree;
 use id_tree::IdTree;
+use trace_query::Deciding;
 use trace_types::{Memory, Row};
 use tree_forest::Tree;
 
-/// What is published of one event: its row, what it knows, and the id of its task after it.
+/// What is published of one event: its row, what it knows, a point that it raised, and the id of its task after it.
 #[derive(Drop)]
 pub struct Event {
     /// The row of the event.
     pub row: Row,
     /// What the event knows, with itself.
     pub tree: Tree<EvTree>,
+    /// A point that the event raised, where one was found.
+    pub point: Option<Deciding>,
     /// The id that its task has after it.
     pub id: Tree<IdTree>,
 }
@@ -26,6 +29,7 @@ impl Event {
         Ok(Event {
             row: self.row.share(),
             tree: self.tree.share()?,
+            point: self.point.as_ref().map(|point| point.share()),
             id: self.id.share()?,
         })
     }

@@ -1,12 +1,15 @@
 //! What is published of a tenant's events, and the answers at it.
-ghost use Rattle.std.specs.Prelude.{◌≡◌, ◌↔◌, ◌<◌, suc, length, map, slice_get, Some, is_some, IfSome, IfOk, IfErr, IsOk, MatchResult};
+ghost use Rattle.std.specs.Prelude.{◌≡◌, ◌↔◌, ◌<◌, ◌∷◌, suc, length, map, slice_get, Some, is_some, IfSome, IfOk, IfErr, IsOk, MatchResult};
 ghost use Rattle.std.specs.Option.{option_to_list};
-ghost use Rattle.trace_types.specs.tenant.Rows.{history_of, is_event, task_count, message_count};
+ghost use Rattle.trace_types.specs.tenant.Rows.{History, history_of, is_event, task_count, message_count};
 ghost use Rattle.trace_types.specs.tenant.Tenant.{Answers, reply_to_view};
 ghost use Rattle.tenant_ledger.specs.Ledger.{code_of};
-ghost use Rattle.tenant_desk.specs.Events.{AreSound, tenant_of, no_events, first_events, with_event};
+ghost use Rattle.tenant_desk.specs.Events.{AreSound, published_tenant, no_events, first_events, events_with};
+ghost use Rattle.tenant_desk.specs.Indexes.{IsIndexOf};
+ghost use Rattle.tenant_desk.specs.Searches.{task_due, message_due, send_and_receipts};
 
 use crate::event::Event;
+use crate::index::Index;
 use crate::search::{message_in, task_in};
 use event_tree::EvTree;
 use id_tree::IdTree;
@@ -16,14 +19,18 @@ use std::marker::Model;
 use std::sync::Wait;
 use tenant_ledger::{Keep, Share, Shared};
 use trace_query::{
-    Compare, QueryFault, concurrent_in_order, order_in_order, pair_of, past_in_order,
+    Compare, Deciding, QueryFault, concurrent_by_points, order_by_points, pair_of, past_by_points,
 };
-use trace_types::{Code, Kind, Limits, Memory, Name, Numbers, Receipts, Reply, Request, Row, Text};
+use trace_types::{
+    Code, Kind, Limits, Memory, Name, Numbers, Receipts, Reply, Request, Row, TaskState, Text,
+};
 use tree_forest::{Home, Tree};
 
-/// The events of one tenant that are published: of each its row, what it knows, and the id of its task after it.
+/// The events of one tenant that are published: of each its row, what it knows, a point that it raised, and the id of its task
+/// after it.
 ///
-/// Room for as many events as the tenant may have is taken when it is made, so that a change takes no memory.
+/// Room for as many events as the tenant may have, and for the names of its tasks and messages, is taken when it is made, so
+/// that a change takes no memory.
 #[derive(Drop)]
 pub struct Events {
     limits: Limits,
@@ -31,7 +38,11 @@ pub struct Events {
     home: Home,
     rows: Vec<Row>,
     trees: Vec<Tree<EvTree>>,
+    points: Vec<Option<Deciding>>,
     ids: Vec<Tree<IdTree>>,
+    /// Tasks and messages by name. There is none after events were taken away, until the next one is added.
+    index: Option<Index>,
+    alloc: Global,
     /// How many tasks there ever were, root included.
     tasks: u64,
     messages: u64,
@@ -55,10 +66,11 @@ impl Model for Events {
       rows = e.rows.items;
       trees = map (λ tree. tree.value) e.trees.items;
       homes = map (λ tree. tree.home) e.trees.items;
+      points = e.points.items;
       ids = map (λ tree. tree.value) e.ids.items;
     } };
 
-    ghost invariant = { λ e. AreHeld e.limits.events e.rows e.trees e.ids e.tasks e.messages };
+    ghost invariant = { λ e. AreHeld e.limits.events e.rows e.trees e.points e.ids e.tasks e.messages e.index };
 }
 
 impl Events {
@@ -72,7 +84,10 @@ impl Events {
             home,
             rows: Vec::with_capacity(alloc, room)?,
             trees: Vec::with_capacity(alloc, room)?,
+            points: Vec::with_capacity(alloc, room)?,
             ids: Vec::with_capacity(alloc, room)?,
+            index: Some(Index::new(alloc, limits)?),
+            alloc,
             tasks: 1,
             messages: 0,
         })
@@ -104,8 +119,10 @@ impl Events {
         ensures { self.new ≡ first_events count self.old }
     {
         self.trees.truncate(count);
+        self.points.truncate(count);
         self.ids.truncate(count);
         if count < self.rows.len() {
+            self.index = None;
             self.rows.truncate(count);
             self.tasks = task_count(&self.rows);
             self.messages = message_count(&self.rows);
@@ -117,24 +134,39 @@ impl Events {
     pub fn put(&mut self, before: usize, event: Event) -> Result<(), Memory>
         ensures room { IsOk result ↔ (before < self.old.limits.events) }
         ensures events { MatchResult result
-            (λ _. self.new ≡ with_event event.row event.tree.value event.tree.home event.id.value (first_events before self.old))
+            (λ _. self.new ≡ events_with event.row event.tree.value event.tree.home event.point event.id.value (first_events before self.old))
             (λ _. self.new ≡ self.old) }
     {
         if before as u64 >= self.limits.events() {
             return Err(Memory);
+        }
+        if before == self.rows.len() {
+            self.restore_index();
         }
         self.truncate(before);
         self.add(event);
         Ok(())
     }
 
+    /// Makes the index anew where there is none, if there is memory for it.
+    fn restore_index(&mut self)
+        ensures { self.new ≡ self.old }
+    {
+        if self.index.is_none() {
+            self.index = index_of(self.alloc, self.limits, &self.rows);
+        }
+    }
+
     /// Adds an event for which there is room.
     fn add(&mut self, event: Event)
         requires room { length self.old.rows < self.old.limits.events }
         requires trees { length self.old.trees < self.old.limits.events }
+        requires points { length self.old.points < self.old.limits.events }
         requires ids { length self.old.ids < self.old.limits.events }
-        ensures { self.new ≡ with_event event.row event.tree.value event.tree.home event.id.value self.old }
+        ensures { self.new ≡ events_with event.row event.tree.value event.tree.home event.point event.id.value self.old }
     {
+        let number = self.rows.len() as u64 + 1;
+        note(&mut self.index, &event.row, number);
         match event.row.kind {
             Kind::Spawn => self.tasks += 1,
             Kind::Send => self.messages += 1,
@@ -142,6 +174,7 @@ impl Events {
         }
         self.rows.push_reserved(event.row);
         self.trees.push_reserved(event.tree);
+        self.points.push_reserved(event.point);
         self.ids.push_reserved(event.id);
     }
 
@@ -154,7 +187,7 @@ impl Events {
         request: &Request,
     ) -> Reply
         requires { AreSound self.now }
-        ensures { Answers (tenant_of self.now) request.now result }
+        ensures { Answers (published_tenant self.now) request.now result }
     {
         match *request {
             Request::Local(_)
@@ -184,7 +217,7 @@ impl Events {
     ) -> Reply
         requires sound { AreSound self.now }
         requires home { ⟦<Shared as Keep>⟧.home shared.now ≡ self.now.home }
-        ensures { Answers (tenant_of self.now) request.now result }
+        ensures { Answers (published_tenant self.now) request.now result }
     {
         match *request {
             Request::Order(first, second) => self.order_kept(rt, shared, first, second),
@@ -192,24 +225,24 @@ impl Events {
         }
     }
 
-    /// How the first event stands to the second, by the trees kept for them.
+    /// How the first event stands to the second, by the trees and the points kept for them.
     #[inline(always)]
     fn order<C: Compare<Kept = Tree<EvTree>>>(&self, compare: &C, first: u64, second: u64) -> Reply
         requires { AreSound self.now }
-        ensures { result ≡ reply_to_view (tenant_of self.now) (Request.Order first second) }
+        ensures { result ≡ reply_to_view (published_tenant self.now) (Request.Order first second) }
     {
-        match order_in_order(compare, self.trees(), first, second) {
+        match order_by_points(compare, self.trees(), self.points(), first, second) {
             Ok(order) => Reply::Ordering(order),
             Err(fault) => Reply::Refused(code_of(fault)),
         }
     }
 
-    /// The same, by the cache.
+    /// The same, by the trees and the cache.
     #[inline(always)]
     fn order_kept<R: Wait>(&self, rt: &R, shared: &Shared, first: u64, second: u64) -> Reply
         requires sound { AreSound self.now }
         requires home { ⟦<Shared as Keep>⟧.home shared.now ≡ self.now.home }
-        ensures { result ≡ reply_to_view (tenant_of self.now) (Request.Order first second) }
+        ensures { result ≡ reply_to_view (published_tenant self.now) (Request.Order first second) }
     {
         match pair_of(self.trees(), first, second) {
             Ok((first, second)) => Reply::Ordering(shared.order_kept(rt, first, second)),
@@ -217,15 +250,15 @@ impl Events {
         }
     }
 
-    /// The other events that reach the event, by the trees kept for them.
+    /// The other events that reach the event, by the trees and the points kept for them.
     fn past<C: Compare<Kept = Tree<EvTree>>>(&self, compare: &C, alloc: Global, event: u64) -> Reply
         requires { AreSound self.now }
-        ensures { Answers (tenant_of self.now) (Request.Past event) result }
+        ensures { Answers (published_tenant self.now) (Request.Past event) result }
     {
-        listed(past_in_order(compare, alloc, self.trees(), event))
+        listed(past_by_points(compare, alloc, self.trees(), self.points(), event))
     }
 
-    /// The events that neither reach the event nor are reached from it, by the trees kept for them.
+    /// The events that neither reach the event nor are reached from it, by the trees and the points kept for them.
     fn concurrent_with<C: Compare<Kept = Tree<EvTree>>>(
         &self,
         compare: &C,
@@ -233,9 +266,9 @@ impl Events {
         event: u64,
     ) -> Reply
         requires { AreSound self.now }
-        ensures { Answers (tenant_of self.now) (Request.Concurrent event) result }
+        ensures { Answers (published_tenant self.now) (Request.Concurrent event) result }
     {
-        listed(concurrent_in_order(compare, alloc, self.trees(), event))
+        listed(concurrent_by_points(compare, alloc, self.trees(), self.points(), event))
     }
 
     /// What each event knows, in the order of the events.
@@ -244,6 +277,13 @@ impl Events {
         ensures homes { map (λ tree. tree.home) result.now ≡ self.now.homes }
     {
         &self.trees
+    }
+
+    /// A point that each event raised, with the value there, where one was found, in the order of the events.
+    fn points(&self) -> &[Option<Deciding>]
+        ensures { result.now ≡ self.now.points }
+    {
+        &self.points
     }
 
     /// What the event in this place knows.
@@ -277,7 +317,7 @@ impl Events {
 
     /// The row of the event.
     fn event(&self, event: u64) -> Reply
-        ensures { result ≡ reply_to_view (tenant_of self.now) (Request.Event event) }
+        ensures { result ≡ reply_to_view (published_tenant self.now) (Request.Event event) }
     {
         match self.place_of(event) {
             Some(place) => Reply::Event(self.rows[place].share()),
@@ -288,7 +328,7 @@ impl Events {
     /// The stamp of the event.
     fn stamp(&self, alloc: Global, event: u64) -> Reply
         requires { AreSound self.now }
-        ensures { Answers (tenant_of self.now) (Request.Stamp event) result }
+        ensures { Answers (published_tenant self.now) (Request.Stamp event) result }
     {
         let Some(place) = self.place_of(event) else {
             return Reply::Refused(Code::NoEvent);
@@ -302,9 +342,9 @@ impl Events {
     /// The state and the last event of the task.
     fn task(&self, name: &Name) -> Reply
         requires { AreSound self.now }
-        ensures { result ≡ reply_to_view (tenant_of self.now) (Request.Task name.now) }
+        ensures { result ≡ reply_to_view (published_tenant self.now) (Request.Task name.now) }
     {
-        match task_in(&self.rows, name) {
+        match self.found_task(name) {
             Some((state, last)) => Reply::Task(state, last),
             None => Reply::Refused(Code::NoTask),
         }
@@ -313,21 +353,70 @@ impl Events {
     /// The send and the receipts of the message.
     fn message(&self, alloc: Global, name: &Name) -> Reply
         requires { AreSound self.now }
-        ensures { result ≡ reply_to_view (tenant_of self.now) (Request.Message name.now) }
+        ensures { result ≡ reply_to_view (published_tenant self.now) (Request.Message name.now) }
     {
-        match message_in(&self.rows, name) {
+        match self.found_message(name) {
             Some((sent, received)) => Reply::Message(sent, receipts(alloc, received)),
             None => Reply::Refused(Code::NoMessage),
+        }
+    }
+
+    /// How far the task has come, and its last event, else the event that started it, else 0; `None` where there is no such
+    /// task.
+    #[inline(always)]
+    fn found_task(&self, name: &Name) -> Option<(TaskState, u64)>
+        requires { AreSound self.now }
+        ensures { result ≡ task_due (history_of self.now.rows) name.now }
+    {
+        match &self.index {
+            Some(index) => index.task(name),
+            None => task_in(&self.rows, name),
+        }
+    }
+
+    /// The event that sent the message, and the one that received it; `None` where there is no such message.
+    #[inline(always)]
+    fn found_message(&self, name: &Name) -> Option<(u64, Option<u64>)>
+        requires { AreSound self.now }
+        ensures { send_and_receipts result ≡ message_due (history_of self.now.rows) name.now }
+    {
+        match &self.index {
+            Some(index) => index.message(name),
+            None => message_in(&self.rows, name),
         }
     }
 
     /// How many events, tasks ever and messages there are.
     #[inline(always)]
     fn counts(&self) -> Reply
-        ensures { result ≡ reply_to_view (tenant_of self.now) Request.Count }
+        ensures { result ≡ reply_to_view (published_tenant self.now) Request.Count }
     {
         Reply::Count(self.rows.len() as u64, self.tasks, self.messages)
     }
+}
+
+/// The index with the row of this event, if there is room in it.
+fn note(index: &mut Option<Index>, row: &Row, event: u64)
+    ensures { (history : History) → IfSome index.old (IsIndexOf history) → event ≡ suc (length history) → IfSome index.new (IsIndexOf (row.now ∷ history)) }
+{
+    let is_noted = match index {
+        Some(index) => index.add(row, event),
+        None => true,
+    };
+    if !is_noted {
+        *index = None;
+    }
+}
+
+/// The index of the rows, if there is memory for it.
+fn index_of(alloc: Global, limits: Limits, rows: &[Row]) -> Option<Index>
+    ensures { IfSome result (IsIndexOf (history_of rows.now)) }
+{
+    let mut index = Index::new(alloc, limits).ok();
+    for (place, row) in rows.iter().enumerate() {
+        note(&mut index, row, place as u64 + 1);
+    }
+    index
 }
 
 /// How many tasks the rows say there ever were, root included.

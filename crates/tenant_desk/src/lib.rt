@@ -10,6 +10,7 @@ mod desk;
 mod event;
 mod events;
 mod front;
+mod index;
 mod met;
 mod published;
 mod publisher;

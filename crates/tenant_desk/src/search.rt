@@ -1,4 +1,4 @@
-//! What the rows say of a task or of a message, by one search from the newest row to the oldest.
+//! What the rows say of a task or of a message, by one search from the newest row to the oldest, where there is no index.
 ghost use Rattle.std.specs.Prelude.{◌≡◌};
 ghost use Rattle.trace_types.specs.tenant.Rows.{history_of, names};
 ghost use Rattle.tenant_ledger.specs.Legal.{IsLegal};
@@ -52,7 +52,7 @@ pub(crate) fn message_in(rows: &[Row], message: &Name) -> Option<(u64, Option<u6
 }
 
 /// How far a task has come whose last report is of this kind.
-fn state_at(joined: bool, last: Kind) -> TaskState
+pub(crate) fn state_at(joined: bool, last: Kind) -> TaskState
     ensures { result ≡ state_at joined last }
 {
     match last {

@@ -5,12 +5,13 @@ ghost use Rattle.trace_types.specs.tenant.Rows.{history_of};
 ghost use Rattle.trace_types.specs.clock.Stamps.{id_of, tree_of};
 ghost use Rattle.trace_types.specs.tenant.Tenant.{with_row};
 ghost use Rattle.trace_types.specs.declared.reply.Reply.TheVariants as reply;
+ghost use Rattle.tenant_ledger.specs.Ledger.{MayHavePoint};
 
 use crate::book::{Book, Draft};
 use crate::share::{Keep, MeantId};
 use crate::{Ledger, PlainShare};
 use std::marker::Model;
-use trace_query::Meant;
+use trace_query::{Deciding, Meant};
 use trace_types::{Reply, Row};
 
 /// A ledger with a report that will be accepted: it has to be committed or abandoned, and neither takes memory.
@@ -45,6 +46,13 @@ impl<S: Keep> Prepared<S> {
         ensures { S.Kept.tree result.now ≡ tree_of tree_clock (self.now.row ∷ history_of self.now.tenant.rows) (suc (length self.now.tenant.rows)) }
     {
         self.draft.tree()
+    }
+
+    /// A point that its event raised, with the value there, where one was found.
+    pub fn point(&self) -> Option<Deciding>
+        ensures { MayHavePoint (self.now.row ∷ history_of self.now.tenant.rows) (suc (length self.now.tenant.rows)) result }
+    {
+        self.draft.point()
     }
 
     /// The id that its task has after its event, as it is kept.

@@ -103,6 +103,14 @@ module _ {K : Type 0} (tree : K → EventTree) (kept : List K) (first second : �
       let later_there = kept_there tree kept second other is_second in
       in_order first second there.0 later_there.0 earlier (transport (λ i. IsBelow (later_there.1 i) (there.1 i)) below)
 
+  -- the point of the earlier one decides whether its tree is below that of the other
+  pub decided_pair : (points : List (Option Deciding)) → DecideInOrder (map tree kept) points → first < second
+      → IsDecidedBy (point_in points (first - 1)) (tree one) (tree other)
+  decided_pair points decided earlier =
+      let there = kept_there tree kept first one is_first in
+      let later_there = kept_there tree kept second other is_second in
+      transport (λ i. IsDecidedBy (point_in points (first - 1)) (sym there.1 i) (sym later_there.1 i)) (decided first second there.0 later_there.0 earlier)
+
 -- whether none of these trees is below the first, computed
 abbrev none_below : EventTree → List EventTree → Bool
 none_below e [] = true

@@ -1,4 +1,5 @@
 //! A point that decides.
+ghost use Rattle.std.specs.Prelude.{◌≡◌};
 
 use event_tree::Point;
 
@@ -7,4 +8,16 @@ use event_tree::Point;
 pub struct Deciding {
     pub point: Point,
     pub value: u64,
+}
+
+impl Deciding {
+    /// The same once more.
+    pub fn share(&self) -> Deciding
+        ensures { result ≡ self.now }
+    {
+        Deciding {
+            point: self.point.share(),
+            value: self.value,
+        }
+    }
 }

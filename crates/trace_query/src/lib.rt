@@ -2,8 +2,8 @@
 //!
 //! The one contract: [`order`], [`past`] and [`concurrent_with`] give exactly what `specs/Queries.antt` defines over the list
 //! of the kept trees, of which event k has the k-th. Nothing else of the events is known here. Where no later event's
-//! tree is below an earlier one's, [`order_in_order`], [`past_in_order`] and [`concurrent_in_order`] give the same lists with one look at each
-//! pair; [`past_by_points`] and [`concurrent_by_points`] do where events have points that decide whether they are below
+//! tree is below an earlier one's, [`order_in_order`], [`past_in_order`] and [`concurrent_in_order`] give the same with one look at each
+//! pair; [`order_by_points`], [`past_by_points`] and [`concurrent_by_points`] do where events have points that decide whether they are below
 //! later ones, as `specs/Deciding.antt` defines. How two kept trees are compared is left to a [`Compare`]; `specs/Compared.antt` defines what it has to answer, and
 //! [`laws`] says what the definitions mean.
 #![tactic(auto)]
@@ -21,7 +21,7 @@ pub use deciding::Deciding;
 pub use meant::Meant;
 pub use plain::Plain;
 pub use queries::{
-    concurrent_by_points, concurrent_in_order, concurrent_with, order, order_in_order, pair_of,
-    past, past_by_points, past_in_order,
+    concurrent_by_points, concurrent_in_order, concurrent_with, order, order_by_points,
+    order_in_order, pair_of, past, past_by_points, past_in_order,
 };
 pub use query_fault::QueryFault;

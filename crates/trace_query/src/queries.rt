@@ -34,11 +34,32 @@ pub fn order_in_order<C: Compare>(
     requires { StandInOrder (map C.Kept.tree kept.now) }
     ensures { result ≡ order_due (map C.Kept.tree kept.now) first second }
 {
+    order_by_points(compare, kept, &[], first, second)
+}
+
+/// As [`order_in_order`], where event k has the k-th of the points: the earlier event's point, where it has one, is where
+/// they are compared. Events behind the last point have none.
+#[inline(always)]
+pub fn order_by_points<C: Compare>(
+    compare: &C,
+    kept: &[C::Kept],
+    points: &[Option<Deciding>],
+    first: u64,
+    second: u64,
+) -> Result<Order, QueryFault>
+    requires in_order { StandInOrder (map C.Kept.tree kept.now) }
+    requires decided { DecideInOrder (map C.Kept.tree kept.now) points.now }
+    ensures { result ≡ order_due (map C.Kept.tree kept.now) first second }
+{
     let (one, other) = pair_of(kept, first, second)?;
     Ok(match first.cmp(&second) {
         Ordering::Equal => Order::Same,
-        Ordering::Less if compare.is_below(one, other) => Order::Before,
-        Ordering::Greater if compare.is_below(other, one) => Order::After,
+        Ordering::Less if is_below_later(compare, one, points, first as usize - 1, other) => {
+            Order::Before
+        }
+        Ordering::Greater if is_below_later(compare, other, points, second as usize - 1, one) => {
+            Order::After
+        }
         _ => Order::Concurrent,
     })
 }

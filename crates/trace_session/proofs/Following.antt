@@ -10,7 +10,7 @@ use Rattle.line_protocol.specs.Held.{Held, ReadingBounds}
 use Rattle.line_protocol.specs.Sink.{Taken}
 use Rattle.line_protocol.specs.Source.{Given}
 use Rattle.trace_session.proofs.Reading.{ReadsLines-none, ReadsLines-line, ReadsLines-more, ReadsLines-same}
-use Rattle.trace_session.proofs.Writing.{Wrote, Wrote-none, Wrote-kept, Wrote-line, WritesAll-from, WritesInPart-held, WritesInPart-line}
+use Rattle.trace_session.proofs.Writing.{Wrote, Wrote-none, Wrote-kept, Wrote-line, WritesAll-from, WritesLinesInPart-held, WritesLinesInPart-line}
 use Rattle.trace_session.specs.Answers.{AnswersEach, AnswersLine, last_reply}
 use Rattle.trace_session.specs.Asking.{FindsAsked, is_quit, most_requests, request_in}
 use Rattle.trace_session.specs.Reading.{FindsNothing, ReadsLines}
@@ -128,15 +128,15 @@ session_unread A Does first now after start held held' taken mid taken' old new 
     session_alone Does first after start held' taken taken' old new (Err Write) follows.requests follows.answers held'.left follows.answered
     (ReadsLines-same follows.read (ap (λ (given : Given). given.bytes) given_is) (ap (λ (h : Held). h.left) held_is) (λ ended. ap (λ (h : Held). h.is_ended) held_is ∙ ended))
     (omega (arith, follows.counted, few)) refl
-    (subst (λ replies. WritesUntil (Err Write) taken taken' replies) (append-nil follows.answers) (WritesInPart-held [] (omega arith) follows.wrote hands))
+    (subst (λ replies. WritesUntil (Err Write) taken taken' replies) (append-nil follows.answers) (WritesLinesInPart-held [] (omega arith) follows.wrote hands))
 session_unread A Does first now after start held held' taken mid taken' old new count Memory follows few none hands = absurd none
 session_unread A Does first now after start held held' taken mid taken' old new count Gate follows few none hands = absurd none
 
 -- the writes up to a reply that was not written whole
 stopped_writes : {taken mid : Taken} (taken' : Taken) {answers : List Reply} (fault : SessionFault) (reply : Reply) → Wrote taken mid answers → StopsAt fault mid taken' (reply_line reply)
     → WritesUntil (Err fault) taken taken' (answers ++ reply ∷ [])
-stopped_writes taken' Write reply wrote (inl part) = WritesInPart-line reply wrote part
-stopped_writes taken' Write reply wrote (inr stops) = WritesInPart-held (reply ∷ []) (omega arith) wrote stops
+stopped_writes taken' Write reply wrote (inl part) = WritesLinesInPart-line reply wrote part
+stopped_writes taken' Write reply wrote (inr stops) = WritesLinesInPart-held (reply ∷ []) (omega arith) wrote stops
 stopped_writes taken' {answers = answers} Gate reply wrote hands = (answers, reply, refl, WritesAll-from wrote hands)
 stopped_writes taken' Read reply wrote stops = absurd stops
 stopped_writes taken' TooLong reply wrote stops = absurd stops
@@ -202,7 +202,7 @@ finished end (Ok other) Ends Holds make ok failed wrote finishes =
     subst (λ one. Holds (Ok one)) (sym finishes.0) (make (Ok end) ok (WritesAll-from wrote finishes.1))
 finished {taken = taken} {taken' = taken'} {replies = replies} end (Err fault) Ends Holds make ok failed wrote finishes =
     subst (λ one. Holds (Err one)) (sym finishes.0)
-    (make (Err Write) failed (subst (λ all. WritesUntil (Err Write) taken taken' all) (append-nil replies) (WritesInPart-held [] (omega arith) wrote finishes.1)))
+    (make (Err Write) failed (subst (λ all. WritesUntil (Err Write) taken taken' all) (append-nil replies) (WritesLinesInPart-held [] (omega arith) wrote finishes.1)))
 
 -- the session has come to its end
 pub session_ended : {S : Type 0} (Does : S → Request → Reply → S → Type 0) (first now after : Given) (start held held' : Held) (taken mid mid' taken' : Taken) (old between new : S) (count : ℕ) (asks : Asked) (end : SessionEnd) (result : Result SessionEnd SessionFault)

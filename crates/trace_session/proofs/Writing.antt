@@ -14,7 +14,7 @@ use Rattle.line_protocol.specs.Patience.{SinkCall}
 use Rattle.line_protocol.specs.Sink.{Taken}
 use Rattle.line_protocol.specs.TextsInTurn.{BeginsFirst, BreaksOffAt}
 use Rattle.line_protocol.specs.Writing.{EndsInFault, GoesWrong, WritesPart, WritesWhole}
-use Rattle.trace_session.specs.Written.{HandsAllOn, KeepsAll, StopsHandingOn, WritesAll, WritesInPart, reply_line, reply_lines}
+use Rattle.trace_session.specs.Written.{HandsAllOn, KeepsAll, StopsHandingOn, WritesAll, WritesLinesInPart, reply_line, reply_lines}
 
 -- These replies were written, each patiently, and all is ready for the next.
 pub record Wrote (before after : Taken) (replies : List Reply) : Type 0 where
@@ -99,8 +99,8 @@ begins_none [] = refl
 begins_none (reply ∷ replies) = (reply_line reply, refl, some_line reply)
 
 -- what was written was not handed on
-pub WritesInPart-held : {before mid after : Taken} {replies : List Reply} (left : List Reply) → length left ≤ 1 → Wrote before mid replies → StopsHandingOn mid after → WritesInPart before after (replies ++ left)
-WritesInPart-held {before = before} {mid = mid} {after = after} {replies = replies} left few wrote stops =
+pub WritesLinesInPart-held : {before mid after : Taken} {replies : List Reply} (left : List Reply) → length left ≤ 1 → Wrote before mid replies → StopsHandingOn mid after → WritesLinesInPart before after (replies ++ left)
+WritesLinesInPart-held {before = before} {mid = mid} {after = after} {replies = replies} left few wrote stops =
     let breaks = BreaksTexts-flush (reply_lines replies) wrote.texts stops.2 in
     record {
       whole = replies;
@@ -117,8 +117,8 @@ WritesInPart-held {before = before} {mid = mid} {after = after} {replies = repli
     }
 
 -- the last reply was written in part
-pub WritesInPart-line : {before mid after : Taken} {replies : List Reply} (reply : Reply) → Wrote before mid replies → WritesPart mid after (reply_line reply) → WritesInPart before after (replies ++ reply ∷ [])
-WritesInPart-line {before = before} {mid = mid} {after = after} {replies = replies} reply wrote part =
+pub WritesLinesInPart-line : {before mid after : Taken} {replies : List Reply} (reply : Reply) → Wrote before mid replies → WritesPart mid after (reply_line reply) → WritesLinesInPart before after (replies ++ reply ∷ [])
+WritesLinesInPart-line {before = before} {mid = mid} {after = after} {replies = replies} reply wrote part =
     let breaks = BreaksTexts-text (reply_lines replies) (reply_line reply) [] wrote.texts part.2 in
     record {
       whole = replies;

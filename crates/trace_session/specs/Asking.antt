@@ -24,10 +24,10 @@ abbrev pub request_in : ℕ → Text → Option Request
 request_in most text = if is_longer_than most text then None else request_of text
 
 -- what is asked where a line reader found this, and holds this line
-abbrev pub asked_in : Line → Text → Asked
-asked_in line.End text = asked.End
-asked_in line.TooLong text = asked.Request None
-asked_in line.Whole text = if is_same text (codes "quit") then asked.Quit else asked.Request (request_of text)
+abbrev pub asked_by_line : Line → Text → Asked
+asked_by_line line.End text = asked.End
+asked_by_line line.TooLong text = asked.Request None
+asked_by_line line.Whole text = if is_same text (codes "quit") then asked.Quit else asked.Request (request_of text)
 
 -- The next line was read, and asks this.
 abbrev pub FindsAsked : List ℕ → List ℕ → Held → Held → Asked → Type 0

@@ -15,7 +15,7 @@ use Rattle.line_protocol.specs.declared.read_fault.ReadFault.TheVariants as read
 use Rattle.trace_session.specs.Lent.{AsksView, IsSoundDesk, IsSoundView, TakesRequest}
 use Rattle.trace_session.specs.Openings.{is_tenant, opening_in}
 use Rattle.trace_session.specs.Sessions.{Session}
-use Rattle.trace_session.specs.Written.{WritesAll, WritesInPart}
+use Rattle.trace_session.specs.Written.{WritesAll, WritesLinesInPart}
 use Rattle.trace_session.specs.declared.opening.Lending.{Lending}
 use Rattle.trace_session.specs.declared.opening.Lending.TheVariants as lending
 use Rattle.trace_session.specs.declared.opening.Opening.{Opening}
@@ -37,17 +37,17 @@ FindsNoLine (Err Memory) before after old new = ⊥
 FindsNoLine (Err Gate) before after old new = ⊥
 
 -- The one line that a refused session writes was written, or not.
-abbrev pub Refuses : Code → Taken → Taken → Result SessionEnd SessionFault → Type 0
-Refuses code before after (Ok end) = (end ≡ Refused code) × WritesAll before after (reply.Refused code ∷ [])
-Refuses code before after (Err Write) = WritesInPart before after (reply.Refused code ∷ [])
-Refuses code before after (Err Gate) = WritesAll before after []
-Refuses code before after (Err Read) = ⊥
-Refuses code before after (Err TooLong) = ⊥
-Refuses code before after (Err Memory) = ⊥
+abbrev pub TurnsAway : Code → Taken → Taken → Result SessionEnd SessionFault → Type 0
+TurnsAway code before after (Ok end) = (end ≡ Refused code) × WritesAll before after (reply.Refused code ∷ [])
+TurnsAway code before after (Err Write) = WritesLinesInPart before after (reply.Refused code ∷ [])
+TurnsAway code before after (Err Gate) = WritesAll before after []
+TurnsAway code before after (Err Read) = ⊥
+TurnsAway code before after (Err TooLong) = ⊥
+TurnsAway code before after (Err Memory) = ⊥
 
 -- The session was refused with this code, and read nothing more.
 pub record IsRefused (code : Code) (before after : Given) (held held' : Held) (taken taken' : Taken) (result : Result SessionEnd SessionFault) : Type 0 where
-  pub refuses : Refuses code taken taken' result
+  pub refuses : TurnsAway code taken taken' result
   pub same_given : after ≡ before
   pub same_held : held' ≡ held
 

@@ -23,14 +23,14 @@ read_fault_in (Ok value) = None
 read_fault_in (Err fault) = read_fault_of fault
 
 -- how many reads failed before this fault came
-abbrev pub failed_reads_of : SessionFault → ℕ
-failed_reads_of Read = 1
-failed_reads_of TooLong = 0
-failed_reads_of Write = 0
-failed_reads_of Memory = 0
-failed_reads_of Gate = 0
+abbrev pub failed_reads_by : SessionFault → ℕ
+failed_reads_by Read = 1
+failed_reads_by TooLong = 0
+failed_reads_by Write = 0
+failed_reads_by Memory = 0
+failed_reads_by Gate = 0
 
 -- how many reads failed in a call that ended so
 abbrev pub failed_reads_in : {A : Type 0} → Result A SessionFault → ℕ
 failed_reads_in (Ok value) = 0
-failed_reads_in (Err fault) = failed_reads_of fault
+failed_reads_in (Err fault) = failed_reads_by fault

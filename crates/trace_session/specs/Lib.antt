@@ -7,7 +7,7 @@ pub mod Lent
 pub mod Openings
 pub mod Reading
 pub mod Resting
-pub mod Runs
+pub mod RunsThrough
 pub mod Serving
 pub mod Sessions
 pub mod Written

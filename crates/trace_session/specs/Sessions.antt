@@ -16,7 +16,7 @@ use Rattle.line_protocol.specs.declared.read_fault.ReadFault.TheVariants as read
 use Rattle.trace_session.specs.Answers.{AnswersEach, AnswersLine, last_reply}
 use Rattle.trace_session.specs.Asking.{is_quit, most_requests, request_in}
 use Rattle.trace_session.specs.Reading.{ReadsLines}
-use Rattle.trace_session.specs.Written.{HandsAllOn, PutsOut, StopsHandingOn, WritesAll, WritesInPart, reply_line}
+use Rattle.trace_session.specs.Written.{HandsAllOn, PutsOut, StopsHandingOn, WritesAll, WritesLinesInPart, reply_line}
 use Rattle.trace_session.specs.declared.asked.Asked.{Asked}
 use Rattle.trace_session.specs.declared.asked.Asked.TheVariants as asked
 use Rattle.trace_session.specs.declared.session_end.SessionEnd.{SessionEnd}
@@ -47,7 +47,7 @@ abbrev pub WritesUntil : Result SessionEnd SessionFault → Taken → Taken → 
 WritesUntil (Ok end) before after replies = WritesAll before after replies
 WritesUntil (Err Read) before after replies = WritesAll before after replies
 WritesUntil (Err TooLong) before after replies = WritesAll before after replies
-WritesUntil (Err Write) before after replies = WritesInPart before after replies
+WritesUntil (Err Write) before after replies = WritesLinesInPart before after replies
 WritesUntil (Err Gate) before after replies =
     (front : List Reply) × (held_back : Reply) × (replies ≡ front ++ held_back ∷ []) × WritesAll before after front
 WritesUntil (Err Memory) before after replies = ⊥

@@ -29,7 +29,7 @@ pub record WritesAll (before after : Taken) (replies : List Reply) : Type 0 wher
 
 -- A write fault came: these replies were written, but the last of them perhaps not, or a front of it. The fault came at
 -- that one, or at a flush.
-pub record WritesInPart (before after : Taken) (replies : List Reply) : Type 0 where
+pub record WritesLinesInPart (before after : Taken) (replies : List Reply) : Type 0 where
   pub whole : List Reply
   pub left : List Reply
   pub splits : replies ≡ whole ++ left

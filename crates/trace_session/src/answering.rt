@@ -9,7 +9,7 @@ ghost use Rattle.trace_session.specs.Reading.{FindsNothing};
 ghost use Rattle.trace_session.specs.Sessions.{AnswersAsked, AnswersRequest, Finishes, Session};
 ghost use Rattle.trace_session.specs.Written.{HandsOnBefore, KeepsAll, PutsOut, StopsHandingOn, reply_line};
 
-use crate::asked::{Asked, asked_in};
+use crate::asked::{Asked, asked_by_line};
 use crate::leave::ask_leave;
 use crate::lent::Lent;
 use crate::{Gate, SessionEnd, SessionFault};
@@ -75,7 +75,7 @@ fn next_asked<R: Source, W: Sink>(
 {
     hand_on(lines, writer)?;
     let found = next_line(lines, writer)?;
-    Ok(asked_in(found, lines.line()))
+    Ok(asked_by_line(found, lines.line()))
 }
 
 /// Flushes what was written, where the next line wants a read.

@@ -1,6 +1,6 @@
 //! What a line of a session asks.
 ghost use Rattle.std.specs.Prelude.{◌≡◌};
-ghost use Rattle.trace_session.specs.Asking.{asked_in};
+ghost use Rattle.trace_session.specs.Asking.{asked_by_line};
 
 use line_protocol::{Line, read_request};
 use trace_types::Request;
@@ -16,8 +16,8 @@ pub(crate) enum Asked {
 }
 
 /// What is asked where this was found, and this is the line where it is a whole one.
-pub(crate) fn asked_in(found: Line, line: &[u8]) -> Asked
-    ensures { result ≡ asked_in found line.now }
+pub(crate) fn asked_by_line(found: Line, line: &[u8]) -> Asked
+    ensures { result ≡ asked_by_line found line.now }
 {
     match found {
         Line::End => Asked::End,
@@ -28,7 +28,7 @@ pub(crate) fn asked_in(found: Line, line: &[u8]) -> Asked
 
 /// What a line asks that is not too long.
 fn asked_by(line: &[u8]) -> Asked
-    ensures { result ≡ asked_in Line.Whole line.now }
+    ensures { result ≡ asked_by_line Line.Whole line.now }
 {
     if line == b"quit".as_slice() {
         Asked::Quit

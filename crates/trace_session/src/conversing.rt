@@ -3,7 +3,7 @@ ghost use Rattle.std.specs.Prelude.{◌≡◌, ◌⊎◌, IsTrue, None, IsErrOf}
 ghost use Rattle.line_protocol.specs.Held.{Held, fresh_held};
 ghost use Rattle.line_protocol.specs.LineReading.{Reads};
 ghost use Rattle.line_protocol.specs.Source.{StopsAtEnd};
-ghost use Rattle.trace_session.specs.Conversations.{Converses, Lends, Opens, Refuses};
+ghost use Rattle.trace_session.specs.Conversations.{Converses, Lends, Opens, TurnsAway};
 ghost use Rattle.trace_session.specs.Lent.{AsksView, IsSoundDesk, IsSoundView, TakesRequest};
 ghost use Rattle.trace_session.specs.Faults.{failed_reads_in, read_fault_in};
 
@@ -167,7 +167,7 @@ fn refuse<T: Wait, W: Sink, G: Gate>(
     number: u64,
     code: Code,
 ) -> Result<SessionEnd, SessionFault>
-    ensures refuses { Refuses code (W.seen writer.old) (W.seen writer.new) result }
+    ensures refuses { TurnsAway code (W.seen writer.old) (W.seen writer.new) result }
     ensures let_out { ((W.seen writer.new).bytes ≡ (W.seen writer.old).bytes) ⊎ G.lets_out gate.now number }
     ensures gate { IsErrOf result SessionFault.Gate → G.holds_back gate.now number }
 {

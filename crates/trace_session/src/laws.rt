@@ -5,11 +5,11 @@ ghost use Rattle.trace_types.specs.declared.reply.Reply.{Reply};
 ghost use Rattle.tenant_desk.specs.Desks.{Desk};
 ghost use Rattle.trace_session.specs.Answers.{AnswersEach};
 ghost use Rattle.trace_session.specs.Lent.{TakesRequest};
-ghost use Rattle.trace_session.specs.Runs.{Runs};
+ghost use Rattle.trace_session.specs.RunsThrough.{RunsThrough};
 
 /// What a desk that is lent to a session answers to its lines, one after another, are the replies of a run from the
 /// desk's rows, and the desk then has the rows that the run leaves. A request that found no memory changes nothing.
 pub fn reports_run()
     ensures { (old new : Desk) (requests : List (Option Request)) (replies : List Reply)
-        → AnswersEach TakesRequest old requests replies new → Runs old.tenant requests replies new.tenant }
+        → AnswersEach TakesRequest old requests replies new → RunsThrough old.tenant requests replies new.tenant }
 {}

@@ -1,7 +1,7 @@
 -- The tenants of a world.
-use Rattle.std.specs.Prelude.{◌≡◌, ℕ, Bool, true, not, IsTrue, ◌&&◌, List, [], ◌∷◌, length, Some, slice_get, slice_set}
-use Rattle.std.specs.List.{All, AllByRecursion, list_any}
-use Rattle.trace_types.specs.text.Name.{Text, is_same, is_between}
+pub use Rattle.trace_types.specs.world.TenantNames.{are_distinct, can_be_tenants}
+use Rattle.std.specs.Prelude.{◌≡◌, ℕ, IsTrue, List, length, Some, slice_get, slice_set}
+use Rattle.std.specs.List.{All, AllByRecursion}
 use Rattle.trace_types.specs.tenant.Limits.{Limits}
 use Rattle.trace_types.specs.text.Text.{CanBeWritten}
 use Rattle.trace_types.specs.tenant.Tenant.{Tenant, AreLegal, Steps}
@@ -9,15 +9,6 @@ use Rattle.trace_types.specs.world.Interleaving.{Call}
 use Rattle.trace_types.specs.world.World.{World, IsAfter}
 use Rattle.trace_types.specs.declared.request.Request.{Request}
 use Rattle.trace_types.specs.declared.reply.Reply.{Reply}
-
--- whether no name stands twice
-abbrev pub are_distinct : List Text → Bool
-are_distinct [] = true
-are_distinct (name ∷ names) = not (list_any (λ other. is_same other name) names) && are_distinct names
-
--- whether these can be the tenants of a world: 1 to 16 names, none twice
-abbrev pub can_be_tenants : List Text → Bool
-can_be_tenants names = is_between 1 16 (length names) && are_distinct names
 
 -- The tenant has these limits, and its rows are what some requests leave.
 pub record IsTenantWith (limits : Limits) (tenant : Tenant) : Type 0 where

@@ -21,6 +21,10 @@ point_in-other [] point (suc place) other = refl
 point_in-other (first ∷ points) point zero other = refl
 point_in-other (first ∷ points) point (suc place) other = point_in-other points point place (λ same. other (ap suc same))
 
+-- no rows have no points
+pub no_points : ArePoints [] []
+no_points = record { counted = refl; each = λ place. tt }
+
 -- an event that raised a point is not the next one
 is_older : (history : History) (event : ℕ) (point : Point) → IsRaisedBy history event point → event ≢ new_event history
 is_older history event point raised newest =
@@ -62,6 +66,13 @@ module _ (row : Row) (history : History) where
           (point_stays (suc place) (point_in points place) (before.each place))
     ];
   }
+
+-- the last of the points is that of the newest event
+pub newest_point : (row : Row) (history : History) (points : List (Option Deciding)) (point : Option Deciding) → ArePoints (row ∷ history) (points ++ point ∷ [])
+    → MayHavePoint (row ∷ history) (new_event history) point
+newest_point row history points point are =
+    let last : length points ≡ length history = omega (arith, are.counted, length-append points (point ∷ [])) in
+    subst (MayHavePoint (row ∷ history) (new_event history)) (ap (point_in (points ++ point ∷ [])) (sym last) ∙ point_in-last points point) (are.each (length history))
 
 -- a point that was found of the newest event is one that it raised
 raised_by_newest : (row : Row) (history : History) (found : Option Deciding)

@@ -71,6 +71,13 @@ impl<S: Keep> Draft<S> {
         &self.tree
     }
 
+    /// A point that its event raised, where one was found.
+    pub(crate) fn point(&self) -> Option<Deciding>
+        ensures { result ≡ self.now.point }
+    {
+        self.point.as_ref().map(|point| point.share())
+    }
+
     /// The first of the ids that its event makes, where it makes one.
     pub(super) fn first_id(&self) -> Option<&S::Id>
         ensures some { IfSome result (λ id. slice_get self.now.ids 0 ≡ Some (S.Id.id id.now)) }

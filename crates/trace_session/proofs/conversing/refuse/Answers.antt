@@ -1,10 +1,10 @@
-use Rattle.trace_session.proofs.Refusing.{Refuses-stopped, Refuses-written}
+use Rattle.trace_session.proofs.Refusing.{TurnsAway-stopped, TurnsAway-written}
 use Rattle.trace_session.proofs.conversing.refuse.Goals as goal
 
 pub returns-in_err-put_out-clause-refuses : goal.returns-in_err-put_out-clause-refuses
 returns-in_err-put_out-clause-refuses g c =
-    Refuses-stopped c.args.code (g.W.Sink.seen c.args.writer.now) (g.W.Sink.seen c.put_out.new.writer) c.from_residual.result c.in_err-put_out.field-0.0 c.from_residual.ensures.1 c.in_err-put_out.ensures.put_out
+    TurnsAway-stopped c.args.code (g.W.Sink.seen c.args.writer.now) (g.W.Sink.seen c.put_out.new.writer) c.from_residual.result c.in_err-put_out.field-0.0 c.from_residual.ensures.1 c.in_err-put_out.ensures.put_out
 
 pub returns-clause-refuses : goal.returns-clause-refuses
 returns-clause-refuses g c =
-    Refuses-written c.args.code (g.W.Sink.seen c.args.writer.now) (g.W.Sink.seen c.put_out.new.writer) (g.W.Sink.seen c.finish.new.writer) c.finish.result c.in_ok-put_out.ensures.put_out c.finish.ensures
+    TurnsAway-written c.args.code (g.W.Sink.seen c.args.writer.now) (g.W.Sink.seen c.put_out.new.writer) (g.W.Sink.seen c.finish.new.writer) c.finish.result c.in_ok-put_out.ensures.put_out c.finish.ensures

@@ -1,5 +1,5 @@
 use Rattle.std.proofs.Common.{◌≡◌, get_or, sym, ap, ◌∙◌}
-use Rattle.tenant_desk.specs.Events.{tenant_of}
+use Rattle.tenant_desk.specs.Events.{published_tenant}
 use Rattle.tenant_desk.proofs.PublishedAnswers.{row_answered}
 use Rattle.tenant_desk.proofs.events.Events.event.Goals as goal
 
@@ -10,4 +10,4 @@ returns-in-Some c =
     let shown = ap (λ events. events.rows) c.self.view_is in
     let in_place : row ≡ get_or c.args.self.now.rows c.in-Some.place row =
     c.share.ensures ∙ c.index.ensures ∙ (λ i. get_or (shown i) c.in-Some.place (sym c.share.ensures i)) in
-    row_answered (tenant_of c.args.self.now) c.args.event c.in-Some.place row (sym c.in-Some.ensures.there) place in_place
+    row_answered (published_tenant c.args.self.now) c.args.event c.in-Some.place row (sym c.in-Some.ensures.there) place in_place

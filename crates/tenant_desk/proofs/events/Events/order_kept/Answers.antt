@@ -3,7 +3,7 @@ use Rattle.trace_types.specs.tenant.Rows.{history_of}
 use Rattle.trace_query.proofs.Gathered.{ordered_pair, unknown_pair}
 use Rattle.tenant_ledger.proofs.Words.{Refused}
 use Rattle.tenant_ledger.proofs.keeping.Told.{order_reply, order_answered}
-use Rattle.tenant_desk.specs.Events.{tenant_of}
+use Rattle.tenant_desk.specs.Events.{published_tenant}
 use Rattle.tenant_desk.proofs.PublishedHomes.{lies_at_home}
 use Rattle.tenant_desk.proofs.events.Events.order_kept.Goals as goal
 
@@ -23,7 +23,7 @@ pub returns-in-Ok : goal.returns-in-Ok
 returns-in-Ok g c =
     let sound = c.requires.sound in
     ap order_reply (ordered_pair (λ tree. tree.value) c.trees.result.now c.args.first c.args.second _ _ c.order_kept.result c.in-Ok.ensures.first c.in-Ok.ensures.second c.order_kept.ensures)
-    ∙ order_answered (tenant_of c.args.self.now) _ sound.legal (c.trees.ensures.trees ∙ sound.trees) c.args.first c.args.second
+    ∙ order_answered (published_tenant c.args.self.now) _ sound.legal (c.trees.ensures.trees ∙ sound.trees) c.args.first c.args.second
 
 pub returns-in-Err : goal.returns-in-Err
 returns-in-Err g c =
@@ -31,4 +31,4 @@ returns-in-Err g c =
     let unknown = c.in-Err.ensures.unknown in
     ap Refused c.code_of.ensures
     ∙ ap order_reply (unknown_pair (map (λ tree. tree.value) c.trees.result.now) c.args.first c.args.second c.in-Err.fault unknown.0 unknown.1)
-    ∙ order_answered (tenant_of c.args.self.now) _ sound.legal (c.trees.ensures.trees ∙ sound.trees) c.args.first c.args.second
+    ∙ order_answered (published_tenant c.args.self.now) _ sound.legal (c.trees.ensures.trees ∙ sound.trees) c.args.first c.args.second

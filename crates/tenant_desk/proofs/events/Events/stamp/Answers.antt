@@ -1,5 +1,5 @@
 use Rattle.std.proofs.Common.{sym, ◌∙◌, arith}
-use Rattle.tenant_desk.specs.Events.{tenant_of}
+use Rattle.tenant_desk.specs.Events.{published_tenant}
 use Rattle.tenant_desk.proofs.PublishedAnswers.{as_many_trees, as_many_ids, stamp_in_place, stamp_answered}
 use Rattle.tenant_desk.proofs.events.Events.stamp.Goals as goal
 
@@ -13,5 +13,5 @@ pub returns-in-Ok : goal.returns-in-Ok
 returns-in-Ok c =
     let events = c.args.self.now in
     let found = c.in-Some.ensures in
-    stamp_answered (tenant_of events) c.args.event (sym found.there) c.from.result
+    stamp_answered (published_tenant events) c.args.event (sym found.there) c.from.result
     (c.from.ensures ∙ c.in-Ok.ensures ∙ stamp_in_place events c.requires c.args.event c.in-Some.place found.place.0 found.place.1 c.id.result.now c.tree.result.now c.id.ensures c.tree.ensures)

@@ -3,7 +3,7 @@ use Rattle.std.specs.Arc.{arc_value}
 use Rattle.std.specs.Prelude.{Some}
 use Rattle.left_right.specs.Sides.{view as known_at}
 use Rattle.trace_types.specs.tenant.Tenant.{Answers}
-use Rattle.tenant_desk.specs.Events.{tenant_of}
+use Rattle.tenant_desk.specs.Events.{published_tenant}
 use Rattle.tenant_desk.specs.Histories.{Line}
 use Rattle.tenant_desk.specs.Rules.{IsOfDesk}
 use Rattle.tenant_desk.specs.Views.{Known, Responds}
@@ -31,7 +31,7 @@ returns-in-Ok-clause-answer g c =
     let is : inside.reader ≡ Some c.in-Some.reader = sym c.take.ensures.value ∙ c.in-Some.is in
     let of = value_there inside.reader c.in-Some.reader is
     (λ reader. IsOfDesk inside.seen.book inside.limits (arc_value inside.shared).trees (known_at reader.place)) c.self.invariant.1 in
-    let answered = subst (λ (entered : Published). Answers (tenant_of entered.events) request reply) c.get.ensures c.answer_cached-reply.ensures in
+    let answered = subst (λ (entered : Published). Answers (published_tenant entered.events) request reply) c.get.ensures c.answer_cached-reply.ensures in
     let front = c.leave-reader.ensures.front in
     let met = c.clear.ensures in
     let is_new : new ≡ record { seen = published.front.rows; met = []; limits = inside.limits; book = published.front.book } =

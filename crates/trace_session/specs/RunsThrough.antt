@@ -32,7 +32,7 @@ MarksStand tenant (Some request ∷ requests) (false ∷ marks) = MarksStand (st
 
 -- These are the replies of a run from the old rows, for some marks that may stand, and the new rows are those that its
 -- unmarked requests leave.
-pub record Runs (old : Tenant) (requests : List (Option Request)) (replies : List Reply) (new : Tenant) : Type 0 where
+pub record RunsThrough (old : Tenant) (requests : List (Option Request)) (replies : List Reply) (new : Tenant) : Type 0 where
   pub marks : List Bool
   pub one_each : length marks ≡ length requests
   pub stand : MarksStand old requests marks

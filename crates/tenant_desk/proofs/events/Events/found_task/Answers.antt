@@ -1,0 +1,24 @@
+use Rattle.std.proofs.Common.{◌≡◌, IfSome, sym, ap, ◌∙◌, subst}
+use Rattle.trace_types.specs.tenant.Rows.{history_of}
+use Rattle.tenant_ledger.specs.Legal.{IsLegal}
+use Rattle.tenant_ledger.proofs.clock.Legality.{IsLegal_from_AreLegal}
+use Rattle.tenant_desk.specs.Events.{Events}
+use Rattle.tenant_desk.specs.Indexes.{IsIndexOf}
+use Rattle.tenant_desk.specs.Searches.{task_due}
+use Rattle.tenant_desk.proofs.Indexing.{kept_task_due}
+use Rattle.tenant_desk.proofs.events.Events.found_task.Goals as goal
+
+pub task_in-requires : goal.task_in-requires
+task_in-requires c =
+    let events = c.args.self.now in
+    subst (λ rows. IsLegal (history_of rows)) (sym (c.deref.ensures.value ∙ ap (λ shown. shown.rows) c.self.view_is)) (IsLegal_from_AreLegal events.limits events.rows c.requires.legal)
+
+pub returns-in-Some : goal.returns-in-Some
+returns-in-Some c =
+    let events = c.args.self.now in
+    let name = c.args.name.now in
+    let rows = c.self.inside.rows.items in
+    let shown : rows ≡ events.rows = ap (λ (seen : Events). seen.rows) c.self.view_is in
+    let legal : IsLegal (history_of rows) = subst (λ r. IsLegal (history_of r)) (sym shown) (IsLegal_from_AreLegal events.limits events.rows c.requires.legal) in
+    let is = subst (λ index. IfSome index (IsIndexOf (history_of rows))) c.in-Some.is c.self.invariant.index_is in
+    c.task.ensures ∙ is.tasks name ∙ kept_task_due (history_of rows) name legal ∙ ap (λ r. task_due (history_of r) name) shown
