@@ -9,6 +9,7 @@ pub mod Grown
 pub mod Joined
 pub mod Lifts
 pub mod NormLemmas
+pub mod Paths
 pub mod Points
 pub mod Pricing
 pub mod Raising

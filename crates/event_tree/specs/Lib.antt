@@ -1,3 +1,4 @@
+pub mod Above
 pub mod Comparison
 pub mod Digest
 pub mod EventTreeCode
@@ -12,6 +13,7 @@ pub mod Laws
 pub mod Leaves
 pub mod Lifted
 pub mod Parts
+pub mod PathCode
 pub mod PointCode
 pub mod Raised
 pub mod Ranges

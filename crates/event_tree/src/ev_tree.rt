@@ -1,5 +1,5 @@
 //! The event tree, kept normal.
-ghost use Rattle.std.specs.Prelude.{◌≡◌, ◌≢◌, ◌+◌, ◌^◌, ◌<◌, ◌≤◌, ◌↔◌, max, IfOk, IfSome, IfNone, IsOk, IsTrue};
+ghost use Rattle.std.specs.Prelude.{◌≡◌, ◌≢◌, ◌+◌, ◌^◌, ◌<◌, ◌≤◌, ◌↔◌, max, IfOk, IfSome, IfNone, IsOk, IsTrue, false};
 ghost use Rattle.trace_types.specs.clock.Id.{Zero, One};
 ghost use Rattle.trace_types.specs.clock.EventTree.{Leaf, Node as plain_Node, IsNormal, value, minimum, maximum};
 ghost use Rattle.event_tree.specs.Comparison.{IsBelow, StandsAs};
@@ -13,16 +13,18 @@ ghost use Rattle.event_tree.specs.Leaves.{IsLeafTree};
 ghost use Rattle.event_tree.specs.Risen.{IsRaisedAt};
 ghost use Rattle.event_tree.specs.Parts.{tree_of_parts};
 
-use crate::{Point, RaisedPoint};
+use crate::{Path, Point, RaisedPoint};
+use above::is_below_or_path;
 use comparison::{Directions, compare, is_below, is_below_within};
 use id_tree::IdTree;
 use joining::joined;
-use std::alloc::Global;
+use std::alloc::{AllocError, Global};
 use std::fmt;
 use std::marker::Model;
 use std::sync::Arc;
 use trace_types::{Memory, Order, digest_of_both};
 
+mod above;
 mod comparison;
 mod filling;
 mod growth;
@@ -362,6 +364,19 @@ impl EvTree {
         self.normal();
         other.normal();
         is_below(self, 0, other, 0)
+    }
+
+    /// The same by that walk. Where some value is above, the path is then such a place; only such a place takes memory.
+    ///
+    /// Where a request for memory was refused, the path is then some path.
+    pub fn leq_or_path(&self, other: &EvTree, path: &mut Path) -> Result<bool, AllocError>
+        ensures below { IfOk result (λ below. IsTrue below ↔ IsBelow self.now other.now) }
+        ensures above { IfOk result (λ below. below ≡ false → value other.now path.new < value self.now path.new) }
+    {
+        self.normal();
+        other.normal();
+        path.clear();
+        is_below_or_path(self, 0, other, 0, path)
     }
 
     /// How this tree stands to `other`, by one walk over both.

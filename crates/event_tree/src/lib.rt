@@ -9,7 +9,9 @@
 
 mod ev_tree;
 pub mod laws;
+mod path;
 mod point;
 
 pub use ev_tree::{EvTree, Parts};
+pub use path::Path;
 pub use point::{Point, RaisedPoint};

@@ -1,0 +1,151 @@
+//! A place at which a tree is above another one.
+ghost use Rattle.std.specs.Prelude.{◌≡◌, ◌+◌, ◌^◌, ◌<◌, ◌≤◌, ◌↔◌, ◌∷◌, [], IfOk, IsTrue};
+ghost use Rattle.trace_types.specs.clock.Points.{Point as Halves};
+ghost use Rattle.trace_types.specs.clock.EventTree.{value, minimum, maximum};
+ghost use Rattle.event_tree.specs.Above.{IsShown};
+ghost use Rattle.event_tree.specs.Height.{height};
+ghost use Rattle.event_tree.specs.PathCode.{half_on};
+
+use super::{EvTree, Node};
+use crate::Path;
+use crate::path::parted;
+use std::alloc::AllocError;
+
+impl EvTree {
+    /// Whether the value of this tree at the path is above that of `other`, by one walk down both along it. It takes no
+    /// memory, and ends where the ranges of what is left decide.
+    pub fn is_above_at(&self, other: &EvTree, path: &Path) -> bool
+        ensures { IsTrue result ↔ (value other.now path.now < value self.now path.now) }
+    {
+        self.normal();
+        other.normal();
+        let mut rights = path.rights();
+        let (mut one, mut one_lift) = (self, 0u64);
+        let (mut two, mut two_lift) = (other, 0u64);
+        loop {
+            if two_lift + two.max() < one_lift + one.min() {
+                return true;
+            }
+            if one_lift + one.max() <= two_lift + two.min() {
+                return false;
+            }
+            let (right, below) = parted(rights);
+            rights = below;
+            let (one_part, one_above) = one.part(one_lift, right);
+            let (two_part, two_above) = two.part(two_lift, right);
+            one = one_part;
+            one_lift = one_above;
+            two = two_part;
+            two_lift = two_above;
+        }
+    }
+
+    /// The half of the tree, and what lifts it.
+    fn part(&self, lift: u64, right: bool) -> (&EvTree, u64)
+        requires { lift + maximum self.now < 2 ^ 64 }
+        ensures value { (point : Halves) → result.1 + value result.0.now point ≡ lift + value self.now (half_on right ∷ point) }
+        ensures fits { result.1 + maximum result.0.now < 2 ^ 64 }
+        ensures lower { height result.0.now ≤ height self.now }
+        ensures falls { minimum self.now < maximum self.now → height result.0.now < height self.now }
+    {
+        match &self.node {
+            Node::Leaf(_) => (self, lift),
+            Node::Fork { base, children, .. } => {
+                let lift = lift + *base;
+                if right {
+                    (&children.right, lift)
+                } else {
+                    (&children.left, lift)
+                }
+            }
+        }
+    }
+
+    /// Leads the path to a least value of the tree.
+    fn lead_to_least(&self, path: &mut Path) -> Result<(), AllocError>
+        requires { path.old ≡ [] }
+        ensures { IfOk result (λ done. value self.now path.new ≡ minimum self.now) }
+    {
+        if let Node::Fork { children, .. } = &self.node {
+            let right = children.right.min() < children.left.min();
+            if right {
+                children.right.lead_to_least(path)?;
+            } else {
+                children.left.lead_to_least(path)?;
+            }
+            path.put_above(right)?;
+        }
+        Ok(())
+    }
+
+    /// Leads the path to a greatest value of the tree.
+    fn lead_to_greatest(&self, path: &mut Path) -> Result<(), AllocError>
+        requires { path.old ≡ [] }
+        ensures { IfOk result (λ done. value self.now path.new ≡ maximum self.now) }
+    {
+        if let Node::Fork { children, .. } = &self.node {
+            let right = children.left.max() < children.right.max();
+            if right {
+                children.right.lead_to_greatest(path)?;
+            } else {
+                children.left.lead_to_greatest(path)?;
+            }
+            path.put_above(right)?;
+        }
+        Ok(())
+    }
+}
+
+/// Whether no value of the first tree is above that of the other at the same point, each lifted by the number beside it;
+/// where some is, the path leads there.
+pub(super) fn is_below_or_path(
+    one: &EvTree,
+    one_lift: u64,
+    other: &EvTree,
+    other_lift: u64,
+    path: &mut Path,
+) -> Result<bool, AllocError>
+    requires one_fits { one_lift + maximum one.now < 2 ^ 64 }
+    requires other_fits { other_lift + maximum other.now < 2 ^ 64 }
+    requires none { path.old ≡ [] }
+    ensures { IfOk result (λ below. IsShown below one_lift one.now other_lift other.now path.new) }
+{
+    let here = one.range(one_lift);
+    let there = other.range(other_lift);
+    if here.is_below(there) {
+        return Ok(true);
+    }
+    if there.low < here.low {
+        other.lead_to_least(path)?;
+        return Ok(false);
+    }
+    if there.high < here.high {
+        one.lead_to_greatest(path)?;
+        return Ok(false);
+    }
+    match (&one.node, &other.node) {
+        (
+            Node::Fork { base, children, .. },
+            Node::Fork {
+                base: other_base,
+                children: other_children,
+                ..
+            },
+        ) => {
+            let (one_lift, other_lift) = (one_lift + *base, other_lift + *other_base);
+            let (left, other_left) = (&children.left, &other_children.left);
+            if !is_below_or_path(left, one_lift, other_left, other_lift, path)? {
+                path.put_above(false)?;
+                return Ok(false);
+            }
+            let (right, other_right) = (&children.right, &other_children.right);
+            if !is_below_or_path(right, one_lift, other_right, other_lift, path)? {
+                path.put_above(true)?;
+                return Ok(false);
+            }
+            Ok(true)
+        }
+        // A leaf has one value, so the ranges have decided.
+        _ => unreachable!(),
+    }
+}
