@@ -45,8 +45,14 @@ pub record IsGraph (placing : Placing) (rows : List (List ℕ)) (followed : List
 abbrev pub rows_of : Graph → List (List ℕ)
 rows_of graph = map (λ row. row.items) graph.reaching.items
 
+abbrev pub AreKeptLines : Graph → Type 0
+AreKeptLines graph = IsGraph graph.placed.items (rows_of graph) graph.followed.items × (16384 < 64 * length graph.followed.items)
+
+-- and of each event the sides of its tree
 abbrev pub IsKeptGraph : Graph → Type 0
-IsKeptGraph graph = IsGraph graph.placed.items (rows_of graph) graph.followed.items × (16384 < 64 * length graph.followed.items)
+IsKeptGraph graph =
+    IsGraph graph.placed.items (rows_of graph) graph.followed.items × (16384 < 64 * length graph.followed.items)
+    × (length graph.sides.items ≡ length graph.placed.items)
 
 -- the place is that of an event that some of these follow, or of one that reaches it
 abbrev pub IsReachedBy : List (List ℕ) → List ℕ → ℕ → Type 0

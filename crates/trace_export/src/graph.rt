@@ -3,13 +3,15 @@ ghost use Rattle.std.specs.Prelude.{◌≡◌, ℕ, suc, ◌+◌, ◌*◌, ◌<�
 ghost use Rattle.event_tree.specs.Comparison.{IsBelow};
 ghost use Rattle.trace_export.specs.Bits.{HasBit};
 ghost use Rattle.trace_export.specs.Edges.{IsPlaced, AreOrderedAlike, listed_preds, listed_tree, placed_at};
-ghost use Rattle.trace_export.specs.Graph.{IsKeptGraph, AreEarlier, AreReaching, IsReachedBy, IsComparedNext, IsApartFrom, IsRefutedBy, RefutesNext, rows_of, reaching_row};
+ghost use Rattle.trace_export.specs.Graph.{AreKeptLines, IsKeptGraph, AreEarlier, AreReaching, IsReachedBy, IsComparedNext, IsApartFrom, IsRefutedBy, RefutesNext, rows_of, reaching_row};
 ghost use Rattle.trace_export.specs.Verdict.{IsOrderedNext};
 
 use crate::bits::{add_bit, add_bits, has_bit, no_bits};
 use crate::placed::Placed;
+use crate::sides::{Sides, is_below};
 use event_tree::EvTree;
 use std::alloc::{AllocError, Global};
+use std::mem;
 use trace_types::Preds;
 
 /// What is kept of right lines.
@@ -21,6 +23,8 @@ pub(crate) struct Graph {
     reaching: Vec<Vec<u64>>,
     /// The events that some event follows.
     followed: Vec<u64>,
+    /// The sides of each event's tree.
+    sides: Vec<Sides>,
 }
 
 impl Graph {
@@ -36,6 +40,7 @@ impl Graph {
             placed: Vec::new(alloc),
             reaching: Vec::new(alloc),
             followed: no_bits(alloc, Graph::MOST)?,
+            sides: Vec::new(alloc),
         })
     }
 
@@ -58,30 +63,37 @@ impl Graph {
         ensures same { IfOk result (λ added. added ≡ false → self.new.placed.items ≡ self.old.placed.items) }
     {
         let reaching = self.reaching(alloc, &placed)?;
-        if !self.is_ordered(&reaching, &placed) {
+        let mut own = self.first_sides(alloc, &placed)?;
+        let mut sides = mem::replace(&mut self.sides, Vec::new(alloc));
+        let ordered = self.is_ordered(&reaching, &placed, &mut own, &mut sides);
+        self.sides = sides;
+        if !ordered? {
             return Ok(false);
         }
         self.placed.reserve(1)?;
         self.reaching.reserve(1)?;
-        self.put(placed, reaching);
+        self.sides.reserve(1)?;
+        self.put(placed, reaching, own);
         Ok(true)
     }
 
     /// Adds the event that these reach, for which there is room.
-    fn put(&mut self, placed: Placed, reaching: Vec<u64>)
+    fn put(&mut self, placed: Placed, reaching: Vec<u64>, sides: Sides)
         requires graph { IsKeptGraph self.old }
         requires preds { AreEarlier placed.preds (suc (length self.old.placed.items)) }
         requires few { length self.old.placed.items < 16384 }
         requires ordered { IsOrderedNext self.old.placed.items placed }
         requires reaching { AreReaching (self.old.placed.items ++ placed ∷ []) reaching.items (suc (length self.old.placed.items)) }
         requires short { 64 * length reaching.items ≤ suc (length self.old.placed.items) + 63 }
-        requires room { (vec_len self.old.placed < vec_capacity self.old.placed) × (vec_len self.old.reaching < vec_capacity self.old.reaching) }
+        requires room { (vec_len self.old.placed < vec_capacity self.old.placed) × (vec_len self.old.reaching < vec_capacity self.old.reaching)
+            × (vec_len self.old.sides < vec_capacity self.old.sides) }
         ensures placed { self.new.placed.items ≡ self.old.placed.items ++ placed ∷ [] }
         ensures graph { IsKeptGraph self.new }
     {
         self.follow(&placed.preds);
         self.placed.push_reserved(placed);
         self.reaching.push_reserved(reaching);
+        self.sides.push_reserved(sides);
     }
 
     /// Notes that these events are followed.
@@ -89,14 +101,14 @@ impl Graph {
         requires { All (λ pred. (0 < pred) × (pred ≤ 64 * length self.old.followed.items)) preds.now }
         ensures followed { (place : ℕ) → HasBit self.new.followed.items place ↔ (HasBit self.old.followed.items place ⊎ Contains preds.now (suc place)) }
         ensures len { length self.new.followed.items ≡ length self.old.followed.items }
-        ensures others { (self.new.placed ≡ self.old.placed) × (self.new.reaching ≡ self.old.reaching) }
+        ensures others { (self.new.placed ≡ self.old.placed) × (self.new.reaching ≡ self.old.reaching) × (self.new.sides ≡ self.old.sides) }
     {
         add_events(&mut self.followed, preds.as_slice());
     }
 
     /// The events that reach the one that comes next.
     fn reaching(&self, alloc: Global, placed: &Placed) -> Result<Vec<u64>, AllocError>
-        requires graph { IsKeptGraph self.now }
+        requires graph { AreKeptLines self.now }
         requires preds { AreEarlier placed.now.preds (suc (length self.now.placed.items)) }
         ensures reaching { IfOk result (λ bits. AreReaching (self.now.placed.items ++ placed.now ∷ []) bits.items (suc (length self.now.placed.items))) }
         ensures short { IfOk result (λ bits. 64 * length bits.items ≤ suc (length self.now.placed.items) + 63) }
@@ -107,7 +119,7 @@ impl Graph {
 
     /// These events and those that reach them.
     fn reached_by(&self, alloc: Global, preds: &[u64]) -> Result<Vec<u64>, AllocError>
-        requires graph { IsKeptGraph self.now }
+        requires graph { AreKeptLines self.now }
         requires preds { AreEarlier preds.now (suc (length self.now.placed.items)) }
         ensures reaching { IfOk result (λ bits. (place : ℕ) → HasBit bits.items place
             ↔ IsReachedBy (rows_of self.now) preds.now place) }
@@ -120,7 +132,7 @@ impl Graph {
 
     /// Adds these events and those that reach them.
     fn add_reaching(&self, bits: &mut [u64], preds: &[u64])
-        requires graph { IsKeptGraph self.now }
+        requires graph { AreKeptLines self.now }
         requires preds { AreEarlier preds.now (suc (length self.now.placed.items)) }
         requires room { length self.now.placed.items < 64 * length bits.old }
         ensures reaching { (place : ℕ) → HasBit bits.new place
@@ -134,7 +146,7 @@ impl Graph {
 
     /// Adds this event and those that reach it.
     fn add_one_reaching(&self, bits: &mut [u64], event: u64)
-        requires graph { IsKeptGraph self.now }
+        requires graph { AreKeptLines self.now }
         requires event { IsPlaced self.now.placed.items event }
         requires room { length self.now.placed.items < 64 * length bits.old }
         ensures reaching { (place : ℕ) → HasBit bits.new place
@@ -146,32 +158,74 @@ impl Graph {
         add_bit(bits, place);
     }
 
+    /// What is known of the next event's tree before it is compared: where it is above all that its event follows. An event
+    /// raises its tree there, and of a tenant's events nothing is above that place but what follows this one.
+    fn first_sides(&self, alloc: Global, placed: &Placed) -> Result<Sides, AllocError>
+        requires { AreEarlier placed.now.preds (suc (length self.now.placed.items)) }
+    {
+        let mut sides = Sides::new(alloc);
+        match *placed.preds.as_slice() {
+            [one] => {
+                let earlier = &self.at(one as usize).tree;
+                placed.tree.leq_or_path(earlier, &mut sides.above)?;
+            }
+            [first, second] => {
+                let (first, second) = (self.at(first as usize), self.at(second as usize));
+                let join = first
+                    .tree
+                    .join(alloc, &second.tree)
+                    .map_err(|_| AllocError)?;
+                placed.tree.leq_or_path(&join, &mut sides.above)?;
+            }
+            _ => {}
+        }
+        Ok(sides)
+    }
+
     /// Whether the event that these reach may come next: its tree and the earlier ones compare as the edges say.
-    fn is_ordered(&self, reaching: &[u64], placed: &Placed) -> bool
-        requires graph { IsKeptGraph self.now }
+    fn is_ordered(
+        &self,
+        reaching: &[u64],
+        placed: &Placed,
+        own: &mut Sides,
+        sides: &mut [Sides],
+    ) -> Result<bool, AllocError>
+        requires graph { AreKeptLines self.now }
         requires preds { AreEarlier placed.now.preds (suc (length self.now.placed.items)) }
         requires reaching { AreReaching (self.now.placed.items ++ placed.now ∷ []) reaching.now (suc (length self.now.placed.items)) }
-        ensures ordered { IsTrue result → IsOrderedNext self.now.placed.items placed.now }
-        ensures refuted { result ≡ false → (other : ℕ) × IsPlaced self.now.placed.items other
-            × (¬ AreOrderedAlike (self.now.placed.items ++ placed.now ∷ []) other (suc (length self.now.placed.items))) }
+        requires sides { length sides.old ≡ length self.now.placed.items }
+        ensures ordered { IfOk result (λ is. IsTrue is → IsOrderedNext self.now.placed.items placed.now) }
+        ensures refuted { IfOk result (λ is. is ≡ false → ((other : ℕ) × IsPlaced self.now.placed.items other
+            × (¬ AreOrderedAlike (self.now.placed.items ++ placed.now ∷ []) other (suc (length self.now.placed.items))))) }
     {
-        self.is_compared(reaching, placed)
+        let is = self.is_compared(reaching, placed, own, sides)?;
+        Ok(is)
     }
 
     /// Whether the tree is above those of the events that it follows, and apart from the others.
-    fn is_compared(&self, reaching: &[u64], placed: &Placed) -> bool
-        requires graph { IsKeptGraph self.now }
+    fn is_compared(
+        &self,
+        reaching: &[u64],
+        placed: &Placed,
+        own: &mut Sides,
+        sides: &mut [Sides],
+    ) -> Result<bool, AllocError>
+        requires graph { AreKeptLines self.now }
         requires preds { AreEarlier placed.now.preds (suc (length self.now.placed.items)) }
-        ensures compared { IsTrue result → IsComparedNext self.now.placed.items self.now.followed.items reaching.now placed.now }
-        ensures refuted { result ≡ false → RefutesNext self.now.placed.items reaching.now placed.now }
+        requires sides { length sides.old ≡ length self.now.placed.items }
+        ensures compared { IfOk result (λ is. IsTrue is → IsComparedNext self.now.placed.items self.now.followed.items reaching.now placed.now) }
+        ensures refuted { IfOk result (λ is. is ≡ false → RefutesNext self.now.placed.items reaching.now placed.now) }
     {
-        self.is_above_all(&placed.preds, &placed.tree)
-            && self.is_apart_from_all(reaching, &placed.tree)
+        if !self.is_above_all(&placed.preds, &placed.tree) {
+            return Ok(false);
+        }
+        let apart = self.is_apart_from_all(reaching, &placed.tree, own, sides)?;
+        Ok(apart)
     }
 
     /// Whether the trees of all these events are below the tree.
     fn is_above_all(&self, preds: &Preds, tree: &EvTree) -> bool
-        requires graph { IsKeptGraph self.now }
+        requires graph { AreKeptLines self.now }
         requires preds { AreEarlier preds.now (suc (length self.now.placed.items)) }
         ensures above { IsTrue result → All (λ pred. IsBelow (listed_tree self.now.placed.items pred) tree.now) preds.now }
         ensures refuted { result ≡ false → (pred : ℕ) × Contains preds.now pred × (¬ IsBelow (listed_tree self.now.placed.items pred) tree.now) }
@@ -185,58 +239,95 @@ impl Graph {
     }
 
     /// Whether no event is refuted by [`Graph::is_apart_from`].
-    fn is_apart_from_all(&self, reaching: &[u64], tree: &EvTree) -> bool
-        requires graph { IsKeptGraph self.now }
-        ensures apart { IsTrue result → (event : ℕ) → IsPlaced self.now.placed.items event
-            → IsApartFrom self.now.placed.items self.now.followed.items reaching.now tree.now event }
-        ensures refuted { result ≡ false → (event : ℕ) × IsPlaced self.now.placed.items event
-            × IsRefutedBy self.now.placed.items reaching.now tree.now event }
+    fn is_apart_from_all(
+        &self,
+        reaching: &[u64],
+        tree: &EvTree,
+        own: &mut Sides,
+        sides: &mut [Sides],
+    ) -> Result<bool, AllocError>
+        requires graph { AreKeptLines self.now }
+        requires sides { length sides.old ≡ length self.now.placed.items }
+        ensures apart { IfOk result (λ is. IsTrue is → (event : ℕ) → IsPlaced self.now.placed.items event
+            → IsApartFrom self.now.placed.items self.now.followed.items reaching.now tree.now event) }
+        ensures refuted { IfOk result (λ is. is ≡ false → ((event : ℕ) × IsPlaced self.now.placed.items event
+            × IsRefutedBy self.now.placed.items reaching.now tree.now event)) }
     {
         for event in 1..self.placed.len() + 1 {
-            if !self.is_apart_from(reaching, tree, event) {
-                return false;
+            if !self.is_apart_from(reaching, tree, event, own, &mut sides[event - 1])? {
+                return Ok(false);
             }
         }
-        true
+        Ok(true)
     }
 
     /// Whether the tree is not below that of the event, where none follows it; nor above, where the event is one of the
     /// first that do not reach its own.
     #[inline(always)]
-    fn is_apart_from(&self, reaching: &[u64], tree: &EvTree, event: usize) -> bool
-        requires graph { IsKeptGraph self.now }
+    fn is_apart_from(
+        &self,
+        reaching: &[u64],
+        tree: &EvTree,
+        event: usize,
+        own: &mut Sides,
+        sides: &mut Sides,
+    ) -> Result<bool, AllocError>
+        requires graph { AreKeptLines self.now }
         requires event { IsPlaced self.now.placed.items event }
-        ensures apart { IsTrue result → IsApartFrom self.now.placed.items self.now.followed.items reaching.now tree.now event }
-        ensures refuted { result ≡ false → IsRefutedBy self.now.placed.items reaching.now tree.now event }
+        ensures apart { IfOk result (λ is. IsTrue is → IsApartFrom self.now.placed.items self.now.followed.items reaching.now tree.now event) }
+        ensures refuted { IfOk result (λ is. is ≡ false → IsRefutedBy self.now.placed.items reaching.now tree.now event) }
     {
-        !self.is_below_last(tree, event) && !self.is_above_first(reaching, tree, event)
+        if self.is_below_last(tree, event, own, sides)? {
+            return Ok(false);
+        }
+        let above = self.is_above_first(reaching, tree, event, own, sides)?;
+        Ok(!above)
     }
 
     /// Whether the tree is below that of the event, and none follows it.
     #[inline(always)]
-    fn is_below_last(&self, tree: &EvTree, event: usize) -> bool
+    fn is_below_last(
+        &self,
+        tree: &EvTree,
+        event: usize,
+        own: &mut Sides,
+        sides: &mut Sides,
+    ) -> Result<bool, AllocError>
         requires { IsPlaced self.now.placed.items event }
-        ensures below { IsTrue result → IsBelow tree.now (listed_tree self.now.placed.items event) }
-        ensures not_below { result ≡ false → (¬ HasBit self.now.followed.items (event - 1))
-            → ¬ IsBelow tree.now (listed_tree self.now.placed.items event) }
+        ensures below { IfOk result (λ is. IsTrue is → IsBelow tree.now (listed_tree self.now.placed.items event)) }
+        ensures not_below { IfOk result (λ is. is ≡ false → (¬ HasBit self.now.followed.items (event - 1))
+            → ¬ IsBelow tree.now (listed_tree self.now.placed.items event)) }
     {
-        !has_bit(&self.followed, event - 1) && tree.leq(&self.at(event).tree)
+        if has_bit(&self.followed, event - 1) {
+            return Ok(false);
+        }
+        let below = is_below(tree, own, &self.at(event).tree, sides)?;
+        Ok(below)
     }
 
     /// Whether the tree is above that of the event, which is one of the first that do not reach its own.
     #[inline(always)]
-    fn is_above_first(&self, reaching: &[u64], tree: &EvTree, event: usize) -> bool
-        requires graph { IsKeptGraph self.now }
+    fn is_above_first(
+        &self,
+        reaching: &[u64],
+        tree: &EvTree,
+        event: usize,
+        own: &mut Sides,
+        sides: &mut Sides,
+    ) -> Result<bool, AllocError>
+        requires graph { AreKeptLines self.now }
         requires event { IsPlaced self.now.placed.items event }
-        ensures above { IsTrue result → (¬ HasBit reaching.now (event - 1)) × IsBelow (listed_tree self.now.placed.items event) tree.now }
-        ensures not_above { result ≡ false → (¬ HasBit reaching.now (event - 1))
+        ensures above { IfOk result (λ is. IsTrue is → (¬ HasBit reaching.now (event - 1)) × IsBelow (listed_tree self.now.placed.items event) tree.now) }
+        ensures not_above { IfOk result (λ is. is ≡ false → (¬ HasBit reaching.now (event - 1))
             → All (λ pred. HasBit reaching.now (pred - 1)) (listed_preds self.now.placed.items event)
-            → ¬ IsBelow (listed_tree self.now.placed.items event) tree.now }
+            → ¬ IsBelow (listed_tree self.now.placed.items event) tree.now) }
     {
         let earlier = self.at(event);
-        !has_bit(reaching, event - 1)
-            && all_reach(reaching, &earlier.preds)
-            && earlier.tree.leq(tree)
+        if has_bit(reaching, event - 1) || !all_reach(reaching, &earlier.preds) {
+            return Ok(false);
+        }
+        let below = is_below(&earlier.tree, sides, tree, own)?;
+        Ok(below)
     }
 
     /// What is listed of the event.

@@ -17,6 +17,7 @@ mod graph;
 pub mod laws;
 mod placed;
 mod reason;
+mod sides;
 mod stamp_texts;
 mod verdict;
 

@@ -3,7 +3,7 @@ use Rattle.trace_export.proofs.Ordering.{not_ordered_next, ordered_next}
 use Rattle.trace_export.proofs.graph.Graph.is_ordered.Goals as goal
 
 pub returns-clause-ordered : goal.returns-clause-ordered
-returns-clause-ordered c = λ yes. ordered_next c.args.self.now.placed.items (rows_of c.args.self.now) c.args.self.now.followed.items c.requires.graph.0 c.args.placed.now c.requires.preds c.args.reaching.now c.requires.reaching (c.is_compared.ensures.compared yes)
+returns-clause-ordered c = λ yes. ordered_next c.args.self.now.placed.items (rows_of c.args.self.now) c.args.self.now.followed.items c.requires.graph.0 c.args.placed.now c.requires.preds c.args.reaching.now c.requires.reaching (c.in_ok-is.ensures.compared yes)
 
 pub returns-clause-refuted : goal.returns-clause-refuted
-returns-clause-refuted c = λ no. not_ordered_next c.args.self.now.placed.items (rows_of c.args.self.now) c.args.self.now.followed.items c.requires.graph.0 c.args.placed.now c.requires.preds c.args.reaching.now c.requires.reaching (c.is_compared.ensures.refuted no)
+returns-clause-refuted c = λ no. not_ordered_next c.args.self.now.placed.items (rows_of c.args.self.now) c.args.self.now.followed.items c.requires.graph.0 c.args.placed.now c.requires.preds c.args.reaching.now c.requires.reaching (c.in_ok-is.ensures.refuted no)
