@@ -7,6 +7,8 @@
 // What reaches an event is kept as bits. The trees of the events that it follows are compared with its own; what reaches
 // those is below them already. Nothing else may be below it: it is enough to ask those of which all predecessors reach it,
 // since a predecessor is below what follows it. Nor may it be below any: it is enough to ask those that no event follows.
+// Of each event two places are kept: where its tree was above another one last, and where another one was above it last. To
+// tell that a tree is not below another these are looked at first.
 #[allow(dead_code)]
 #[path = "clock.rs"]
 mod clock;
@@ -14,7 +16,7 @@ mod clock;
 #[path = "stamps.rs"]
 mod stamps;
 
-use clock::Tree;
+use clock::{Path, Tree};
 use std::io::{stdin, Read};
 
 extern "C" {
@@ -67,11 +69,30 @@ fn add_bit(bits: &mut [u64], place: usize) {
     bits[place / 64] |= 1 << (place % 64);
 }
 
+#[derive(Default)]
+struct Sides {
+    above: Path,
+    below: Path,
+}
+
+/// Whether the tree of one is below the other's; where it is not, both keep a place that shows it.
+fn is_below(one: &Tree, sides: &mut Sides, other: &Tree, other_sides: &mut Sides) -> bool {
+    if one.is_above_at(other, &sides.above) || one.is_above_at(other, &other_sides.below) {
+        return false;
+    }
+    let below = one.leq_or_path(other, &mut sides.above);
+    if !below {
+        other_sides.below.clone_from(&sides.above);
+    }
+    below
+}
+
 struct Graph<'a> {
     events: &'a [Event],
     /// What reaches each event.
     reaching: Vec<Vec<u64>>,
     followed: Vec<u64>,
+    sides: Vec<Sides>,
 }
 
 impl Graph<'_> {
@@ -86,11 +107,27 @@ impl Graph<'_> {
         bits
     }
 
-    fn is_refuted(&self, event: &Event, reaching: &[u64], other: usize) -> bool {
+    fn is_refuted(&mut self, event: &Event, own: &mut Sides, reaching: &[u64], other: usize) -> bool {
         let earlier = &self.events[other];
+        let sides = &mut self.sides[other];
         let is_last = !has_bit(&self.followed, other);
         let is_first = !has_bit(reaching, other) && earlier.preds.iter().all(|pred| has_bit(reaching, *pred));
-        is_last && event.tree.leq(&earlier.tree) || is_first && earlier.tree.leq(&event.tree)
+        is_last && is_below(&event.tree, own, &earlier.tree, sides)
+            || is_first && is_below(&earlier.tree, sides, &event.tree, own)
+    }
+
+    /// Where the tree of the event is above those of all that it follows.
+    fn first_sides(&self, event: &Event) -> Sides {
+        let mut sides = Sides::default();
+        match event.preds[..] {
+            [one] => _ = event.tree.leq_or_path(&self.events[one].tree, &mut sides.above),
+            [first, second] => {
+                let join = self.events[first].tree.join(&self.events[second].tree);
+                event.tree.leq_or_path(&join, &mut sides.above);
+            }
+            _ => {}
+        }
+        sides
     }
 
     /// Adds the event of this place, where it compares with the earlier ones as the edges say.
@@ -98,13 +135,15 @@ impl Graph<'_> {
         let event = &self.events[place];
         let reaching = self.reaching(event, place);
         let is_above = event.preds.iter().all(|pred| self.events[*pred].tree.leq(&event.tree));
-        if !is_above || (0..place).any(|other| self.is_refuted(event, &reaching, other)) {
+        let mut own = self.first_sides(event);
+        if !is_above || (0..place).any(|other| self.is_refuted(event, &mut own, &reaching, other)) {
             return false;
         }
         for pred in &event.preds {
             add_bit(&mut self.followed, *pred);
         }
         self.reaching.push(reaching);
+        self.sides.push(own);
         true
     }
 }
@@ -113,7 +152,7 @@ fn main() {
     let events = read_all();
     let start = processor_time();
     let followed = vec![0; events.len() / 64 + 1];
-    let mut graph = Graph { events: &events, reaching: Vec::new(), followed };
+    let mut graph = Graph { events: &events, reaching: Vec::new(), followed, sides: Vec::new() };
     match (0..events.len()).find(|place| !graph.add(*place)) {
         Some(place) => println!("no {} 6", place + 1),
         None => println!("yes {}", events.len()),

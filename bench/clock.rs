@@ -101,6 +101,10 @@ pub struct Children {
     right: Tree,
 }
 
+/// A place as deep as there is need: whether it lies to the right, at each level from the lowest one up.
+#[derive(Clone, Default)]
+pub struct Path(Vec<bool>);
+
 pub static ZERO: Tree = Tree::Leaf(0);
 
 /// A tree as a node: a number counts as a node over 0 and 0, and to make it one is an expansion.
@@ -248,6 +252,73 @@ impl Tree {
             unreachable!("one value stands to a range somehow")
         };
         children.left.is_below(low, &others.left, other_low) && children.right.is_below(low, &others.right, other_low)
+    }
+
+    /// The same; where it is not below the other, the path is then to a place that refutes it.
+    pub fn leq_or_path(&self, other: &Tree, path: &mut Path) -> bool {
+        path.0.clear();
+        self.is_below_or_path(0, other, 0, path)
+    }
+
+    fn is_below_or_path(&self, lift: u64, other: &Tree, other_lift: u64, path: &mut Path) -> bool {
+        let (low, high) = (lift + self.min(), lift + self.max());
+        let (other_low, other_high) = (other_lift + other.min(), other_lift + other.max());
+        if high <= other_low {
+            return true;
+        }
+        if low > other_low {
+            other.lead(path, |left, right| right.min() < left.min());
+            return false;
+        }
+        if high > other_high {
+            self.lead(path, |left, right| right.max() > left.max());
+            return false;
+        }
+        let (Tree::Fork { children, .. }, Tree::Fork { children: others, .. }) = (self, other) else {
+            unreachable!("one value stands to a range somehow")
+        };
+        for (right, part, other_part) in [(false, &children.left, &others.left), (true, &children.right, &others.right)] {
+            if !part.is_below_or_path(low, other_part, other_low, path) {
+                path.0.push(right);
+                return false;
+            }
+        }
+        true
+    }
+
+    /// Leads the path down, to the right where this says so of both children.
+    fn lead(&self, path: &mut Path, goes_right: fn(&Tree, &Tree) -> bool) {
+        if let Tree::Fork { children, .. } = self {
+            let right = goes_right(&children.left, &children.right);
+            let part = if right { &children.right } else { &children.left };
+            part.lead(path, goes_right);
+            path.0.push(right);
+        }
+    }
+
+    /// Whether its value at the path is above that of the other.
+    pub fn is_above_at(&self, other: &Tree, path: &Path) -> bool {
+        let (mut one, mut lift, mut two, mut other_lift) = (self, 0, other, 0);
+        let mut rights = path.0.iter().rev();
+        loop {
+            if other_lift + two.max() < lift + one.min() {
+                return true;
+            }
+            if lift + one.max() <= other_lift + two.min() {
+                return false;
+            }
+            let right = *rights.next().unwrap_or(&false);
+            (one, lift) = one.part(lift, right);
+            (two, other_lift) = two.part(other_lift, right);
+        }
+    }
+
+    fn part(&self, lift: u64, right: bool) -> (&Tree, u64) {
+        match self {
+            Tree::Leaf(_) => (self, lift),
+            Tree::Fork { base, children, .. } if right => (&children.right, lift + base),
+            Tree::Fork { base, children, .. } => (&children.left, lift + base),
+        }
     }
 
     /// Whether it is below the other, and whether it is above: both ways at once, until one is refuted.
