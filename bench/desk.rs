@@ -1,77 +1,15 @@
 
-// The same loads over one book of this program behind a `RwLock`, whose maps and points are used where `maps` is asked for:
-// the script puts this behind all of plain.rs but its `main`.
+// The same loads over one book of this program behind a `RwLock`: tasks and messages are found by its maps, and an event is
+// compared with a later one at its point. The script puts this behind all of plain.rs but its `main`.
 use std::sync::atomic::{AtomicBool, Ordering as AtomicOrdering};
 use std::sync::RwLock;
 use std::time::Instant;
 
-/// How a reader finds tasks and messages, and compares an event with a later one: by a search of the rows from the newest and
-/// by a walk, as views do, or by the maps and the points of the book.
-#[derive(Clone, Copy, PartialEq)]
-enum By {
-    Search,
-    Maps,
-}
-
-fn find_task(rows: &[Row], task: Name) -> Option<(State, u64)> {
-    let mut joined = false;
-    for (earlier, row) in rows.iter().enumerate().rev() {
-        let event = earlier as u64 + 1;
-        let names_it = row.name == Some(task);
-        match row.kind {
-            _ if row.task == task && joined => return Some((State::Joined, event)),
-            Kind::End if row.task == task => return Some((State::Ended, event)),
-            _ if row.task == task => return Some((State::Live, event)),
-            Kind::Spawn if names_it => return Some((State::Live, event)),
-            Kind::Join if names_it => joined = true,
-            _ => {}
-        }
-    }
-    None
-}
-
-fn find_message(rows: &[Row], message: Name) -> Option<Message> {
-    let mut received = 0;
-    for (earlier, row) in rows.iter().enumerate().rev() {
-        let event = earlier as u64 + 1;
-        let names_it = row.name == Some(message);
-        match row.kind {
-            Kind::Send if names_it => return Some(Message { sent: event, received }),
-            Kind::Recv if names_it => received = event,
-            _ => {}
-        }
-    }
-    None
-}
-
-fn tell_found_task(rows: &[Row], task: Name, out: &mut Vec<u8>) -> Result<(), Refusal> {
-    let (state, last) = find_task(rows, task).ok_or("401 no task")?;
-    out.extend_from_slice(match state {
-        State::Live => b"200 live ",
-        State::Ended => b"200 ended ",
-        State::Joined => b"200 joined ",
-    });
-    write_number(out, last);
-    Ok(())
-}
-
-fn tell_found_message(rows: &[Row], message: Name, out: &mut Vec<u8>) -> Result<(), Refusal> {
-    let message = find_message(rows, message).ok_or("405 no message")?;
-    out.extend_from_slice(b"200 ");
-    write_number(out, message.sent);
-    out.push(b' ');
-    write_list(out, &[message.received]);
-    Ok(())
-}
-
 /// The order of two events, of which the later is not before the earlier.
-fn tell_order(tenant: &Tenant, by: By, first: u64, second: u64, out: &mut Vec<u8>) -> Result<(), Refusal> {
+fn tell_order(tenant: &Tenant, first: u64, second: u64, out: &mut Vec<u8>) -> Result<(), Refusal> {
     let rows = (tenant.row(first)?, tenant.row(second)?);
     let (earlier, later) = if first < second { rows } else { (rows.1, rows.0) };
-    let is_before = match by {
-        By::Search => earlier.tree.leq(&later.tree),
-        By::Maps => earlier.is_known_to(&later.tree),
-    };
+    let is_before = earlier.is_known_to(&later.tree);
     out.extend_from_slice(match first.cmp(&second) {
         Ordering::Equal => b"200 same",
         Ordering::Less if is_before => b"200 before",
@@ -82,28 +20,26 @@ fn tell_order(tenant: &Tenant, by: By, first: u64, second: u64, out: &mut Vec<u8
 }
 
 /// Answers a question as a reader does.
-fn ask(book: &RwLock<Tenant>, by: By, question: &Request, out: &mut Vec<u8>) -> bool {
+fn ask(book: &RwLock<Tenant>, question: &Request, out: &mut Vec<u8>) -> bool {
     let tenant = book.read().expect("a lock");
     out.clear();
     let told = match question {
         Request::Count => tenant.tell_count(out),
-        Request::Order(first, second) => tell_order(&tenant, by, *first, *second, out),
-        Request::Task(task) if by == By::Search => tell_found_task(&tenant.rows, *task, out),
+        Request::Order(first, second) => tell_order(&tenant, *first, *second, out),
         Request::Task(task) => tenant.tell_task(*task, out),
-        Request::Message(message) if by == By::Search => tell_found_message(&tenant.rows, *message, out),
         Request::Message(message) => tenant.tell_message(*message, out),
         _ => Err("no question"),
     };
     told.is_ok()
 }
 
-fn by_one(book: &RwLock<Tenant>, by: By, questions: &[Request], asks: u64, done: &AtomicBool) -> u64 {
+fn by_one(book: &RwLock<Tenant>, questions: &[Request], asks: u64, done: &AtomicBool) -> u64 {
     let (mut answered, mut out) = (0, Vec::with_capacity(256));
     for number in 0..asks {
         if done.load(AtomicOrdering::Relaxed) {
             break;
         }
-        answered += ask(book, by, &questions[number as usize % questions.len()], &mut out) as u64;
+        answered += ask(book, &questions[number as usize % questions.len()], &mut out) as u64;
     }
     answered
 }
@@ -130,7 +66,6 @@ fn opened(reports: &[String]) -> Tenant {
 }
 
 fn main() {
-    let by = if std::env::args().any(|word| word == "maps") { By::Maps } else { By::Search };
     let lines: Vec<String> = stdin().lines().map(|line| line.expect("a line")).collect();
     let mut parts = lines.split(|line| line.is_empty());
     let reports = parts.next().expect("reports");
@@ -142,7 +77,7 @@ fn main() {
         let (book, done) = (RwLock::new(opened(reports)), AtomicBool::new(false));
         let start = Instant::now();
         let answered: u64 = std::thread::scope(|scope| {
-            let views: Vec<_> = (0..threads).map(|_| scope.spawn(|| by_one(&book, by, &questions, asks, &done))).collect();
+            let views: Vec<_> = (0..threads).map(|_| scope.spawn(|| by_one(&book, &questions, asks, &done))).collect();
             take(&book, taken, &done);
             views.into_iter().map(|view| view.join().expect("a reader")).sum()
         });

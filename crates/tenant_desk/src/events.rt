@@ -129,7 +129,7 @@ impl Events {
         }
     }
 
-    /// Keeps the first so many events, and adds this one behind them. It takes no memory; `Memory` where there is no room
+    /// Keeps the first so many events, and adds this one behind them. It needs no memory; `Memory` where there is no room
     /// for it, since it is above the limit.
     pub fn put(&mut self, before: usize, event: Event) -> Result<(), Memory>
         ensures room { IsOk result ↔ (before < self.old.limits.events) }

@@ -35,7 +35,7 @@ impl Index {
         })
     }
 
-    /// NotesRow the row of this event, and says whether there was room for what it names. Where there was not the index is of no
+    /// Notes the row of this event, and says whether there was room for what it names. Where there was not the index is of no
     /// use any more.
     pub(crate) fn add(&mut self, row: &Row, event: u64) -> bool
         ensures { IsTrue result → NotesRow task_after row.now event self.old self.new }
@@ -48,7 +48,7 @@ impl Index {
             )
     }
 
-    /// NotesRow what the row says of the task or the message that it names, likewise.
+    /// Notes what the row says of the task or the message that it names, likewise.
     fn add_named(&mut self, row: &Row, event: u64) -> bool
         ensures { IsTrue result → NotesRow naming_after row.now event self.old self.new }
     {
