@@ -356,6 +356,38 @@ impl EvTree {
         }
     }
 
+    /// Whether the value at the point is at least this one, along the path to it, as far down as the ranges leave it open. It
+    /// takes no memory.
+    pub fn is_at_least(&self, point: &Point, least: u64) -> bool
+        ensures { IsTrue result ↔ (least ≤ value self.now point.now) }
+    {
+        self.normal();
+        let mut tree = self;
+        let mut rest = point.halves();
+        let mut lift: u64 = 0;
+        loop {
+            if least <= lift + tree.min() {
+                return true;
+            }
+            if lift + tree.max() < least {
+                return false;
+            }
+            match &tree.node {
+                // A leaf has one value, so the range has decided.
+                Node::Leaf(_) => unreachable!(),
+                Node::Fork { base, children, .. } => {
+                    lift += *base;
+                    tree = if rest % 2 == 0 {
+                        &children.left
+                    } else {
+                        &children.right
+                    };
+                    rest /= 2;
+                }
+            }
+        }
+    }
+
     /// Whether no value of this tree is above that of `other` at the same point, by a walk over both that ends at the
     /// first place which refutes it.
     pub fn leq(&self, other: &EvTree) -> bool

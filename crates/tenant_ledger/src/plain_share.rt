@@ -76,5 +76,5 @@ impl<R> Share<R> for PlainShare {
 fn knows(tree: &EvTree, deciding: &Deciding) -> bool
     ensures { IsTrue result ↔ (deciding.now.value ≤ value tree.now deciding.now.point) }
 {
-    deciding.value <= tree.value_at(&deciding.point)
+    tree.is_at_least(&deciding.point, deciding.value)
 }

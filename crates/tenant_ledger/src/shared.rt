@@ -77,7 +77,9 @@ impl Compare for Shared {
         deciding: &Deciding,
         second: &Tree<EvTree>,
     ) -> bool {
-        deciding.value <= second.value().value_at(&deciding.point)
+        second
+            .value()
+            .is_at_least(&deciding.point, deciding.value)
     }
 }
 

@@ -20,6 +20,6 @@ impl Compare for Plain {
     }
 
     fn is_below_at(&self, _first: &EvTree, deciding: &Deciding, second: &EvTree) -> bool {
-        deciding.value <= second.value_at(&deciding.point)
+        second.is_at_least(&deciding.point, deciding.value)
     }
 }
