@@ -77,9 +77,7 @@ impl Compare for Shared {
         deciding: &Deciding,
         second: &Tree<EvTree>,
     ) -> bool {
-        second
-            .value()
-            .is_at_least(&deciding.point, deciding.value)
+        second.value().is_at_least(&deciding.point, deciding.value)
     }
 }
 
