@@ -9,6 +9,6 @@ abbrev pub IsLiftedAboveAt : ℕ → EventTree → ℕ → EventTree → Point �
 IsLiftedAboveAt m e n f point = n + value f point < m + value e point
 
 -- the first lifted tree is below the second, and there is no path; or it is above the second at the path
-abbrev pub IsShown : Bool → ℕ → EventTree → ℕ → EventTree → Point → Type 0
-IsShown true m e n f path = IsLiftedBelow m e n f × (path ≡ [])
-IsShown false m e n f path = IsLiftedAboveAt m e n f path
+abbrev pub IsBelowOrPath : Bool → ℕ → EventTree → ℕ → EventTree → Point → Type 0
+IsBelowOrPath true m e n f path = IsLiftedBelow m e n f × (path ≡ [])
+IsBelowOrPath false m e n f path = IsLiftedAboveAt m e n f path

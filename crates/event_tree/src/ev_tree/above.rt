@@ -2,7 +2,7 @@
 ghost use Rattle.std.specs.Prelude.{◌≡◌, ◌+◌, ◌^◌, ◌<◌, ◌≤◌, ◌↔◌, ◌∷◌, [], IfOk, IsTrue};
 ghost use Rattle.trace_types.specs.clock.Points.{Point as Halves};
 ghost use Rattle.trace_types.specs.clock.EventTree.{value, minimum, maximum};
-ghost use Rattle.event_tree.specs.Above.{IsShown};
+ghost use Rattle.event_tree.specs.Above.{IsBelowOrPath};
 ghost use Rattle.event_tree.specs.Height.{height};
 ghost use Rattle.event_tree.specs.PathCode.{half_on};
 
@@ -108,7 +108,7 @@ pub(super) fn is_below_or_path(
     requires one_fits { one_lift + maximum one.now < 2 ^ 64 }
     requires other_fits { other_lift + maximum other.now < 2 ^ 64 }
     requires none { path.old ≡ [] }
-    ensures { IfOk result (λ below. IsShown below one_lift one.now other_lift other.now path.new) }
+    ensures { IfOk result (λ below. IsBelowOrPath below one_lift one.now other_lift other.now path.new) }
 {
     let here = one.range(one_lift);
     let there = other.range(other_lift);
