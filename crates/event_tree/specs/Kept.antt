@@ -3,7 +3,7 @@ use Rattle.std.specs.Prelude.{◌≡◌, ◌^◌, ◌<◌, max}
 use Rattle.trace_types.specs.clock.EventTree.{EventTree, Node, maximum, IsNormal}
 use Rattle.trace_types.specs.clock.EventTree as plain
 use Rattle.trace_types.specs.clock.Digest.{digest_of_both}
-use Rattle.event_tree.specs.Digest.{digest}
+use Rattle.event_tree.specs.Digest.{tree_digest}
 use Rattle.event_tree.specs.declared.ev_tree.Node as kept
 use Rattle.event_tree.specs.declared.ev_tree.Node.TheVariants.{Leaf, Fork}
 
@@ -20,7 +20,7 @@ KeepsSpread (Fork base spread children) = spread ≡ max (maximum children.value
 -- and the digest of what stands below its number
 abbrev pub KeepsDigest : kept.Node → Type 0
 KeepsDigest (Leaf n) = Unit {0}
-KeepsDigest (Fork base spread children) = children.value.digest ≡ digest_of_both (digest children.value.left) (digest children.value.right)
+KeepsDigest (Fork base spread children) = children.value.digest ≡ digest_of_both (tree_digest children.value.left) (tree_digest children.value.right)
 
 pub record IsKeptNode (node : kept.Node) : Type 0 where
   pub normal : IsNormal (tree_of_node node)

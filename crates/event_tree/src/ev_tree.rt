@@ -7,7 +7,7 @@ ghost use Rattle.trace_types.specs.clock.Norm.{norm, lowered};
 ghost use Rattle.trace_types.specs.clock.Join.{lifted, join};
 ghost use Rattle.trace_types.specs.clock.Event.{event};
 ghost use Rattle.trace_types.specs.clock.Digest.{digest_of_both};
-ghost use Rattle.event_tree.specs.Digest.{digest as digest_of};
+ghost use Rattle.event_tree.specs.Digest.{tree_digest};
 ghost use Rattle.event_tree.specs.Height.{height, inner_nodes};
 ghost use Rattle.event_tree.specs.Leaves.{IsLeafTree};
 ghost use Rattle.event_tree.specs.Risen.{IsRaisedAt};
@@ -279,7 +279,7 @@ impl EvTree {
 
     /// A number that equal trees share, in one step. Most trees that differ have others, but not all.
     pub fn digest(&self) -> u64
-        ensures { result ≡ digest_of self.now }
+        ensures { result ≡ tree_digest self.now }
     {
         match &self.node {
             Node::Leaf(n) => *n,

@@ -7,7 +7,7 @@ use Rattle.tenant_ledger.proofs.Words.{length-reverse, id_after, history_of, tre
 use Rattle.tenant_ledger.proofs.keeping.Lists.{length-of_each}
 use Rattle.tenant_desk.specs.Events.{Events, AreSound, first_events}
 use Rattle.tenant_desk.specs.Histories.{longer_by}
-use Rattle.tenant_desk.specs.Publications.{EachNext, IsFor, IsNext, MayPublish, after, made_by, with_next, with_some}
+use Rattle.tenant_desk.specs.Publications.{EachNext, IsFor, IsNext, MayPublish, left_by, made_by, with_next, with_some}
 use Rattle.tenant_desk.specs.Rules.{Holds, Sees, IsPublished}
 use Rattle.tenant_desk.specs.declared.event.Event.{Event}
 use Rattle.tenant_desk.specs.declared.published.Operation.{Operation}
@@ -63,18 +63,18 @@ first_before events count (Some event) has = λ i. record events {
 -- of operations that are each for the event after these only the last one stays
 last_of : (events : Events) (count : ℕ) → HasCount events count → (published : Published) (operations : List Operation) (last : Operation)
     → first_events count published.events ≡ events → EachNext count operations → last.before ≡ count
-    → fold after published (operations ++ last ∷ []) ≡ record { events = with_some last.event events; front = last.front }
+    → fold left_by published (operations ++ last ∷ []) ≡ record { events = with_some last.event events; front = last.front }
 last_of events count has published [] last base next at =
     λ i. record { events = with_some last.event ((ap (λ n. first_events n published.events) at ∙ base) i); front = last.front }
 last_of events count has published (operation ∷ operations) last base next at =
-    last_of events count has (after published operation) operations last
+    last_of events count has (left_by published operation) operations last
     (ap (λ from. first_events count (with_some operation.event from)) (ap (λ n. first_events n published.events) next.0 ∙ base)
     ∙ first_before events count operation.event has)
     next.1 at
 
 pub last_stays : (published : Published) (operations : List Operation) (last : Operation) → AreSound published.events
     → EachNext (length published.events.rows) operations → last.before ≡ length published.events.rows
-    → fold after published (operations ++ last ∷ []) ≡ record { events = with_some last.event published.events; front = last.front }
+    → fold left_by published (operations ++ last ∷ []) ≡ record { events = with_some last.event published.events; front = last.front }
 last_stays published operations last sound next at =
     let has = has_count published.events sound in
     last_of published.events (length published.events.rows) has published operations last (first_are_all published.events (length published.events.rows) has) next at
@@ -118,7 +118,7 @@ is_for_none published operation sound before is_event is_front =
 
 -- with it, what waits may be published
 pub publishes : (place : ℕ) (known : Option Sight) (published next : Published) (waiting : List Operation) (operation : Operation)
-    → MayPublish published known waiting → IsFor published operation → next ≡ fold after published (waiting ++ operation ∷ [])
+    → MayPublish published known waiting → IsFor published operation → next ≡ fold left_by published (waiting ++ operation ∷ [])
     → (next ≡ made_by operation published) × TurnsAt Holds place known published next Sees
 publishes place known published next waiting operation ready for is =
     let made : next ≡ made_by operation published = is ∙ last_stays published waiting operation ready.sound.events ready.next for.before in

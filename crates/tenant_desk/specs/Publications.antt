@@ -19,8 +19,8 @@ with_some None events = events
 with_some (Some event) events = events_with event.row event.tree.value event.tree.home event.point event.id.value events
 
 -- what is published after an operation: the events before the operation's own, and that one
-abbrev pub after : Published → Operation → Published
-after published operation = record {
+abbrev pub left_by : Published → Operation → Published
+left_by published operation = record {
   events = with_some operation.event (first_events operation.before published.events);
   front = operation.front;
 }

@@ -1,6 +1,6 @@
 //! What a desk publishes, and what it does to it.
 ghost use Rattle.std.specs.Prelude.{◌≡◌, IfOk};
-ghost use Rattle.tenant_desk.specs.Publications.{after};
+ghost use Rattle.tenant_desk.specs.Publications.{left_by};
 
 use crate::event::Event;
 use crate::events::Events;
@@ -28,7 +28,7 @@ impl Absorb<Operation> for Published {
 
     ghost state = { λ published. published };
 
-    ghost applied = { after };
+    ghost applied = { left_by };
 
     fn absorb_first(
         &mut self,

@@ -25,9 +25,9 @@ impl Shape for IdTree {
 }
 
 impl Shape for EvTree {
-    ghost use Rattle.event_tree.specs.Digest.{digest};
+    ghost use Rattle.event_tree.specs.Digest.{tree_digest};
 
-    ghost digest_of = { digest };
+    ghost digest_of = { tree_digest };
 
     fn same(&self, other: &EvTree) -> bool {
         self.same(other)
