@@ -81,6 +81,7 @@ impl<'a> Filling<'a> {
 impl EvTree {
     /// The filled tree, if it is another.
     #[cycle(filled)]
+    #[inline(always)]
     pub(super) fn filled(&self, alloc: Global, id: &IdTree) -> Result<Option<EvTree>, Memory>
         ensures gives { IfOk result (λ found. GivesFilled found self.now (fill id.now self.now)) }
         ensures whole { id.now ≡ One → IsOk result }
@@ -110,6 +111,7 @@ impl EvTree {
 impl Children {
     /// The node over these two with this number, filled, if it is another.
     #[cycle(filled)]
+    #[inline(never)]
     fn filled_under(
         &self,
         alloc: Global,

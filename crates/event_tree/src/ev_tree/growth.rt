@@ -161,6 +161,7 @@ impl EvTree {
 
     /// The least cost of growing the tree. Below a number stands `zero`.
     #[cycle(growth_cost)]
+    #[inline(always)]
     pub(super) fn growth_cost(&self, id: &IdTree, zero: &EvTree) -> Result<Option<Cost>, Memory>
         requires { zero.now ≡ Leaf 0 }
         ensures exact { IfOk result (λ price. price ≡ cost id.now self.now) }
@@ -175,6 +176,7 @@ impl EvTree {
 
     /// That of growing it below an id of these two halves.
     #[cycle(growth_cost)]
+    #[inline(never)]
     fn growth_cost_below(
         &self,
         left_id: &IdTree,
