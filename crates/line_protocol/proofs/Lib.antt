@@ -1,3 +1,4 @@
+mod PlaceLemmas
 pub mod Ranges
 pub mod RefillLemmas
 pub mod EndsLemmas

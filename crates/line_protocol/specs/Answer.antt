@@ -1,18 +1,9 @@
--- How the answer to a line is written.
-use Rattle.std.specs.Prelude.{[], ◌∷◌, ◌++◌, Option, Some, None, codes, decimal, length}
+-- The two parts of a reply.
+use Rattle.std.specs.Prelude.{[], ◌++◌, codes, decimal, length}
 use Rattle.trace_types.specs.text.Name.{Text}
 use Rattle.trace_types.specs.text.Text.{reply_text, kind_text, name_text, numbers_text}
 use Rattle.trace_types.specs.declared.reply.Reply.{Reply}
 use Rattle.trace_types.specs.declared.reply.Reply.TheVariants as reply
-
--- whom an answer names: the tenant, or `?`
-abbrev pub addressee_text : Option Text → Text
-addressee_text None = codes "?"
-addressee_text (Some tenant) = tenant
-
--- the line of an answer
-abbrev pub answer_text : Option Text → Reply → Text
-answer_text tenant reply = addressee_text tenant ++ codes " " ++ reply_text reply ++ 10 ∷ []
 
 -- a reply up to its list or its stamp, all of it where it has neither
 abbrev pub reply_head : Reply → Text

@@ -7,6 +7,7 @@ ghost use Rattle.line_protocol.specs.Ends.{IsEnd, Comes, kind_of, kind_of_length
 ghost use Rattle.line_protocol.specs.Source.{CountsRead, failure_count, bytes_read, gives_none};
 
 use crate::{Line, ReadFault, Source, Stop};
+use memchr::memchr_iter;
 use std::alloc::Global;
 use std::marker::Model;
 use trace_types::Memory;
@@ -295,11 +296,10 @@ fn refill<R: Source>(
 }
 
 /// Where the bytes have their first end of line.
-#[inline(never)]
 fn first_end(bytes: &[u8]) -> Option<usize>
     ensures { result ≡ position (λ byte. byte == 10) bytes.now }
 {
-    bytes.iter().position(|byte| *byte == b'\n')
+    memchr_iter(b'\n', bytes).next()
 }
 
 /// How many bytes the piece has without one carriage return at its end.

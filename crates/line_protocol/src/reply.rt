@@ -2,7 +2,7 @@
 ghost use Rattle.std.specs.Prelude.{◌≡◌, ◌+◌, ◌<◌, ◌≤◌, [], ◌++◌, IsTrue, OnErr, OnOk, decimal, codes, drop, false, length, take};
 ghost use Rattle.trace_types.specs.text.Text.{reply_text, order_text, state_text, kind_text, name_text};
 ghost use Rattle.trace_types.specs.tenant.Code.{code_text};
-ghost use Rattle.line_protocol.specs.Answer.{addressee_text, reply_head, reply_tail};
+ghost use Rattle.line_protocol.specs.Answer.{reply_head, reply_tail};
 ghost use Rattle.line_protocol.specs.Patience.{waits_since_bytes};
 ghost use Rattle.line_protocol.specs.Writing.{Writes, WritesBoth, Flushes, WritesText, GathersText, TriesToWrite};
 
@@ -40,38 +40,34 @@ pub fn write_reply<W: Sink>(writer: &mut W, reply: &Reply) -> Result<(), WriteFa
     write_reply_in(writer, &mut ReplyText::new(), reply)
 }
 
-/// Writes the answer to a line: the tenant or `?` and a blank, and then the reply and the end of line.
-#[inline(never)]
+/// Writes the answer to a line: whom it names and a blank, and then the reply and the end of line.
+#[inline(always)]
 pub fn write_answer<W: Sink>(
     writer: &mut W,
-    tenant: &Option<Name>,
+    addressee: &[u8],
     reply: &Reply,
 ) -> Result<(), WriteFault>
-    ensures { WritesBoth (W.seen writer.old) (W.seen writer.new) result (addressee_text tenant.now ++ codes " ") (reply_text reply.now ++ codes "\n") }
+    ensures { WritesBoth (W.seen writer.old) (W.seen writer.new) result (addressee.now ++ codes " ") (reply_text reply.now ++ codes "\n") }
 {
-    let mut text = ReplyText::new();
-    push_addressee(&mut text, tenant);
-    if has_tail(reply) {
-        return write_apart(writer, &mut text, reply);
+    if addressee.len() > Name::MOST || has_tail(reply) {
+        return write_apart(writer, addressee, reply);
     }
+    let mut text = ReplyText::new();
+    text.push(addressee);
+    text.push(b" ");
     let to_len = text.len();
     push_head(&mut text, reply);
     text.push(b"\n");
     write_both(writer, text.as_bytes(), to_len)
 }
 
-/// Writes a text, and then the reply with its end of line.
+/// Writes whom an answer names, and then the reply.
 #[inline(never)]
-fn write_apart<W: Sink>(
-    writer: &mut W,
-    text: &mut ReplyText,
-    reply: &Reply,
-) -> Result<(), WriteFault>
-    ensures { WritesBoth (W.seen writer.old) (W.seen writer.new) result text.old (reply_text reply.now ++ codes "\n") }
+fn write_apart<W: Sink>(writer: &mut W, addressee: &[u8], reply: &Reply) -> Result<(), WriteFault>
+    ensures { WritesBoth (W.seen writer.old) (W.seen writer.new) result (addressee.now ++ codes " ") (reply_text reply.now ++ codes "\n") }
 {
-    write_bytes(writer, text.as_bytes())?;
-    text.clear();
-    write_reply_in(writer, text, reply)
+    write_prefix(writer, addressee)?;
+    write_reply(writer, reply)
 }
 
 /// Writes two texts, of which the first ends at this place: at once where the sink takes them, else one after the other.
@@ -183,19 +179,6 @@ pub fn flush<W: Sink>(writer: &mut W) -> Result<(), WriteFault>
         }
     }
     Err(WriteFault)
-}
-
-/// Adds whom an answer names, and the blank after it.
-fn push_addressee(text: &mut ReplyText, tenant: &Option<Name>)
-    requires { text.old ≡ [] }
-    ensures text { text.new ≡ addressee_text tenant.now ++ codes " " }
-    ensures short { length text.new ≤ 25 }
-{
-    match tenant {
-        Some(name) => text.push_name(name),
-        None => text.push(b"?"),
-    }
-    text.push(b" ");
 }
 
 /// Adds a reply up to its list or its stamp.

@@ -3,7 +3,6 @@ ghost use Rattle.std.specs.Prelude.{◌≡◌, ◌+◌, ◌≤◌, [], ◌++◌,
 
 use itoa::Buffer;
 use std::marker::Model;
-use trace_types::Name;
 
 /// A text of at most 128 bytes, which a reply is gathered in.
 #[derive(Drop)]
@@ -108,15 +107,5 @@ impl ReplyText {
     {
         let mut digits = Buffer::new();
         self.push(digits.format(number).as_bytes());
-    }
-
-    /// Adds a name.
-    #[inline(always)]
-    pub(crate) fn push_name(&mut self, name: &Name)
-        requires { length self.old ≤ 104 }
-        ensures text { self.new ≡ self.old ++ name.now }
-        ensures short { length self.new ≤ length self.old + 24 }
-    {
-        self.push(name.as_bytes());
     }
 }

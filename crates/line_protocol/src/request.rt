@@ -3,8 +3,8 @@ ghost use Rattle.std.specs.Prelude.{◌≡◌, ◌≤◌, ◌∷◌, IfSome, is_
 ghost use Rattle.std.specs.Option.{option_copied};
 ghost use Rattle.std.specs.List.{list_all};
 ghost use Rattle.trace_types.specs.text.Name.{is_same};
-ghost use Rattle.trace_types.specs.text.Reading.{request_of, addressed_by, words, number_of, is_digit, number_onto, name_of, only, only_two, request_of_words, with_names};
-ghost use Rattle.line_protocol.specs.Words.{may_be_number, words_after};
+ghost use Rattle.trace_types.specs.text.Reading.{request_of, words, number_of, is_digit, number_onto, name_of, only, only_two, request_of_words, with_names};
+ghost use Rattle.line_protocol.specs.Words.{Addresses, may_be_number, words_after};
 
 use trace_types::{Name, Request};
 
@@ -97,19 +97,17 @@ fn read_join(arguments: &[u8]) -> Option<Request>
     two_names(arguments).map(|(task, child)| Request::Join(task, child))
 }
 
-/// The tenant that the line names first, and the request that the rest of it spells; `None` where the first word is
-/// no name.
-#[inline]
-pub fn read_addressed(line: &[u8]) -> Option<(Name, Option<Request>)>
-    ensures { result ≡ addressed_by line.now }
+/// The word that the line begins with, and the request that the rest of it spells.
+#[inline(always)]
+pub fn read_addressed(line: &[u8]) -> (&[u8], Option<Request>)
+    ensures { Addresses line.now result.0.now result.1 }
 {
-    let (tenant, rest) = split_first(line);
-    let name = Name::read(tenant)?;
+    let (name, rest) = split_first(line);
     let request = match rest {
         Some(rest) => read_request(rest),
         None => None,
     };
-    Some((name, request))
+    (name, request)
 }
 
 /// The name, where there is one argument and no more.

@@ -1,17 +1,19 @@
 -- The answers to lines that name a tenant.
-use Rattle.std.proofs.Common.{◌≡◌, ℕ, false, List, [], length, get_or, Option, Some, None, refl, sym, ap, ◌∙◌, subst, codes}
+use Rattle.std.proofs.Common.{◌≡◌, ℕ, Bool, true, false, List, [], length, get_or, Option, Some, None, refl, sym, ap, ◌∙◌, subst, codes}
 use Rattle.std.proofs.lemmas.List.{append-nil, length-set}
-use Rattle.std.specs.Prelude.{IfSome}
-use Rattle.trace_types.specs.text.Name.{Text}
+use Rattle.std.specs.Prelude.{IfSome, if◌then◌else◌}
+use Rattle.trace_types.specs.text.Name.{Text, is_name}
 use Rattle.trace_types.specs.text.Lines.{is_too_long}
-use Rattle.trace_types.specs.text.Reading.{addressed_by}
-use Rattle.trace_types.specs.world.Replay.{NoTenants, NoRequest, Asks, asked, place_of}
+use Rattle.trace_types.specs.text.Reading.{addressed_by, request_of_words}
+use Rattle.trace_types.specs.world.Replay.{NoTenants, NoRequest, Asks, asked, asked_by, place_of}
 use Rattle.trace_types.specs.world.World.{World, StepsOne, IsDue, tells_want}
 use Rattle.trace_types.specs.declared.code.Code.{Code}
 use Rattle.trace_types.specs.declared.code.Code.TheVariants as code
 use Rattle.trace_types.specs.declared.request.Request.{Request}
 use Rattle.trace_types.specs.declared.reply.Reply.{Reply}
 use Rattle.trace_types.specs.declared.reply.Reply.TheVariants.{Refused}
+use Rattle.line_protocol.specs.Words.{Addresses}
+use Rattle.trace_world.specs.Answered.{IsFound, code_to_nobody}
 use Rattle.trace_world.specs.Replayed.{DoesLine}
 use Rattle.trace_world.proofs.Places.{IsPlace, IsPlace-place_of}
 
@@ -21,12 +23,16 @@ named names name tenant found =
     let place = subst (λ (found : Option ℕ). IfSome found (IsPlace names name)) found (IsPlace-place_of names name) in
     sym (place.1 [])
 
+-- what a line addresses that begins with a name
+addressed : (line name : Text) (request : Option Request) → Addresses line name request → is_name name ≡ true → addressed_by line ≡ Some (name, request)
+addressed line name request addresses named = rw (addresses.splits, named, addresses.spells) refl
+
 -- a request of a tenant was done
-pub answers_request : (old new : World) (line : Text) (named_and_asked : Text × Option Request) (tenant : ℕ) (request : Request) (reply : Reply)
-    → is_too_long line ≡ false → addressed_by line ≡ Some named_and_asked → named_and_asked.1 ≡ Some request → place_of old.names named_and_asked.0 ≡ Some tenant
-    → StepsOne old tenant request reply new → IsDue old tenant request reply new → DoesLine old line named_and_asked.0 reply new
-answers_request old new line (name, asks_for) tenant request reply short addressed spelled found steps due =
-    let asks : asked old.names line ≡ Asks tenant request = rw (short, addressed, found, spelled) refl in
+pub answers_request : (old new : World) (line name : Text) (asks_for : Option Request) (tenant : ℕ) (request : Request) (reply : Reply)
+    → is_too_long line ≡ false → Addresses line name asks_for → is_name name ≡ true → asks_for ≡ Some request → place_of old.names name ≡ Some tenant
+    → StepsOne old tenant request reply new → IsDue old tenant request reply new → DoesLine old line name reply new
+answers_request old new line name asks_for tenant request reply short addresses is_named spelled found steps due =
+    let asks : asked old.names line ≡ Asks tenant request = rw (short, addressed line name asks_for addresses is_named, found, spelled) refl in
     record {
       mark = tells_want reply;
       names = ap (λ (world : World). world.names) steps.is;
@@ -39,11 +45,11 @@ answers_request old new line (name, asks_for) tenant request reply short address
     }
 
 -- a line names a tenant and spells no request
-pub answers_no_request : (world : World) (line : Text) (named_and_asked : Text × Option Request) (tenant : ℕ)
-    → is_too_long line ≡ false → addressed_by line ≡ Some named_and_asked → named_and_asked.1 ≡ None → place_of world.names named_and_asked.0 ≡ Some tenant
-    → DoesLine world line named_and_asked.0 (Refused code.Line) world
-answers_no_request world line (name, asks_for) tenant short addressed spelled found =
-    let asks : asked world.names line ≡ NoRequest tenant = rw (short, addressed, found, spelled) refl in
+pub answers_no_request : (world : World) (line name : Text) (asks_for : Option Request) (tenant : ℕ)
+    → is_too_long line ≡ false → Addresses line name asks_for → is_name name ≡ true → asks_for ≡ None → place_of world.names name ≡ Some tenant
+    → DoesLine world line name (Refused code.Line) world
+answers_no_request world line name asks_for tenant short addresses is_named spelled found =
+    let asks : asked world.names line ≡ NoRequest tenant = rw (short, addressed line name asks_for addresses is_named, found, spelled) refl in
     record {
       mark = false;
       names = refl;
@@ -56,7 +62,7 @@ answers_no_request world line (name, asks_for) tenant short addressed spelled fo
     }
 
 -- a line belongs to no tenant
-pub answers_nobody : (world : World) (line : Text) (code : Code) → asked world.names line ≡ NoTenants code → DoesLine world line (codes "?") (Refused code) world
+answers_nobody : (world : World) (line : Text) (code : Code) → asked world.names line ≡ NoTenants code → DoesLine world line (codes "?") (Refused code) world
 answers_nobody world line code asks = record {
   mark = false;
   names = refl;
@@ -67,3 +73,29 @@ answers_nobody world line code asks = record {
   due = λ calls after. rw asks refl;
   leads = λ calls after. rw (asks, append-nil calls) after;
 }
+
+-- a line is too long
+pub answers_too_long : (world : World) (line : Text) → is_too_long line ≡ true → DoesLine world line (codes "?") (Refused code.Line) world
+answers_too_long world line long = answers_nobody world line code.Line (rw long refl)
+
+-- the first word of a line names no tenant
+pub answers_no_tenant : (world : World) (line word : Text) (asks_for : Option Request) → is_too_long line ≡ false → Addresses line word asks_for → place_of world.names word ≡ None
+    → DoesLine world line (codes "?") (Refused (code_to_nobody word)) world
+answers_no_tenant world line word asks_for short addresses missing =
+    answers_nobody world line (code_to_nobody word) (rw (short, addresses.splits) (by_word (is_name word) refl))
+  where
+    by_word : (named : Bool) → is_name word ≡ named
+        → asked_by world.names (if is_name word then Some (word, request_of_words addresses.rest) else None) ≡ NoTenants (code_to_nobody word)
+    by_word true is = rw (is, missing) refl
+    by_word false is = rw is refl
+
+-- what is done of a line that was found is done of the line that it is
+pub where_found : {old new : World} {to : Text} {reply : Reply} (found : Option Text) (text : Text) → found ≡ Some text → (is_too_long text ≡ false → DoesLine old text to reply new)
+    → (line : Text) → IsFound found line → DoesLine old line to reply new
+where_found {old} {new} {to} {reply} found text is does line found_is =
+    let it : (text ≡ line) × (is_too_long line ≡ false) = subst (λ (found : Option Text). IsFound found line) is found_is in
+    subst (λ (line : Text). DoesLine old line to reply new) it.0 (does (ap is_too_long it.0 ∙ it.1))
+
+-- a line that is too long is done
+pub where_too_long : {world : World} (found : Option Text) → found ≡ None → (line : Text) → IsFound found line → DoesLine world line (codes "?") (Refused code.Line) world
+where_too_long {world} found is line found_is = answers_too_long world line (subst (λ (found : Option Text). IsFound found line) is found_is)

@@ -6,14 +6,12 @@ use Rattle.std.specs.Io.KnownBytes.{Keeps}
 use Rattle.std.proofs.KnownBytes.{Keeps-refl}
 use Rattle.trace_types.specs.text.Name.{Text}
 use Rattle.trace_types.specs.tenant.Limits.{Limits}
-use Rattle.trace_types.specs.text.Lines.{lines}
+use Rattle.trace_types.specs.text.Lines.{is_too_long, lines}
 use Rattle.trace_types.specs.text.Text.{reply_text}
 use Rattle.trace_types.specs.world.Interleaving.{Call}
 use Rattle.trace_types.specs.world.Replay.{asked, call_of, entries, output}
 use Rattle.trace_types.specs.world.World.{World}
-use Rattle.trace_types.specs.declared.code.Code.TheVariants as code
 use Rattle.trace_types.specs.declared.reply.Reply.{Reply}
-use Rattle.trace_types.specs.declared.reply.Reply.TheVariants.{Refused}
 use Rattle.line_protocol.specs.Held.{Held, fresh_held, request_bounds}
 use Rattle.line_protocol.specs.Ends.{end_count}
 use Rattle.line_protocol.specs.Source.{Given, one_if}
@@ -21,8 +19,7 @@ use Rattle.line_protocol.specs.Sink.{Taken}
 use Rattle.line_protocol.specs.LineReading.{HasRead, GivesLine, Finds, FindsNone, Reads}
 use Rattle.line_protocol.specs.declared.line.Line.{Line}
 use Rattle.line_protocol.specs.declared.line.Line.TheVariants.{Whole, TooLong, End}
-use Rattle.trace_world.specs.declared.answer.Answer.{Answer}
-use Rattle.line_protocol.specs.Answer.{addressee_text}
+use Rattle.trace_world.specs.Answered.{IsFound}
 use Rattle.std.specs.List.{concat}
 use Rattle.line_protocol.specs.Writing.{WritesFront, WritesBoth}
 use Rattle.line_protocol.specs.Patience.{SinkCall, FlushesPatiently, GivesUpFlushing}
@@ -37,7 +34,6 @@ use Rattle.trace_world.specs.declared.replay_fault.ReplayFault.{ReplayFault}
 use Rattle.trace_world.specs.declared.replay_fault.ReplayFault.TheVariants.{Read, Write, TooLong, Memory}
 use Rattle.trace_world.specs.Counted.{counted_with}
 use Rattle.trace_world.specs.Replayed.{DoesLine, AreFirstLines, HandsOn, ReplaysInPart, Replays}
-use Rattle.trace_world.proofs.Answering.{answers_nobody}
 use Rattle.trace_world.proofs.Following.{Follows, no_counts, LeadsTo-none, LeadsTo-line, AreTexts-line, WroteTexts-to, joined_push}
 
 -- a line was found, and this is its answer
@@ -46,17 +42,21 @@ pub record Answered (given given' : List ℕ) (held held' : Held) (old : World) 
   pub gives : GivesLine given given' held.left held'.left held'.is_ended line
   pub answers : DoesLine old line to reply new
 
-pub answered_too_long : (given given' : List ℕ) (held held' : Held) (world : World) → held'.bounds ≡ request_bounds → Finds given given' held held' TooLong
-    → Answered given given' held held' world (codes "?") (Refused code.Line) world
-answered_too_long given given' held held' world within (line, gives, long) = record {
+pub answered_too_long : (given given' : List ℕ) (held held' : Held) (old new : World) (to : Text) (reply : Reply) → held'.bounds ≡ request_bounds → Finds given given' held held' TooLong
+    → ((text : Text) → is_too_long text ≡ true → DoesLine old text to reply new) → Answered given given' held held' old to reply new
+answered_too_long given given' held held' old new to reply within (line, gives, long) does = record {
   line = line;
   gives = gives;
-  answers = answers_nobody world line code.Line (rw (rw within at long) refl);
+  answers = does line (rw within at long);
 }
 
-pub answered_whole : (given given' : List ℕ) (held held' : Held) (old : World) (to : Text) (reply : Reply) (new : World) → Finds given given' held held' Whole
-    → DoesLine old held'.line to reply new → Answered given given' held held' old to reply new
-answered_whole given given' held held' old to reply new finds answers = record { line = held'.line; gives = finds.0; answers = answers }
+pub answered_whole : (given given' : List ℕ) (held held' : Held) (old new : World) (to : Text) (reply : Reply) → held'.bounds ≡ request_bounds → Finds given given' held held' Whole
+    → (is_too_long held'.line ≡ false → DoesLine old held'.line to reply new) → Answered given given' held held' old to reply new
+answered_whole given given' held held' old new to reply within (gives, short) does = record {
+  line = held'.line;
+  gives = gives;
+  answers = does (rw within at short);
+}
 
 -- the lines that were found are first, however the input goes on
 unfoldable pub AreFirstLines-from : {start given given' : List ℕ} {held : Held} {found : List Text} (has_ended : Bool) (gave : List ℕ) → HasRead start given held found
@@ -330,18 +330,19 @@ HandsOn-fault (Ok counts) fault taken is holds = absurd is
 HandsOn-fault {A = A} (Err e) fault taken is holds = subst (λ one. HandsOn {A = A} (Err one) taken) (sym is) holds
 
 -- the answer to a line that was found, as the loop knows it
-pub answered_where_too_long : (given given' : List ℕ) (held held' : Held) (world world' : World) (found : Line) (answer result : Answer)
-    → held'.bounds ≡ request_bounds → found ≡ TooLong → Finds given given' held held' found → answer ≡ result → result ≡ record { tenant = None; reply = Refused code.Line } → world' ≡ world
-    → Answered given given' held held' world (addressee_text answer.tenant) answer.reply world'
-answered_where_too_long given given' held held' world world' found answer result within is finds same result_is world_is =
-    rw (same ∙ result_is, world_is) (answered_too_long given given' held held' world within (subst (Finds given given' held held') is finds))
+pub answered_where_too_long : (given given' : List ℕ) (held held' : Held) (old new : World) (found : Line) (line : Option Text) (to : Text) (reply : Reply)
+    → held'.bounds ≡ request_bounds → found ≡ TooLong → Finds given given' held held' found → line ≡ None → ((text : Text) → IsFound line text → DoesLine old text to reply new)
+    → Answered given given' held held' old to reply new
+answered_where_too_long given given' held held' old new found line to reply within is finds line_is does =
+    answered_too_long given given' held held' old new to reply within (subst (Finds given given' held held') is finds)
+    (λ text long. does text (subst (λ (line : Option Text). IsFound line text) (sym line_is) long))
 
-pub answered_where_whole : (given given' : List ℕ) (held held' : Held) (old new world' : World) (found : Line) (answer result : Answer) (line : Text)
-    → found ≡ Whole → Finds given given' held held' found → answer ≡ result → line ≡ held'.line → world' ≡ new → DoesLine old line (addressee_text result.tenant) result.reply new
-    → Answered given given' held held' old (addressee_text answer.tenant) answer.reply world'
-answered_where_whole given given' held held' old new world' found answer result line is finds same line_is world_is answers =
-    rw (same, world_is) (answered_whole given given' held held' old (addressee_text result.tenant) result.reply new (subst (Finds given given' held held') is finds)
-    (subst (λ (l : Text). DoesLine old l (addressee_text result.tenant) result.reply new) line_is answers))
+pub answered_where_whole : (given given' : List ℕ) (held held' : Held) (old new : World) (found : Line) (line : Option Text) (text to : Text) (reply : Reply)
+    → held'.bounds ≡ request_bounds → found ≡ Whole → Finds given given' held held' found → line ≡ Some text → text ≡ held'.line → ((text : Text) → IsFound line text → DoesLine old text to reply new)
+    → Answered given given' held held' old to reply new
+answered_where_whole given given' held held' old new found line text to reply within is finds line_is text_is does =
+    answered_whole given given' held held' old new to reply within (subst (Finds given given' held held') is finds)
+    (λ short. does held'.line (subst (λ (line : Option Text). IsFound line held'.line) (sym line_is) (text_is, short)))
 
 -- what is flushed is as it was
 pub Follows-as : {start given taken taken' taken'' : List ℕ} {calls calls' : List SinkCall} {old new : World} {held : Held} {counts : Counts} → taken'' ≡ taken'

@@ -5,3 +5,4 @@ pub mod Faults
 pub mod Counted
 pub mod Tenants
 pub mod Isolation
+pub mod Answered

@@ -1,81 +1,108 @@
-//! The answer to one line.
-ghost use Rattle.std.specs.Prelude.{◌≡◌, ◌≤◌, ◌++◌, codes, false, None, OnOk, OnErr};
+//! The answers to lines.
+ghost use Rattle.std.specs.Prelude.{◌≡◌, false};
+ghost use Rattle.std.specs.Option.{option_copied};
 ghost use Rattle.trace_types.specs.text.Lines.{is_too_long};
-ghost use Rattle.trace_types.specs.text.Text.{reply_text};
-ghost use Rattle.line_protocol.specs.Writing.{WritesText, WritesBoth, EndsInFault};
-ghost use Rattle.trace_world.specs.Replayed.{DoesLine};
-ghost use Rattle.line_protocol.specs.Answer.{addressee_text, answer_text};
+ghost use Rattle.trace_world.specs.Answered.{AnswersFound, CarriesOut, TellsReply, code_to_nobody};
+ghost use Rattle.trace_world.specs.Counted.{CanCount};
 
-use crate::World;
+use crate::{Counts, World};
 use line_protocol::{Sink, WriteFault, read_addressed, write_answer};
 use std::sync::Wait;
-use trace_types::{Code, Name, Reply, Request};
+use trace_types::{Code, Name, Reply};
 
-/// A reply, and the tenant that it names.
-#[derive(Drop)]
-pub(crate) struct Answer {
-    /// `None` where the line belongs to no tenant.
-    pub(crate) tenant: Option<Name>,
-    pub(crate) reply: Reply,
+/// Does what a line asks of the tenants, and writes and counts the answer; of a line that is too long (`None`) nothing is
+/// asked.
+#[inline(never)]
+pub(crate) fn answer_line<R: Wait, W: Sink>(
+    rt: &R,
+    world: &mut World,
+    line: Option<&[u8]>,
+    writer: &mut W,
+    counts: &mut Counts,
+) -> Result<(), WriteFault>
+    requires { CanCount counts.old }
+    ensures { AnswersFound (option_copied line.entry) world.old world.new (W.seen writer.old) (W.seen writer.new) counts.old counts.new result }
+{
+    let Some(line) = line else {
+        return refuse(writer, counts, b"?", Code::Line);
+    };
+    let (name, request) = read_addressed(line);
+    let Some(tenant) = world.find_text(name) else {
+        return refuse(writer, counts, b"?", code_to_nobody(name));
+    };
+    let Some(request) = request else {
+        return refuse(writer, counts, name, Code::Line);
+    };
+    if let Some(reply) = world.step_briefly(rt, tenant, &request) {
+        return tell(writer, counts, name, &reply);
+    }
+    let reply = world.step_apart(rt, tenant, request);
+    tell_apart(writer, counts, name, reply)
 }
 
-impl Answer {
-    /// Does what the line asks of the tenants.
-    #[inline(never)]
-    pub(crate) fn to_line<R: Wait>(rt: &R, world: &mut World, line: &[u8]) -> Answer
-        requires { is_too_long line.now ≡ false }
-        ensures { DoesLine world.old line.now (addressee_text result.tenant) result.reply world.new }
-    {
-        let Some(addressed) = read_addressed(line) else {
-            return Answer::to_nobody(Code::Line);
-        };
-        let (name, request) = addressed;
-        let Some(tenant) = world.find(&name) else {
-            return Answer::to_nobody(Code::NoTenant);
-        };
-        let Some(request) = request else {
-            return Answer::refusal(Some(name), Code::Line);
-        };
-        if let Some(reply) = world.step_briefly(rt, tenant, &request) {
-            return Answer {
-                tenant: Some(name),
-                reply,
-            };
-        }
-        let reply = world.step_apart(rt, tenant, request);
-        Answer {
-            tenant: Some(name),
-            reply,
-        }
+/// Does what a line asks of the tenants, and answers nobody.
+pub(crate) fn do_line<R: Wait>(rt: &R, world: &mut World, line: &[u8])
+    requires { is_too_long line.now ≡ false }
+    ensures { CarriesOut world.old line.now world.new }
+{
+    let (name, request) = read_addressed(line);
+    let Some(tenant) = world.find_text(name) else {
+        return;
+    };
+    if let Some(request) = request {
+        drop(world.step(rt, tenant, &request));
     }
+}
 
-    /// A refusal to a line that belongs to no tenant.
-    pub(crate) fn to_nobody(code: Code) -> Answer
-        ensures { result ≡ record { tenant = None; reply = Reply.Refused code } }
-    {
-        Answer::refusal(None, code)
-    }
+/// Counts a reply, and writes it with whom it names.
+#[inline(always)]
+fn tell<W: Sink>(
+    writer: &mut W,
+    counts: &mut Counts,
+    to: &[u8],
+    reply: &Reply,
+) -> Result<(), WriteFault>
+    requires { CanCount counts.old }
+    ensures { TellsReply (W.seen writer.old) (W.seen writer.new) to.now reply.now counts.old counts.new result }
+{
+    counts.count(reply);
+    write_answer(writer, to, reply)
+}
 
-    /// A refusal to a line that belongs to this tenant, or to none.
-    fn refusal(tenant: Option<Name>, code: Code) -> Answer
-        ensures { result ≡ record { tenant = tenant; reply = Reply.Refused code } }
-    {
-        Answer {
-            tenant,
-            reply: Reply::Refused(code),
-        }
-    }
+/// TellsReply a refusal.
+#[inline(never)]
+fn refuse<W: Sink>(
+    writer: &mut W,
+    counts: &mut Counts,
+    to: &[u8],
+    code: Code,
+) -> Result<(), WriteFault>
+    requires { CanCount counts.old }
+    ensures { TellsReply (W.seen writer.old) (W.seen writer.new) to.now (Reply.Refused code) counts.old counts.new result }
+{
+    tell(writer, counts, to, &Reply::Refused(code))
+}
 
-    /// Writes the answer as a line.
-    pub(crate) fn write<W: Sink>(&self, writer: &mut W) -> Result<(), WriteFault>
-        ensures written { WritesText (W.seen writer.old) (W.seen writer.new) result (answer_text self.now.tenant self.now.reply) }
-        ensures no_failure { OnOk result ((W.seen writer.new).failures ≡ (W.seen writer.old).failures) }
-        ensures fault { OnErr result (EndsInFault (W.seen writer.old) (W.seen writer.new)) }
-        ensures interruptions { (W.seen writer.old).interruptions ≤ (W.seen writer.new).interruptions }
-        // Whom it names and the reply, each with patience of its own.
-        ensures both { WritesBoth (W.seen writer.old) (W.seen writer.new) result
-            (addressee_text self.now.tenant ++ codes " ") (reply_text self.now.reply ++ codes "\n") }
-    {
-        write_answer(writer, &self.tenant, &self.reply)
+/// As [`tell`], in a function of its own, whose places are then not set to zero for the short replies.
+#[inline(never)]
+fn tell_apart<W: Sink>(
+    writer: &mut W,
+    counts: &mut Counts,
+    to: &[u8],
+    reply: Reply,
+) -> Result<(), WriteFault>
+    requires { CanCount counts.old }
+    ensures { TellsReply (W.seen writer.old) (W.seen writer.new) to.now reply counts.old counts.new result }
+{
+    tell(writer, counts, to, &reply)
+}
+
+/// Why a line is refused whose first word names no tenant.
+fn code_to_nobody(word: &[u8]) -> Code
+    ensures { result ≡ code_to_nobody word.now }
+{
+    match Name::read(word) {
+        Some(_) => Code::NoTenant,
+        None => Code::Line,
     }
 }

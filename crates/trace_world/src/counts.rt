@@ -1,5 +1,5 @@
 //! What a replay counts.
-ghost use Rattle.std.specs.Prelude.{◌≡◌, ◌+◌, ◌<◌, ◌≤◌, ◌^◌};
+ghost use Rattle.std.specs.Prelude.{◌≡◌};
 
 use trace_types::Reply;
 
@@ -16,7 +16,7 @@ pub struct Counts {
 }
 
 impl Counts {
-    ghost use Rattle.trace_world.specs.Counted.{counted_with};
+    ghost use Rattle.trace_world.specs.Counted.{CanCount, counted_with};
 
     /// Nothing counted yet.
     pub(crate) fn none() -> Counts
@@ -32,10 +32,7 @@ impl Counts {
 
     /// Counts one more line, which got this reply.
     pub(crate) fn count(&mut self, reply: &Reply)
-        requires lines { self.old.lines < 2 ^ 60 }
-        requires accepted { self.old.accepted ≤ self.old.lines }
-        requires answered { self.old.answered ≤ self.old.lines }
-        requires refused { self.old.refused ≤ self.old.lines }
+        requires { CanCount self.old }
         ensures { self.new ≡ counted_with self.old reply.now }
     {
         self.lines += 1;

@@ -4,7 +4,7 @@ ghost use Rattle.line_protocol.specs.Source.{StopsAtEnd};
 ghost use Rattle.line_protocol.specs.Writing.{EndsInFault};
 ghost use Rattle.trace_world.specs.Exported.{BreaksExport, Exports, TakesAll, TakesFirst};
 
-use crate::answer::Answer;
+use crate::answer::do_line;
 use crate::ledger_stamps::LedgerStamps;
 use crate::{ReplayFault, World};
 use line_protocol::{Buffer, Line, Sink, Source, flush};
@@ -74,7 +74,7 @@ fn take_in<T: Wait, R: Source>(
         match lines.next_line(reader)? {
             Line::End => return Ok(()),
             Line::TooLong => {}
-            Line::Whole => drop(Answer::to_line(rt, world, lines.line())),
+            Line::Whole => do_line(rt, world, lines.line()),
         }
     }
 }

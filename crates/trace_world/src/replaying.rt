@@ -6,12 +6,11 @@ ghost use Rattle.line_protocol.specs.Source.{StopsAtEnd};
 ghost use Rattle.line_protocol.specs.Writing.{EndsInFault, GoesWell, GoesWrong};
 ghost use Rattle.trace_world.specs.Replayed.{HandsOn, Replays, ReplaysInPart};
 
-use crate::answer::Answer;
+use crate::answer::answer_line;
 use crate::{Counts, ReplayFault, World};
 use line_protocol::{Buffer, Line, ReadFault, Sink, Source, WriteFault, flush};
 use std::alloc::Global;
 use std::sync::Wait;
-use trace_types::Code;
 
 /// Reads lines of all tenants, `TENANT REQUEST`, does what they ask and writes a line for each, `TENANT REPLY`.
 ///
@@ -49,15 +48,12 @@ pub fn replay<T: Wait, R: Source, W: Sink>(
     let mut counts = Counts::none();
     loop {
         hand_on(&lines, writer)?;
-        let answer = match next_line(&mut lines, reader, writer)? {
+        let line = match next_line(&mut lines, reader, writer)? {
             Line::End => break,
-            Line::TooLong => Answer::to_nobody(Code::Line),
-            Line::Whole => Answer::to_line(rt, world, lines.line()),
+            Line::TooLong => None,
+            Line::Whole => Some(lines.line()),
         };
-        answer.write(writer)?;
-        counts.count(&answer.reply);
-        // Dropped by a call, so that the loop goes back by one way, whatever the reply owns.
-        drop(answer);
+        answer_line(rt, world, line, writer, &mut counts)?;
     }
     flush(writer)?;
     Ok(counts)

@@ -1,5 +1,6 @@
 //! The tenants.
-ghost use Rattle.std.specs.Prelude.{◌≡◌, ◌≢◌, ◌↔◌, ◌<◌, ℕ, true, false, [], length, map, Some, slice_get, IfOk, IfErr, IfSome, IsErrOf};
+ghost use Rattle.std.specs.Prelude.{◌≡◌, ◌≢◌, ◌↔◌, ◌<◌, ℕ, true, false, [], length, map, Some, slice_get, IfOk, IfErr, IfSome, IsErrOf, IsTrue};
+ghost use Rattle.trace_types.specs.text.Name.{is_name};
 ghost use Rattle.order_cache.specs.Capacity.{IsCapacity};
 ghost use Rattle.trace_types.specs.tenant.Tenant.{fresh};
 ghost use Rattle.trace_types.specs.world.Replay.{place_of};
@@ -98,7 +99,18 @@ impl World {
         ensures stands { (place : ℕ) → (result ≡ Some place) ↔ (slice_get self.now.names place ≡ Some name.now) }
         ensures within { IfSome result (λ place. place < length self.now.tenants) }
     {
-        place_of(&self.names, name)
+        self.find_text(name.as_bytes())
+    }
+
+    /// The place of the tenant whose name has this text.
+    #[inline(always)]
+    pub(crate) fn find_text(&self, text: &[u8]) -> Option<usize>
+        ensures place { result ≡ place_of self.now.names text.now }
+        ensures stands { (place : ℕ) → (result ≡ Some place) ↔ (slice_get self.now.names place ≡ Some text.now) }
+        ensures within { IfSome result (λ place. place < length self.now.tenants) }
+        ensures name { IfSome result (λ _. IsTrue (is_name text.now)) }
+    {
+        place_of(&self.names, text)
     }
 
     /// The ledger of the tenant at this place.
@@ -212,11 +224,12 @@ fn are_distinct(names: &[Name]) -> bool
     true
 }
 
-fn place_of(names: &[Name], name: &Name) -> Option<usize>
-    ensures { result ≡ place_of names.now name.now }
+fn place_of(names: &[Name], text: &[u8]) -> Option<usize>
+    ensures place { result ≡ place_of names.now text.now }
+    ensures name { IfSome result (λ _. IsTrue (is_name text.now)) }
 {
-    for (place, other) in names.iter().enumerate() {
-        if other == name {
+    for (place, name) in names.iter().enumerate() {
+        if name.as_bytes() == text {
             return Some(place);
         }
     }

@@ -5,5 +5,5 @@ use Rattle.line_protocol.proofs.reply.write_apart.Goals as goal
 
 pub returns : goal.returns
 returns g c =
-    WritesBoth-second (g.W.Sink.seen c.args.writer.now) (g.W.Sink.seen c.write_bytes.new.writer) (g.W.Sink.seen c.write_reply_in.new.writer)
-    c.args.text.now (reply_text c.args.reply.now ++ codes "\n") c.write_reply_in.result (rw c.as_bytes.ensures.text at c.in_ok-write_bytes.ensures) c.write_reply_in.ensures
+    WritesBoth-second (g.W.Sink.seen c.args.writer.now) (g.W.Sink.seen c.write_prefix.new.writer) (g.W.Sink.seen c.write_reply.new.writer)
+    (c.args.addressee.now ++ codes " ") (reply_text c.args.reply.now ++ codes "\n") c.write_reply.result c.in_ok-write_prefix.ensures c.write_reply.ensures

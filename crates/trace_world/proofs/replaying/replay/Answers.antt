@@ -1,4 +1,9 @@
-use Rattle.std.proofs.Common.{ℕ, List, ◌≡◌, ◌<◌, IsTrue, [], refl, sym, ap, ◌∙◌, subst, arith}
+use Rattle.std.proofs.Common.{append_assoc, codes, Result, Ok, ◌++◌, ℕ, List, ◌≡◌, ◌<◌, IsTrue, [], refl, sym, ap, ◌∙◌, subst, arith}
+use Rattle.std.specs.Option.{option_copied}
+use Rattle.trace_types.specs.text.Text.{reply_text}
+use Rattle.line_protocol.specs.Sink.{Taken}
+use Rattle.trace_world.specs.Answered.{AnswersFound}
+use Rattle.trace_world.specs.declared.counts.Counts.{Counts}
 use Rattle.std.proofs.lemmas.List.{append-nil}
 use Rattle.line_protocol.proofs.EndsLemmas.{HasNoEnd-front}
 use Rattle.line_protocol.proofs.LineReadingLemmas.{HasRead-start, Reads-none, Reads-on, stops_at_end}
@@ -6,16 +11,15 @@ use Rattle.line_protocol.specs.Held.{Held, ReadingBounds, fresh_held}
 use Rattle.line_protocol.specs.LineReading.{Finds, FindsNone, LeavesLess, NeedsRead, Reads, failed_reads, work_left}
 use Rattle.line_protocol.specs.declared.line.Line.TheVariants.{End}
 use Rattle.trace_types.specs.world.Replay.{is_accepted, is_answered, is_refused}
-use Rattle.line_protocol.specs.Answer.{addressee_text}
 use Rattle.std.specs.Io.KnownBytes.{Keeps}
 use Rattle.std.proofs.KnownBytes.{Keeps-refl, Keeps-trans}
-use Rattle.trace_world.proofs.Fronts.{IfErr-equal, WritesBoth-began}
+use Rattle.trace_world.proofs.Fronts.{IfErr-equal, WritesBoth-began, WritesText-both}
 use Rattle.trace_world.proofs.Following.{Follows, LeadsTo-none, Follows-line, WroteTexts-line}
 use Rattle.trace_world.proofs.Parts.{in_part_none, in_part_read, in_part_held_back, in_part_unflushed, in_part_last, replays_all, HandsOn-flushed, HandsOn-fault, Answered, answered_where_too_long, answered_where_whole, Follows-as, Follows-flushed, is_no_write_fault, one_if-le}
 use Rattle.line_protocol.proofs.TextsInTurn.{WroteTexts-none}
 use Rattle.trace_world.proofs.replaying.replay.Goals as goal
 use Rattle.trace_world.proofs.replaying.replay.Given.{Over}
-use Rattle.trace_world.proofs.replaying.replay.Goals.{After-next_line, After-write, After-flush, in-TooLong, in-Whole}
+use Rattle.trace_world.proofs.replaying.replay.Goals.{After-next_line, After-answer_line, After-flush, in-TooLong, in-Whole}
 
 -- all reads that were made
 all_reads : (g : Over) (c : After-next_line g) → Reads (g.R.Source.seen c.args.reader.now) (g.R.Source.seen c.next_line.new.reader) fresh_held c.next_line.new.lines (failed_reads c.next_line.result)
@@ -27,15 +31,16 @@ gives_no_more : (g : Over) (c : After-next_line g) → IsTrue c.loop-lines.lines
 gives_no_more g c ended = let at_end = c.next_line.ensures.at_end ended in (ap (λ source. (g.R.Source.seen source).bytes) at_end.0, at_end.1)
 
 -- the answer to the line that was found
-answered : (g : Over) (c : After-write g)
-    → Answered (g.R.Source.seen c.loop-lines.reader).bytes (g.R.Source.seen c.next_line.new.reader).bytes c.loop-lines.lines c.next_line.new.lines c.loop-lines.world
-    (addressee_text c.match-branch-4.answer.tenant) c.match-branch-4.answer.reply c.match-branch-4.world
-answered g c =
+answered : (g : Over) (c : After-answer_line g) {E : Type 0} {before after : Taken} {counts counts' : Counts} {result : Result (Unit {0}) E}
+    (answers : AnswersFound (option_copied c.match-branch-4.line) c.loop-lines.world c.answer_line.new.world before after counts counts' result)
+    → Answered (g.R.Source.seen c.loop-lines.reader).bytes (g.R.Source.seen c.next_line.new.reader).bytes c.loop-lines.lines c.next_line.new.lines c.loop-lines.world answers.to answers.reply c.answer_line.new.world
+answered g c answers =
+    let within = c.next_line.ensures.finds.reads.reads.bounds ∙ c.loop-lines.invariant.reads.bounds in
     elim c.match-branch-4.branch [
-      | in-TooLong w ↦ answered_where_too_long _ _ c.loop-lines.lines c.next_line.new.lines c.loop-lines.world c.match-branch-4.world c.in_ok-next_line.field-0 c.match-branch-4.answer w.to_nobody-answer.result
-          (c.next_line.ensures.finds.reads.reads.bounds ∙ c.loop-lines.invariant.reads.bounds) w.in-TooLong.is c.in_ok-next_line.ensures.finds.line w.answer-is w.to_nobody-answer.ensures w.world-is
-      | in-Whole w ↦ answered_where_whole _ _ c.loop-lines.lines c.next_line.new.lines c.loop-lines.world w.to_line-answer.new.world c.match-branch-4.world c.in_ok-next_line.field-0 c.match-branch-4.answer w.to_line-answer.result w.line.result.now
-          w.in-Whole.is c.in_ok-next_line.ensures.finds.line w.answer-is w.line.ensures w.world-is w.to_line-answer.ensures
+      | in-TooLong w ↦ answered_where_too_long _ _ c.loop-lines.lines c.next_line.new.lines c.loop-lines.world c.answer_line.new.world c.in_ok-next_line.field-0 (option_copied c.match-branch-4.line) answers.to answers.reply
+          within w.in-TooLong.is c.in_ok-next_line.ensures.finds.line (ap option_copied w.line-is) answers.does
+      | in-Whole w ↦ answered_where_whole _ _ c.loop-lines.lines c.next_line.new.lines c.loop-lines.world c.answer_line.new.world c.in_ok-next_line.field-0 (option_copied c.match-branch-4.line) w.line.result.now answers.to answers.reply
+          within w.in-Whole.is c.in_ok-next_line.ensures.finds.line (ap option_copied w.line-is) w.line.ensures answers.does
     ]
 
 -- no line was found any more
@@ -53,8 +58,8 @@ follows g c = Follows-flushed c.in_ok-hand_on.ensures.taken c.in_ok-hand_on.ensu
 begun : (g : Over) (c : After-next_line g) → Keeps (g.W.Sink.seen c.args.writer.now).began (g.W.Sink.seen c.hand_on.new.writer).began
 begun g c = Keeps-trans _ _ _ c.loop-lines.invariant.began c.in_ok-hand_on.ensures.well.began
 
-begun_answer : (g : Over) (c : After-write g) → Keeps (g.W.Sink.seen c.args.writer.now).began (g.W.Sink.seen c.write.new.writer).began
-begun_answer g c = Keeps-trans _ _ _ (Keeps-trans _ _ _ c.loop-lines.invariant.began c.in_ok-hand_on.ensures.well.began) (WritesBoth-began _ _ c.write.result _ _ c.write.ensures.both)
+begun_answer : (g : Over) (c : After-answer_line g) → Keeps (g.W.Sink.seen c.args.writer.now).began (g.W.Sink.seen c.answer_line.new.writer).began
+begun_answer g c = Keeps-trans _ _ _ (Keeps-trans _ _ _ c.loop-lines.invariant.began c.in_ok-hand_on.ensures.well.began) (WritesBoth-began _ _ c.answer_line.result _ _ c.answer_line.ensures.tells.writes)
 
 needs_read : {given given' : List ℕ} {held : Held} → FindsNone given given' held → NeedsRead held
 needs_read {held = held} none = (HasNoEnd-front held.left none.gave none.no_end, none.goes_on)
@@ -115,40 +120,41 @@ returns-in_err-next_line-clause-flushed g c = HandsOn-flushed _ _ (c.in_ok-hand_
 pub returns-in_err-next_line-clause-ends : goal.returns-in_err-next_line-clause-ends
 returns-in_err-next_line-clause-ends g c = stops_at_end (all_reads g (goal.at.returns-in_err-next_line-clause-ends g c).After-next_line)
 
-pub returns-in_err-write-clause-fault : goal.returns-in_err-write-clause-fault
-returns-in_err-write-clause-fault g c =
-    let at = goal.at.returns-in_err-write-clause-fault g c in
-    IfErr-equal _ _ _ c.from_residual-in_err-write.ensures.1
-    (in_part_last (g.R.Source.seen c.args.reader.now) (g.R.Source.seen c.next_line.new.reader) (g.W.Sink.seen c.args.writer.now) (g.W.Sink.seen c.hand_on.new.writer) (g.W.Sink.seen c.write.new.writer)
-    (follows g at.After-next_line) (answered g at.After-write) (gives_no_more g at.After-next_line) _ (all_reads g at.After-next_line) c.in_err-write.ensures.both (begun_answer g at.After-write))
+pub returns-in_err-answer_line-clause-fault : goal.returns-in_err-answer_line-clause-fault
+returns-in_err-answer_line-clause-fault g c =
+    let at = goal.at.returns-in_err-answer_line-clause-fault g c in
+    IfErr-equal _ _ _ c.from_residual-in_err-answer_line.ensures.1
+    (in_part_last (g.R.Source.seen c.args.reader.now) (g.R.Source.seen c.next_line.new.reader) (g.W.Sink.seen c.args.writer.now) (g.W.Sink.seen c.hand_on.new.writer) (g.W.Sink.seen c.answer_line.new.writer)
+    (follows g at.After-next_line) (answered g at.After-answer_line c.in_err-answer_line.ensures) (gives_no_more g at.After-next_line) _ (all_reads g at.After-next_line) c.in_err-answer_line.ensures.tells.writes (begun_answer g at.After-answer_line))
 
-pub returns-in_err-write-clause-ends : goal.returns-in_err-write-clause-ends
-returns-in_err-write-clause-ends g c = stops_at_end (all_reads g (goal.at.returns-in_err-write-clause-ends g c).After-next_line)
+pub returns-in_err-answer_line-clause-ends : goal.returns-in_err-answer_line-clause-ends
+returns-in_err-answer_line-clause-ends g c = stops_at_end (all_reads g (goal.at.returns-in_err-answer_line-clause-ends g c).After-next_line)
 
 pub loop-lines-preserved : goal.loop-lines-preserved
 loop-lines-preserved g c =
     let at = goal.at.loop-lines-preserved g c in
-    let answered = answered g at.After-write in
+    let answered = answered g at.After-answer_line c.in_ok-answer_line.ensures in
     let before = c.loop-lines.invariant in
     let step = c.in_ok-next_line.ensures.finds in
-    let wrote = c.in_ok-write.ensures in
+    let tells = c.in_ok-answer_line.ensures.tells in
+    let wrote = WritesText-both {A = Unit {0}} {E = Unit {0}} (g.W.Sink.seen c.hand_on.new.writer) (g.W.Sink.seen c.answer_line.new.writer) (Ok tt) _ _ _ (append_assoc (c.in_ok-answer_line.ensures.to ++ codes " ") (reply_text c.in_ok-answer_line.ensures.reply) (codes "\n")) tells.writes in
     let less : work_left c.next_line.new.lines < work_left c.loop-lines.lines =
     elim c.match-branch-4.branch [
       | in-TooLong w ↦ subst (LeavesLess c.loop-lines.lines c.next_line.new.lines) w.in-TooLong.is step.less
       | in-Whole w ↦ subst (LeavesLess c.loop-lines.lines c.next_line.new.lines) w.in-Whole.is step.less
     ] in
     record {
-      follows = rw c.count.ensures (Follows-line answered.line _ _ (follows g at.After-next_line) answered.gives (gives_no_more g at.After-next_line) answered.answers wrote.written
-          (WroteTexts-line _ _ (follows g at.After-next_line).texts _ _ (follows g at.After-next_line).wrote wrote.both));
+      follows = rw tells.counted (Follows-line answered.line _ _ (follows g at.After-next_line) answered.gives (gives_no_more g at.After-next_line) answered.answers wrote
+          (WroteTexts-line _ _ (follows g at.After-next_line).texts _ _ (follows g at.After-next_line).wrote tells.writes));
       reads = Reads-on {failed = 0} before.reads (λ ended. ap g.R.Source.seen (c.next_line.ensures.at_end ended).0) step.reads.reads;
       most = omega (arith, step.reads.most, ap (λ (bounds : ReadingBounds). bounds.reads) (all_reads g at.After-next_line).bounds);
-      began = begun_answer g at.After-write;
-      write_failures = omega (arith, before.write_failures, c.in_ok-hand_on.ensures.well, wrote.no_failure);
-      interruptions = omega (arith, before.interruptions, c.in_ok-hand_on.ensures.well, wrote.interruptions);
-      room = rw c.count.ensures (omega (arith, before.room, less));
-      accepted = rw c.count.ensures (omega (arith, before.accepted, one_if-le (is_accepted c.match-branch-4.answer.reply)));
-      answered = rw c.count.ensures (omega (arith, before.answered, one_if-le (is_answered c.match-branch-4.answer.reply)));
-      refused = rw c.count.ensures (omega (arith, before.refused, one_if-le (is_refused c.match-branch-4.answer.reply)));
+      began = begun_answer g at.After-answer_line;
+      write_failures = omega (arith, before.write_failures, c.in_ok-hand_on.ensures.well, tells.no_failure);
+      interruptions = omega (arith, before.interruptions, c.in_ok-hand_on.ensures.well, tells.interruptions);
+      room = rw tells.counted (omega (arith, before.room, less));
+      accepted = rw tells.counted (omega (arith, before.accepted, one_if-le (is_accepted c.in_ok-answer_line.ensures.reply)));
+      answered = rw tells.counted (omega (arith, before.answered, one_if-le (is_answered c.in_ok-answer_line.ensures.reply)));
+      refused = rw tells.counted (omega (arith, before.refused, one_if-le (is_refused c.in_ok-answer_line.ensures.reply)));
     }
 
 pub returns-in_err-flush-clause-fault : goal.returns-in_err-flush-clause-fault
@@ -176,8 +182,8 @@ returns-clause-ends g c = stops_at_end (all_reads g (goal.at.returns-clause-ends
 pub returns-in_err-hand_on-clause-flushed : goal.returns-in_err-hand_on-clause-flushed
 returns-in_err-hand_on-clause-flushed g c = HandsOn-fault _ _ _ c.from_residual-in_err-hand_on.ensures.1 tt
 
-pub returns-in_err-write-clause-flushed : goal.returns-in_err-write-clause-flushed
-returns-in_err-write-clause-flushed g c = HandsOn-fault _ _ _ c.from_residual-in_err-write.ensures.1 tt
+pub returns-in_err-answer_line-clause-flushed : goal.returns-in_err-answer_line-clause-flushed
+returns-in_err-answer_line-clause-flushed g c = HandsOn-fault _ _ _ c.from_residual-in_err-answer_line.ensures.1 tt
 
 pub returns-in_err-flush-clause-flushed : goal.returns-in_err-flush-clause-flushed
 returns-in_err-flush-clause-flushed g c = HandsOn-fault _ _ _ c.from_residual-in_err-flush.ensures.1 tt

@@ -5,4 +5,4 @@ use Rattle.trace_world.proofs.world.place_of.Given as goal
 
 -- what was looked at is not the name
 abbrev pub invariant-loop-place : goal.invariant-loop-place
-invariant-loop-place l = place_of l.names l.name ≡ option_map (λ place. l.place + place) (place_of (drop l.place l.names) l.name)
+invariant-loop-place l = place_of l.names l.text ≡ option_map (λ place. l.place + place) (place_of (drop l.place l.names) l.text)
