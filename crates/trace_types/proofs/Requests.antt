@@ -10,7 +10,7 @@ use Rattle.trace_types.proofs.Names.{is_same_iff}
 use Rattle.trace_types.proofs.NumberTexts.{number_of_iff, list_all-decimal}
 use Rattle.trace_types.proofs.Words.{IsOneWord, IsOneWord-from_test, words-append, words_one, joined, joined-words}
 use Rattle.trace_types.specs.declared.request.Request.{Request}
-use Rattle.trace_types.specs.declared.request.Request.TheVariants.{Local, Spawn, Send, Recv, End, Join, Order, Past, Concurrent, Event, Stamp, Task, Message, Count}
+use Rattle.trace_types.specs.declared.request.Request.TheVariants.{Local, Spawn, Send, Recv, End, Join, Order, Past, Concurrent, Cut, Event, Stamp, Task, Message, Count}
 
 option_map_some : {A B : Type 0} (f : A → B) (o : Option A) (y : B) → option_map f o ≡ Some y → (x : A) × (o ≡ Some x) × (f x ≡ y)
 option_map_some f None y is = absurd (none-some y is)
@@ -127,6 +127,9 @@ IsSpelledBy-past keyword arguments request = IsSpelledBy-number Past (codes "pas
 IsSpelledBy-concurrent : (keyword : Text) (arguments : List Text) (request : Request) → keyword ≡ codes "concurrent" → with_number Concurrent arguments ≡ Some request → IsSpelledBy (keyword ∷ arguments) request
 IsSpelledBy-concurrent keyword arguments request = IsSpelledBy-number Concurrent (codes "concurrent") keyword arguments request (λ n small. (small, refl))
 
+IsSpelledBy-cut : (keyword : Text) (arguments : List Text) (request : Request) → keyword ≡ codes "cut" → with_number Cut arguments ≡ Some request → IsSpelledBy (keyword ∷ arguments) request
+IsSpelledBy-cut keyword arguments request = IsSpelledBy-number Cut (codes "cut") keyword arguments request (λ n small. (small, refl))
+
 IsSpelledBy-event : (keyword : Text) (arguments : List Text) (request : Request) → keyword ≡ codes "event" → with_number Event arguments ≡ Some request → IsSpelledBy (keyword ∷ arguments) request
 IsSpelledBy-event keyword arguments request = IsSpelledBy-number Event (codes "event") keyword arguments request (λ n small. (small, refl))
 
@@ -173,12 +176,13 @@ IsSpelledBy-from_reading (keyword ∷ arguments) request reads =
     (IsSpelledBy-at_keyword (codes "order") keyword arguments request _ _ (IsSpelledBy-order keyword arguments request)
     (IsSpelledBy-at_keyword (codes "past") keyword arguments request _ _ (IsSpelledBy-past keyword arguments request)
     (IsSpelledBy-at_keyword (codes "concurrent") keyword arguments request _ _ (IsSpelledBy-concurrent keyword arguments request)
+    (IsSpelledBy-at_keyword (codes "cut") keyword arguments request _ _ (IsSpelledBy-cut keyword arguments request)
     (IsSpelledBy-at_keyword (codes "event") keyword arguments request _ _ (IsSpelledBy-event keyword arguments request)
     (IsSpelledBy-at_keyword (codes "stamp") keyword arguments request _ _ (IsSpelledBy-stamp keyword arguments request)
     (IsSpelledBy-at_keyword (codes "task") keyword arguments request _ _ (IsSpelledBy-task keyword arguments request)
     (IsSpelledBy-at_keyword (codes "message") keyword arguments request _ _ (IsSpelledBy-message keyword arguments request)
     (IsSpelledBy-at_keyword (codes "count") keyword arguments request _ _ (IsSpelledBy-count keyword arguments request)
-    (λ none. absurd (none-some request none)))))))))))))))
+    (λ none. absurd (none-some request none))))))))))))))))
     reads
 
 -- ---- what is spelled is read
@@ -225,6 +229,9 @@ request_of-request_text (Past event) small =
 request_of-request_text (Concurrent event) small =
     ap (λ arguments. request_of_words (codes "concurrent" ∷ arguments)) (words_one (decimal event) (IsOneWord-decimal event small))
     ∙ ap (option_map Concurrent) ((number_of_iff (decimal event) event).1 (small, refl))
+request_of-request_text (Cut event) small =
+    ap (λ arguments. request_of_words (codes "cut" ∷ arguments)) (words_one (decimal event) (IsOneWord-decimal event small))
+    ∙ ap (option_map Cut) ((number_of_iff (decimal event) event).1 (small, refl))
 request_of-request_text (Event event) small =
     ap (λ arguments. request_of_words (codes "event" ∷ arguments)) (words_one (decimal event) (IsOneWord-decimal event small))
     ∙ ap (option_map Event) ((number_of_iff (decimal event) event).1 (small, refl))

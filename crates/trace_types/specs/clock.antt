@@ -4,6 +4,7 @@ pub mod Digest
 pub mod Id
 pub mod IdOperations
 pub mod EventTree
+pub mod Size
 pub mod Norm
 pub mod Join
 pub mod Fill

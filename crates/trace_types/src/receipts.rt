@@ -1,14 +1,15 @@
 //! The receipts of a message.
-ghost use Rattle.std.specs.Prelude.{◌≡◌, ◌≤◌, [], ◌∷◌, ◌++◌, length, nat_eq};
+ghost use Rattle.std.specs.Prelude.{◌≡◌, ◌≤◌, ◌<◌, ◌-◌, [], ◌∷◌, ◌++◌, length, take, nat_eq, IsOk, IfOk, OnOk, OnErr};
 ghost use Rattle.std.specs.Cmp.{partial_equiv_from_equiv};
 ghost use Rattle.std.specs.Cmp.Lexicographic.{pointwise, nat_list_eq_equiv};
 
+use crate::Memory;
 use smallvec::SmallVec;
 use std::alloc::Global;
 use std::marker::Model;
 
-/// The receipts of a message: the number of each event that received it, in their order. There is at most one, which
-/// lies in the value itself.
+/// The receipts of a message: the number of each event that received it, in their order. The first one lies in the value
+/// itself, so a message with one receiver takes no memory for it.
 ///
 /// A contract sees the list of them.
 #[derive(Debug, Drop)]
@@ -17,13 +18,13 @@ pub struct Receipts {
 }
 
 impl Model for Receipts {
-    ghost use Rattle.std.specs.Prelude.{ℕ, ◌≤◌, List, length};
+    ghost use Rattle.std.specs.Prelude.{ℕ, ◌≤◌, List};
 
     ghost Value = { List ℕ };
 
     ghost view = { λ r. r.events.items };
 
-    ghost invariant = { λ r. (length r.events.items ≤ 1) × (1 ≤ r.events.capacity) };
+    ghost invariant = { λ r. 1 ≤ r.events.capacity };
 }
 
 impl Receipts {
@@ -37,26 +38,36 @@ impl Receipts {
 
     /// The events, as a slice.
     pub fn as_slice(&self) -> &[u64]
-        ensures events { result.now ≡ self.now }
-        ensures few { length result.now ≤ 1 }
+        ensures { result.now ≡ self.now }
     {
         self.events.as_slice()
     }
 
-    /// Adds the first receipt. It takes no memory.
-    pub fn add(&mut self, event: u64)
-        requires { self.old ≡ [] }
-        ensures { self.new ≡ self.old ++ event ∷ [] }
+    /// Adds a receipt. `Memory` where a request for memory is refused, and then there are the receipts of before; the first
+    /// receipt takes none.
+    pub fn add(&mut self, event: u64) -> Result<(), Memory>
+        ensures ok { OnOk result (self.new ≡ self.old ++ event ∷ []) }
+        ensures err { OnErr result (self.new ≡ self.old) }
+        ensures first { self.old ≡ [] → IsOk result }
     {
-        self.events.push_reserved(event);
+        self.events.push(event)?;
+        Ok(())
     }
 
-    /// Equal receipts. It takes no memory.
-    pub fn share(&self) -> Receipts
-        ensures { result ≡ self.now }
+    /// Takes the last receipt back, where there is one. It takes no memory.
+    pub fn remove_last(&mut self)
+        ensures { self.new ≡ take (length self.old - 1) self.old }
     {
-        let events = SmallVec::from_slice(*self.events.allocator(), self.as_slice()).unwrap();
-        Receipts { events }
+        self.events.pop();
+    }
+
+    /// Equal receipts. `Memory` where a request for memory is refused; one receipt takes none.
+    pub fn share(&self) -> Result<Receipts, Memory>
+        ensures equal { IfOk result (λ receipts. receipts ≡ self.now) }
+        ensures few { length self.now ≤ 1 → IsOk result }
+    {
+        let events = SmallVec::from_slice(*self.events.allocator(), self.as_slice())?;
+        Ok(Receipts { events })
     }
 }
 

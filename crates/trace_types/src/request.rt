@@ -28,6 +28,8 @@ pub enum Request {
     Past(u64),
     /// Asks for the events that neither reach the event nor are reached from it.
     Concurrent(u64),
+    /// Asks for the last event of each task that reaches the event, itself among them.
+    Cut(u64),
     /// Asks for the row of the event.
     Event(u64),
     /// Asks for the stamp of the event.
@@ -82,6 +84,7 @@ impl Request {
             Request::Order(..)
             | Request::Past(_)
             | Request::Concurrent(_)
+            | Request::Cut(_)
             | Request::Event(_)
             | Request::Stamp(_)
             | Request::Task(_)

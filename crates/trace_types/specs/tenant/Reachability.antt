@@ -1,8 +1,9 @@
 -- Happened-before (Lamport 1978) in the graph of one tenant's events: reachability along predecessors.
-use Rattle.std.specs.Prelude.{◌≡◌, ℕ, suc, Bool, ◌||◌, List, [], ◌∷◌, length, if◌then◌else◌, ◌==◌, nat_lt, not, ◌&&◌, filter, Option, Some, None, Contains}
+use Rattle.std.specs.Prelude.{◌≡◌, ℕ, suc, Bool, false, ◌||◌, List, [], ◌∷◌, length, if◌then◌else◌, ◌==◌, ◌<◌, nat_lt, not, ◌&&◌, filter, Option, Some, None, IsTrue, Contains}
 use Rattle.std.specs.List.{list_any}
-use Rattle.trace_types.specs.text.Name.{Text}
-use Rattle.trace_types.specs.tenant.Rows.{History, last_event, send_event, events}
+use Rattle.trace_types.specs.text.Name.{Text, is_same}
+use Rattle.trace_types.specs.declared.row.Row.{Row}
+use Rattle.trace_types.specs.tenant.Rows.{History, last_event, send_event, row_of, is_event, events}
 use Rattle.trace_types.specs.declared.row.Kind.{Kind}
 use Rattle.trace_types.specs.declared.row.Kind.TheVariants.{Local, Spawn, Send, Recv, End, Join}
 use Rattle.trace_types.specs.declared.order.Order.{Order}
@@ -81,3 +82,35 @@ past_of history event = filter (λ other. not (other == event) && reaches histor
 -- the events that do not reach the event and are not reached from it, increasing
 abbrev pub concurrent_with : History → ℕ → List ℕ
 concurrent_with history event = filter (λ other. not (reaches history other event) && not (reaches history event other)) (events history)
+
+-- whether both rows are there and have the same acting task
+abbrev pub have_one_task : Option Row → Option Row → Bool
+have_one_task None other = false
+have_one_task (Some row) None = false
+have_one_task (Some row) (Some other) = is_same row.task other.task
+
+-- whether both are events of the same task
+abbrev pub are_of_one_task : History → ℕ → ℕ → Bool
+are_of_one_task history a b = have_one_task (row_of history a) (row_of history b)
+
+-- whether a later event with the same task as this one reaches the event, too
+abbrev pub is_outdated : History → ℕ → ℕ → Bool
+is_outdated history event other =
+    list_any (λ later. nat_lt other later && (are_of_one_task history other later && reaches history later event)) (events history)
+
+-- the events that reach the event, itself among them, such that no later event with the same task reaches it; increasing
+abbrev pub cut_of : History → ℕ → List ℕ
+cut_of history event = filter (λ other. reaches history other event && not (is_outdated history event other)) (events history)
+
+-- This event reaches the event, and is the last event of its task that does.
+pub record IsLastToReach (history : History) (event other : ℕ) : Type 0 where
+  pub there : IsTrue (is_event history other)
+  pub reached : Reaches history other event
+  pub last : (later : ℕ) → other < later → IsTrue (are_of_one_task history other later) → Reaches history later event → ⊥
+
+-- Of these events exactly one is of the same task as this one.
+pub record HasOneOfTask (history : History) (event : ℕ) (events : List ℕ) : Type 0 where
+  pub one : ℕ
+  pub among : Contains events one
+  pub same : IsTrue (are_of_one_task history event one)
+  pub alone : (other : ℕ) → Contains events other → IsTrue (are_of_one_task history event other) → other ≡ one

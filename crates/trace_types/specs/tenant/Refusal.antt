@@ -1,11 +1,11 @@
 -- When a request is refused, and with which code.
 use Rattle.std.specs.Prelude.{Bool, not, List, [], ◌∷◌, length, Option, Some, None, if◌then◌else◌, nat_le}
 use Rattle.trace_types.specs.tenant.Limits.{Limits}
-use Rattle.trace_types.specs.tenant.Rows.{History, is_known, is_ended, is_joined, is_sent, is_received, is_event, task_count, message_count}
+use Rattle.trace_types.specs.tenant.Rows.{History, is_known, is_ended, is_joined, is_sent, has_received, is_event, task_count, message_count}
 use Rattle.trace_types.specs.declared.code.Code.{Code}
 use Rattle.trace_types.specs.declared.code.Code.TheVariants.{NoTask, TaskExists, TaskEnded, NoEvent, NoMessage, MessageExists, AlreadyReceived, NotEnded, AlreadyJoined, EventsFull, TasksFull, MessagesFull}
 use Rattle.trace_types.specs.declared.request.Request.{Request}
-use Rattle.trace_types.specs.declared.request.Request.TheVariants.{Local, Spawn, Send, Recv, End, Join, Order, Past, Concurrent, Event, Stamp, Task, Message, Count}
+use Rattle.trace_types.specs.declared.request.Request.TheVariants.{Local, Spawn, Send, Recv, End, Join, Order, Past, Concurrent, Cut, Event, Stamp, Task, Message, Count}
 
 -- whether the tenant has all the events that it may have
 abbrev pub has_all_events : Limits → History → Bool
@@ -31,7 +31,7 @@ refusals limits history (Send task message) =
     ∷ (has_all_messages limits history, MessagesFull) ∷ (has_all_events limits history, EventsFull) ∷ []
 refusals limits history (Recv task message) =
     (not (is_known history task), NoTask) ∷ (is_ended history task, TaskEnded) ∷ (not (is_sent history message), NoMessage)
-    ∷ (is_received history message, AlreadyReceived) ∷ (has_all_events limits history, EventsFull) ∷ []
+    ∷ (has_received history task message, AlreadyReceived) ∷ (has_all_events limits history, EventsFull) ∷ []
 refusals limits history (End task) =
     (not (is_known history task), NoTask) ∷ (is_ended history task, TaskEnded) ∷ (has_all_events limits history, EventsFull) ∷ []
 refusals limits history (Join task child) =
@@ -40,6 +40,7 @@ refusals limits history (Join task child) =
 refusals limits history (Order a b) = (not (is_event history a), NoEvent) ∷ (not (is_event history b), NoEvent) ∷ []
 refusals limits history (Past event) = (not (is_event history event), NoEvent) ∷ []
 refusals limits history (Concurrent event) = (not (is_event history event), NoEvent) ∷ []
+refusals limits history (Cut event) = (not (is_event history event), NoEvent) ∷ []
 refusals limits history (Event event) = (not (is_event history event), NoEvent) ∷ []
 refusals limits history (Stamp event) = (not (is_event history event), NoEvent) ∷ []
 refusals limits history (Task task) = (not (is_known history task), NoTask) ∷ []

@@ -89,6 +89,10 @@ sends message row = sends_message row.kind && names row message
 abbrev pub receives : Text → Row → Bool
 receives message row = receives_message row.kind && names row message
 
+-- whether the row is a report by which the task received the message
+abbrev pub receives_by : Text → Text → Row → Bool
+receives_by task message row = receives message row && is_same row.task task
+
 -- whether the row is an event of the task
 abbrev pub is_of : Text → Row → Bool
 is_of task row = is_same row.task task
@@ -109,9 +113,9 @@ is_joined history task = list_any (joins task) history
 abbrev pub is_sent : History → Text → Bool
 is_sent history message = list_any (sends message) history
 
--- some row received it
-abbrev pub is_received : History → Text → Bool
-is_received history message = list_any (receives message) history
+-- the task has received the message
+abbrev pub has_received : History → Text → Text → Bool
+has_received history task message = list_any (receives_by task message) history
 
 -- how far the task has come
 abbrev pub state_of : History → Text → TaskState
@@ -122,9 +126,13 @@ abbrev pub newest : (Row → Bool) → History → ℕ
 newest test [] = 0
 newest test (row ∷ earlier) = if test row then suc (length earlier) else newest test earlier
 
+-- the event that started the task, or 0, as for `root`
+abbrev pub start_event : History → Text → ℕ
+start_event history task = newest (starts task) history
+
 -- the newest event of the task, else the event that started it, else 0
 abbrev pub last_event : History → Text → ℕ
-last_event history task = if newest (is_of task) history == 0 then newest (starts task) history else newest (is_of task) history
+last_event history task = if newest (is_of task) history == 0 then start_event history task else newest (is_of task) history
 
 -- the event that sent the message, or 0
 abbrev pub send_event : History → Text → ℕ
@@ -149,9 +157,13 @@ events history = range_with_len 1 (length history)
 abbrev pub is_event : History → ℕ → Bool
 is_event history event = nat_lt 0 event && nat_lt event (suc (length history))
 
+-- how many rows started a task
+abbrev pub spawn_count : History → ℕ
+spawn_count history = count_by (λ row. starts_task row.kind) history
+
 -- how many tasks there ever were
 abbrev pub task_count : History → ℕ
-task_count history = 1 + count_by (λ row. starts_task row.kind) history
+task_count history = 1 + spawn_count history
 
 -- how many messages there are
 abbrev pub message_count : History → ℕ

@@ -5,7 +5,7 @@ use Rattle.trace_types.specs.text.Name.{Text}
 use Rattle.trace_types.specs.tenant.Limits.{Limits}
 use Rattle.trace_types.specs.tenant.Rows.{History, history_of, state_of, last_event, send_event, receipts, row_of, task_count, message_count}
 use Rattle.trace_types.specs.clock.Stamps.{stamp_text_of}
-use Rattle.trace_types.specs.tenant.Reachability.{predecessors, order_of, past_of, concurrent_with}
+use Rattle.trace_types.specs.tenant.Reachability.{predecessors, order_of, past_of, concurrent_with, cut_of}
 use Rattle.trace_types.specs.tenant.Refusal.{refusal_of}
 use Rattle.trace_types.specs.text.Text.{CanBeWritten}
 use Rattle.trace_types.specs.declared.code.Code.{Code}
@@ -14,7 +14,7 @@ use Rattle.trace_types.specs.declared.row.Row.{Row}
 use Rattle.trace_types.specs.declared.row.Kind.{Kind}
 use Rattle.trace_types.specs.declared.row.Kind.TheVariants as kind
 use Rattle.trace_types.specs.declared.request.Request.{Request}
-use Rattle.trace_types.specs.declared.request.Request.TheVariants.{Local, Spawn, Send, Recv, End, Join, Order, Past, Concurrent, Event, Stamp, Task, Message, Count}
+use Rattle.trace_types.specs.declared.request.Request.TheVariants.{Local, Spawn, Send, Recv, End, Join, Order, Past, Concurrent, Cut, Event, Stamp, Task, Message, Count}
 use Rattle.trace_types.specs.declared.reply.Reply.{Reply}
 use Rattle.trace_types.specs.declared.reply.Reply.TheVariants as reply
 
@@ -51,6 +51,7 @@ answer_to history (Join task child) = accepted history task kind.Join (Some chil
 answer_to history (Order a b) = (reply.Ordering (order_of history a b), None)
 answer_to history (Past event) = (reply.List (past_of history event), None)
 answer_to history (Concurrent event) = (reply.List (concurrent_with history event), None)
+answer_to history (Cut event) = (reply.List (cut_of history event), None)
 answer_to history (Event event) = (row_reply (row_of history event), None)
 answer_to history (Stamp event) = (reply.Stamp (stamp_text_of history event), None)
 answer_to history (Task task) = (reply.Task (state_of history task) (last_event history task), None)
@@ -98,6 +99,7 @@ is_report (Join task child) = true
 is_report (Order a b) = false
 is_report (Past event) = false
 is_report (Concurrent event) = false
+is_report (Cut event) = false
 is_report (Event event) = false
 is_report (Stamp event) = false
 is_report (Task task) = false
@@ -119,10 +121,11 @@ may_lack_memory (Join task child) = true
 may_lack_memory (Order a b) = false
 may_lack_memory (Past event) = true
 may_lack_memory (Concurrent event) = true
+may_lack_memory (Cut event) = true
 may_lack_memory (Event event) = false
 may_lack_memory (Stamp event) = true
 may_lack_memory (Task task) = false
-may_lack_memory (Message message) = false
+may_lack_memory (Message message) = true
 may_lack_memory Count = false
 
 -- Want of memory may be the answer: the request may lack memory, and is not refused.

@@ -3,7 +3,7 @@ use Rattle.std.specs.Prelude.{ℕ, ◌+◌, ◌-◌, ◌*◌, Bool, ◌&&◌, �
 use Rattle.std.specs.List.{list_all}
 use Rattle.trace_types.specs.text.Name.{Text, is_same, is_name, is_between}
 use Rattle.trace_types.specs.declared.request.Request.{Request}
-use Rattle.trace_types.specs.declared.request.Request.TheVariants.{Local, Spawn, Send, Recv, End, Join, Order, Past, Concurrent, Event, Stamp, Task, Message, Count}
+use Rattle.trace_types.specs.declared.request.Request.TheVariants.{Local, Spawn, Send, Recv, End, Join, Order, Past, Concurrent, Cut, Event, Stamp, Task, Message, Count}
 
 -- the byte at the front of the first word
 abbrev pub onto : ℕ → List Text → List Text
@@ -85,6 +85,7 @@ request_of_words (keyword ∷ arguments) =
     else if is_same keyword (codes "order") then with_numbers Order arguments
     else if is_same keyword (codes "past") then with_number Past arguments
     else if is_same keyword (codes "concurrent") then with_number Concurrent arguments
+    else if is_same keyword (codes "cut") then with_number Cut arguments
     else if is_same keyword (codes "event") then with_number Event arguments
     else if is_same keyword (codes "stamp") then with_number Stamp arguments
     else if is_same keyword (codes "task") then with_name Task arguments
