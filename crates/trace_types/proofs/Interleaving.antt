@@ -16,7 +16,7 @@ use Rattle.trace_types.specs.declared.code.Code.{Code}
 use Rattle.trace_types.specs.declared.code.Code.TheVariants.{NoMemory}
 use Rattle.trace_types.specs.declared.row.Row.{Row}
 use Rattle.trace_types.specs.declared.request.Request.{Request}
-use Rattle.trace_types.specs.declared.request.Request.TheVariants.{Local, Spawn, Send, Recv, End, Join, Order, Past, Concurrent, Event, Stamp, Task, Message, Count}
+use Rattle.trace_types.specs.declared.request.Request.TheVariants.{Local, Spawn, Send, Recv, End, Join, Order, Past, Concurrent, Cut, Event, Stamp, Task, Message, Count}
 use Rattle.trace_types.specs.declared.reply.Reply.{Reply}
 use Rattle.trace_types.specs.declared.reply.Reply.TheVariants.{Refused}
 
@@ -120,6 +120,7 @@ all_other_codes limits history (Join task child) = refl
 all_other_codes limits history (Order a b) = refl
 all_other_codes limits history (Past event) = refl
 all_other_codes limits history (Concurrent event) = refl
+all_other_codes limits history (Cut event) = refl
 all_other_codes limits history (Event event) = refl
 all_other_codes limits history (Stamp event) = refl
 all_other_codes limits history (Task task) = refl
@@ -140,6 +141,7 @@ tells_want-answer_to history (Join task child) = refl
 tells_want-answer_to history (Order a b) = refl
 tells_want-answer_to history (Past event) = refl
 tells_want-answer_to history (Concurrent event) = refl
+tells_want-answer_to history (Cut event) = refl
 tells_want-answer_to history (Event event) = tells_want-row_reply (row_of history event)
 tells_want-answer_to history (Stamp event) = refl
 tells_want-answer_to history (Task task) = refl

@@ -1,7 +1,9 @@
 pub mod Interleaving
 pub mod Replay
 pub mod Names
+pub mod Chosen
 pub mod Reachability
+pub mod Cuts
 pub mod Lines
 mod Vectors
 mod NumberTexts

@@ -99,7 +99,7 @@ LeadsBack-fewer row history b (event ∷ path) a older leads =
     let known : (1 ≤ event) × (event < b) × (b ≤ length history) = predecessors_of_before history b event one in
     (one, LeadsBack-fewer row history event path a (omega arith) leads.1)
 
-Contains_from_list_any : {X : Type 0} (test : X → Bool) (xs : List X) → list_any test xs ≡ true → (x : X) × Contains xs x × (test x ≡ true)
+pub Contains_from_list_any : {X : Type 0} (test : X → Bool) (xs : List X) → list_any test xs ≡ true → (x : X) × Contains xs x × (test x ≡ true)
 Contains_from_list_any test [] any = absurd (false≢true any)
 Contains_from_list_any {X} test (first ∷ xs) any = at (or_cases (test first) (list_any test xs) any) (Contains_from_list_any test xs)
   where

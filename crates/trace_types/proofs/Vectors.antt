@@ -114,6 +114,10 @@ pub output-messages_and_lists :
     ++ codes "x task a" ++ 10 ∷ []
     ++ codes "x concurrent 4" ++ 10 ∷ []
     ++ codes "x concurrent 6" ++ 10 ∷ []
+    ++ codes "x cut 1" ++ 10 ∷ []
+    ++ codes "x cut 5" ++ 10 ∷ []
+    ++ codes "x cut 6" ++ 10 ∷ []
+    ++ codes "x cut 8" ++ 10 ∷ []
     ++ codes "x order 5 5" ++ 10 ∷ []
     ++ codes "x order 8 1" ++ 10 ∷ []
     ++ codes "x event 1" ++ 10 ∷ []
@@ -155,6 +159,10 @@ pub output-messages_and_lists :
     ++ codes "x 200 joined 7" ++ 10 ∷ []
     ++ codes "x 200 3 3 5 7" ++ 10 ∷ []
     ++ codes "x 200 1 7" ++ 10 ∷ []
+    ++ codes "x 200 1 1" ++ 10 ∷ []
+    ++ codes "x 200 2 2 5" ++ 10 ∷ []
+    ++ codes "x 200 2 5 6" ++ 10 ∷ []
+    ++ codes "x 200 2 7 8" ++ 10 ∷ []
     ++ codes "x 200 same" ++ 10 ∷ []
     ++ codes "x 200 after" ++ 10 ∷ []
     ++ codes "x 200 local root - 0" ++ 10 ∷ []
@@ -243,3 +251,35 @@ asked-return = refl
 
 pub lines-blank_between : lines (codes "x count" ++ 10 ∷ 10 ∷ codes "x count") ≡ codes "x count" ∷ [] ∷ codes "x count" ∷ []
 lines-blank_between = refl
+
+-- a message that two tasks receive, and what of each task had a part in an event
+pub output-many_receivers :
+    written_for default_limits
+    (codes "x spawn root a" ++ 10 ∷ []
+    ++ codes "x spawn root b" ++ 10 ∷ []
+    ++ codes "x send root m" ++ 10 ∷ []
+    ++ codes "x recv a m" ++ 10 ∷ []
+    ++ codes "x recv b m" ++ 10 ∷ []
+    ++ codes "x recv a m" ++ 10 ∷ []
+    ++ codes "x message m" ++ 10 ∷ []
+    ++ codes "x order 4 5" ++ 10 ∷ []
+    ++ codes "x stamp 3" ++ 10 ∷ []
+    ++ codes "x stamp 4" ++ 10 ∷ []
+    ++ codes "x stamp 5" ++ 10 ∷ []
+    ++ codes "x cut 4" ++ 10 ∷ []
+    ++ codes "x cut 6" ++ 10 ∷ [])
+    ≡ codes "x 201 1" ++ 10 ∷ []
+    ++ codes "x 201 2" ++ 10 ∷ []
+    ++ codes "x 201 3" ++ 10 ∷ []
+    ++ codes "x 201 4" ++ 10 ∷ []
+    ++ codes "x 201 5" ++ 10 ∷ []
+    ++ codes "x 407 already received" ++ 10 ∷ []
+    ++ codes "x 200 3 2 4 5" ++ 10 ∷ []
+    ++ codes "x 200 concurrent" ++ 10 ∷ []
+    ++ codes "x 200 [((1,0),0);(1,(1,1,0),0)]" ++ 10 ∷ []
+    ++ codes "x 200 [(0,1);(2,(0,1,0),0)]" ++ 10 ∷ []
+    ++ codes "x 200 [((0,1),0);(1,2,0)]" ++ 10 ∷ []
+    ++ codes "x 200 2 3 4" ++ 10 ∷ []
+    ++ codes "x 404 no event" ++ 10 ∷ []
+unfolding digits
+output-many_receivers = refl

@@ -1,8 +1,10 @@
 //! Laws of the definitions that the contracts cite. Each is the contract of a function that does nothing.
-ghost use Rattle.std.specs.Prelude.{◌≡◌, ◌≢◌, ◌↔◌, ℕ, IsTrue, List, [], ◌∷◌, ◌++◌, Option, Some, All};
+ghost use Rattle.std.specs.Prelude.{◌≡◌, ◌≢◌, ◌↔◌, ℕ, IsTrue, List, [], ◌∷◌, ◌++◌, Option, Some, All, Contains};
+ghost use Rattle.std.specs.List.Sorted.{IsStrictlyIncreasing};
 ghost use Rattle.trace_types.specs.text.Lines.{lines, without_return};
 ghost use Rattle.trace_types.specs.text.Name.{is_name, is_same};
-ghost use Rattle.trace_types.specs.tenant.Reachability.{Reaches, reaches};
+ghost use Rattle.trace_types.specs.tenant.Reachability.{Reaches, reaches, cut_of, IsLastToReach, HasOneOfTask};
+ghost use Rattle.trace_types.specs.tenant.Rows.{is_event};
 ghost use Rattle.trace_types.specs.text.Reading.{request_of, addressed_by};
 ghost use Rattle.trace_types.specs.text.Text.{Spells, CanBeWritten, request_text};
 ghost use Rattle.trace_types.specs.declared.request.Request.{Request};
@@ -16,6 +18,16 @@ pub fn names()
 /// Walking back from one event finds another exactly where a path of predecessors leads there.
 pub fn reachability()
     ensures { (history : List Row) (a b : ℕ) → IsTrue (reaches history a b) ↔ Reaches history a b }
+{}
+
+/// The cut of an event has exactly the events that are each the last of its task to reach the event. Each task with an event
+/// that reaches it has exactly one event in the cut, the event itself is in it, and the events increase.
+pub fn cut()
+    ensures members { (history : List Row) (event other : ℕ) → Contains (cut_of history event) other ↔ IsLastToReach history event other }
+    ensures every_task { (history : List Row) (event other : ℕ) → IsTrue (is_event history other) → Reaches history other event
+        → HasOneOfTask history other (cut_of history event) }
+    ensures itself { (history : List Row) (event : ℕ) → IsTrue (is_event history event) → Contains (cut_of history event) event }
+    ensures increasing { (history : List Row) (event : ℕ) → IsStrictlyIncreasing (cut_of history event) }
 {}
 
 /// The request that is read from a line is the one that the line spells, and each spelled request is read.
