@@ -31,7 +31,7 @@ event_from_bounds history event positive within =
     and_from (ltb 0 event) (ltb event (suc (length history))) (lt-ltb 0 event positive) (lt-ltb event (suc (length history)) (omega (arith, within)))
 
 -- each event has a row, and nothing else has
-row_there : (history : History) (event : ℕ) → 0 < event → event ≤ length history → (row : Row) × (row_of history event ≡ Some row)
+pub row_there : (history : History) (event : ℕ) → 0 < event → event ≤ length history → (row : Row) × (row_of history event ≡ Some row)
 row_there [] event positive within = absurd (omega (arith, positive, within))
 row_there (row ∷ earlier) event positive within = at (cases_eq event (suc (length earlier))) (row_there earlier event positive)
   where
