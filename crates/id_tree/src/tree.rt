@@ -1,8 +1,9 @@
 //! The tree of an id.
-ghost use Rattle.std.specs.Prelude.{◌≡◌, ◌≢◌, ◌↔◌, IfOk, IsOk, IsTrue};
+ghost use Rattle.std.specs.Prelude.{◌≡◌, ◌≢◌, ◌-◌, ◌^◌, ◌↔◌, min, IfOk, IsOk, IsTrue};
 ghost use Rattle.trace_types.specs.clock.Id.{Zero, One, Pair, AreApart, AreDisjoint, IsNormalId};
 ghost use Rattle.trace_types.specs.clock.IdOperations.{norm_id, split, sum};
 ghost use Rattle.trace_types.specs.clock.Digest.{digest_of_both};
+ghost use Rattle.trace_types.specs.clock.Size.{inner_of_id};
 ghost use Rattle.id_tree.specs.Digest.{digest as digest_of};
 ghost use Rattle.id_tree.specs.Leaves.{IsLeafId};
 ghost use Rattle.id_tree.specs.Parts.{id_of_parts};
@@ -213,6 +214,21 @@ impl IdTree {
             Node::Zero => 0,
             Node::One => 1,
             Node::Pair(halves) => halves.digest,
+        }
+    }
+
+    /// How many inner nodes the id has, or `u64::MAX` if it has more. A part that stands in it twice counts twice. It walks
+    /// the whole id, and takes no memory.
+    pub fn inner(&self) -> u64
+        ensures { result ≡ min (inner_of_id self.now) (2 ^ 64 - 1) }
+    {
+        match &self.node {
+            Node::Zero | Node::One => 0,
+            Node::Pair(halves) => halves
+                .left
+                .inner()
+                .saturating_add(halves.right.inner())
+                .saturating_add(1),
         }
     }
 
