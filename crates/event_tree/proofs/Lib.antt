@@ -10,6 +10,7 @@ pub mod Joined
 pub mod Lifts
 pub mod NormLemmas
 pub mod Paths
+pub mod Places
 pub mod Points
 pub mod Pricing
 pub mod Raising

@@ -1,5 +1,5 @@
 //! The event tree, kept normal.
-ghost use Rattle.std.specs.Prelude.{◌≡◌, ◌≢◌, ◌+◌, ◌^◌, ◌<◌, ◌≤◌, ◌↔◌, max, IfOk, IfSome, IfNone, IsOk, IsTrue, false};
+ghost use Rattle.std.specs.Prelude.{◌≡◌, ◌≢◌, ◌+◌, ◌-◌, ◌^◌, ◌<◌, ◌≤◌, ◌↔◌, min, max, IfOk, IfSome, IfNone, IsOk, IsTrue, false};
 ghost use Rattle.trace_types.specs.clock.Id.{Zero, One};
 ghost use Rattle.trace_types.specs.clock.EventTree.{Leaf, Node as plain_Node, IsNormal, value, minimum, maximum};
 ghost use Rattle.event_tree.specs.Comparison.{IsBelow, StandsAs};
@@ -7,8 +7,9 @@ ghost use Rattle.trace_types.specs.clock.Norm.{norm, lowered};
 ghost use Rattle.trace_types.specs.clock.Join.{lifted, join};
 ghost use Rattle.trace_types.specs.clock.Event.{event};
 ghost use Rattle.trace_types.specs.clock.Digest.{digest_of_both};
+ghost use Rattle.trace_types.specs.clock.Size.{inner_of_tree};
 ghost use Rattle.event_tree.specs.Digest.{tree_digest};
-ghost use Rattle.event_tree.specs.Height.{height, inner_nodes};
+ghost use Rattle.event_tree.specs.Height.{height};
 ghost use Rattle.event_tree.specs.Leaves.{IsLeafTree};
 ghost use Rattle.event_tree.specs.Risen.{IsRaisedAt};
 ghost use Rattle.event_tree.specs.Parts.{tree_of_parts};
@@ -287,6 +288,21 @@ impl EvTree {
         }
     }
 
+    /// How many inner nodes the tree has, or `u64::MAX` if it has more. A part that stands in it twice counts twice. It walks
+    /// the whole tree, and takes no memory.
+    pub fn inner(&self) -> u64
+        ensures { result ≡ min (inner_of_tree self.now) (2 ^ 64 - 1) }
+    {
+        match &self.node {
+            Node::Leaf(_) => 0,
+            Node::Fork { children, .. } => children
+                .left
+                .inner()
+                .saturating_add(children.right.inner())
+                .saturating_add(1),
+        }
+    }
+
     /// Whether the two trees have the same value at each point, which as they are normal is whether they are equal. It
     /// looks at the digests first, at each node, so that it walks two trees that differ hardly ever; two that are equal it
     /// walks whole.
@@ -424,7 +440,7 @@ impl EvTree {
     /// a long walk.
     pub fn order_within(&self, other: &EvTree, steps: u64) -> Option<Order>
         ensures order { IfSome result (λ order. StandsAs order self.now other.now) }
-        ensures short { IfNone result (steps < inner_nodes self.now + inner_nodes other.now) }
+        ensures short { IfNone result (steps < inner_of_tree self.now + inner_of_tree other.now) }
     {
         self.normal();
         other.normal();

@@ -1,7 +1,7 @@
 //! Comparing two lifted trees.
 ghost use Rattle.std.specs.Prelude.{◌≡◌, ◌+◌, ◌^◌, ◌<◌, ◌≤◌, ◌↔◌, ◌||◌, IfSome, IsTrue, MatchOption};
 ghost use Rattle.trace_types.specs.clock.EventTree.{maximum};
-ghost use Rattle.event_tree.specs.Height.{inner_nodes};
+ghost use Rattle.trace_types.specs.clock.Size.{inner_of_tree};
 ghost use Rattle.event_tree.specs.Lifted.{IsLiftedBelow};
 ghost use Rattle.event_tree.specs.Ranges.{range_of, IsRangeBelow, CanBeBelow};
 
@@ -106,7 +106,7 @@ pub(super) fn is_below_within(
     requires one_fits { one_lift + maximum one.now < 2 ^ 64 }
     requires other_fits { other_lift + maximum other.now < 2 ^ 64 }
     ensures is { IfSome result (λ below. IsTrue below ↔ IsLiftedBelow one_lift one.now other_lift other.now) }
-    ensures short { MatchOption result (steps.old < inner_nodes one.now) (λ _. steps.old ≤ steps.new + inner_nodes one.now) }
+    ensures short { MatchOption result (steps.old < inner_of_tree one.now) (λ _. steps.old ≤ steps.new + inner_of_tree one.now) }
 {
     let span = one.range(one_lift);
     let other_span = other.range(other_lift);
