@@ -1,4 +1,5 @@
-//! The messages of one tenant: which were sent, by which event, and which events received them.
+//! The messages of one tenant: which were sent, by which event, and which tasks received them, by
+//! which events.
 //!
 //! Contracts see a [`MessageBook`] as its limit and the list of its messages in the order in which they were sent
 //! (`Book`, in specs/). Its one contract: that list has a message for each send that was taken, with the receipts that
@@ -8,6 +9,8 @@
 
 mod entry;
 mod message_book;
+mod others;
+mod receivers;
 
 pub use entry::Entry;
 pub use message_book::MessageBook;

@@ -1,14 +1,14 @@
 //! The book of one tenant's messages.
-ghost use Rattle.std.specs.Prelude.{◌≡◌, ◌≤◌, [], true, length, None, Some, IfOk, IfErr, OnErr, OnOk, IsOkAnd, unwrap_or};
+ghost use Rattle.std.specs.Prelude.{◌≡◌, ◌≤◌, [], true, length, None, Some, false, IfOk, IfErr, OnErr, OnOk, IsOkAnd, unwrap_or};
 ghost use Rattle.std.specs.Option.{option_copied, option_map};
 ghost use Rattle.std.specs.Result.{result_err};
-ghost use Rattle.message_book.specs.Book.{AreNamedOnce, LastIsUnreceived, entry_of, has_receipt, with_message, with_receipt, without_last, without_receipts, refusal_of_send, refusal_of_receive};
+ghost use Rattle.message_book.specs.Book.{AreNamedOnce, LastIsUnreceived, entry_of, has_receipt, with_message, with_receipt, without_last, without_last_receipt, refusal_of_send, refusal_of_receive};
 
 use crate::Entry;
 use indexmap::IndexMap;
 use std::alloc::Global;
 use std::marker::Model;
-use trace_types::{Code, Memory, Name, Receipts};
+use trace_types::{Code, Memory, Name};
 
 /// The messages of one tenant, each found by its name.
 ///
@@ -85,30 +85,35 @@ impl MessageBook {
         Ok(self.add(name, event)?)
     }
 
-    /// The event that sent the message of this name, where it can be received: else `NoMessage` (405) where there is no
-    /// such message, and `AlreadyReceived` (407) where it has a receipt. It takes no memory.
-    pub fn check_receive(&self, name: &Name) -> Result<u64, Code>
-        ensures code { result_err result ≡ refusal_of_receive self.now name.now }
+    /// The event that sent the message of this name, where the task can receive it: else `NoMessage` (405) where there is no
+    /// such message, and `AlreadyReceived` (407) where the task received it. It takes no memory.
+    pub fn check_receive(&self, name: &Name, task: &Name) -> Result<u64, Code>
+        ensures code { result_err result ≡ refusal_of_receive self.now name.now task.now }
         ensures sent { IfOk result (λ event. option_map (λ entry. entry.sent) (entry_of self.now.messages name.now) ≡ Some event) }
     {
         match self.find(name) {
             None => Err(Code::NoMessage),
-            Some(entry) if entry.receipts.as_slice().is_empty() => Ok(entry.sent),
-            Some(_) => Err(Code::AlreadyReceived),
+            Some(entry) if entry.has_receiver(task) => Err(Code::AlreadyReceived),
+            Some(entry) => Ok(entry.sent()),
         }
     }
 
-    /// Adds the receipt of a message by this event.
+    /// Adds the receipt of a message by this task and event.
     ///
-    /// It is refused exactly as [`MessageBook::check_receive`] says. It takes no memory.
-    pub fn receive(&mut self, name: &Name, event: u64) -> Result<(), Code>
-        ensures code { result_err result ≡ refusal_of_receive self.old name.now }
-        ensures ok { OnOk result (self.new ≡ record self.old { messages = with_receipt name.now event self.old.messages }) }
+    /// It is refused as [`MessageBook::check_receive`] says, and last with `NoMemory` (507), where a request for memory was
+    /// refused. The first receipt of a message takes no memory.
+    pub fn receive(&mut self, name: &Name, task: Name, event: u64) -> Result<(), Code>
+        ensures allowed { OnOk result (refusal_of_receive self.old name.now task ≡ None) }
+        ensures ok { OnOk result (self.new ≡ record self.old { messages = with_receipt name.now task event self.old.messages }) }
+        ensures code { IfErr result (λ code. code ≡ unwrap_or (refusal_of_receive self.old name.now task) Code.NoMemory) }
         ensures err { OnErr result (self.new ≡ self.old) }
+        ensures first { has_receipt (entry_of self.old.messages name.now) ≡ false → result_err result ≡ refusal_of_receive self.old name.now task }
     {
-        self.check_receive(name)?;
-        self.add_receipt(name, event);
-        Ok(())
+        let alloc = *self.messages.allocator();
+        match self.messages.get_mut(name) {
+            None => Err(Code::NoMessage),
+            Some(entry) => entry.receive(alloc, task, event),
+        }
     }
 
     /// Takes the last send back: the message is not there any more. It takes no memory.
@@ -119,14 +124,13 @@ impl MessageBook {
         self.messages.pop();
     }
 
-    /// Takes the receipt of a message back: the message can be received again. It takes no memory.
+    /// Takes the last receipt of a message back: its task can receive the message again. It takes no memory.
     pub fn undo_receive(&mut self, name: &Name)
         requires { has_receipt (entry_of self.old.messages name.now) ≡ true }
-        ensures { self.new ≡ record self.old { messages = without_receipts name.now self.old.messages } }
+        ensures { self.new ≡ record self.old { messages = without_last_receipt name.now self.old.messages } }
     {
-        let alloc = *self.messages.allocator();
         if let Some(entry) = self.messages.get_mut(name) {
-            entry.lose_receipts(alloc);
+            entry.remove_last_receipt();
         }
     }
 
@@ -136,22 +140,8 @@ impl MessageBook {
         ensures ok { OnOk result (self.new ≡ record self.old { messages = with_message name event self.old.messages }) }
         ensures err { OnErr result (self.new ≡ self.old) }
     {
-        let receipts = Receipts::none(*self.messages.allocator());
-        let entry = Entry {
-            sent: event,
-            receipts,
-        };
+        let entry = Entry::new(*self.messages.allocator(), event);
         self.messages.insert(name, entry)?;
         Ok(())
-    }
-
-    /// Adds the receipt of a message that can be received.
-    fn add_receipt(&mut self, name: &Name, event: u64)
-        requires { refusal_of_receive self.old name.now ≡ None }
-        ensures { self.new ≡ record self.old { messages = with_receipt name.now event self.old.messages } }
-    {
-        if let Some(entry) = self.messages.get_mut(name) {
-            entry.receipts.add(event);
-        }
     }
 }
