@@ -1,6 +1,5 @@
 //! What the book has of one message.
-ghost use Rattle.std.specs.Prelude.{◌≡◌, [], map, true, false, if◌then◌else◌, IfErr, OnOk, OnErr, Some};
-ghost use Rattle.std.specs.Result.{result_err};
+ghost use Rattle.std.specs.Prelude.{◌≡◌, [], map, false, if◌then◌else◌, Some, IsOk, IfErr, OnOk, OnErr};
 ghost use Rattle.message_book.specs.Book.{has_receipt, has_receipt_by, entry_with_receipt, entry_without_last_receipt};
 
 use crate::receivers::Receivers;

@@ -65,8 +65,13 @@ impl Receivers {
                 self.first = Some(task);
                 Ok(true)
             }
-            Some(first) if task == first => Ok(false),
-            Some(_) => self.others.add(alloc, task),
+            Some(first) => {
+                if task == first {
+                    Ok(false)
+                } else {
+                    self.others.add(alloc, task)
+                }
+            }
         }
     }
 
