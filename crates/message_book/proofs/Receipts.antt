@@ -81,20 +81,24 @@ take-last_of_second first second rest (Some last) some is =
 
 module _ (sent : ℕ) (tasks : List Text) (events : List ℕ) (entry : Sent) (is : record { sent = sent; receipts = receipts_by tasks events } ≡ entry) (same : length tasks ≡ length events) where
   -- whether the entry has a receipt by the task
-  pub has_task-entry : (task : Text) → has_receipt_by task (Some entry) ≡ list_any (is_same task) tasks
-  has_task-entry task = sym (ap (λ (e : Sent). has_receipt_by task (Some e)) is) ∙ has_task-receipts_by task tasks events same
+  pub has_task_of_entry : (task : Text) → has_receipt_by task (Some entry) ≡ list_any (is_same task) tasks
+  has_task_of_entry task = sym (ap (λ (e : Sent). has_receipt_by task (Some e)) is) ∙ has_task-receipts_by task tasks events same
+
+  -- the events of the receipts of the entry
+  pub events_of_entry : map (λ (receipt : Receipt). receipt.event) entry.receipts ≡ events
+  events_of_entry = sym (ap (λ (e : Sent). map (λ (receipt : Receipt). receipt.event) e.receipts) is) ∙ events-receipts_by tasks events same
 
   -- where the entry has no receipt, no task and no event
-  pub none-entry : has_receipt (Some entry) ≡ false → (tasks ≡ []) × (events ≡ [])
-  none-entry none = none-receipts_by tasks events same (ap (λ (e : Sent). has_receipt (Some e)) is ∙ none)
+  pub nobody_of_entry : has_receipt (Some entry) ≡ false → (tasks ≡ []) × (events ≡ [])
+  nobody_of_entry none = none-receipts_by tasks events same (ap (λ (e : Sent). has_receipt (Some e)) is ∙ none)
 
   -- the entry with one more task and event
-  pub more-entry : (task : Text) (event : ℕ) → record { sent = sent; receipts = receipts_by (tasks ++ task ∷ []) (events ++ event ∷ []) } ≡ entry_with_receipt task event entry
-  more-entry task event = ap (λ receipts. record { sent = sent; receipts = receipts }) (receipts_by-more tasks events task event same) ∙ ap (entry_with_receipt task event) is
+  pub entry_with_more : (task : Text) (event : ℕ) → record { sent = sent; receipts = receipts_by (tasks ++ task ∷ []) (events ++ event ∷ []) } ≡ entry_with_receipt task event entry
+  entry_with_more task event = ap (λ receipts. record { sent = sent; receipts = receipts }) (receipts_by-more tasks events task event same) ∙ ap (entry_with_receipt task event) is
 
   -- the entry without the last task and event
-  pub less-entry : record { sent = sent; receipts = receipts_by (take (length tasks - 1) tasks) (take (length events - 1) events) } ≡ entry_without_last_receipt entry
-  less-entry =
+  pub entry_with_less : record { sent = sent; receipts = receipts_by (take (length tasks - 1) tasks) (take (length events - 1) events) } ≡ entry_without_last_receipt entry
+  entry_with_less =
       let counted = length-receipts_by tasks events same in
       ap (λ receipts. record { sent = sent; receipts = receipts })
       (ap (λ n. receipts_by (take (length tasks - 1) tasks) (take (n - 1) events)) (sym same) ∙ take-receipts_by (length tasks - 1) tasks events

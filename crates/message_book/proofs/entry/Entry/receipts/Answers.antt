@@ -1,9 +1,6 @@
-use Rattle.std.proofs.Common.{◌∙◌, ap, sym, map}
-use Rattle.message_book.specs.Book.{Receipt, Sent}
-use Rattle.message_book.proofs.Receipts.{events-receipts_by}
+use Rattle.std.proofs.Common.{sym}
+use Rattle.message_book.proofs.Receipts.{events_of_entry}
 use Rattle.message_book.proofs.entry.Entry.receipts.Goals as goal
 
 pub returns : goal.returns
-returns c =
-    sym (events-receipts_by c.self.inside.receivers c.self.inside.receipts c.self.invariant)
-    ∙ ap (λ (entry : Sent). map (λ (receipt : Receipt). receipt.event) entry.receipts) c.self.view_is
+returns c = sym (events_of_entry c.self.inside.sent c.self.inside.receivers c.self.inside.receipts c.args.self.now c.self.view_is c.self.invariant)

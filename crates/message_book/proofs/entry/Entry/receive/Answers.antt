@@ -5,7 +5,7 @@ use Rattle.std.specs.List.{list_any}
 use Rattle.trace_types.specs.text.Name.{Text, is_same}
 use Rattle.trace_types.specs.declared.code.Code.TheVariants.{AlreadyReceived, NoMemory}
 use Rattle.message_book.specs.Receipts.{receipts_by}
-use Rattle.message_book.proofs.Receipts.{has_task-entry, none-entry, more-entry}
+use Rattle.message_book.proofs.Receipts.{has_task_of_entry, nobody_of_entry, entry_with_more}
 use Rattle.message_book.proofs.entry.Entry.receive.Goals as goal
 
 -- of a task that was added, that it was not there; and the other way round
@@ -25,36 +25,36 @@ at_ok (Err error) ok says = absurd (false≢true ok)
 pub returns-in_err-add-clause-code : goal.returns-in_err-add-clause-code
 returns-in_err-add-clause-code c =
     let told = err_from_is_err_and c.from_residual.result c.from_residual.ensures.1 in
-    let has = has_task-entry c.self.inside.sent c.self.inside.receivers c.self.inside.receipts c.args.self.now c.self.view_is c.self.invariant c.args.task in
+    let has = has_task_of_entry c.self.inside.sent c.self.inside.receivers c.self.inside.receipts c.args.self.now c.self.view_is c.self.invariant c.args.task in
     rw told.1 (told.2 ∙ ap (λ has. if has then AlreadyReceived else NoMemory) (sym (has ∙ c.in_err-add.ensures.absent)))
 
 pub returns-in_err-add-clause-first : goal.returns-in_err-add-clause-first
 returns-in_err-add-clause-first c = λ none.
-    absurd (false≢true (c.in_err-add.ensures.first (none-entry c.self.inside.sent c.self.inside.receivers c.self.inside.receipts c.args.self.now c.self.view_is c.self.invariant none).0))
+    absurd (false≢true (c.in_err-add.ensures.first (nobody_of_entry c.self.inside.sent c.self.inside.receivers c.self.inside.receipts c.args.self.now c.self.view_is c.self.invariant none).0))
 
 pub returns-then-not-branch-clause-code : goal.returns-then-not-branch-clause-code
 returns-then-not-branch-clause-code c =
-    let has = has_task-entry c.self.inside.sent c.self.inside.receivers c.self.inside.receipts c.args.self.now c.self.view_is c.self.invariant c.args.task in
+    let has = has_task_of_entry c.self.inside.sent c.self.inside.receivers c.self.inside.receipts c.args.self.now c.self.view_is c.self.invariant c.args.task in
     ap (λ has. if has then AlreadyReceived else NoMemory) (sym (has ∙ was_there _ _ c.in_ok-add.ensures.added c.if-not-branch.true))
 
 pub returns-then-not-branch-clause-first : goal.returns-then-not-branch-clause-first
 returns-then-not-branch-clause-first c = λ none.
-    let nobody = (none-entry c.self.inside.sent c.self.inside.receivers c.self.inside.receipts c.args.self.now c.self.view_is c.self.invariant none).0 in
+    let nobody = (nobody_of_entry c.self.inside.sent c.self.inside.receivers c.self.inside.receipts c.args.self.now c.self.view_is c.self.invariant none).0 in
     ap (list_any (is_same c.args.task)) (sym nobody) ∙ was_there _ _ c.in_ok-add.ensures.added c.if-not-branch.true
 
 pub returns-then-is_err-clause-code : goal.returns-then-is_err-clause-code
 returns-then-is_err-clause-code c =
-    let has = has_task-entry c.self.inside.sent c.self.inside.receivers c.self.inside.receipts c.args.self.now c.self.view_is c.self.invariant c.args.task in
+    let has = has_task_of_entry c.self.inside.sent c.self.inside.receivers c.self.inside.receipts c.args.self.now c.self.view_is c.self.invariant c.args.task in
     ap (λ has. if has then AlreadyReceived else NoMemory) (sym (has ∙ was_new _ _ c.in_ok-add.ensures.added c.if-not-branch.false))
 
 pub returns-then-is_err-clause-first : goal.returns-then-is_err-clause-first
 returns-then-is_err-clause-first c = λ none.
-    let nothing = (none-entry c.self.inside.sent c.self.inside.receivers c.self.inside.receipts c.args.self.now c.self.view_is c.self.invariant none).1 in
+    let nothing = (nobody_of_entry c.self.inside.sent c.self.inside.receivers c.self.inside.receipts c.args.self.now c.self.view_is c.self.invariant none).1 in
     sym c.if-is_err.ensures.negation ∙ c.add-2.ensures.first nothing
 
 pub returns-clause-allowed : goal.returns-clause-allowed
 returns-clause-allowed c =
-    has_task-entry c.self.inside.sent c.self.inside.receivers c.self.inside.receipts c.args.self.now c.self.view_is c.self.invariant c.args.task
+    has_task_of_entry c.self.inside.sent c.self.inside.receivers c.self.inside.receipts c.args.self.now c.self.view_is c.self.invariant c.args.task
     ∙ was_new _ _ c.in_ok-add.ensures.added c.if-not-branch.false
 
 pub returns-clause-ok : goal.returns-clause-ok
@@ -62,4 +62,4 @@ returns-clause-ok c =
     let tasks = c.in_ok-add.ensures.ok ∙ ap (λ added. if added then c.self.inside.receivers ++ c.args.task ∷ [] else c.self.inside.receivers) c.if-not-branch.false in
     let events = at_ok c.add-2.result c.if-is_err.ensures.negation c.add-2.ensures.ok in
     (λ i. record { sent = c.self.inside.sent; receipts = receipts_by (tasks i) (events i) })
-    ∙ more-entry c.self.inside.sent c.self.inside.receivers c.self.inside.receipts c.args.self.now c.self.view_is c.self.invariant c.args.task c.args.event
+    ∙ entry_with_more c.self.inside.sent c.self.inside.receivers c.self.inside.receipts c.args.self.now c.self.view_is c.self.invariant c.args.task c.args.event
