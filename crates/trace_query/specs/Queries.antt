@@ -1,12 +1,12 @@
 -- What queries about the order of events are due, from the list of the events' trees: event k has the k-th, from 1.
-use Rattle.std.specs.Prelude.{◌≡◌, ℕ, zero, suc, ◌-◌, ◌<◌, Bool, not, ◌&&◌, IsTrue, List, [], length, slice_get, ◌==◌, nat_lt, if◌then◌else◌, Option, None, Result, Ok, Err, IfOk, IfErr}
+use Rattle.std.specs.Prelude.{◌≡◌, ℕ, zero, suc, ◌-◌, ◌<◌, ◌≤◌, Bool, not, ◌&&◌, IsTrue, List, [], length, slice_get, ◌==◌, nat_lt, if◌then◌else◌, Option, None, Result, Ok, Err, IfOk, IfErr}
 use Rattle.std.specs.Global.{Vec}
-use Rattle.std.specs.List.{slice_index_or, filter, range_with_len}
+use Rattle.std.specs.List.{slice_index_or, filter, list_any, range_with_len}
 use Rattle.trace_types.specs.clock.EventTree.{EventTree, Leaf}
 use Rattle.trace_types.specs.declared.order.Order.{Order}
 use Rattle.trace_types.specs.declared.order.Order.TheVariants.{Before, Concurrent}
 use Rattle.event_tree.specs.Comparison.{IsBelow}
-use Rattle.trace_query.specs.Compared.{tree_order, is_order}
+use Rattle.trace_query.specs.Compared.{is_below, tree_order, is_order}
 use Rattle.trace_query.specs.declared.query_fault.QueryFault.{QueryFault}
 use Rattle.trace_query.specs.declared.query_fault.QueryFault.TheVariants.{Unknown, Memory}
 
@@ -52,6 +52,24 @@ trees_before trees event = others_standing Before trees event
 -- the other events that are concurrent with the event
 abbrev pub concurrent_of : List EventTree → ℕ → List ℕ
 concurrent_of trees event = others_standing Concurrent trees event
+
+-- the number of the event's task; of no event it is not asked
+abbrev pub task_at : List ℕ → ℕ → ℕ
+task_at tasks event = slice_index_or tasks (event - 1) 0
+
+-- the number of each event's task is less than the event
+abbrev pub ComeBefore : List ℕ → Type 0
+ComeBefore tasks = (event : ℕ) → 0 < event → event ≤ length tasks → task_at tasks event < event
+
+-- whether a later event with the same task as this one is below the event, too
+abbrev pub is_outdated_by_trees : List EventTree → List ℕ → ℕ → ℕ → Bool
+is_outdated_by_trees trees tasks event other =
+    list_any (λ later. nat_lt other later && ((task_at tasks other == task_at tasks later) && is_below (tree_at trees later) (tree_at trees event))) (events_of trees)
+
+-- the events whose trees are below that of the event, its own among them, each the last of its task that is; increasing
+abbrev pub cut_by_trees : List EventTree → List ℕ → ℕ → List ℕ
+cut_by_trees trees tasks event =
+    filter (λ other. is_below (tree_at trees other) (tree_at trees event) && not (is_outdated_by_trees trees tasks event other)) (events_of trees)
 
 -- what is answered when the order of two events is asked for
 abbrev pub order_due : List EventTree → ℕ → ℕ → Result Order QueryFault

@@ -1,5 +1,5 @@
 //! What the definitions of this crate mean. Each law is the contract of a function that does nothing.
-ghost use Rattle.trace_query.specs.Laws.{ComparesAsStands, HasExactly, IsIncreasing, IsToldByOrders};
+ghost use Rattle.trace_query.specs.Laws.{ComparesAsStands, HasExactly, HasLastOfTasks, IsIncreasing, IsIncreasingCut, IsToldByOrders, IsToldByReach};
 ghost use Rattle.trace_types.specs.declared.order.Order.TheVariants.{Before, Concurrent};
 ghost use Rattle.trace_query.specs.Queries.{trees_before, concurrent_of};
 
@@ -21,4 +21,16 @@ pub fn lists()
 pub fn told_by_orders()
     ensures past { IsToldByOrders Before trees_before }
     ensures concurrent { IsToldByOrders Concurrent concurrent_of }
+{}
+
+/// The cut has exactly the events that are below the event while no later one of their task is, the least first.
+pub fn cut()
+    ensures last { HasLastOfTasks }
+    ensures increasing { IsIncreasingCut }
+{}
+
+/// Where events reach each other exactly as their trees are below each other, and the numbers tell which tasks are the
+/// same, the cut is that of the events themselves.
+pub fn told_by_reach()
+    ensures { IsToldByReach }
 {}

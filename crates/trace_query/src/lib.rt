@@ -1,15 +1,17 @@
 //! Queries about the order of events, answered by comparing the event trees that are kept for them.
 //!
-//! The one contract: [`order`], [`past`] and [`concurrent_with`] give exactly what `specs/Queries.antt` defines over the list
-//! of the kept trees, of which event k has the k-th. Nothing else of the events is known here. Where no later event's
+//! The one contract: [`order`], [`past`], [`concurrent_with`] and [`cut`] give exactly what `specs/Queries.antt` defines over the
+//! list of the kept trees, of which event k has the k-th; the cut also over a list of the numbers of the tasks. Nothing
+//! else of the events is known here. Where no later event's
 //! tree is below an earlier one's, [`order_in_order`], [`past_in_order`] and [`concurrent_in_order`] give the same with one look at each
-//! pair; [`order_by_points`], [`past_by_points`] and [`concurrent_by_points`] do where events have points that decide whether they are below
-//! later ones, as `specs/Deciding.antt` defines. How two kept trees are compared is left to a [`Compare`]; `specs/Compared.antt` defines what it has to answer, and
+//! pair; [`order_by_points`], [`past_by_points`], [`concurrent_by_points`] and [`cut_by_points`] do where events have points that decide
+//! whether they are below later ones, as `specs/Deciding.antt` defines. How two kept trees are compared is left to a [`Compare`]; `specs/Compared.antt` defines what it has to answer, and
 //! [`laws`] says what the definitions mean.
 #![tactic(auto)]
 
 mod compare;
 mod deciding;
+mod last_events;
 pub mod laws;
 mod meant;
 mod plain;
@@ -18,6 +20,7 @@ mod query_fault;
 
 pub use compare::Compare;
 pub use deciding::Deciding;
+pub use last_events::{cut, cut_by_points};
 pub use meant::Meant;
 pub use plain::Plain;
 pub use queries::{

@@ -205,7 +205,7 @@ pub fn concurrent_by_points<C: Compare>(
 
 /// Whether the tree of an event is below that of a later one. `place` is where the points have that of the earlier one.
 #[inline(always)]
-fn is_below_later<C: Compare>(
+pub(crate) fn is_below_later<C: Compare>(
     compare: &C,
     earlier: &C::Kept,
     points: &[Option<Deciding>],
@@ -222,7 +222,7 @@ fn is_below_later<C: Compare>(
 }
 
 /// What is kept for the event.
-fn kept_of<K: Meant>(kept: &[K], event: u64) -> Result<&K, QueryFault>
+pub(crate) fn kept_of<K: Meant>(kept: &[K], event: u64) -> Result<&K, QueryFault>
     ensures at { IfOk result (λ one. kept_at kept.now event ≡ Some one.now) }
     ensures known { IfOk result (λ _. has_tree (map K.tree kept.now) event ≡ true) }
     ensures tree { IfOk result (λ one. K.tree one.now ≡ tree_at (map K.tree kept.now) event) }

@@ -1,0 +1,74 @@
+//! The cut of an event: the last event of each task whose tree is below that of the event.
+ghost use Rattle.std.specs.Prelude.{◌≡◌, length, map};
+ghost use Rattle.trace_query.specs.Deciding.{DecideInOrder};
+ghost use Rattle.trace_query.specs.Queries.{ComeBefore, StandInOrder, ListsExactly, cut_by_trees};
+
+use crate::queries::{is_below_later, kept_of};
+use crate::{Compare, Deciding, QueryFault};
+use std::alloc::Global;
+use trace_types::Memory;
+
+/// The events whose trees are below the tree of this one, its own among them, each the last of its task that is,
+/// increasing. Event k has the k-th of the tasks, a number less than k, and the same number for the same task.
+///
+/// `Unknown` where it is no event, else `Memory` where a request for memory is refused.
+pub fn cut<C: Compare>(
+    compare: &C,
+    alloc: Global,
+    kept: &[C::Kept],
+    tasks: &[u64],
+    event: u64,
+) -> Result<Vec<u64>, QueryFault>
+    requires tasks { length tasks.now ≡ length kept.now }
+    requires earlier { ComeBefore tasks.now }
+    ensures { ListsExactly (λ trees event. cut_by_trees trees tasks.now event) (map C.Kept.tree kept.now) event result }
+{
+    let tree = kept_of(kept, event)?;
+    let mut is_listed = vec![in alloc; false; kept.len()].map_err(Memory::from)?;
+    let mut events = Vec::new(alloc);
+    for place in (0..kept.len()).rev() {
+        let task = tasks[place] as usize;
+        if !is_listed[task] && compare.is_below(&kept[place], tree) {
+            is_listed[task] = true;
+            events.push(place as u64 + 1).map_err(Memory::from)?;
+        }
+    }
+    events.reverse();
+    Ok(events)
+}
+
+/// As [`cut`], of events whose trees stand in their order, where event k has the k-th of the points: where an event has
+/// one, it is compared there alone. Events behind the last point have none.
+///
+/// For each task the search goes backwards from the event, and stops at the first event that is below it. No later
+/// event is looked at.
+pub fn cut_by_points<C: Compare>(
+    compare: &C,
+    alloc: Global,
+    kept: &[C::Kept],
+    points: &[Option<Deciding>],
+    tasks: &[u64],
+    event: u64,
+) -> Result<Vec<u64>, QueryFault>
+    requires in_order { StandInOrder (map C.Kept.tree kept.now) }
+    requires decided { DecideInOrder (map C.Kept.tree kept.now) points.now }
+    requires tasks { length tasks.now ≡ length kept.now }
+    requires earlier { ComeBefore tasks.now }
+    ensures { ListsExactly (λ trees event. cut_by_trees trees tasks.now event) (map C.Kept.tree kept.now) event result }
+{
+    let tree = kept_of(kept, event)?;
+    let own_place = event as usize - 1;
+    let mut is_listed = vec![in alloc; false; event as usize].map_err(Memory::from)?;
+    let mut events = Vec::new(alloc);
+    is_listed[tasks[own_place] as usize] = true;
+    events.push(event).map_err(Memory::from)?;
+    for place in (0..own_place).rev() {
+        let task = tasks[place] as usize;
+        if !is_listed[task] && is_below_later(compare, &kept[place], points, place, tree) {
+            is_listed[task] = true;
+            events.push(place as u64 + 1).map_err(Memory::from)?;
+        }
+    }
+    events.reverse();
+    Ok(events)
+}
