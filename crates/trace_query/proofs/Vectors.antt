@@ -1,9 +1,9 @@
 -- Comparisons and lists, as the definitions compute them.
-use Rattle.std.proofs.Common.{◌≡◌, List, [], ◌∷◌, Ok, Err, refl}
+use Rattle.std.proofs.Common.{◌≡◌, ℕ, List, [], ◌∷◌, Ok, Err, refl}
 use Rattle.trace_types.specs.declared.order.Order.TheVariants.{Before, Concurrent}
 use Rattle.trace_types.specs.clock.EventTree.{EventTree, Leaf, Node}
 use Rattle.trace_query.specs.Compared.{tree_order}
-use Rattle.trace_query.specs.Queries.{StandInOrder, trees_before, concurrent_of, order_due, fault_due}
+use Rattle.trace_query.specs.Queries.{StandInOrder, trees_before, concurrent_of, cut_by_trees, order_due, fault_due}
 use Rattle.trace_query.specs.declared.query_fault.QueryFault.TheVariants.{Unknown, Memory}
 use Rattle.trace_query.proofs.InOrder.{stand_in_order}
 
@@ -34,6 +34,19 @@ past-6 = refl
 
 pub concurrent-6 : concurrent_of run 6 ≡ []
 concurrent-6 = refl
+
+-- the tasks of the events: the first is the root, of number 0, and event 2 spawns the second
+abbrev pub run_tasks : List ℕ
+run_tasks = 0 ∷ 0 ∷ 2 ∷ 0 ∷ 2 ∷ 0 ∷ []
+
+pub cut-1 : cut_by_trees run run_tasks 1 ≡ 1 ∷ []
+cut-1 = refl
+
+pub cut-5 : cut_by_trees run run_tasks 5 ≡ 2 ∷ 5 ∷ []
+cut-5 = refl
+
+pub cut-6 : cut_by_trees run run_tasks 6 ≡ 5 ∷ 6 ∷ []
+cut-6 = refl
 
 pub order-3-5 : order_due run 3 5 ≡ Ok Before
 order-3-5 = refl

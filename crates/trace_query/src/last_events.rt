@@ -1,5 +1,5 @@
 //! The cut of an event: the last event of each task whose tree is below that of the event.
-ghost use Rattle.std.specs.Prelude.{◌≡◌, length, map};
+ghost use Rattle.std.specs.Prelude.{◌≡◌, IfOk, length, map, vec_len, false, replicate};
 ghost use Rattle.trace_query.specs.Deciding.{DecideInOrder};
 ghost use Rattle.trace_query.specs.Queries.{ComeBefore, StandInOrder, ListsExactly, cut_by_trees};
 
@@ -24,12 +24,11 @@ pub fn cut<C: Compare>(
     ensures { ListsExactly (λ trees event. cut_by_trees trees tasks.now event) (map C.Kept.tree kept.now) event result }
 {
     let tree = kept_of(kept, event)?;
-    let mut is_listed = vec![in alloc; false; kept.len()].map_err(Memory::from)?;
+    let mut is_listed = no_marks(alloc, kept.len())?;
     let mut events = Vec::new(alloc);
     for place in (0..kept.len()).rev() {
-        let task = tasks[place] as usize;
-        if !is_listed[task] && compare.is_below(&kept[place], tree) {
-            is_listed[task] = true;
+        if !is_listed[tasks[place] as usize] && compare.is_below(&kept[place], tree) {
+            is_listed[tasks[place] as usize] = true;
             events.push(place as u64 + 1).map_err(Memory::from)?;
         }
     }
@@ -58,7 +57,7 @@ pub fn cut_by_points<C: Compare>(
 {
     let tree = kept_of(kept, event)?;
     let own_place = event as usize - 1;
-    let mut is_listed = vec![in alloc; false; event as usize].map_err(Memory::from)?;
+    let mut is_listed = no_marks(alloc, event as usize)?;
     let mut events = Vec::new(alloc);
     is_listed[tasks[own_place] as usize] = true;
     events.push(event).map_err(Memory::from)?;
@@ -71,4 +70,12 @@ pub fn cut_by_points<C: Compare>(
     }
     events.reverse();
     Ok(events)
+}
+
+/// One mark for each of so many numbers, from 0. None is set.
+fn no_marks(alloc: Global, many: usize) -> Result<Vec<bool>, Memory>
+    ensures none { IfOk result (λ marks. marks.items ≡ replicate many false) }
+    ensures len { IfOk result (λ marks. vec_len marks ≡ many) }
+{
+    Ok(vec![in alloc; false; many]?)
 }
