@@ -1,5 +1,5 @@
 -- What the map and the refusals say of the messages.
-use Rattle.std.proofs.Common.{◌≡◌, ℕ, ◌-◌, ◌<◌, nat_lt, if◌then◌else◌, Bool, true, false, cond, List, [], ◌∷◌, ◌++◌, length, take, Option, Some, None, IsSome, option_map, option_to_list, is_some, refl, sym, ap, ◌∙◌, inl, inr, unwrap_or, Result, Ok, Err, IsOk, IfErr, OnOk, OnErr, arith}
+use Rattle.std.proofs.Common.{◌≡◌, ℕ, ◌-◌, ◌<◌, if◌then◌else◌, Bool, true, false, cond, [], ◌∷◌, ◌++◌, length, take, Option, Some, None, IsSome, option_map, option_to_list, is_some, refl, sym, ap, ◌∙◌, inl, inr, unwrap_or, Result, Ok, Err, IsOk, IfErr, OnOk, OnErr, arith}
 use Rattle.std.proofs.lemmas.Bool.Decides.{nat_tests}
 use Rattle.std.proofs.Math.Seq.{take-append_seam}
 use Rattle.std.proofs.lemmas.Bool.{false≢true, cases_Bool}
@@ -39,7 +39,7 @@ pub found_in : (limit : ℕ) (messages : Messages) (book : Book) → record { li
     → lookup (is_same name) messages ≡ entry_of book.messages name
 found_in limit messages book is name = lookup_is_entry_of messages name ∙ ap (λ (b : Book). entry_of b.messages name) is
 
--- where there is no first code, the first test fails, and the others have none
+-- if there is no first code, the first test fails, and the others have none
 pub no_first_code : (test : Bool) (code : Code) (others : Option Code) → (if test then Some code else others) ≡ None → (test ≡ false) × (others ≡ None)
 no_first_code true code others none = cc
 no_first_code false code others none = (refl, none)
@@ -100,7 +100,7 @@ with_changed-same change (message ∷ later) name same = elim (cases_Bool (is_sa
   | inr other ↦ rw other (ap (λ messages. message ∷ messages) (with_changed-same change later name same))
 ]
 
--- of two changes of one message the second changes what the first made
+-- a second change of a message changes what the first one made
 pub with_changed-twice : (first second : Sent → Sent) (messages : Messages) (name : Text)
     → with_changed second name (with_changed first name messages) ≡ with_changed (λ entry. second (first entry)) name messages
 with_changed-twice first second [] name = refl
@@ -127,7 +127,7 @@ without_last_receipt-received name task event messages =
     ∙ with_changed-same (λ entry. entry_without_last_receipt (entry_with_receipt task event entry)) messages name
     (λ entry. ap (λ receipts. record { sent = entry.sent; receipts = receipts }) (take-more entry.receipts (record { task = task; event = event })))
 
--- What a receipt made of the entry of its message, and answered.
+-- what a receipt made of the entry of its message, and answered
 pub record ReceivesEntry {A : Type 0} (task : Text) (event : ℕ) (entry written : Sent) (result : Result A Code) : Type 0 where
   pub allowed : OnOk result (has_receipt_by task (Some entry) ≡ false)
   pub ok : OnOk result (written ≡ entry_with_receipt task event entry)
@@ -135,7 +135,7 @@ pub record ReceivesEntry {A : Type 0} (task : Text) (event : ℕ) (entry written
   pub err : OnErr result (written ≡ entry)
   pub first : has_receipt (Some entry) ≡ false → IsOk result
 
--- What it made of the book, and answered.
+-- what it made of the book, and answered
 pub record Receives {A : Type 0} (name task : Text) (event : ℕ) (before after : Book) (result : Result A Code) : Type 0 where
   pub allowed : OnOk result (refusal_of_receive before name task ≡ None)
   pub ok : OnOk result (after ≡ record before { messages = with_receipt name task event before.messages })
@@ -143,7 +143,7 @@ pub record Receives {A : Type 0} (name task : Text) (event : ℕ) (before after 
   pub err : OnErr result (after ≡ before)
   pub first : has_receipt (entry_of before.messages name) ≡ false → result_err result ≡ refusal_of_receive before name task
 
--- where the message is there
+-- a message that is there
 module _ (name task : Text) (event : ℕ) (before after : Book) (entry written : Sent) (found : entry_of before.messages name ≡ Some entry)
     (is : after ≡ record before { messages = set_value (is_same name) before.messages written }) where
   changed_in : (change : Sent → Sent) → written ≡ change entry → after ≡ record before { messages = with_changed change name before.messages }
@@ -177,7 +177,7 @@ module _ (name task : Text) (event : ℕ) (before after : Book) (entry written :
     first = λ none. absurd (false≢true (says.first (ap has_receipt (sym found) ∙ none)));
   }
 
--- where it is absent
+-- a message that is absent
 pub receives-absent : {A : Type 0} (name task : Text) (event : ℕ) (before after : Book) → entry_of before.messages name ≡ None → after ≡ before
     → Receives {A = A} name task event before after (Err NoMessage)
 receives-absent name task event before after absent same =

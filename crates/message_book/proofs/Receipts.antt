@@ -1,5 +1,5 @@
 -- The tasks and the events of receipts.
-use Rattle.std.proofs.Common.{◌≡◌, ℕ, zero, suc, ◌-◌, ◌<◌, nat_lt, Bool, true, false, ◌||◌, List, [], ◌∷◌, ◌++◌, length, map, take, Option, Some, None, option_to_list, refl, sym, ap, ◌∙◌, arith}
+use Rattle.std.proofs.Common.{◌≡◌, ℕ, zero, suc, ◌-◌, nat_lt, Bool, true, false, ◌||◌, List, [], ◌∷◌, ◌++◌, length, map, take, Option, Some, None, option_to_list, refl, sym, ap, ◌∙◌, arith}
 use Rattle.std.proofs.Math.Seq.{take-append_seam}
 use Rattle.std.proofs.lemmas.Bool.Decides.{nat_tests}
 use Rattle.std.proofs.lemmas.List.{append_assoc, length-append}
@@ -88,7 +88,7 @@ module _ (sent : ℕ) (tasks : List Text) (events : List ℕ) (entry : Sent) (is
   pub events_of_entry : map (λ (receipt : Receipt). receipt.event) entry.receipts ≡ events
   events_of_entry = sym (ap (λ (e : Sent). map (λ (receipt : Receipt). receipt.event) e.receipts) is) ∙ events-receipts_by tasks events same
 
-  -- where the entry has no receipt, no task and no event
+  -- an entry with no receipt has no task and no event
   pub nobody_of_entry : has_receipt (Some entry) ≡ false → (tasks ≡ []) × (events ≡ [])
   nobody_of_entry none = none-receipts_by tasks events same (ap (λ (e : Sent). has_receipt (Some e)) is ∙ none)
 

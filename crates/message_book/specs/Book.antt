@@ -6,7 +6,7 @@ use Rattle.trace_types.specs.tenant.Refusal.{first_code}
 use Rattle.trace_types.specs.declared.code.Code.{Code}
 use Rattle.trace_types.specs.declared.code.Code.TheVariants.{NoMessage, MessageExists, AlreadyReceived, MessagesFull}
 
--- that a task received a message, and by which event
+-- a task that received a message, and the event by which it did
 pub record Receipt : Type 0 where
   pub task : Text
   pub event : ℕ

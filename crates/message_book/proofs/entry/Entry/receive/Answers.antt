@@ -1,14 +1,14 @@
-use Rattle.std.proofs.Common.{◌≡◌, Bool, true, false, not, List, [], ◌∷◌, ◌++◌, Result, Ok, Err, OnOk, is_ok, sym, ap, ◌∙◌, if◌then◌else◌}
+use Rattle.std.proofs.Common.{◌≡◌, Bool, true, false, not, [], ◌∷◌, ◌++◌, Result, Ok, Err, OnOk, is_ok, sym, ap, ◌∙◌, if◌then◌else◌}
 use Rattle.std.proofs.lemmas.Bool.{false≢true}
 use Rattle.std.proofs.lemmas.Result.{err_from_is_err_and}
 use Rattle.std.specs.List.{list_any}
-use Rattle.trace_types.specs.text.Name.{Text, is_same}
+use Rattle.trace_types.specs.text.Name.{is_same}
 use Rattle.trace_types.specs.declared.code.Code.TheVariants.{AlreadyReceived, NoMemory}
 use Rattle.message_book.specs.Receipts.{receipts_by}
 use Rattle.message_book.proofs.Receipts.{has_task_of_entry, nobody_of_entry, entry_with_more}
 use Rattle.message_book.proofs.entry.Entry.receive.Goals as goal
 
--- of a task that was added, that it was not there; and the other way round
+-- a task that was added was not there before, and one that was not added was
 was_new : (added has : Bool) → added ≡ not has → added ≡ true → has ≡ false
 was_new added true is new = absurd (false≢true (sym is ∙ new))
 was_new added false is new = λ _. false
@@ -17,7 +17,7 @@ was_there : (added has : Bool) → added ≡ not has → added ≡ false → has
 was_there added true is old = λ _. true
 was_there added false is old = absurd (false≢true (sym old ∙ is))
 
--- what is so where there is no error
+-- what a call says of a success is so if it succeeded
 at_ok : {A E P : Type 0} (result : Result A E) → is_ok result ≡ true → OnOk result P → P
 at_ok (Ok value) ok says = says
 at_ok (Err error) ok says = absurd (false≢true ok)

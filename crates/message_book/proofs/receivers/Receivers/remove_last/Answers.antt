@@ -1,4 +1,4 @@
-use Rattle.std.proofs.Common.{◌≡◌, None, option_to_list, is_some, sym, ap, subst, ◌∙◌, length, ◌-◌, take, List}
+use Rattle.std.proofs.Common.{option_to_list, is_some, sym, ap, ◌∙◌, length, ◌-◌, take, List}
 use Rattle.std.proofs.lemmas.Bool.{false≢true}
 use Rattle.trace_types.specs.text.Name.{Text}
 use Rattle.message_book.proofs.Receipts.{take-last_of_second}
