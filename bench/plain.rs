@@ -5,9 +5,11 @@
 // lines on standard error, and the ranges of its words (what is no number ends it, names of tenants and limits are taken as
 // they stand). A line that one buffer does not hold is kept whole until its end is read.
 //
-// A message has room for one receipt, as no more is taken. No predecessor is followed: order and lists are told by the
-// trees, a list by comparing with each event that by its number can be in it, one way. With `--points` it keeps with each event
-// a point that it raised, and its value there, and a list compares two events at the point of the earlier one alone.
+// The first receipt of a message lies beside its send; whoever received it is told by a bit of his, without a look at the
+// receipts. No predecessor is followed: order and lists are told by the trees, a list by comparing with each event that by its
+// number can be in it, one way. A cut goes back from its event, and compares with an event only while its task has none in it.
+// With `--points` it keeps with each event a point that it raised, and its value there, and a list compares two events at the
+// point of the earlier one alone.
 #[allow(dead_code)]
 #[path = "clock.rs"]
 mod clock;
@@ -59,6 +61,7 @@ enum Request {
     Order(u64, u64),
     Past(u64),
     Concurrent(u64),
+    Cut(u64),
     Event(u64),
     Stamp(u64),
     Task(Name),
@@ -109,6 +112,7 @@ impl Request {
             b"order" => two(words, number).map(|(first, second)| Request::Order(first, second)),
             b"past" => one(words, number).map(Request::Past),
             b"concurrent" => one(words, number).map(Request::Concurrent),
+            b"cut" => one(words, number).map(Request::Cut),
             b"event" => one(words, number).map(Request::Event),
             b"stamp" => one(words, number).map(Request::Stamp),
             b"task" => one(words, Name::read).map(Request::Task),
@@ -136,6 +140,8 @@ struct Point {
 
 struct Row {
     task: Name,
+    /// The place of its task.
+    place: u32,
     kind: Kind,
     name: Option<Name>,
     /// Increasing; then 0 where there are less than two.
@@ -173,10 +179,67 @@ struct Task {
     id: usize,
 }
 
+/// The events that received a message, and the places of their tasks.
+enum Receipts {
+    None,
+    One(u64, usize),
+    Many(Box<ManyReceipts>),
+}
+
+struct ManyReceipts {
+    events: Vec<u64>,
+    /// A bit for each place of a task, up to the greatest that received it.
+    places: Vec<u64>,
+}
+
+impl ManyReceipts {
+    fn has(&self, place: usize) -> bool {
+        self.places.get(place / 64).is_some_and(|bits| bits >> (place % 64) & 1 == 1)
+    }
+
+    fn add(&mut self, event: u64, place: usize) {
+        if self.places.len() <= place / 64 {
+            self.places.resize(place / 64 + 1, 0);
+        }
+        self.places[place / 64] |= 1 << (place % 64);
+        self.events.push(event);
+    }
+}
+
+impl Receipts {
+    fn has(&self, place: usize) -> bool {
+        match self {
+            Receipts::None => false,
+            Receipts::One(_, first) => *first == place,
+            Receipts::Many(many) => many.has(place),
+        }
+    }
+
+    fn add(&mut self, event: u64, place: usize) {
+        match self {
+            Receipts::None => *self = Receipts::One(event, place),
+            Receipts::One(first, first_place) => {
+                let mut many = ManyReceipts { events: Vec::new(), places: Vec::new() };
+                many.add(*first, *first_place);
+                many.add(event, place);
+                *self = Receipts::Many(Box::new(many));
+            }
+            Receipts::Many(many) => many.add(event, place),
+        }
+    }
+
+    fn events(&self) -> &[u64] {
+        match self {
+            Receipts::None => &[],
+            Receipts::One(event, _) => std::slice::from_ref(event),
+            Receipts::Many(many) => &many.events,
+        }
+    }
+}
+
 struct Message {
     sent: u64,
-    /// The event that received it, else 0.
-    received: u64,
+    receipts: Receipts,
 }
 
 /// What is asked for by words.
@@ -296,7 +359,7 @@ impl Tenant {
         let task = self.tasks[place];
         let (tree, point) = self.raised(self.known(task.last), &self.ids[task.id]);
         let preds = [task.last, 0];
-        let last = self.add(Row { task: task_name, kind, name, preds, tree, point, id: task.id });
+        let last = self.add(Row { task: task_name, place: place as u32, kind, name, preds, tree, point, id: task.id });
         self.tasks[place].last = last;
         last
     }
@@ -323,7 +386,7 @@ impl Tenant {
             Entry::Occupied(_) => return Err("406 message exists"),
             Entry::Vacant(_) if are_full => return Err("415 messages full"),
             Entry::Vacant(_) if is_full => return Err("413 events full"),
-            Entry::Vacant(entry) => entry.insert(Message { sent, received: 0 }),
+            Entry::Vacant(entry) => entry.insert(Message { sent, receipts: Receipts::None }),
         };
         Ok(self.add_alone(place, name, Kind::Send, Some(message)))
     }
@@ -334,17 +397,18 @@ impl Tenant {
         let is_full = self.rows.len() >= self.limits.events;
         let sent = match self.messages.get_mut(&message) {
             None => return Err("405 no message"),
-            Some(message) if message.received != 0 => return Err("407 already received"),
+            Some(message) if message.receipts.has(place) => return Err("407 already received"),
             Some(_) if is_full => return Err("413 events full"),
             Some(message) => {
-                message.received = received;
+                message.receipts.add(received, place);
                 message.sent
             }
         };
         let task = self.tasks[place];
         let (tree, point) = self.raised(&self.known(task.last).join(self.known(sent)), &self.ids[task.id]);
         let preds = preds(task.last, sent);
-        let last = self.add(Row { task: name, kind: Kind::Recv, name: Some(message), preds, tree, point, id: task.id });
+        let row = Row { task: name, place: place as u32, kind: Kind::Recv, name: Some(message), preds, tree, point, id: task.id };
+        let last = self.add(row);
         self.tasks[place].last = last;
         Ok(last)
     }
@@ -364,7 +428,8 @@ impl Tenant {
         let (kept, given) = self.ids[task.id].split();
         let (kept, given) = (self.add_id(kept), self.add_id(given));
         let preds = [task.last, 0];
-        let last = self.add(Row { task: name, kind: Kind::Spawn, name: Some(child), preds, tree, point, id: kept });
+        let row = Row { task: name, place: place as u32, kind: Kind::Spawn, name: Some(child), preds, tree, point, id: kept };
+        let last = self.add(row);
         self.tasks.push(Task { state: State::Live, last, id: given });
         self.tasks[place] = Task { last, id: kept, ..task };
         Ok(last)
@@ -379,7 +444,8 @@ impl Tenant {
         let (tree, point) = self.raised(&self.known(task.last).join(self.known(joined.last)), &id);
         let id = self.add_id(id);
         let preds = preds(task.last, joined.last);
-        let last = self.add(Row { task: name, kind: Kind::Join, name: Some(child), preds, tree, point, id });
+        let row = Row { task: name, place: place as u32, kind: Kind::Join, name: Some(child), preds, tree, point, id };
+        let last = self.add(row);
         self.tasks[place] = Task { last, id, ..task };
         self.tasks[other].state = State::Joined;
         Ok(last)
@@ -401,6 +467,7 @@ impl Tenant {
             Request::Order(first, second) => return self.tell_order(first, second, out),
             Request::Past(event) => return self.tell_past(event, out),
             Request::Concurrent(event) => return self.tell_concurrent(event, out),
+            Request::Cut(event) => return self.tell_cut(event, out),
             Request::Event(event) => return self.tell_event(event, out),
             Request::Stamp(event) => return self.tell_stamp(event, out),
             Request::Task(task) => return self.tell_task(task, out),
@@ -437,6 +504,22 @@ impl Tenant {
             Ordering::Greater => !asked.is_known_to(&row.tree),
         });
         tell_list(concurrent.map(|(number, _)| number), out);
+        Ok(())
+    }
+
+    /// What a task did before an event that reaches this one reaches it, too, so the first one back is its last.
+    fn tell_cut(&self, event: u64, out: &mut Vec<u8>) -> Result<(), Refusal> {
+        let tree = &self.row(event)?.tree;
+        let mut cut = vec![event];
+        let mut has_one = vec![false; self.tasks.len()];
+        has_one[self.rows[event as usize - 1].place as usize] = true;
+        for (place, row) in self.rows[..event as usize - 1].iter().enumerate().rev() {
+            if !has_one[row.place as usize] && row.is_known_to(tree) {
+                has_one[row.place as usize] = true;
+                cut.push(place as u64 + 1);
+            }
+        }
+        tell_list(cut.into_iter().rev(), out);
         Ok(())
     }
 
@@ -484,7 +567,7 @@ impl Tenant {
         out.extend_from_slice(b"200 ");
         write_number(out, message.sent);
         out.push(b' ');
-        write_list(out, &[message.received]);
+        write_list(out, message.receipts.events());
         Ok(())
     }
 
