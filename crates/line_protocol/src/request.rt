@@ -50,6 +50,9 @@ fn read_arguments(keyword: &[u8], arguments: &[u8]) -> Option<Request>
     if is_word(keyword, b"concurrent") {
         return Some(Request::Concurrent(only_number(arguments)?));
     }
+    if is_word(keyword, b"cut") {
+        return Some(Request::Cut(only_number(arguments)?));
+    }
     if is_word(keyword, b"event") {
         return Some(Request::Event(only_number(arguments)?));
     }

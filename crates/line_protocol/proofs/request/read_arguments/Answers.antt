@@ -18,5 +18,6 @@ returns c =
       sym c.is_word-11.ensures ∙ c.if-is_word-11.false,
       sym c.is_word-12.ensures ∙ c.if-is_word-12.false,
       sym c.is_word-13.ensures ∙ c.if-is_word-13.false,
+      sym c.is_word-14.ensures ∙ c.if-is_word-14.false,
     )
     (no_argument-more _ _ c.args.arguments.now)
