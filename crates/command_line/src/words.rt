@@ -34,7 +34,7 @@ order. A reply is a code and what belongs to it: 200 and 201 tell what was done,
 Requests that report, and are answered 201 with the event's number:
   local TASK, send TASK MESSAGE, recv TASK MESSAGE, spawn TASK NEW, end TASK, join TASK ENDED
 Requests that ask, and are answered 200:
-  order A B, past A, concurrent A, event A, stamp A, task TASK, message MESSAGE, count
+  order A B, past A, concurrent A, cut A, event A, stamp A, task TASK, message MESSAGE, count
 
 Each tenant starts with the task root, and has the limits for itself. No reply depends on how many
 comparisons are remembered. With --export no reply is written, and at the end a line of JSON for
