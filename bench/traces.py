@@ -51,6 +51,29 @@ def talk(tasks):
             yield f"recv {receiver} message_{number}"
 
 
+def broadcasts(tasks, receivers, events):
+    """Tasks that all live to the end, and in turn send a message that so many others receive."""
+    names = NAMES[:tasks - 1]
+    yield from (f"spawn root {name}" for name in names)
+    for number in range(1, (events - len(names)) // (receivers + 1) + 1):
+        sender, *others = random.sample(["root", *names], receivers + 1)
+        yield f"send {sender} message_{number}"
+        yield from (f"recv {other} message_{number}" for other in others)
+
+
+def to_all():
+    """As many tasks as there may be, each of which spawns two others, and which all receive the one message of root."""
+    yield from (f"spawn {parent} {name}" for parent, name in zip(["root", *(name for name in NAMES for _ in range(2))], NAMES))
+    yield "send root message"
+    yield from (f"recv {name} message" for name in NAMES)
+
+
+def of_each_receipt():
+    """The message of `to_all`, and the past and the cut of each of its receipts."""
+    for event in range(len(NAMES) + 2, 2 * len(NAMES) + 2):
+        yield from ("message message", f"past {event}", f"cut {event}")
+
+
 def build(jobs, events):
     """Jobs that start jobs, with so many at a time, one started for eight events: each works, and then ends and is joined by
     the one that started it."""
@@ -110,6 +133,14 @@ def with_lists(reports, count):
         yield report
         if events in asked:
             yield f"{asked[events]} {random.randint(1, events)}"
+
+
+def with_asked(reports, keyword, asked):
+    """The reports, and behind some of them a query of this keyword, of an event that there is by then."""
+    for events, report in enumerate(reports, 1):
+        yield report
+        if events in asked:
+            yield f"{keyword} {asked[events]}"
 
 
 def named_last(reports, keyword):
@@ -200,3 +231,10 @@ if __name__ == "__main__":
     fanned = list(fan_at_work())
     write("fan_never", GREATEST, addressed("x", fanned, orders(len(fanned), 20_000)))
     write("fan_again", GREATEST, addressed("x", fanned, orders_again(len(fanned), 500, 20_000)))
+    broadcast = list(broadcasts(64, 8, MOST_EVENTS))
+    write("broadcast", GREATEST, addressed("x", broadcast, queries(broadcast, 300_000)))
+    asked = {place: random.randint(1, place) for place in random.sample(range(1, MOST_EVENTS + 1), 200)}
+    for keyword in ("cut", "past"):
+        write(f"{keyword}s", GREATEST, addressed("x", with_asked(built, keyword, asked)))
+        write(f"{keyword}s_of_broadcast", GREATEST, addressed("x", with_asked(broadcast, keyword, asked)))
+    write("receivers", GREATEST, addressed("x", to_all(), of_each_receipt()))
