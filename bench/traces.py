@@ -3,6 +3,7 @@
 
 They are the same at every run. All requests are accepted or answered.
 """
+import collections
 import random
 import sys
 
@@ -16,9 +17,9 @@ def taken(names):
     return names.pop(random.randrange(len(names)))
 
 
-def churn(events, tasks, messages):
-    """Tasks that come and go, and send and receive where there are messages."""
-    live, ended, unread, started, sent = ["root"], [], [], 1, 0
+def churn(events, tasks, messages, receivers=1):
+    """Tasks that come and go, and send and receive where there are messages, each for so many receivers at most."""
+    live, ended, unread, started, sent, readers = ["root"], [], [], 1, 0, collections.defaultdict(set)
     for _ in range(events):
         kind = random.random()
         if kind < 0.14 and started < tasks:
@@ -35,7 +36,11 @@ def churn(events, tasks, messages):
             unread.append(f"message_{sent}")
             yield f"send {random.choice(live)} {unread[-1]}"
         elif kind < 0.90 and unread:
-            yield f"recv {random.choice(live)} {taken(unread)}"
+            task, message = random.choice(live), taken(unread)
+            yield f"local {task}" if task in readers[message] else f"recv {task} {message}"
+            readers[message].add(task)
+            if len(readers[message]) < receivers:
+                unread.append(message)
         else:
             yield f"local {random.choice(live)}"
 
