@@ -4,13 +4,13 @@ import { Browser } from "./browser.mjs";
 import { hostileText, names, opening, policyFits, spoilt, spoiltPictures } from "./opening.mjs";
 import { cleanUp, exportOf, pictureOf } from "./program.mjs";
 import { screenshots } from "./screenshots.mjs";
-import { busyTrace, lanes, shapes, workedExport } from "./showing.mjs";
+import { broadcasts, busyTrace, lanes, shapes, topic, workedExport } from "./showing.mjs";
 import { size } from "./size.mjs";
 import { BUSY, WORKED } from "./traces.mjs";
 import { address, keyboard, listsAndSearch, moving } from "./using.mjs";
 
 const [folder, only = ""] = process.argv.slice(2);
-const CHECKS = { "worked export": workedExport, shapes, "500 events": busyTrace, lanes, "spoilt exports": spoilt, opening,
+const CHECKS = { "worked export": workedExport, shapes, "500 events": busyTrace, topic, broadcasts, lanes, "spoilt exports": spoilt, opening,
   "spoilt pictures": spoiltPictures, names, "hostile text": hostileText, "lists and search": listsAndSearch, keyboard, address,
   moving, "16384 events": size };
 

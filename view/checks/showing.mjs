@@ -2,7 +2,7 @@
 import assert from "node:assert/strict";
 import { answers, exportOf, inWork, lists, pictureOf } from "./program.mjs";
 import { chosen, notice, opened, pause, placeOf } from "./tab.mjs";
-import { BUSY, mostAlive, seeded, shortTasks, WORKED } from "./traces.mjs";
+import { BROADCASTS, BUSY, mostAlive, seeded, shortTasks, TOPIC, WORKED } from "./traces.mjs";
 
 const upTo = (most) => Array.from({ length: most }, (_, place) => place + 1);
 
@@ -107,16 +107,27 @@ async function rows(tab, reports, events) {
     return [...document.querySelectorAll("#chosen dt")].map((term, place) => [term.textContent, values[place]]);
   }), events);
   const named = { spawn: "starts", send: "message", recv: "message", join: "takes in" };
-  const following = new Map();
+  const following = new Map(), receipts = receiptsIn(reports);
   answers(reports, reports.map((_, place) => `event ${place + 1}`)).forEach((reply, place) => {
     for (const pred of reply.split(" ").slice(5)) following.set(pred, [...following.get(pred) ?? [], place + 1]);
   });
   events.forEach((event, place) => {
     const [, kind, task, name, , ...preds] = told[place].split(" "), list = (numbers) => numbers.join(" ") || "nothing";
     assert.deepEqual(shown[place], [["kind", kind], ["task", task], ...(named[kind] ? [[named[kind], name]] : []),
+      ...(["send", "recv"].includes(kind) ? [["received by", receipts.get(name)?.join(" ") ?? "nobody"]] : []),
       ["follows", list(preds)], ["followed by", list(following.get(String(event)) ?? [])],
       ["stamp", stamps[place].split(" ")[1]]], `event ${event}`);
   });
+}
+
+/** Of each message that was received who received it, each with his event. */
+function receiptsIn(reports) {
+  const receipts = new Map();
+  reports.forEach((report, place) => {
+    const [kind, task, message] = report.split(" ");
+    if (kind === "recv") receipts.set(message, [...receipts.get(message) ?? [], `${task}, ${place + 1}`]);
+  });
+  return receipts;
 }
 
 /** The three lists of events that stand below the chosen one. */
@@ -161,12 +172,43 @@ async function orderOfPairs(tab, reports, pairs) {
   }[told[place]]));
 }
 
+/** A message that three receive has an arrow to each of them, and is not among those that nobody received. */
+export async function topic(tab) {
+  await opened(tab, pictureOf("topic.html", exportOf(TOPIC)));
+  assert.equal(await notice(tab), "16 events, 5 tasks, 3 messages, 19 edges. Checked: yes 16.");
+  const heads = await tab.run(() => {
+    const { view } = page, shown = [];
+    view.addHead = (edge) => shown.push(`${view.layout.trace.nameOf[view.layout.edgeEvents[edge]]} ${view.layout.edgeEvents[edge]}`);
+    view.draw();
+    delete view.addHead;
+    return shown.sort();
+  });
+  assert.deepEqual(heads, ["cart_1 14", "price_1 12", "price_1 7", "price_1 8"]);
+  assert.equal(await tab.run(() => document.querySelector("#unread summary").textContent), "Messages that nobody received: 1");
+  await rows(tab, TOPIC, upTo(16));
+  const found = await tab.run(() => page.find("price_1").map(({ event, words }) => `${event} ${words}`));
+  assert.deepEqual(found, ["6 message price_1 is sent", "7 message price_1 is received by web",
+    "8 message price_1 is received by till", "12 message price_1 is received by stock"]);
+}
+
 /** 200 events of a trace of 500, and 200 pairs. */
 export async function busyTrace(tab) {
-  for (const kind of ["send", "recv", "spawn", "end", "join"]) assert.ok(BUSY.some((report) => report.startsWith(kind)));
-  const random = seeded(20), some = () => 1 + Math.floor(random() * 500), asked = Array.from({ length: 200 }, some);
-  const past = lists(BUSY, "past", asked), concurrent = lists(BUSY, "concurrent", asked);
   await opened(tab, inWork("busy.html"));
+  await eventsAndPairs(tab, BUSY);
+}
+
+/** The same of a trace with messages that many receive. */
+export async function broadcasts(tab) {
+  const most = Math.max(...[...receiptsIn(BROADCASTS).values()].map((receipts) => receipts.length));
+  assert.equal(most, 5);
+  await opened(tab, pictureOf("broadcasts.html", exportOf(BROADCASTS)));
+  await eventsAndPairs(tab, BROADCASTS);
+}
+
+async function eventsAndPairs(tab, reports) {
+  for (const kind of ["send", "recv", "spawn", "end", "join"]) assert.ok(reports.some((report) => report.startsWith(kind)));
+  const random = seeded(20), some = () => 1 + Math.floor(random() * 500), asked = Array.from({ length: 200 }, some);
+  const past = lists(reports, "past", asked), concurrent = lists(reports, "concurrent", asked);
   for (const [place, event] of asked.entries()) {
     const others = new Set([event, ...past[place], ...concurrent[place]]);
     const shown = await tab.run((sought) => {
@@ -175,9 +217,9 @@ export async function busyTrace(tab) {
     }, event);
     assert.deepEqual(shown, [past[place], upTo(500).filter((other) => !others.has(other)), concurrent[place]], `event ${event}`);
   }
-  await rows(tab, BUSY, asked);
-  await orderOfPairs(tab, BUSY, Array.from({ length: 200 }, () => [some(), some()]));
-  await layoutIsSound(tab, BUSY);
+  await rows(tab, reports, asked);
+  await orderOfPairs(tab, reports, Array.from({ length: 200 }, () => [some(), some()]));
+  await layoutIsSound(tab, reports);
 }
 
 /** 300 tasks share the lanes of a few. */

@@ -16,6 +16,9 @@ export const LOST_UPDATE = ["local root", "spawn root alice", "spawn root bob", 
   "local bob", "end alice", "end bob", "join root alice", "join root bob"];
 export const WITH_LOCK = ["local root", "spawn root alice", "spawn root bob", "local alice", "local alice", "send alice stock_1",
   "recv bob stock_1", "local bob", "local bob"];
+export const TOPIC = ["spawn root prices", "spawn root web", "spawn root till", "spawn root stock", "local prices",
+  "send prices price_1", "recv web price_1", "recv till price_1", "local prices", "local web", "send web cart_1",
+  "recv stock price_1", "local stock", "recv till cart_1", "local till", "send prices price_2"];
 export const NAMES = ["spawn root __proto__", "spawn __proto__ constructor", "spawn root local", "spawn root 7",
   "send constructor toString", "recv local toString", "send 7 __proto__", "recv root __proto__", "send local hasOwnProperty",
   "local __proto__", "end constructor", "join __proto__ constructor", "send root 1", "end local", "join root local"];
@@ -24,9 +27,10 @@ function takenFrom(list, random) {
   return list.splice(Math.floor(random() * list.length), 1)[0];
 }
 
-/** Tasks that come and go and send and receive: so many events, and no more tasks alive at a time and in all. */
-export function busy(random, events, alive, tasks) {
-  const live = ["root"], ended = [], unread = [], reports = [];
+/** Tasks that come and go and send and receive: so many events, and no more tasks alive at a time and in all. A message is
+ * received by so many at most. */
+export function busy(random, events, alive, tasks, receivers = 1) {
+  const live = ["root"], ended = [], unread = [], reports = [], read = new Set();
   const some = () => live[Math.floor(random() * live.length)];
   for (let started = 1, sent = 0; reports.length < events;) {
     const kind = random();
@@ -41,10 +45,13 @@ export function busy(random, events, alive, tasks) {
     } else if (kind < 0.44 && ended.length > 0) {
       reports.push(`join ${some()} ${takenFrom(ended, random)}`);
     } else if (kind < 0.64) {
-      unread.push(`message_${++sent}`);
-      reports.push(`send ${some()} ${unread.at(-1)}`);
+      sent++;
+      unread.push(...Array(receivers).fill(`message_${sent}`));
+      reports.push(`send ${some()} message_${sent}`);
     } else if (kind < 0.84 && unread.length > 0) {
-      reports.push(`recv ${some()} ${unread.length > 20 ? unread.shift() : takenFrom(unread, random)}`);
+      const receipt = `${some()} ${unread.length > 20 * receivers ? unread.shift() : takenFrom(unread, random)}`;
+      reports.push(read.has(receipt) ? `local ${receipt.split(" ")[0]}` : `recv ${receipt}`);
+      read.add(receipt);
     } else {
       reports.push(`local ${some()}`);
     }
@@ -84,6 +91,9 @@ export function mostAlive(reports) {
 
 /** The trace of 500 events that most checks use. */
 export const BUSY = busy(seeded(19), 500, 14, 60);
+
+/** A trace of as many events, with messages that up to five receive. */
+export const BROADCASTS = busy(seeded(23), 500, 14, 60, 5);
 
 /** The greatest trace: 16384 events and 2047 tasks that root and others start, at most 64 at a time. */
 export function greatest(random) {
