@@ -8,18 +8,39 @@ use Rattle.trace_query.proofs.last_events.cut_by_points.Given.{Over}
 use Rattle.trace_query.proofs.last_events.cut_by_points.Goals.{After-index, After-index-kept-place, else-not-index-via-then-not-index+else-is_below_later, else-not-index-via-else-not-index}
 use Rattle.trace_query.proofs.last_events.cut_by_points.Goals as goal
 
--- the place is that of an earlier event
-earlier : (g : Over) (c : After-index g) → (c.loop-place.place ≡ (c.loop-place.place - 1) + 1) × ((c.loop-place.place - 1) + 1 < c.args.event) × (c.args.event ≤ length c.args.kept.now)
-earlier g c =
+-- the place is that of an earlier event, and the marks have its task
+record IsInside (g : Over) (c : After-index g) : Type 0 where
+  behind : c.loop-place.place ≡ (c.loop-place.place - 1) + 1
+  earlier : (c.loop-place.place - 1) + 1 < c.args.event
+  within : c.loop-place.place - 1 < length c.args.kept.now
+  listed : c.loop-place.place - 1 < length (map g.C.Kept.Meant.tree c.args.kept.now)
+  room : get_or c.args.tasks.now (c.loop-place.place - 1) 0 < length c.loop-place.is_listed.items
+
+inside : (g : Over) (c : After-index g) → IsInside g c
+inside g c =
+    let place = c.loop-place.place - 1 in
     let bounds = event_bounds (map g.C.Kept.Meant.tree c.args.kept.now) c.args.event c.in_ok-tree.ensures.known in
-    (omega arith, omega (arith, bounds.0), omega (arith, bounds.1, length-map c.args.kept.now g.C.Kept.Meant.tree))
+    let earlier : place + 1 < c.args.event = omega (arith, bounds.0) in
+    let within : place < length c.args.kept.now = omega (arith, earlier, bounds.1, length-map c.args.kept.now g.C.Kept.Meant.tree) in
+    let before = task_before c.args.tasks.now place c.requires.earlier (omega (arith, within, c.requires.tasks)) in
+    record {
+      behind = omega arith;
+      earlier = earlier;
+      within = within;
+      listed = omega (arith, earlier, bounds.1);
+      room = omega (arith, before, earlier, c.loop-place.invariant.0, c.loop-place.is_listed.ok.0);
+    }
 
 -- what is compared
 placed : (g : Over) (c : After-index-kept-place g)
     → ArePlaced g.C.Kept.Meant.tree c.args.kept.now c.args.event (c.loop-place.place - 1) c.index-kept-place.result c.in_ok-tree.tree.now
 placed g c =
-    let known = earlier g (goal.at.After-index-kept-place g c).After-index in
-    record { other_is = c.index-kept-place.is; one_is = c.in_ok-tree.ensures.tree; within = omega (arith, known.1, known.2); event_is = c.in_ok-tree.ensures.known }
+    record {
+      other_is = c.index-kept-place.is;
+      one_is = c.in_ok-tree.ensures.tree;
+      within = (inside g (goal.at.After-index-kept-place g c).After-index).within;
+      event_is = c.in_ok-tree.ensures.known;
+    }
 
 pub returns-in_err-is_listed : goal.returns-in_err-is_listed
 returns-in_err-is_listed g c =
@@ -49,39 +70,30 @@ loop-place-init g c =
 pub is_below_later-requires : goal.is_below_later-requires
 is_below_later-requires g c =
     let at = goal.at.is_below_later-requires g c in
-    decided_earlier (placed g at.After-index-kept-place) c.args.points.now c.requires.decided (earlier g at.After-index).1
+    decided_earlier (placed g at.After-index-kept-place) c.args.points.now c.requires.decided (inside g at.After-index).earlier
 
 pub loop-place-preserved-then-is_below_later : goal.loop-place-preserved-then-is_below_later
 loop-place-preserved-then-is_below_later g c =
-    let trees = map g.C.Kept.Meant.tree c.args.kept.now in
-    let place = c.loop-place.place - 1 in
-    let known = earlier g (goal.at.loop-place-preserved-then-is_below_later g c).After-index in
-    let inside : place < length trees = omega (arith, known.1, known.2, length-map c.args.kept.now g.C.Kept.Meant.tree) in
-    let before : get_or c.args.tasks.now place 0 < place + 1 = task_before c.args.tasks.now place c.requires.earlier (omega (arith, known.1, known.2, c.requires.tasks)) in
-    let room : get_or c.args.tasks.now place 0 < length c.loop-place.is_listed.items = omega (arith, before, known.1, c.loop-place.invariant.0, c.loop-place.is_listed.ok.0) in
-    let seen = placed g (goal.at.loop-place-preserved-then-is_below_later g c).After-index-kept-place in
+    let at = goal.at.loop-place-preserved-then-is_below_later g c in
+    let seen = inside g at.After-index in
     let ok : is_ok c.push-then-is_below_later.result ≡ true = sym c.map_err-then-is_below_later.ensures.variant ∙ ap is_ok c.in_ok-map_err-2.was in (
       c.loop-place.invariant.0,
-      listed_one inside known.0 c.loop-place.invariant.1 c.index.result.now (sym c.index.ensures ∙ c.if-not-index.true) room
-          ((under_place seen).0 (c.is_below_later.ensures.0 c.if-is_below_later.true)) c.push-then-is_below_later.new.self.items (rw ok at c.push-then-is_below_later.ensures.items),
+      listed_one seen.listed seen.behind c.loop-place.invariant.1 c.index.result.now (sym c.index.ensures ∙ c.if-not-index.true) seen.room
+          ((under_place (placed g at.After-index-kept-place)).0 (c.is_below_later.ensures.0 c.if-is_below_later.true))
+          c.push-then-is_below_later.new.self.items (rw ok at c.push-then-is_below_later.ensures.items),
     )
 
 pub loop-place-preserved : goal.loop-place-preserved
 loop-place-preserved g c =
-    let trees = map g.C.Kept.Meant.tree c.args.kept.now in
-    let place = c.loop-place.place - 1 in
-    let known = earlier g (goal.at.loop-place-preserved g c).After-index in
-    let inside : place < length trees = omega (arith, known.1, known.2, length-map c.args.kept.now g.C.Kept.Meant.tree) in
-    let before : get_or c.args.tasks.now place 0 < place + 1 = task_before c.args.tasks.now place c.requires.earlier (omega (arith, known.1, known.2, c.requires.tasks)) in
-    let room : get_or c.args.tasks.now place 0 < length c.loop-place.is_listed.items = omega (arith, before, known.1, c.loop-place.invariant.0, c.loop-place.is_listed.ok.0) in (
+    let seen = inside g (goal.at.loop-place-preserved g c).After-index in (
       c.loop-place.invariant.0,
       elim c.else-not-index.branch [
         | else-not-index-via-then-not-index+else-is_below_later w ↦ (
-            let seen : ArePlaced g.C.Kept.Meant.tree c.args.kept.now c.args.event place w.index-kept-place.result c.in_ok-tree.tree.now =
-            record { other_is = w.index-kept-place.is; one_is = c.in_ok-tree.ensures.tree; within = omega (arith, known.1, known.2); event_is = c.in_ok-tree.ensures.known } in
-            passed_apart inside known.0 c.loop-place.invariant.1 (λ below. refuted_by w.is_below_later.ensures w.if-is_below_later.false ((under_place seen).1 below))
+            let other : ArePlaced g.C.Kept.Meant.tree c.args.kept.now c.args.event (c.loop-place.place - 1) w.index-kept-place.result c.in_ok-tree.tree.now =
+            record { other_is = w.index-kept-place.is; one_is = c.in_ok-tree.ensures.tree; within = seen.within; event_is = c.in_ok-tree.ensures.known } in
+            passed_apart seen.listed seen.behind c.loop-place.invariant.1 (λ below. refuted_by w.is_below_later.ensures w.if-is_below_later.false ((under_place other).1 below))
             )
-        | else-not-index-via-else-not-index w ↦ passed_marked inside known.0 c.loop-place.invariant.1 c.index.result.now (sym c.index.ensures ∙ w.if-not-index.false) room
+        | else-not-index-via-else-not-index w ↦ passed_marked seen.listed seen.behind c.loop-place.invariant.1 c.index.result.now (sym c.index.ensures ∙ w.if-not-index.false) seen.room
       ],
     )
 
