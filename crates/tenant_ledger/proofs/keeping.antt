@@ -5,5 +5,6 @@ pub mod Tasks
 pub mod Messages
 pub mod Kept
 pub mod Report
+pub mod Starts
 pub mod Refused
 pub mod Told

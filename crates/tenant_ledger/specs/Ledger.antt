@@ -1,9 +1,9 @@
 -- What a ledger keeps beside the rows.
-use Rattle.std.specs.Prelude.{◌≡◌, ℕ, not, suc, ◌+◌, ◌≤◌, ◌<◌, false, true, Bool, if◌then◌else◌, List, [], ◌∷◌, ◌++◌, length, map, Option, Some, None, is_some, Result, Ok, Err, slice_get}
+use Rattle.std.specs.Prelude.{◌≡◌, ℕ, not, suc, ◌+◌, ◌≤◌, ◌<◌, ◌==◌, false, true, Bool, if◌then◌else◌, List, [], ◌∷◌, ◌++◌, length, map, Option, Some, None, is_some, Result, Ok, Err, slice_get}
 use Rattle.std.specs.Map.{lookup}
 use Rattle.trace_types.specs.text.Name.{Text, is_same}
 use Rattle.trace_types.specs.tenant.Limits.{Limits}
-use Rattle.trace_types.specs.tenant.Rows.{History, history_of, is_known, is_ended, is_joined, state_of, last_event, is_sent, is_received, send_event, receipts, task_count, message_count}
+use Rattle.trace_types.specs.tenant.Rows.{History, history_of, is_known, is_ended, is_joined, state_of, last_event, start_event, is_sent, has_received, receives, send_event, task_count, message_count}
 use Rattle.trace_types.specs.tenant.Reachability.{second_event}
 use Rattle.trace_types.specs.tenant.Refusal.{first_code, refusals, has_all_events, has_all_tasks, has_all_messages}
 use Rattle.trace_types.specs.clock.Clock.{tree_clock}
@@ -31,15 +31,15 @@ use Rattle.tenant_ledger.specs.declared.book.task.Task.{Task}
 use Rattle.tenant_ledger.specs.declared.book.report.Report.{Report}
 use Rattle.tenant_ledger.specs.declared.book.ids.Ids.{Ids}
 use Rattle.tenant_ledger.specs.declared.book.ids.Ids.TheVariants as ids
-use Rattle.message_book.specs.Book.{entry_of, with_message, with_receipt, refusal_of_send, refusal_of_receive}
+use Rattle.message_book.specs.Book.{Sent, Receipt, entry_of, with_message, with_receipt, refusal_of_send, refusal_of_receive}
 use Rattle.message_book.specs.Book as message_book
-use Rattle.message_book.specs.declared.entry.Entry.{Entry}
 
 -- for how many more of each there is room
 pub record Room : Type 0 where
   pub rows : ℕ
   pub trees : ℕ
   pub points : ℕ
+  pub starts : ℕ
   pub places : ℕ
   pub ids : ℕ
   pub tasks : ℕ
@@ -52,6 +52,8 @@ pub record Contents : Type 0 where
   pub rows : List Row
   pub trees : List EventTree
   pub points : List (Option Deciding)
+  -- the event that started each event's task, or 0
+  pub starts : List ℕ
   pub places : List ℕ
   pub ids : List Id
   pub kept_ids : ℕ
@@ -82,12 +84,21 @@ IsTask ids history name None = is_known history name ≡ false
 IsTask ids history name (Some task) =
     (is_known history name ≡ true) × (task.state ≡ state_of history name) × (task.last ≡ last_event history name)
     × ((task.state ≡ state.Joined → ⊥) → slice_get ids task.id ≡ Some (id_of tree_clock history name))
+    × (task.start ≡ start_event history name)
+
+-- the receipts of a message with their tasks, in their order
+abbrev pub receipts_by_task : History → Text → List Receipt
+receipts_by_task [] message = []
+receipts_by_task (row ∷ earlier) message =
+    if receives message row
+    then receipts_by_task earlier message ++ record { task = row.task; event = suc (length earlier) } ∷ []
+    else receipts_by_task earlier message
 
 -- what is kept of a message: nothing where none of this name was sent
-abbrev pub IsMessage : History → Text → Option Entry → Type 0
+abbrev pub IsMessage : History → Text → Option Sent → Type 0
 IsMessage history name None = is_sent history name ≡ false
 IsMessage history name (Some entry) =
-    (is_sent history name ≡ true) × (entry.sent ≡ send_event history name) × (entry.receipts ≡ receipts history name)
+    (is_sent history name ≡ true) × (entry.sent ≡ send_event history name) × (entry.receipts ≡ receipts_by_task history name)
 
 -- what is kept of the messages
 pub record AreMessages (limits : Limits) (history : History) (messages : message_book.Book) : Type 0 where
@@ -103,6 +114,11 @@ of_each told (row ∷ earlier) = of_each told earlier ++ told (row ∷ earlier) 
 -- the id of an event's task after it
 abbrev pub id_after : History → ℕ → Id
 id_after history event = (stamp_of tree_clock history event).0
+
+-- the event that started the task of the event, or 0
+abbrev pub start_of : History → ℕ → ℕ
+start_of [] event = 0
+start_of (row ∷ earlier) event = if event == suc (length earlier) then start_event (row ∷ earlier) row.task else start_of earlier event
 
 -- a point that the event raised, with the value there of what it knows
 pub record IsPointOf (history : History) (event : ℕ) (deciding : Deciding) : Type 0 where
@@ -125,6 +141,7 @@ pub record IsKeptWith (book : Contents) (tasks : Text → Option Task) (count : 
   pub small : length book.rows ≤ 16384
   pub trees : book.trees ≡ of_each (tree_of tree_clock) (history_in book)
   pub points : ArePoints (history_in book) book.points
+  pub starts : book.starts ≡ of_each start_of (history_in book)
   pub places : map (slice_get book.ids) book.places ≡ map Some (of_each id_after (history_in book))
   pub tasks_are : (name : Text) → IsTask book.ids (history_in book) name (tasks name)
   pub counted : count ≡ task_count (history_in book)
@@ -140,6 +157,7 @@ pub record HasRoom (book : Contents) : Type 0 where
   pub rows : 0 < book.room.rows
   pub trees : 0 < book.room.trees
   pub points : 0 < book.room.points
+  pub starts : 0 < book.room.starts
   pub places : 0 < book.room.places
   pub ids : 2 ≤ book.room.ids
   pub tasks : 2 ≤ book.room.tasks
@@ -157,31 +175,44 @@ refusals_of_task history task = (not (is_known history task), NoTask) ∷ (is_en
 abbrev pub refusals_of_room : Limits → History → List (Bool × Code)
 refusals_of_room limits history = (has_all_events limits history, EventsFull) ∷ []
 
--- what it is refused for in between, for what it names
-abbrev pub refusals_of_named : Limits → History → Kind → Option Text → List (Bool × Code)
-refusals_of_named limits history Spawn (Some child) = (is_known history child, TaskExists) ∷ (has_all_tasks limits history, TasksFull) ∷ []
-refusals_of_named limits history Send (Some message) = (is_sent history message, MessageExists) ∷ (has_all_messages limits history, MessagesFull) ∷ []
-refusals_of_named limits history Recv (Some message) =
-    (not (is_sent history message), NoMessage) ∷ (is_received history message, AlreadyReceived) ∷ []
-refusals_of_named limits history Join (Some child) =
+-- what it is refused for in between: for the task that it starts, the message that it sends or receives, the task that it takes in
+abbrev pub refusals_of_child : Limits → History → Text → List (Bool × Code)
+refusals_of_child limits history child = (is_known history child, TaskExists) ∷ (has_all_tasks limits history, TasksFull) ∷ []
+
+abbrev pub refusals_of_sent : Limits → History → Text → List (Bool × Code)
+refusals_of_sent limits history message = (is_sent history message, MessageExists) ∷ (has_all_messages limits history, MessagesFull) ∷ []
+
+abbrev pub refusals_of_received : History → Text → Text → List (Bool × Code)
+refusals_of_received history task message =
+    (not (is_sent history message), NoMessage) ∷ (has_received history task message, AlreadyReceived) ∷ []
+
+abbrev pub refusals_of_joined : History → Text → List (Bool × Code)
+refusals_of_joined history child =
     (not (is_known history child), NoTask) ∷ (not (is_ended history child), NotEnded) ∷ (is_joined history child, AlreadyJoined) ∷ []
-refusals_of_named limits history kind name = []
+
+-- so it is for what a report of the task and of this kind names
+abbrev pub refusals_of_named : Limits → History → Text → Kind → Option Text → List (Bool × Code)
+refusals_of_named limits history task Spawn (Some child) = refusals_of_child limits history child
+refusals_of_named limits history task Send (Some message) = refusals_of_sent limits history message
+refusals_of_named limits history task Recv (Some message) = refusals_of_received history task message
+refusals_of_named limits history task Join (Some child) = refusals_of_joined history child
+refusals_of_named limits history task kind name = []
 
 -- all of it, in the order in which it is looked at
 abbrev pub refusals_of_report : Limits → History → Reported → List (Bool × Code)
 refusals_of_report limits history report =
-    refusals_of_task history report.task ++ refusals_of_named limits history report.kind report.name ++ refusals_of_room limits history
+    refusals_of_task history report.task ++ refusals_of_named limits history report.task report.kind report.name ++ refusals_of_room limits history
 
 -- what the book has of the task that a report of this kind takes in
 abbrev pub joined_by : (Text → Option Task) → Kind → Option Text → Option Task
 joined_by tasks Join name = of_named None tasks name
 joined_by tasks kind name = None
 
--- the message that such a report sends or receives is not refused
-abbrev pub MayNote : message_book.Book → Kind → Option Text → Type 0
-MayNote messages Send (Some name) = refusal_of_send messages name ≡ None
-MayNote messages Recv (Some name) = refusal_of_receive messages name ≡ None
-MayNote messages kind name = Unit {0}
+-- the message that such a report of the task sends or receives is not refused
+abbrev pub MayNote : message_book.Book → Text → Kind → Option Text → Type 0
+MayNote messages task Send (Some name) = refusal_of_send messages name ≡ None
+MayNote messages task Recv (Some name) = refusal_of_receive messages name task ≡ None
+MayNote messages task kind name = Unit {0}
 
 -- the row of a report
 abbrev pub row_of_report : Contents → Report → Row
@@ -194,7 +225,7 @@ pub record IsReport (book : Contents) (report : Report) : Type 0 where
   pub acting : task_in book report.task ≡ Some report.acting
   pub second : report.second ≡ second_event (history_in book) report.kind report.name
   pub joined : report.joined ≡ joined_by (task_in book) report.kind report.name
-  pub may : MayNote book.messages report.kind report.name
+  pub may : MayNote book.messages report.task report.kind report.name
 
 -- the ids that a report of this kind makes, of its task's id and of that of the task that it names
 abbrev pub ids_made : Kind → Id → Id → Ids
@@ -222,7 +253,7 @@ acting_after kind event place task = record task { last = event }
 
 -- what is to be kept of the task that it names, where it starts or takes in one
 abbrev pub named_after : Kind → ℕ → ℕ → Option Task → Option Task
-named_after Spawn event place joined = Some (record { state = state.Live; last = event; id = suc place })
+named_after Spawn event place joined = Some (record { state = state.Live; last = event; id = suc place; start = event })
 named_after Join event place (Some task) = Some (record task { state = state.Joined })
 named_after kind event place joined = None
 
@@ -281,6 +312,7 @@ with_event event book = record book {
   rows = book.rows ++ event.row ∷ [];
   trees = book.trees ++ event.tree ∷ [];
   points = book.points ++ event.point ∷ [];
+  starts = book.starts ++ event.acting.start ∷ [];
   places = book.places ++ event.acting.id ∷ [];
   ids = book.ids ++ event.ids;
 }
@@ -293,12 +325,12 @@ abbrev pub task_count_with : Event → Contents → ℕ
 task_count_with event book =
     count_with event.row.task (task_with_some event.named event.row.name (task_in book)) (count_with_some event.named event.row.name (task_in book) (length book.tasks))
 
--- what a report of this kind, with this name and as this event, makes of the messages
-abbrev pub Notes : Kind → Option Text → ℕ → message_book.Book → message_book.Book → Type 0
-Notes Send (Some name) event before after = after ≡ record before { messages = with_message name event before.messages }
-Notes Recv (Some name) event before after =
-    (refusal_of_receive before name ≡ None) × (after ≡ record before { messages = with_receipt name event before.messages })
-Notes kind name event before after = after ≡ before
+-- what a report of the task and of this kind, with this name and as this event, makes of the messages
+abbrev pub Notes : Text → Kind → Option Text → ℕ → message_book.Book → message_book.Book → Type 0
+Notes task Send (Some name) event before after = after ≡ record before { messages = with_message name event before.messages }
+Notes task Recv (Some name) event before after =
+    (refusal_of_receive before name task ≡ None) × (after ≡ record before { messages = with_receipt name task event before.messages })
+Notes task kind name event before after = after ≡ before
 
 -- the id of its task after an event: the first that the event makes, else the one that is kept at this place
 abbrev pub id_left : List Id → List Id → ℕ → Option Id
@@ -311,7 +343,7 @@ pub record IsReady (book : Contents) (event : Event) : Type 0 where
   pub home : event.home ≡ book.home
   pub before : message_book.Book
   pub was : IsKept (record book { messages = before })
-  pub notes : Notes event.row.kind event.row.name (suc (length book.rows)) before book.messages
+  pub notes : Notes event.row.task event.row.kind event.row.name (suc (length book.rows)) before book.messages
   pub next : IsKeptWith (with_event event book) (tasks_with event book) (task_count_with event book)
   pub room : HasRoom book
   pub id : id_left book.ids event.ids event.acting.id ≡ Some (id_of tree_clock (event.row ∷ history_in book) event.row.task)

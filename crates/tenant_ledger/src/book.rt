@@ -41,6 +41,8 @@ pub(crate) struct Book<S: Keep> {
     trees: Vec<S::Kept>,
     /// A point that each event raised, where one was found, in the order of the events.
     points: Vec<Option<Deciding>>,
+    /// The event that started each event's task, or 0, in the order of the events.
+    starts: Vec<u64>,
     /// The place of the id of each event's task after it, in the order of the events.
     places: Vec<usize>,
     /// Each id that some task has or had. That of `root` is kept with the first accepted report.
@@ -67,6 +69,7 @@ impl<S: Keep> Model for Book<S> {
       rows = b.rows.items;
       trees = map S.Kept.tree b.trees.items;
       points = b.points.items;
+      starts = b.starts.items;
       places = b.places.items;
       ids = with_seed (map S.Id.id b.ids.items);
       kept_ids = length b.ids.items;
@@ -76,6 +79,7 @@ impl<S: Keep> Model for Book<S> {
         rows = vec_capacity b.rows - vec_len b.rows;
         trees = vec_capacity b.trees - vec_len b.trees;
         points = vec_capacity b.points - vec_len b.points;
+        starts = vec_capacity b.starts - vec_len b.starts;
         places = vec_capacity b.places - vec_len b.places;
         ids = vec_capacity b.ids - vec_len b.ids;
         tasks = spare b.tasks;
@@ -96,6 +100,7 @@ impl<S: Keep> Book<S> {
         let root = Task {
             state: TaskState::Live,
             last: 0,
+            start: 0,
             id: 0,
         };
         tasks.insert(Name::root(), root)?;
@@ -106,6 +111,7 @@ impl<S: Keep> Book<S> {
             alloc,
             trees: Vec::new(alloc),
             points: Vec::new(alloc),
+            starts: Vec::new(alloc),
             places: Vec::new(alloc),
             ids: Vec::new(alloc),
             tasks,
@@ -179,6 +185,13 @@ impl<S: Keep> Book<S> {
         ensures { result.now ≡ self.now.points }
     {
         &self.points
+    }
+
+    /// The event that started each event's task, or 0, in the order of the events.
+    pub(crate) fn starts(&self) -> &[u64]
+        ensures { result.now ≡ self.now.starts }
+    {
+        &self.starts
     }
 
     /// What the book allocates from.

@@ -14,7 +14,8 @@ use crate::{PlainShare, Prepared, laws};
 use std::alloc::Global;
 use std::marker::Model;
 use trace_query::{
-    Compare, Meant, QueryFault, concurrent_by_points, order_in_order, pair_of, past_by_points,
+    Compare, Meant, QueryFault, concurrent_by_points, cut_by_points, order_in_order, pair_of,
+    past_by_points,
 };
 use trace_types::{Code, Limits, Memory, Name, Numbers, Reply, Request, Row};
 
@@ -86,8 +87,8 @@ impl<S: Keep> Ledger<S> {
     /// Takes one request: an accepted report is the tenant's next event, and a query is answered.
     ///
     /// A request is refused with the first code that applies of those that `refusals` of `trace_types` has for it, and
-    /// last with `NoMemory` (507), where a request for memory was refused: a report, `past`, `concurrent` or `stamp`. A
-    /// refused request changes nothing.
+    /// last with `NoMemory` (507), where a request for memory was refused: a report, `past`, `concurrent`, `cut`, `stamp` or
+    /// `message`. A refused request changes nothing.
     pub fn report<R>(&mut self, rt: &R, request: &Request) -> Reply
     where
         S: Share<R>,
@@ -140,7 +141,7 @@ impl<S: Keep> Ledger<S> {
     }
 
     /// Answers a query as [`Ledger::report`] does, and refuses every report with `ViewOnly` (410). Only `past`,
-    /// `concurrent` and `stamp` take memory, and may be refused with `NoMemory` (507).
+    /// `concurrent`, `cut`, `stamp` and `message` take memory, and may be refused with `NoMemory` (507).
     pub fn ask<C: Compare<Kept = S::Kept>>(&self, compare: &C, request: &Request) -> Reply
         ensures { Answers self.now request.now result }
     {
@@ -154,6 +155,7 @@ impl<S: Keep> Ledger<S> {
             Request::Order(first, second) => self.order(compare, first, second),
             Request::Past(event) => self.past(compare, event),
             Request::Concurrent(event) => self.concurrent_with(compare, event),
+            Request::Cut(event) => self.cut(compare, event),
             Request::Event(event) => self.event(event),
             Request::Stamp(event) => self.stamp(event),
             Request::Task(name) => self.task(&name),
@@ -229,6 +231,21 @@ impl<S: Keep> Ledger<S> {
         listed(concurrent_by_points(compare, book.alloc(), book.trees(), book.points(), event))
     }
 
+    /// The last event of each task that reaches the event, by the trees and the points kept for them.
+    fn cut<C: Compare<Kept = S::Kept>>(&self, compare: &C, event: u64) -> Reply
+        ensures { Answers self.now (Request.Cut event) result }
+    {
+        let book = &self.book;
+        listed(cut_by_points(
+            compare,
+            book.alloc(),
+            book.trees(),
+            book.points(),
+            book.starts(),
+            event,
+        ))
+    }
+
     /// The row of the event.
     fn event(&self, event: u64) -> Reply
         ensures { result ≡ reply_to_view self.now (Request.Event event) }
@@ -261,10 +278,13 @@ impl<S: Keep> Ledger<S> {
 
     /// The send and the receipts of the message.
     fn message(&self, name: &Name) -> Reply
-        ensures { result ≡ reply_to_view self.now (Request.Message name.now) }
+        ensures { Answers self.now (Request.Message name.now) result }
     {
         match self.book.message(name) {
-            Ok(entry) => Reply::Message(entry.sent, entry.receipts.share()),
+            Ok(entry) => match entry.receipts().share() {
+                Ok(receipts) => Reply::Message(entry.sent(), receipts),
+                Err(Memory) => Reply::Refused(Code::NoMemory),
+            },
             Err(code) => Reply::Refused(code),
         }
     }

@@ -5,7 +5,7 @@ ghost use Rattle.trace_types.specs.tenant.Rows.{history_of};
 ghost use Rattle.trace_types.specs.clock.Stamps.{id_of, tree_of};
 ghost use Rattle.trace_types.specs.tenant.Tenant.{with_row};
 ghost use Rattle.trace_types.specs.declared.reply.Reply.TheVariants as reply;
-ghost use Rattle.tenant_ledger.specs.Ledger.{MayHavePoint};
+ghost use Rattle.tenant_ledger.specs.Ledger.{MayHavePoint, start_of};
 
 use crate::book::{Book, Draft};
 use crate::share::{Keep, MeantId};
@@ -53,6 +53,13 @@ impl<S: Keep> Prepared<S> {
         ensures { MayHavePoint (self.now.row ∷ history_of self.now.tenant.rows) (suc (length self.now.tenant.rows)) result }
     {
         self.draft.point()
+    }
+
+    /// The event that started its task, or 0.
+    pub fn start(&self) -> u64
+        ensures { result ≡ start_of (self.now.row ∷ history_of self.now.tenant.rows) (suc (length self.now.tenant.rows)) }
+    {
+        self.draft.start()
     }
 
     /// The id that its task has after its event, as it is kept.

@@ -8,6 +8,9 @@ use Rattle.tenant_ledger.proofs.clock.Reaching.{new_event, first_of, second_of}
 pub event_bounds : (history : History) (event : ℕ) → IsTrue (is_event history event) → (0 < event) × (event ≤ length history)
 event_bounds history event is = grind (arith, nat_tests)
 
+pub event_from_bounds : (history : History) (event : ℕ) → 0 < event → event ≤ length history → IsTrue (is_event history event)
+event_from_bounds history event positive within = grind (arith, nat_tests)
+
 -- what is no event knows nothing
 pub tree_of-nothing : {Id Tree : Type 0} (clock : Clock Id Tree) (history : History) → tree_of clock history 0 ≡ clock.start
 tree_of-nothing clock [] = refl

@@ -1,6 +1,6 @@
 -- A book is kept with the event of a report that is not refused.
 use Rattle.std.proofs.Common.{◌≡◌, ℕ, List, suc, ◌-◌, ◌<◌, ◌≤◌, [], ◌∷◌, ◌++◌, length, map, slice_get, option_map, Option, Some, refl, sym, ap, ◌∙◌, subst, arith}
-use Rattle.tenant_ledger.proofs.Words.{nat_tests, length-append, length-map, length-reverse, reverse-append, map-append, same_Some, slice_get-map, transport, Text, History, history_of, EventTree, task_count, tree_clock, id_of, tree_of, row_after, Row, IsLegal, Contents, Event, IsKept, IsKeptWith, IsTask, IsReport, IsReady, HasRoom, AreMessages, ArePoints, MayRaise, Notes, history_in, task_in, of_each, id_after, event_of, with_event, tasks_with, task_count_with, Report}
+use Rattle.tenant_ledger.proofs.Words.{nat_tests, length-append, length-map, length-reverse, reverse-append, map-append, same_Some, slice_get-map, transport, Text, History, history_of, EventTree, task_count, tree_clock, id_of, tree_of, row_after, Row, IsLegal, Contents, Event, IsKept, IsKeptWith, IsTask, IsReport, IsReady, HasRoom, AreMessages, ArePoints, MayRaise, Notes, history_in, task_in, of_each, id_after, start_of, event_of, with_event, tasks_with, task_count_with, Report}
 use Rattle.message_book.specs.Book as message_book
 use Rattle.trace_query.specs.declared.deciding.Deciding.{Deciding}
 use Rattle.tenant_ledger.proofs.clock.Events.{tree_of-older}
@@ -9,7 +9,7 @@ use Rattle.tenant_ledger.proofs.keeping.Known.{legal_history}
 use Rattle.tenant_ledger.proofs.keeping.Lists.{length-of_each, at_event, same_places, Stays}
 use Rattle.tenant_ledger.proofs.keeping.Messages.{noted_are_messages}
 use Rattle.tenant_ledger.proofs.keeping.Points.{points_with_one}
-use Rattle.tenant_ledger.proofs.keeping.Tasks.{id_is_kept, id_is_left, tasks_are_kept, tasks_are_counted}
+use Rattle.tenant_ledger.proofs.keeping.Tasks.{id_is_kept, id_is_left, start_is_kept, tasks_are_kept, tasks_are_counted}
 
 module _ (rows : List Row) (trees : List EventTree) (are : trees ≡ of_each (tree_of tree_clock) (history_of rows)) where
   -- what is kept of an event: its tree
@@ -60,7 +60,7 @@ module _ (book : Contents) (kept : IsKept book) (report : Report) (is : IsReport
   pub legal_with_row : IsLegal (row ∷ history)
   legal_with_row = subst IsLegal (reverse-append book.rows (row ∷ [])) (IsLegal_from_AreLegal book.limits (book.rows ++ row ∷ []) is.legal)
 
-  pub keeps_report : (after : message_book.Book) → Notes report.kind report.name (suc (length book.rows)) book.messages after → 0 < book.kept_ids
+  pub keeps_report : (after : message_book.Book) → Notes report.task report.kind report.name (suc (length book.rows)) book.messages after → 0 < book.kept_ids
       → (point : Option Deciding) → MayRaise book report point
       → IsKeptWith (with_event (event_of book report point) (record book { messages = after })) (tasks_with (event_of book report point) book) (task_count_with (event_of book report point) book)
   keeps_report after notes seeded point raised =
@@ -73,6 +73,9 @@ module _ (book : Contents) (kept : IsKept book) (report : Report) (is : IsReport
         legal = is.legal;
         small = omega (arith, is.few, length-append book.rows (row ∷ []));
         trees = ap (λ trees. trees ++ event.tree ∷ []) kept.trees ∙ ap (of_each (tree_of tree_clock)) to_longer;
+        starts = ap (λ starts. starts ++ event.acting.start ∷ []) kept.starts
+            ∙ ap (λ start. of_each start_of history ++ start ∷ []) (start_is_kept book kept report.task report.acting is.acting live report.kind report.name allowed)
+            ∙ ap (of_each start_of) to_longer;
         points = subst (λ h. ArePoints h (book.points ++ point ∷ [])) to_longer (points_with_one row history book.points point kept.points raised);
         places =
             let place = id_is_kept book kept report.task report.acting is.acting live report.kind report.name in
@@ -88,12 +91,12 @@ module _ (book : Contents) (kept : IsKept book) (report : Report) (is : IsReport
             ∙ tasks_are_counted book kept report.task report.acting is.acting live report.kind report.name allowed ∙ ap task_count to_longer;
         messages = subst (λ h. AreMessages book.limits h after) to_longer
             (noted_are_messages book.limits history report.task report.kind report.name row.preds book.messages after (legal_history book kept) allowed kept.messages
-            (subst (λ n. Notes report.kind report.name (suc n) book.messages after) (sym (length-reverse book.rows)) notes));
+            (subst (λ n. Notes report.task report.kind report.name (suc n) book.messages after) (sym (length-reverse book.rows)) notes));
         seeded = λ _. seeded;
       }
 
   -- so it is ready to be added
-  pub report_is_ready : (after : message_book.Book) → Notes report.kind report.name (suc (length book.rows)) book.messages after → HasRoom book
+  pub report_is_ready : (after : message_book.Book) → Notes report.task report.kind report.name (suc (length book.rows)) book.messages after → HasRoom book
       → (point : Option Deciding) → MayRaise book report point → IsReady (record book { messages = after }) (event_of book report point)
   report_is_ready after notes room point raised = record {
     home = refl;
@@ -107,11 +110,11 @@ module _ (book : Contents) (kept : IsKept book) (report : Report) (is : IsReport
 
 -- A book to which a ready event was added is kept.
 pub added_is_kept : (book : Contents) (event : Event) → IsReady book event → (new : Contents) → new.limits ≡ book.limits → new.messages ≡ book.messages
-    → new.rows ≡ book.rows ++ event.row ∷ [] → new.trees ≡ book.trees ++ event.tree ∷ [] → new.points ≡ book.points ++ event.point ∷ [] → new.places ≡ book.places ++ event.acting.id ∷ []
+    → new.rows ≡ book.rows ++ event.row ∷ [] → new.trees ≡ book.trees ++ event.tree ∷ [] → new.points ≡ book.points ++ event.point ∷ [] → new.starts ≡ book.starts ++ event.acting.start ∷ [] → new.places ≡ book.places ++ event.acting.id ∷ []
     → new.ids ≡ book.ids ++ event.ids → 0 < new.kept_ids → ((name : Text) → task_in new name ≡ tasks_with event book name) → length new.tasks ≡ task_count_with event book
     → IsKept new
-added_is_kept book event ready new limits messages rows trees points places ids some tasks count =
-    let next = transport (λ i. IsKeptWith (record (with_event event book) { limits = sym limits i; messages = sym messages i; rows = sym rows i; trees = sym trees i; points = sym points i; places = sym places i; ids = sym ids i })
+added_is_kept book event ready new limits messages rows trees points starts places ids some tasks count =
+    let next = transport (λ i. IsKeptWith (record (with_event event book) { limits = sym limits i; messages = sym messages i; rows = sym rows i; trees = sym trees i; points = sym points i; starts = sym starts i; places = sym places i; ids = sym ids i })
     (tasks_with event book) (task_count_with event book)) ready.next in
     let tasks_are : (name : Text) → IsTask new.ids (history_in new) name (task_in new name) = λ name. subst (IsTask new.ids (history_in new) name) (sym (tasks name)) (next.tasks_are name) in
     let counted : length new.tasks ≡ task_count (history_in new) = count ∙ next.counted in

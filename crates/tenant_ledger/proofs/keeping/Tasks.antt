@@ -1,10 +1,11 @@
 -- What is to be kept of each task after a report is right.
 use Rattle.std.proofs.Common.{◌≡◌, ℕ, suc, ◌+◌, true, false, cond, List, [], ◌∷◌, ◌++◌, length, slice_get, Option, Some, None, is_some, refl, sym, ap, ◌∙◌, subst, arith}
-use Rattle.tenant_ledger.proofs.Words.{false≢true, cond-true, cond-false, cond_both, or_left, or_right, and_right, nat_tests, sum_by-append, is_same-itself, is_same_iff, Text, is_same, root, History, starts, starts_task, ends, ends_task, joins, joins_task, names, is_known, is_ended, is_joined, state_of, task_count, tree_clock, id_of, id_kept, of_named, row_after, Id, Zero, Row, Kind, Local, Spawn, End, Join, IsLive, AllowsNamed, Contents, IsKept, IsTask, history_in, task_in, ids_made, made_ids, acting_after, id_left, named_after, joined_by, task_with, count_with, task_with_some, count_with_some, Task}
+use Rattle.tenant_ledger.proofs.Words.{false≢true, cond-true, cond-false, cond_both, or_left, or_right, and_right, nat_tests, sum_by-append, is_same-itself, is_same_iff, Text, is_same, root, History, start_event, starts, starts_task, ends, ends_task, joins, joins_task, names, is_known, is_ended, is_joined, state_of, task_count, tree_clock, id_of, id_kept, of_named, row_after, Id, Zero, Row, Kind, Local, Spawn, End, Join, IsLive, AllowsNamed, Contents, IsKept, IsTask, history_in, task_in, ids_made, made_ids, acting_after, id_left, named_after, joined_by, task_with, count_with, task_with_some, count_with_some, start_of, Task}
 use Rattle.trace_types.specs.declared.task_state.TaskState.TheVariants.{Live, Joined}
 use Rattle.tenant_ledger.proofs.clock.Tasks.{last_event-acting, last_event-bystander, last_event-started, live_is_not_unknown, live_is_not_ended, unknown_has_no_event}
 use Rattle.tenant_ledger.proofs.keeping.Known.{differ_back, legal_history, task_kept, has_known, unknown_has_not_ended, unended_is_not_joined}
 use Rattle.tenant_ledger.proofs.keeping.Lists.{slice_get-longer, slice_get-seam, slice_get-behind}
+use Rattle.tenant_ledger.proofs.keeping.Starts.{start_event-other, start_of-newest}
 
 module _ (row : Row) (earlier : History) where
   -- a known task stays known
@@ -26,6 +27,7 @@ module _ (row : Row) (earlier : History) where
         rw (not_joined, not_ended) right.1,
         right.2 ∙ sym (last_event-bystander row earlier task differ not_started),
         λ unjoined. slice_get-longer ids more found.id _ (right.3 unjoined) ∙ ap Some (sym same_id),
+        right.4 ∙ sym (start_event-other row earlier task not_started),
       )
 
 module _ (book : Contents) (kept : IsKept book) (task : Text) (acting : Task) (found : task_in book task ≡ Some acting) where
@@ -94,6 +96,20 @@ module _ (book : Contents) (kept : IsKept book) (task : Text) (acting : Task) (f
     last_after Local = refl
     last_after kind = refl
 
+    -- it was started when it was
+    start_after : (kind : Kind) (name : Option Text) → AllowsNamed history kind name
+        → (acting_after kind event place acting).start ≡ start_event (row kind name ∷ history) task
+    start_after Spawn (Some child) allowed =
+        was_kept.4 ∙ sym (start_event-other (row Spawn (Some child)) history task (differ_back task child (live_is_not_unknown history task child live allowed)))
+    start_after Spawn None allowed = absurd allowed
+    start_after Local name allowed = was_kept.4
+    start_after kind name allowed = was_kept.4
+
+    -- which is what is told of the event
+    pub start_is_kept : (kind : Kind) (name : Option Text) → AllowsNamed history kind name
+        → (acting_after kind event place acting).start ≡ start_of (row kind name ∷ history) event
+    start_is_kept kind name allowed = start_after kind name allowed ∙ sym (start_of-newest (row kind name) history)
+
     -- so what is to be kept of it is right
     acting_is_task : (kind : Kind) (name : Option Text) → AllowsNamed history kind name → IsRight kind name task (Some (acting_after kind event place acting))
     acting_is_task kind name allowed = (
@@ -101,11 +117,12 @@ module _ (book : Contents) (kept : IsKept book) (task : Text) (acting : Task) (f
       state_after kind name allowed,
       last_after kind ∙ sym (last_event-acting (row kind name) history task (is_same-itself task)),
       λ _. id_is_kept kind name,
+      start_after kind name allowed,
     )
 
     -- of a task that the report starts
     started_is_task : (child : Text) → is_known history child ≡ false
-        → IsRight Spawn (Some child) child (Some (record { state = Live; last = event; id = suc place }))
+        → IsRight Spawn (Some child) child (Some (record { state = Live; last = event; id = suc place; start = event }))
     started_is_task child new =
         let legal = legal_history book kept in
         let differ = live_is_not_unknown history task child live new in
@@ -114,6 +131,7 @@ module _ (book : Contents) (kept : IsKept book) (task : Text) (acting : Task) (f
           sym (cond-false (is_joined history child) _ _ (unended_is_not_joined history child legal unended) ∙ cond-false (is_ended history child) _ _ unended),
           sym (last_event-started (row Spawn (Some child)) history child differ (unknown_has_no_event history child legal new) (is_same-itself child)),
           λ _. slice_get-behind book.ids _ _ _ ∙ ap Some (sym (cond-false (is_same task child) _ _ differ ∙ cond-true (is_same child child) _ _ (is_same-itself child))),
+          sym (cond-true (is_same child child) _ _ (is_same-itself child)),
         )
 
     -- of a task that it takes in
@@ -126,6 +144,7 @@ module _ (book : Contents) (kept : IsKept book) (task : Text) (acting : Task) (f
           sym (cond-true (is_joined (row Join (Some child) ∷ history) child) _ _ (or_left (is_same child child) _ (is_same-itself child))),
           right.2 ∙ sym (last_event-bystander (row Join (Some child)) history child differ refl),
           λ unjoined. absurd (unjoined refl),
+          right.4,
         )
 
     -- the task that is named, once it is kept, and every other one

@@ -1,22 +1,24 @@
 -- The lists that are told by comparing the kept trees are those of the graph, and so is the row of an event.
 use Rattle.std.proofs.Common.{◌≡◌, ℕ, suc, ◌-◌, ◌<◌, ◌≤◌, Bool, true, false, cond, not, ◌&&◌, IsTrue, eqb, ltb, List, [], ◌∷◌, ◌++◌, length, get_or, slice_get, reverse, map, option_map, Option, Some, None, Result, Ok, Err, IfOk, IfErr, refl, sym, ap, ◌∙◌, subst, inl, inr, arith}
 use Rattle.trace_query.specs.Compared.{is_order}
-use Rattle.tenant_ledger.proofs.Words.{transport, filter, range_with_len, cases_Bool, eq-eqb, eqb-true, cond-true, cond-false, nat_tests, length-reverse, map-append, reverse-append, reverse-reverse, get_or_from_slice_get, same_Some, slice_get-map, slice_get_read, of_each, tree_at, StandInOrder, order_between, others_standing, fault_due, History, history_of, is_event, row_of, events, reaches, order_of, past_of, concurrent_with, EventTree, Leaf, tree_clock, tree_of, stamp_of, Order, Same, Before, After, Concurrent, Row, is_report, MayLackMemory, Answers, reply_to_view, NoEvent, Reply, Request, IsBelow, Tenant, AreLegal, ArePoints, IsLegal, MayHavePoint, value, code_of}
+use Rattle.tenant_ledger.proofs.Words.{transport, filter, range_with_len, cases_Bool, eq-eqb, eqb-true, cond-true, cond-false, nat_tests, length-reverse, map-append, reverse-append, reverse-reverse, get_or_from_slice_get, same_Some, slice_get-map, slice_get_read, of_each, start_of, tree_at, StandInOrder, order_between, others_standing, fault_due, History, history_of, is_event, row_of, events, reaches, order_of, past_of, concurrent_with, cut_of, are_of_one_task, EventTree, Leaf, tree_clock, tree_of, stamp_of, Order, Same, Before, After, Concurrent, Row, is_report, MayLackMemory, Answers, reply_to_view, NoEvent, Reply, Request, IsBelow, Tenant, AreLegal, ArePoints, IsLegal, MayHavePoint, value, code_of}
 use Rattle.trace_types.specs.declared.reply.Reply.TheVariants as reply
 use Rattle.trace_types.specs.declared.request.Request.TheVariants as request
 use Rattle.trace_query.specs.Deciding.{DecideInOrder, DecidesBelow, IsDecidedBy, point_in}
 use Rattle.trace_query.specs.Queries as query
-use Rattle.trace_query.specs.Laws.{Tells}
+use Rattle.trace_query.specs.Laws.{Tells, TellsReach, TellsTasks, cut_by}
+use Rattle.trace_query.specs.Queries.{ComeBefore}
 use Rattle.trace_query.proofs.ComparedTrees.{tree_order_stands}
-use Rattle.trace_query.proofs.Told.{told_by_orders}
+use Rattle.trace_query.proofs.Told.{told_by_orders, told_by_reach}
 use Rattle.trace_types.proofs.Reachability.{reaches_newest, reaches_earlier}
 use Rattle.trace_query.specs.declared.deciding.Deciding.{Deciding}
 use Rattle.trace_query.specs.declared.query_fault.QueryFault.{QueryFault}
 use Rattle.trace_query.specs.declared.query_fault.QueryFault.TheVariants.{Unknown}
 use Rattle.event_tree.proofs.Standing.{stand_one_way}
 use Rattle.tenant_ledger.proofs.keeping.Kept.{one_tree, tree_at_event}
-use Rattle.tenant_ledger.proofs.clock.Events.{event_bounds}
-use Rattle.tenant_ledger.proofs.keeping.Lists.{at_event}
+use Rattle.tenant_ledger.proofs.clock.Events.{event_bounds, event_from_bounds}
+use Rattle.tenant_ledger.proofs.keeping.Lists.{at_event, length-of_each}
+use Rattle.tenant_ledger.proofs.keeping.Starts.{one_task_by_start, start_of-before, start_of-older}
 use Rattle.tenant_ledger.proofs.clock.Legality.{IsLegal_from_AreLegal}
 use Rattle.tenant_ledger.proofs.clock.Consequences.{below_iff_reaches, decides_reach, stands_as_ordered}
 use Rattle.tenant_ledger.proofs.clock.Reaching.{reaches_forward}
@@ -121,6 +123,51 @@ module _ (tenant : Tenant) (trees : List EventTree) (legal : AreLegal tenant.lim
       told Concurrent refl event event_is
       ∙ (λ i. filter (λ other. concurrent_by (eqb other event) (reaches history other event) (reaches history event other) (itself other) i) (events history))
 
+  -- an event reaches another where its tree is below that of the other
+  trees_reach : TellsReach trees (reaches history)
+  trees_reach first second first_is second_is =
+      let one_is : IsTrue (is_event history first) = sym (same_events first) ∙ first_is in
+      let other_is : IsTrue (is_event history second) = sym (same_events second) ∙ second_is in
+      let holds = invariant_upheld tree_clock_laws history (IsLegal_from_AreLegal tenant.limits tenant.rows legal) in
+      let both = below_iff_reaches tree_clock_laws history holds first second one_is in (
+        λ reached. transport (λ i. IsBelow (sym (tree_is_kept first one_is) i) (sym (tree_is_kept second other_is) i)) (both.1 reached),
+        λ below. both.0 (transport (λ i. IsBelow (tree_is_kept first one_is i) (tree_is_kept second other_is i)) below),
+      )
+
+  -- what is kept of each event is the event that started its task
+  module _ (starts : List ℕ) (starts_are : starts ≡ of_each start_of (history_of tenant.rows)) where
+    legal_rows : IsLegal history
+    legal_rows = IsLegal_from_AreLegal tenant.limits tenant.rows legal
+
+    pub as_many_starts : length starts ≡ length trees
+    as_many_starts = ap length starts_are ∙ length-of_each start_of history ∙ sym as_many
+
+    start_is_kept : (event : ℕ) → IsTrue (is_event history event) → query.task_at starts event ≡ start_of history event
+    start_is_kept event event_is =
+        let bounds = event_bounds history event event_is in
+        get_or_from_slice_get starts (event - 1) (start_of history event) 0
+        (ap (λ found. slice_get found (event - 1)) starts_are ∙ at_event start_of start_of-older history event bounds.0 bounds.1)
+
+    -- it comes before the event
+    pub starts_before : ComeBefore starts
+    starts_before event positive within =
+        let there : IsTrue (is_event history event) = event_from_bounds history event positive (omega (arith, within, as_many_starts, as_many)) in
+        subst (λ start. start < event) (sym (start_is_kept event there)) (start_of-before history legal_rows event there)
+
+    -- and tells the tasks apart
+    starts_tell : TellsTasks trees starts (are_of_one_task history)
+    starts_tell first second first_is second_is =
+        let one_is : IsTrue (is_event history first) = sym (same_events first) ∙ first_is in
+        let other_is : IsTrue (is_event history second) = sym (same_events second) ∙ second_is in
+        one_task_by_start history legal_rows first second one_is other_is
+        ∙ (λ i. eqb (sym (start_is_kept first one_is) i) (sym (start_is_kept second other_is) i))
+
+    -- so the cut by trees is that of the graph
+    pub cut_told : (event : ℕ) → IsTrue (query.has_tree trees event) → query.cut_by_trees trees starts event ≡ cut_of history event
+    cut_told event event_is =
+        told_by_reach trees starts (reaches history) (are_of_one_task history) trees_reach starts_tell event event_is
+        ∙ ap (λ n. cut_by (reaches history) (are_of_one_task history) (range_with_len 1 n) event) as_many
+
   module _ (event : ℕ) {V : Type 0} (items : V → List ℕ) (answer : Reply) where
     -- a search through the trees that found this list, or a fault, was answered
     abbrev IsAnswered : Request → List ℕ → Result V QueryFault → Type 0
@@ -152,6 +199,13 @@ module _ (tenant : Tenant) (trees : List EventTree) (legal : AreLegal tenant.lim
     concurrent_answered =
         list_answered (request.Concurrent event) (concurrent_with history event) (query.concurrent_of trees event)
         (λ there. concurrent_told event (same_events event ∙ there))
+        (λ there. (rw there refl, refl, (refl, rw there refl))) (λ nowhere. rw nowhere refl)
+
+    pub cut_answered : (starts : List ℕ) → starts ≡ of_each start_of history → (found : Result V QueryFault)
+        → IsAnswered (request.Cut event) (query.cut_by_trees trees starts event) found
+    cut_answered starts starts_are =
+        list_answered (request.Cut event) (cut_of history event) (query.cut_by_trees trees starts event)
+        (λ there. cut_told starts starts_are event (same_events event ∙ there))
         (λ there. (rw there refl, refl, (refl, rw there refl))) (λ nowhere. rw nowhere refl)
 
   -- an order that is told by the trees is answered as it is due

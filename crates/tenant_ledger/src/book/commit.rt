@@ -12,7 +12,7 @@ use super::{Book, Draft, Task};
 use crate::share::Keep;
 use indexmap::IndexMap;
 use message_book::MessageBook;
-use trace_types::{Kind, Name};
+use trace_types::{Kind, Name, Row};
 
 impl<S: Keep> Book<S> {
     /// The id that the draft's task has after its event: the first that the event makes, else the one that it had.
@@ -49,6 +49,7 @@ impl<S: Keep> Book<S> {
         self.rows.push_reserved(row);
         self.trees.push_reserved(tree);
         self.points.push_reserved(point);
+        self.starts.push_reserved(acting.start);
         self.places.push_reserved(acting.id);
         self.rows.len() as u64
     }
@@ -59,7 +60,7 @@ impl<S: Keep> Book<S> {
         ensures book { IsKept self.new }
         ensures tenant { tenant_of self.new ≡ tenant_of self.old }
     {
-        take_back(&mut self.messages, draft.row().kind, draft.row().name);
+        take_back(&mut self.messages, draft.row());
     }
 }
 
@@ -96,12 +97,12 @@ fn put(tasks: &mut IndexMap<Name, Task>, name: Name, task: Task)
     tasks.insert(name, task).unwrap();
 }
 
-/// Takes back what a report of this kind made of the messages.
-fn take_back(messages: &mut MessageBook, kind: Kind, name: Option<Name>)
-    requires { (event : ℕ) × (before : Messages) × Notes kind name event before messages.old }
-    ensures { (event : ℕ) (before : Messages) → Notes kind name event before messages.old → messages.new ≡ before }
+/// Takes back what the report of this row made of the messages.
+fn take_back(messages: &mut MessageBook, row: &Row)
+    requires { (event : ℕ) × (before : Messages) × Notes row.now.task row.now.kind row.now.name event before messages.old }
+    ensures { (event : ℕ) (before : Messages) → Notes row.now.task row.now.kind row.now.name event before messages.old → messages.new ≡ before }
 {
-    match (kind, name) {
+    match (row.kind, row.name) {
         (Kind::Send, Some(_)) => messages.undo_send(),
         (Kind::Recv, Some(name)) => messages.undo_receive(&name),
         _ => {}

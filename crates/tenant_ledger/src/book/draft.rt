@@ -78,6 +78,13 @@ impl<S: Keep> Draft<S> {
         self.point.as_ref().map(|point| point.share())
     }
 
+    /// The event that started its task, or 0.
+    pub(crate) fn start(&self) -> u64
+        ensures { result ≡ self.now.acting.start }
+    {
+        self.acting.start
+    }
+
     /// The first of the ids that its event makes, where it makes one.
     pub(super) fn first_id(&self) -> Option<&S::Id>
         ensures some { IfSome result (λ id. slice_get self.now.ids 0 ≡ Some (S.Id.id id.now)) }
@@ -99,7 +106,7 @@ impl<S: Keep> Book<S> {
         let report = self.report(request)?;
         self.make_room(rt)?;
         let draft = self.draft(rt, &report)?;
-        self.note(report.kind, report.name)?;
+        self.note(report.task, report.kind, report.name)?;
         Ok(draft)
     }
 
@@ -173,10 +180,10 @@ impl<S: Keep> Book<S> {
         if event == 0 { start } else { self.tree(event) }
     }
 
-    /// Notes the message that the next event sends or receives.
-    fn note(&mut self, kind: Kind, name: Option<Name>) -> Result<(), Memory>
-        requires { MayNote self.old.messages kind name }
-        ensures noted { OnOk result (Notes kind name (suc (length self.old.rows)) self.old.messages self.new.messages) }
+    /// Notes the message that the next event, of this task, sends or receives.
+    fn note(&mut self, task: Name, kind: Kind, name: Option<Name>) -> Result<(), Memory>
+        requires { MayNote self.old.messages task kind name }
+        ensures noted { OnOk result (Notes task kind name (suc (length self.old.rows)) self.old.messages self.new.messages) }
         ensures unchanged { OnErr result (self.new ≡ self.old) }
         ensures others { self.new ≡ record self.old { messages = self.new.messages } }
     {
@@ -186,7 +193,9 @@ impl<S: Keep> Book<S> {
                 self.messages.send(message, event).map_err(|_| Memory)
             }
             (Kind::Recv, Some(message)) => {
-                self.messages.receive(&message, event).map_err(|_| Memory)
+                self.messages
+                    .receive(&message, task, event)
+                    .map_err(|_| Memory)
             }
             _ => Ok(()),
         }
@@ -207,6 +216,7 @@ impl<S: Keep> Book<S> {
         self.rows.reserve(1)?;
         self.trees.reserve(1)?;
         self.points.reserve(1)?;
+        self.starts.reserve(1)?;
         self.places.reserve(1)?;
         self.ids.reserve(2)?;
         self.tasks.reserve(2)?;

@@ -6,7 +6,7 @@ ghost use Rattle.trace_types.specs.tenant.Reachability.{second_event};
 ghost use Rattle.trace_types.specs.tenant.Refusal.{refusal_of};
 ghost use Rattle.trace_types.specs.tenant.Tenant.{is_report, answer_to, accepted};
 ghost use Rattle.message_book.specs.Book.{refusal_of_send, refusal_of_receive};
-ghost use Rattle.tenant_ledger.specs.Ledger.{IsKept, history_in, task_in, Decides, refusals_of_task, refusals_of_named, refusals_of_room, MayNote, joined_by, IsReport, acting_after, named_after};
+ghost use Rattle.tenant_ledger.specs.Ledger.{IsKept, history_in, task_in, Decides, refusals_of_task, refusals_of_child, refusals_of_sent, refusals_of_received, refusals_of_joined, refusals_of_named, refusals_of_room, MayNote, joined_by, IsReport, acting_after, named_after};
 
 use super::{Book, Task};
 use crate::share::Keep;
@@ -54,6 +54,7 @@ impl Report {
             Kind::Spawn => Some(Task {
                 state: TaskState::Live,
                 last: event,
+                start: event,
                 id: place + 1,
             }),
             Kind::Join => match self.joined {
@@ -85,7 +86,7 @@ impl<S: Keep> Book<S> {
     fn ended_task(&self, name: &Name) -> Result<Task, Code>
         requires { IsKept self.now }
         ensures task { IfOk result (λ task. task_in self.now name.now ≡ Some task) }
-        ensures decides { Decides (refusals_of_named self.now.limits (history_in self.now) Kind.Join (Some name.now)) result }
+        ensures decides { Decides (refusals_of_joined (history_in self.now) name.now) result }
     {
         let task = self.task(name)?;
         match task.state {
@@ -98,7 +99,7 @@ impl<S: Keep> Book<S> {
     /// Refuses one task more at the limit, and a task that exists.
     fn check_child(&self, name: &Name) -> Result<(), Code>
         requires { IsKept self.now }
-        ensures decides { Decides (refusals_of_named self.now.limits (history_in self.now) Kind.Spawn (Some name.now)) result }
+        ensures decides { Decides (refusals_of_child self.now.limits (history_in self.now) name.now) result }
     {
         match self.task(name) {
             Ok(_) => Err(Code::TaskExists),
@@ -111,19 +112,19 @@ impl<S: Keep> Book<S> {
     fn check_message(&self, name: &Name) -> Result<(), Code>
         requires { IsKept self.now }
         ensures may { OnOk result (refusal_of_send self.now.messages name.now ≡ None) }
-        ensures decides { Decides (refusals_of_named self.now.limits (history_in self.now) Kind.Send (Some name.now)) result }
+        ensures decides { Decides (refusals_of_sent self.now.limits (history_in self.now) name.now) result }
     {
         self.messages.check_send(name)
     }
 
-    /// The event that sent the message, where the message may be received; else `NoMessage` or `AlreadyReceived`.
-    fn sent_message(&self, name: &Name) -> Result<u64, Code>
+    /// The event that sent the message, where the task may receive it; else `NoMessage` or `AlreadyReceived`.
+    fn sent_message(&self, task: &Name, name: &Name) -> Result<u64, Code>
         requires { IsKept self.now }
-        ensures may { OnOk result (refusal_of_receive self.now.messages name.now ≡ None) }
+        ensures may { OnOk result (refusal_of_receive self.now.messages name.now task.now ≡ None) }
         ensures sent { IfOk result (λ event. event ≡ send_event (history_in self.now) name.now) }
-        ensures decides { Decides (refusals_of_named self.now.limits (history_in self.now) Kind.Recv (Some name.now)) result }
+        ensures decides { Decides (refusals_of_received (history_in self.now) task.now name.now) result }
     {
-        self.messages.check_receive(name)
+        self.messages.check_receive(name, task)
     }
 
     /// Refuses one event more at the limit.
@@ -138,12 +139,18 @@ impl<S: Keep> Book<S> {
         }
     }
 
-    /// What the book has of the task or message that a report of this kind names, where it is not refused for it.
-    fn named(&self, kind: Kind, name: &Option<Name>) -> Result<(u64, Option<Task>), Code>
+    /// What the book has of the task or message that a report of the task and of this kind names, where it is not refused for
+    /// it.
+    fn named(
+        &self,
+        task: &Name,
+        kind: Kind,
+        name: &Option<Name>,
+    ) -> Result<(u64, Option<Task>), Code>
         requires { IsKept self.now }
         ensures found { IfOk result (λ found. found ≡ (second_event (history_in self.now) kind name.now, joined_by (task_in self.now) kind name.now)) }
-        ensures may { OnOk result (MayNote self.now.messages kind name.now) }
-        ensures decides { Decides (refusals_of_named self.now.limits (history_in self.now) kind name.now) result }
+        ensures may { OnOk result (MayNote self.now.messages task.now kind name.now) }
+        ensures decides { Decides (refusals_of_named self.now.limits (history_in self.now) task.now kind name.now) result }
     {
         let Some(name) = *name else {
             return Ok((0, None));
@@ -158,7 +165,7 @@ impl<S: Keep> Book<S> {
                 self.check_message(&name)?;
                 Ok((0, None))
             }
-            Kind::Recv => Ok((self.sent_message(&name)?, None)),
+            Kind::Recv => Ok((self.sent_message(task, &name)?, None)),
             Kind::End => Ok((0, None)),
             Kind::Join => {
                 let task = self.ended_task(&name)?;
@@ -179,7 +186,7 @@ impl<S: Keep> Book<S> {
             return Err(Code::ViewOnly);
         };
         let acting = self.live_task(&reported.task)?;
-        let (second, joined) = self.named(reported.kind, &reported.name)?;
+        let (second, joined) = self.named(&reported.task, reported.kind, &reported.name)?;
         self.check_room()?;
         Ok(Report {
             task: reported.task,

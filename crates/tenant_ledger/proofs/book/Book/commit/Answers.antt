@@ -26,6 +26,7 @@ returns-clause-book g c =
     (ap (map tree) c.push_reserved-2.ensures.items ∙ map-append tree book.trees.items (draft.tree ∷ []))
     c.push_reserved-3.ensures.items
     c.push_reserved-4.ensures.items
+    c.push_reserved-5.ensures.items
     (ap (λ ids. with_seed (map id ids)) ids ∙ seeded-append id book.ids.items made ready.room.seeded)
     (omega (arith, ready.room.seeded, ap length ids, length-append book.ids.items made))
     (λ name. c.put.ensures.tasks name ∙ ap (λ had. cond (is_same draft.row.task name) (Some draft.acting) had) (c.put_some.ensures.tasks name))

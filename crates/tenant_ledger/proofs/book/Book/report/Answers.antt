@@ -11,7 +11,7 @@ not_refused g c =
     let history = history_in c.args.self.now in
     let report = c.in-Some.reported in
     ap first_code (refused_for c.args.self.now c.args.request.now (sym c.in-Some.is ∙ c.reported.ensures.reported))
-    ∙ c.in_ok-acting.ensures.decides (refusals_of_named limits history report.kind report.name ++ refusals_of_room limits history)
+    ∙ c.in_ok-acting.ensures.decides (refusals_of_named limits history report.task report.kind report.name ++ refusals_of_room limits history)
     ∙ c.in_ok-second.ensures.decides (refusals_of_room limits history) ∙ c.in_ok-check_room.ensures.decides []
 
 pub returns-in_err-acting-clause-refused : goal.returns-in_err-acting-clause-refused
