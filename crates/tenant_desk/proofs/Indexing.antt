@@ -4,7 +4,7 @@ use Rattle.std.proofs.lemmas.Bool.{cases_Bool, false≢true, false_from_ne_true,
 use Rattle.std.proofs.lemmas.List.{length-reverse, reverse-append}
 use Rattle.trace_types.specs.text.Name.{Text, is_same, root}
 use Rattle.trace_types.proofs.Names.{is_same_iff}
-use Rattle.trace_types.specs.tenant.Rows.{History, history_of, starts, joins, sends, receives, is_known, is_ended, is_joined, is_received, last_event}
+use Rattle.trace_types.specs.tenant.Rows.{History, history_of, starts, joins, sends, receives, is_known, is_ended, is_joined, is_sent, last_event, send_event, receipts}
 use Rattle.trace_types.specs.declared.row.Row.{Row}
 use Rattle.trace_types.specs.declared.task_state.TaskState.{TaskState}
 use Rattle.trace_types.specs.declared.task_state.TaskState.TheVariants.{Live, Joined}
@@ -12,8 +12,9 @@ use Rattle.tenant_ledger.specs.Legal.{IsLegal}
 use Rattle.tenant_ledger.proofs.keeping.Known.{joined_was}
 use Rattle.tenant_desk.specs.declared.index.Index.{Index}
 use Rattle.tenant_desk.specs.Indexes.{Found, as_joined, as_received, task_after, message_after, NotesRow, indexed_task, indexed_message, IsIndexOf}
-use Rattle.tenant_desk.specs.Searches.{task_due, send_and_receipts, message_due}
-use Rattle.tenant_desk.proofs.Searching.{find_task, find_message, task_is_found, task_found, message_found, received_is_first}
+use Rattle.tenant_desk.specs.Searches.{task_due, span_of, message_due}
+use Rattle.tenant_desk.proofs.Searching.{find_task, task_is_found, task_found, due_where_sent, due_as_before}
+use Rattle.tenant_desk.proofs.Spans.{span_of-later}
 
 -- a task is joined however far it had come
 joined_either : (known : Bool) (state : TaskState) (last : ℕ) → cond known (Some (Joined, last)) None ≡ option_map as_joined (cond known (Some (state, last)) None)
@@ -50,43 +51,39 @@ task_is_kept (row ∷ earlier) task legal = elim (cases_Bool (is_same row.task t
 pub kept_task_due : (history : History) (task : Text) → IsLegal history → indexed_task history task ≡ task_due history task
 kept_task_due history task legal = task_is_kept history task legal ∙ task_found history task legal
 
--- what a search finds of a message that older rows did not receive, where a newer row did
-received_found : (history : History) (message : Text) (event : ℕ) → is_received history message ≡ false
-    → find_message (Some event) history message ≡ option_map (as_received event) (find_message None history message)
-received_found [] message event unreceived = refl
-received_found (row ∷ earlier) message event unreceived =
-    let parts = or_parts (receives message row) (is_received earlier message) unreceived in
-    elim (cases_Bool (sends message row)) [
-      | inl sent ↦ cond-true (sends message row) _ _ sent ∙ ap (option_map (as_received event)) (sym (cond-true (sends message row) _ _ sent))
-      | inr not_sent ↦
-          cond-false (sends message row) _ _ not_sent
-          ∙ ap (λ received. find_message received earlier message) (cond-false (receives message row) _ _ parts.0)
-          ∙ received_found earlier message event parts.1
-          ∙ ap (option_map (as_received event))
-          (ap (λ received. find_message received earlier message) (sym (cond-false (receives message row) _ _ parts.0)) ∙ sym (cond-false (sends message row) _ _ not_sent))
-    ]
+-- a message is kept as received once more where a row received it
+received_due : (history : History) (message : Text) (event : ℕ) (receipts_are : List ℕ) → receipts_are ≡ receipts history message ++ event ∷ []
+    → option_map (as_received event) (message_due history message) ≡ cond (is_sent history message) (Some (send_event history message, span_of receipts_are)) None
+received_due history message event receipts_are is = by (is_sent history message)
+  where
+    by : (sent : Bool) → option_map (as_received event) (cond sent (Some (send_event history message, span_of (receipts history message))) None)
+        ≡ cond sent (Some (send_event history message, span_of receipts_are)) None
+    by true = λ i. Some (send_event history message, sym (ap span_of is ∙ span_of-later (receipts history message) event) i)
+    by false = refl
 
--- what is kept of a message is what a search finds
-message_is_kept : (history : History) (message : Text) → IsLegal history → indexed_message history message ≡ find_message None history message
-message_is_kept [] message legal = refl
-message_is_kept (row ∷ earlier) message legal = elim (cases_Bool (sends message row)) [
-  | inl sent ↦ cond-true (sends message row) _ _ sent ∙ sym (cond-true (sends message row) _ _ sent)
-  | inr not_sent ↦ cond-false (sends message row) _ _ not_sent ∙ by (message_is_kept earlier message legal.1) (receives message row) refl ∙ sym (cond-false (sends message row) _ _ not_sent)
+-- what is kept of a message is what the rows say
+pub kept_message_due : (history : History) (message : Text) → IsLegal history → indexed_message history message ≡ message_due history message
+kept_message_due [] message legal = refl
+kept_message_due (row ∷ earlier) message legal = elim (cases_Bool (sends message row)) [
+  | inl sent ↦
+      let due = due_where_sent row earlier message legal sent in
+      cond-true (sends message row) _ _ sent
+      ∙ sym (cond-true (is_sent (row ∷ earlier) message) _ _ due.0 ∙ (λ i. Some (due.1 i, span_of (due.2 i))))
+  | inr not_sent ↦
+      let before = due_as_before row earlier message not_sent in
+      cond-false (sends message row) _ _ not_sent ∙ by (kept_message_due earlier message legal.1) (receives message row) refl
+      ∙ (λ i. cond (sym before.0 i) (Some (sym before.1 i, span_of (receipts (row ∷ earlier) message))) None)
 ]
   where
-    by : indexed_message earlier message ≡ find_message None earlier message → (here : Bool) → receives message row ≡ here
+    by : indexed_message earlier message ≡ message_due earlier message → (here : Bool) → receives message row ≡ here
         → cond (receives message row) (option_map (as_received (suc (length earlier))) (indexed_message earlier message)) (indexed_message earlier message)
-        ≡ find_message (cond (receives message row) (Some (suc (length earlier))) None) earlier message
+        ≡ cond (is_sent earlier message) (Some (send_event earlier message, span_of (receipts (row ∷ earlier) message))) None
     by before true is =
         cond-true (receives message row) _ _ is ∙ ap (option_map (as_received (suc (length earlier)))) before
-        ∙ sym (received_found earlier message (suc (length earlier)) (received_is_first earlier row message row.kind row.name legal.0.1 is))
-        ∙ ap (λ received. find_message received earlier message) (sym (cond-true (receives message row) _ _ is))
+        ∙ received_due earlier message (suc (length earlier)) (receipts (row ∷ earlier) message) (cond-true (receives message row) _ _ is)
     by before false is =
         cond-false (receives message row) _ _ is ∙ before
-        ∙ ap (λ received. find_message received earlier message) (sym (cond-false (receives message row) _ _ is))
-
-pub kept_message_due : (history : History) (message : Text) → IsLegal history → send_and_receipts (indexed_message history message) ≡ message_due history message
-kept_message_due history message legal = ap send_and_receipts (message_is_kept history message legal) ∙ message_found history message legal
+        ∙ ap (λ (list : List ℕ). cond (is_sent earlier message) (Some (send_event earlier message, span_of list)) None) (sym (cond-false (receives message row) _ _ is))
 
 -- ---- what one row makes of what is kept
 

@@ -11,5 +11,6 @@ pub mod PublishedNext
 pub mod Publishing
 pub mod Reporting
 pub mod Searching
+pub mod Spans
 pub mod Steps
 pub mod Viewing

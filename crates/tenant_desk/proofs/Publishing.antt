@@ -3,7 +3,7 @@ use Rattle.std.proofs.Common.{◌≡◌, ℕ, List, [], ◌∷◌, ◌++◌, len
 use Rattle.std.proofs.Math.Seq.{take-append_seam, take-length}
 use Rattle.std.specs.Prelude.{Option, Some, None}
 use Rattle.left_right.specs.Register.{TurnsAt}
-use Rattle.tenant_ledger.proofs.Words.{length-reverse, id_after, history_of, tree_of, tree_clock}
+use Rattle.tenant_ledger.proofs.Words.{length-reverse, start_of, id_after, history_of, tree_of, tree_clock}
 use Rattle.tenant_ledger.proofs.keeping.Lists.{length-of_each}
 use Rattle.tenant_desk.specs.Events.{Events, AreSound, first_events}
 use Rattle.tenant_desk.specs.Histories.{longer_by}
@@ -22,6 +22,7 @@ record HasCount (events : Events) (count : ℕ) : Type 0 where
   pub trees : length events.trees ≡ count
   pub homes : length events.homes ≡ count
   pub points : length events.points ≡ count
+  pub starts : length events.starts ≡ count
   pub ids : length events.ids ≡ count
 
 has_count : (events : Events) → AreSound events → HasCount events (length events.rows)
@@ -30,6 +31,7 @@ has_count events sound = record {
   trees = ap length sound.trees ∙ length-of_each (tree_of tree_clock) (history_of events.rows) ∙ length-reverse events.rows;
   homes = ap length sound.homes ∙ length-of_each (λ history event. events.home) (history_of events.rows) ∙ length-reverse events.rows;
   points = sound.points.counted ∙ length-reverse events.rows;
+  starts = ap length sound.starts ∙ length-of_each start_of (history_of events.rows) ∙ length-reverse events.rows;
   ids = ap length sound.ids ∙ length-of_each id_after (history_of events.rows) ∙ length-reverse events.rows;
 }
 
@@ -46,6 +48,7 @@ first_are_all events count has = λ i. record events {
   trees = take_all events.trees count has.trees i;
   homes = take_all events.homes count has.homes i;
   points = take_all events.points count has.points i;
+  starts = take_all events.starts count has.starts i;
   ids = take_all events.ids count has.ids i;
 }
 
@@ -57,6 +60,7 @@ first_before events count (Some event) has = λ i. record events {
   trees = take_first events.trees (event.tree.value ∷ []) count has.trees i;
   homes = take_first events.homes (event.tree.home ∷ []) count has.homes i;
   points = take_first events.points (event.point ∷ []) count has.points i;
+  starts = take_first events.starts (event.start ∷ []) count has.starts i;
   ids = take_first events.ids (event.id.value ∷ []) count has.ids i;
 }
 
@@ -87,7 +91,7 @@ each_next_and count (operation ∷ operations) last next at = (next.0, each_next
 -- sound events stay so with the next one
 sound_with_next : (events : Events) (event : Event) → AreSound events → IsNext events event → AreSound (with_some (Some event) events)
 sound_with_next events event sound next =
-    sound_next events event.row event.tree.value event.tree.home event.point event.id.value sound next.legal next.tree next.home next.point next.id
+    sound_next events event.row event.tree.value event.tree.home event.point event.start event.id.value sound next.legal next.tree next.home next.point next.start next.id
 
 -- The operation for the next event is one.
 pub is_for_next : (published : Published) (event : Event) (operation : Operation) → IsPublished published → IsNext published.events event

@@ -1,6 +1,6 @@
 -- What a report does to a tenant, and to what is published of it.
 use Rattle.std.proofs.Common.{◌≡◌, ℕ, suc, true, false, List, [], ◌∷◌, ◌++◌, length, Option, Some, None, IsTrue, refl, sym, ap, ◌∙◌, subst, inl, inr}
-use Rattle.tenant_ledger.proofs.Words.{AllByRecursion, Row, Tenant, Request, Reply, Code, Steps, AreLegal, Accepted, Refused, step, step_unless, after, fresh, with_row, is_report, may_lack_memory, refusal_of, history_of, reported, Reported, tree_of, tree_clock, id_of, MayHavePoint}
+use Rattle.tenant_ledger.proofs.Words.{AllByRecursion, Row, Tenant, Request, Reply, Code, Steps, AreLegal, Accepted, Refused, step, step_unless, after, fresh, with_row, is_report, may_lack_memory, refusal_of, history_of, reported, Reported, tree_of, tree_clock, id_of, MayHavePoint, start_of}
 use Rattle.trace_types.specs.declared.request.Request.TheVariants as request
 use Rattle.trace_types.specs.text.Text.{CanBeWritten}
 use Rattle.trace_types.proofs.Interleaving.{after-push, limits-after}
@@ -74,6 +74,7 @@ module _ (home : List ℕ) (upcoming : Upcoming) (published : Published) (event 
         home = of.home ∙ sym shown.home;
         point = subst (λ (one : Row). MayHavePoint (one ∷ history_of published.events.rows) (suc (length published.events.rows)) event.point) row
             (subst (λ (t : Tenant). MayHavePoint (upcoming.row ∷ history_of t.rows) (suc (length t.rows)) event.point) tenant of.point);
+        start = of.start ∙ (λ i. start_of (row i ∷ history_of (tenant i).rows) (suc (length (tenant i).rows)));
       }
 
   -- and with it all of the tenant's events are published

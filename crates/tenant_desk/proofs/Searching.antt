@@ -3,9 +3,8 @@ use Rattle.std.proofs.Common.{◌≡◌, ℕ, suc, Bool, true, false, cond, ◌|
 use Rattle.std.proofs.lemmas.Bool.{cases_Bool, false≢true, false_from_ne_true, cond-true, cond-false, or_left}
 use Rattle.std.proofs.lemmas.List.{append-nil, length-reverse, reverse-append}
 use Rattle.std.proofs.lemmas.Bool.Decides.{nat_tests}
-use Rattle.std.specs.Option.{option_to_list}
 use Rattle.trace_types.specs.text.Name.{Text, is_same, root}
-use Rattle.trace_types.specs.tenant.Rows.{History, history_of, starts, ends_task, joins, joins_task, sends, receives, receives_message, is_known, is_ended, is_joined, is_sent, is_received, last_event, send_event, receipts}
+use Rattle.trace_types.specs.tenant.Rows.{History, history_of, starts, ends_task, joins, joins_task, sends, receives, receives_message, is_known, is_ended, is_joined, is_sent, last_event, send_event, receipts}
 use Rattle.trace_types.specs.declared.row.Row.{Row}
 use Rattle.trace_types.specs.declared.row.Kind.{Kind}
 use Rattle.trace_types.specs.declared.row.Kind.TheVariants.{Spawn, Send, Recv, End}
@@ -15,8 +14,9 @@ use Rattle.trace_types.proofs.Names.{is_same_iff}
 use Rattle.tenant_ledger.specs.Legal.{IsLegal, AllowsNamed}
 use Rattle.tenant_ledger.proofs.clock.Tasks.{last_event-acting, last_event-bystander, last_event-started, unknown_has_no_event}
 use Rattle.tenant_ledger.proofs.keeping.Known.{joined_was, unended_is_not_joined, unknown_has_not_ended}
-use Rattle.tenant_ledger.proofs.keeping.Messages.{unsent_has_no_receipts}
-use Rattle.tenant_desk.specs.Searches.{state_at, task_due, send_and_receipts, message_due}
+use Rattle.tenant_desk.specs.Searches.{state_at, task_due, span_of, with_earlier, with_later, message_due}
+use Rattle.tenant_desk.specs.declared.span.Span.{Span}
+use Rattle.tenant_desk.proofs.Spans.{span_of-later}
 
 -- what the search for a task finds, where a newer row may have joined it
 abbrev pub find_task : Bool → History → Text → Option (TaskState × ℕ)
@@ -25,12 +25,12 @@ find_task joined (row ∷ earlier) task =
     cond (is_same row.task task) (Some (state_at joined row.kind, suc (length earlier)))
     (cond (starts task row) (Some (Live, suc (length earlier))) (find_task (joined || joins task row) earlier task))
 
--- what the search for a message finds, where a newer row may have received it
-abbrev pub find_message : Option ℕ → History → Text → Option (ℕ × Option ℕ)
+-- what the search for a message finds, where newer rows may have received it
+abbrev pub find_message : Option Span → History → Text → Option (ℕ × Option Span)
 find_message received [] message = None
 find_message received (row ∷ earlier) message =
     cond (sends message row) (Some (suc (length earlier), received))
-    (find_message (cond (receives message row) (Some (suc (length earlier))) received) earlier message)
+    (find_message (cond (receives message row) (Some (with_earlier received (suc (length earlier)))) received) earlier message)
 
 -- how far the task has come, where newer rows may have joined it
 abbrev state_with : Bool → Bool → TaskState
@@ -129,83 +129,95 @@ task_found history task legal = task_is_found history task false legal (λ is. a
 
 -- ---- the search for a message
 
--- a message that a row sends was not sent, and a row that receives one receives the first time
+-- a message that a row sends was not sent
 sent_is_new : (earlier : History) (row : Row) (message : Text) (kind : Kind) (named : Option Text) → AllowsNamed earlier kind named
     → sends message (record row { kind = kind; name = named }) ≡ true → (is_sent earlier message ≡ false) × (receives_message kind ≡ false)
 sent_is_new earlier row message Send (Some name) allowed is = (subst (λ one. is_sent earlier one ≡ false) ((is_same_iff name message).0 is) allowed, refl)
 sent_is_new earlier row message Send None allowed is = absurd allowed
 sent_is_new earlier row message kind named allowed is = absurd (false≢true is)
 
-pub received_is_first : (earlier : History) (row : Row) (message : Text) (kind : Kind) (named : Option Text) → AllowsNamed earlier kind named
-    → receives message (record row { kind = kind; name = named }) ≡ true → is_received earlier message ≡ false
-received_is_first earlier row message Recv (Some name) allowed is = subst (λ one. is_received earlier one ≡ false) ((is_same_iff name message).0 is) allowed.1
-received_is_first earlier row message Recv None allowed is = absurd allowed
-received_is_first earlier row message kind named allowed is = absurd (false≢true is)
+-- and one that a row receives was
+received_was_sent : (earlier : History) (row : Row) (message : Text) (kind : Kind) (named : Option Text) → AllowsNamed earlier kind named
+    → receives message (record row { kind = kind; name = named }) ≡ true → is_sent earlier message ≡ true
+received_was_sent earlier row message Recv (Some name) allowed is = subst (λ one. is_sent earlier one ≡ true) ((is_same_iff name message).0 is) allowed
+received_was_sent earlier row message Recv None allowed is = absurd allowed
+received_was_sent earlier row message kind named allowed is = absurd (false≢true is)
 
--- the receipts of the message, where a newer row may have received it
-abbrev receipts_with : Option ℕ → History → Text → List ℕ
-receipts_with received history message = receipts history message ++ option_to_list received
+-- so one that was not sent has no receipts
+unsent_has_no_receipts : (history : History) (message : Text) → IsLegal history → is_sent history message ≡ false → receipts history message ≡ []
+unsent_has_no_receipts [] message legal unsent = refl
+unsent_has_no_receipts (row ∷ earlier) message legal unsent =
+    grind (arith, nat_tests, received_was_sent earlier row message row.kind row.name legal.0.1, unsent_has_no_receipts earlier message legal.1)
 
--- a row that does not send the message leaves its send
-sent_as_before : (row : Row) (earlier : History) (message : Text) → sends message row ≡ false
+-- a row that sends the message is its send, and there are no receipts yet
+pub due_where_sent : (row : Row) (earlier : History) (message : Text) → IsLegal (row ∷ earlier) → sends message row ≡ true
+    → (is_sent (row ∷ earlier) message ≡ true) × (send_event (row ∷ earlier) message ≡ suc (length earlier)) × (receipts (row ∷ earlier) message ≡ [])
+due_where_sent row earlier message legal sent =
+    let new = sent_is_new earlier row message row.kind row.name legal.0.1 sent in
+    let not_received : receives message row ≡ false = grind (arith, nat_tests, new.1) in (
+      grind (arith, nat_tests),
+      cond-true (sends message row) _ _ sent,
+      cond-false (receives message row) _ _ not_received ∙ unsent_has_no_receipts earlier message legal.1 new.0,
+    )
+
+-- any other row leaves the send
+pub due_as_before : (row : Row) (earlier : History) (message : Text) → sends message row ≡ false
     → (is_sent (row ∷ earlier) message ≡ is_sent earlier message) × (send_event (row ∷ earlier) message ≡ send_event earlier message)
-sent_as_before row earlier message not_sent = (grind (arith, nat_tests), cond-false (sends message row) _ _ not_sent)
+due_as_before row earlier message not_sent = (grind (arith, nat_tests), cond-false (sends message row) _ _ not_sent)
 
-module _ (row : Row) (earlier : History) (message : Text) (received : Option ℕ) where
-  -- a row that sends it is its send, and its receipt is that of a newer row
-  found_here : (receives_message row.kind ≡ false) → receipts earlier message ≡ [] → sends message row ≡ true
-      → send_and_receipts (Some (suc (length earlier), received))
-      ≡ cond (is_sent (row ∷ earlier) message) (Some (send_event (row ∷ earlier) message, receipts_with received (row ∷ earlier) message)) None
-  found_here receives_none none sent =
-      let not_received : receives message row ≡ false = grind (arith, nat_tests) in
-      let known : is_sent (row ∷ earlier) message ≡ true = grind (arith, nat_tests) in
-      let at : send_event (row ∷ earlier) message ≡ suc (length earlier) = cond-true (sends message row) _ _ sent in
-      let receipts_are : receipts (row ∷ earlier) message ≡ [] = cond-false (receives message row) _ _ not_received ∙ none in
-      (λ i. Some (sym at i, sym receipts_are i ++ option_to_list received)) ∙ sym (cond-true (is_sent (row ∷ earlier) message) _ _ known)
+-- the span of older receipts and of newer ones
+abbrev both : Option Span → Option Span → Option Span
+both None newer = newer
+both (Some older) None = Some older
+both (Some older) (Some newer) = Some (record { first = older.first; last = newer.last })
 
-  -- its receipt is of a newer row, of this one, or older
-  receipts_so_far : (is_some received ≡ true → is_received (row ∷ earlier) message ≡ false)
-      → receipts_with (cond (receives message row) (Some (suc (length earlier))) received) earlier message ≡ receipts_with received (row ∷ earlier) message
-  receipts_so_far once = by received once (receives message row) refl
-    where
-      by : (kept : Option ℕ) → (is_some kept ≡ true → is_received (row ∷ earlier) message ≡ false) → (here : Bool) → receives message row ≡ here
-          → receipts earlier message ++ option_to_list (cond here (Some (suc (length earlier))) kept) ≡ receipts (row ∷ earlier) message ++ option_to_list kept
-      by None unreceived true is =
-          sym (append-nil (receipts earlier message ++ suc (length earlier) ∷ [])) ∙ ap (λ (list : List ℕ). list ++ []) (sym (cond-true (receives message row) _ _ is))
-      by (Some event) unreceived true is = absurd (false≢true (sym (unreceived refl) ∙ or_left (receives message row) _ is))
-      by kept unreceived false is = ap (λ (list : List ℕ). list ++ option_to_list kept) (sym (cond-false (receives message row) _ _ is))
+both_with_none : (older : Option Span) → both older None ≡ older
+both_with_none None = refl
+both_with_none (Some older) = refl
 
-  -- and where it is not older, no older row received it
-  still_first : AllowsNamed earlier row.kind row.name → (is_some received ≡ true → is_received (row ∷ earlier) message ≡ false)
-      → is_some (cond (receives message row) (Some (suc (length earlier))) received) ≡ true → is_received earlier message ≡ false
-  still_first allowed once = by (receives message row) refl
-    where
-      by : (here : Bool) → receives message row ≡ here → is_some (cond here (Some (suc (length earlier))) received) ≡ true → is_received earlier message ≡ false
-      by true is some = received_is_first earlier row message row.kind row.name allowed is
-      by false is some = let unreceived : is_received (row ∷ earlier) message ≡ false = once some in grind (arith, nat_tests)
+-- a receipt in between is the last of the older ones or the first of the newer ones
+both_with_one : (older newer : Option Span) (event : ℕ) → both older (Some (with_earlier newer event)) ≡ both (Some (with_later older event)) newer
+both_with_one None None event = refl
+both_with_one None (Some newer) event = refl
+both_with_one (Some older) None event = refl
+both_with_one (Some older) (Some newer) event = refl
 
--- What the search for a message finds is its send and its receipts.
-pub message_is_found : (history : History) (message : Text) (received : Option ℕ) → IsLegal history → (is_some received ≡ true → is_received history message ≡ false)
-    → send_and_receipts (find_message received history message) ≡ cond (is_sent history message) (Some (send_event history message, receipts_with received history message)) None
-message_is_found [] message received legal once = refl
-message_is_found (row ∷ earlier) message received legal once = elim (cases_Bool (sends message row)) [
+-- so the receipts of a row and of newer ones are with the older ones what those of newer ones are with it too
+span_so_far : (row : Row) (earlier : History) (message : Text) (newer : Option Span)
+    → both (span_of (receipts earlier message)) (cond (receives message row) (Some (with_earlier newer (suc (length earlier)))) newer)
+    ≡ both (span_of (receipts (row ∷ earlier) message)) newer
+span_so_far row earlier message newer = by (receives message row) refl
+  where
+    by : (here : Bool) → receives message row ≡ here
+        → both (span_of (receipts earlier message)) (cond here (Some (with_earlier newer (suc (length earlier)))) newer)
+        ≡ both (span_of (receipts (row ∷ earlier) message)) newer
+    by true is =
+        both_with_one (span_of (receipts earlier message)) newer (suc (length earlier))
+        ∙ ap (λ (older : Option Span). both older newer)
+        (sym (span_of-later (receipts earlier message) (suc (length earlier))) ∙ ap span_of (sym (cond-true (receives message row) _ _ is)))
+    by false is = ap (λ (list : List ℕ). both (span_of list) newer) (sym (cond-false (receives message row) _ _ is))
+
+-- What the search for a message finds is its send and the span of its receipts.
+pub message_is_found : (history : History) (message : Text) (received : Option Span) → IsLegal history
+    → find_message received history message ≡ cond (is_sent history message) (Some (send_event history message, both (span_of (receipts history message)) received)) None
+message_is_found [] message received legal = refl
+message_is_found (row ∷ earlier) message received legal = elim (cases_Bool (sends message row)) [
   | inl sent ↦
-      let new = sent_is_new earlier row message row.kind row.name legal.0.1 sent in
-      ap send_and_receipts (cond-true (sends message row) _ _ sent)
-      ∙ found_here row earlier message received new.1 (unsent_has_no_receipts earlier message legal.1 new.0) sent
+      let due = due_where_sent row earlier message legal sent in
+      cond-true (sends message row) _ _ sent
+      ∙ sym (cond-true (is_sent (row ∷ earlier) message) _ _ due.0 ∙ (λ i. Some (due.1 i, both (span_of (due.2 i)) received)))
   | inr not_sent ↦
-      let so_far : Option ℕ = cond (receives message row) (Some (suc (length earlier))) received in
-      let before = sent_as_before row earlier message not_sent in
-      ap send_and_receipts (cond-false (sends message row) _ _ not_sent)
-      ∙ message_is_found earlier message so_far legal.1 (still_first row earlier message received legal.0.1 once)
-      ∙ (λ i. cond (sym before.0 i) (Some (sym before.1 i, receipts_so_far row earlier message received once i)) None)
+      let so_far : Option Span = cond (receives message row) (Some (with_earlier received (suc (length earlier)))) received in
+      let before = due_as_before row earlier message not_sent in
+      cond-false (sends message row) _ _ not_sent ∙ message_is_found earlier message so_far legal.1
+      ∙ (λ i. cond (sym before.0 i) (Some (sym before.1 i, span_so_far row earlier message received i)) None)
 ]
 
 -- so it is with a search through all rows
-pub message_found : (history : History) (message : Text) → IsLegal history → send_and_receipts (find_message None history message) ≡ message_due history message
+pub message_found : (history : History) (message : Text) → IsLegal history → find_message None history message ≡ message_due history message
 message_found history message legal =
-    message_is_found history message None legal (λ is. absurd (false≢true is))
-    ∙ ap (λ (list : List ℕ). cond (is_sent history message) (Some (send_event history message, list)) None) (append-nil (receipts history message))
+    message_is_found history message None legal
+    ∙ ap (λ (span : Option Span). cond (is_sent history message) (Some (send_event history message, span)) None) (both_with_none (span_of (receipts history message)))
 
 -- ---- one step of the searches, over rows with the oldest first
 
@@ -225,7 +237,7 @@ module _ (rest earlier : List Row) (row : Row) (last : rest ≡ earlier ++ row �
         ap (λ history. find_task joined history task) newest_row ∙ cond-false (is_same row.task task) _ _ other ∙ cond-true (starts task row) _ _ started
         ∙ ap (λ n. Some (Live, n)) (sym newest_event)
 
-  pub send_found : (message : Text) (received : Option ℕ) → sends message row ≡ true → find_message received (history_of rest) message ≡ Some (length rest, received)
+  pub send_found : (message : Text) (received : Option Span) → sends message row ≡ true → find_message received (history_of rest) message ≡ Some (length rest, received)
   send_found message received sent =
       ap (λ history. find_message received history message) newest_row ∙ cond-true (sends message row) _ _ sent ∙ ap (λ n. Some (n, received)) (sym newest_event)
 
@@ -234,6 +246,6 @@ pub no_task_left : (rest : List Row) (task : Text) (joined : Bool) → length re
 no_task_left [] task joined none = refl
 no_task_left (row ∷ rows) task joined none = absurd (omega (arith, none))
 
-pub no_message_left : (rest : List Row) (message : Text) (received : Option ℕ) → length rest ≡ 0 → find_message received (history_of rest) message ≡ None
+pub no_message_left : (rest : List Row) (message : Text) (received : Option Span) → length rest ≡ 0 → find_message received (history_of rest) message ≡ None
 no_message_left [] message received none = refl
 no_message_left (row ∷ rows) message received none = absurd (omega (arith, none))

@@ -9,7 +9,7 @@ use Rattle.trace_types.specs.declared.code.Code.TheVariants.{NoMemory}
 use Rattle.trace_types.specs.declared.reply.Reply.{Reply}
 use Rattle.trace_types.specs.declared.reply.Reply.TheVariants.{Accepted, Refused}
 use Rattle.trace_types.specs.declared.row.Row.{Row}
-use Rattle.tenant_ledger.specs.Ledger.{MayHavePoint}
+use Rattle.tenant_ledger.specs.Ledger.{MayHavePoint, start_of}
 use Rattle.tenant_ledger.specs.Upcoming.{Upcoming}
 use Rattle.tenant_desk.specs.Events.{published_tenant}
 use Rattle.tenant_desk.specs.declared.event.Event.{Event}
@@ -35,13 +35,15 @@ pub record AllArePublished (place : List ℕ) (own : Tenant) (published : Publis
   pub rows : published.front.rows ≡ own.rows
   pub home : published.events.home ≡ place
 
--- The event is that of the report, its tree lies at this place, and its point, where it has one, is one that it raised.
+-- The event is that of the report, its tree lies at this place, its point, where it has one, is one that it raised, and its
+-- start is the event that started its task.
 pub record IsEventOf (place : List ℕ) (upcoming : Upcoming) (event : Event) : Type 0 where
   pub row : event.row ≡ upcoming.row
   pub tree : event.tree.value ≡ tree_of tree_clock (upcoming.row ∷ history_of upcoming.tenant.rows) (suc (length upcoming.tenant.rows))
   pub id : event.id.value ≡ id_of tree_clock (upcoming.row ∷ history_of upcoming.tenant.rows) upcoming.row.task
   pub home : event.tree.home ≡ place
   pub point : MayHavePoint (upcoming.row ∷ history_of upcoming.tenant.rows) (suc (length upcoming.tenant.rows)) event.point
+  pub start : event.start ≡ start_of (upcoming.row ∷ history_of upcoming.tenant.rows) (suc (length upcoming.tenant.rows))
 
 -- the report was accepted, and is the tenant's next event; or it was refused for want of memory, and nothing changed
 abbrev pub IsDone : Upcoming → Reply → Tenant → Type 0

@@ -7,24 +7,25 @@ use Rattle.trace_types.specs.tenant.Rows.{History, is_of, starts, joins, sends, 
 use Rattle.trace_types.specs.declared.row.Row.{Row}
 use Rattle.trace_types.specs.declared.task_state.TaskState.{TaskState}
 use Rattle.trace_types.specs.declared.task_state.TaskState.TheVariants.{Live, Joined}
-use Rattle.tenant_desk.specs.Searches.{state_at}
+use Rattle.tenant_desk.specs.Searches.{state_at, with_later}
 use Rattle.tenant_desk.specs.declared.index.Index.{Index}
+use Rattle.tenant_desk.specs.declared.span.Span.{Span}
 
 -- how far a task has come and its last event, where there is such a task
 abbrev pub Found : Type 0
 Found = Option (TaskState × ℕ)
 
--- a message's send event and the one that received it, where it was sent
+-- a message's send event and the first and the last that received it, where it was sent
 abbrev pub Sent : Type 0
-Sent = Option (ℕ × Option ℕ)
+Sent = Option (ℕ × Option Span)
 
 -- the task was joined
 abbrev pub as_joined : TaskState × ℕ → TaskState × ℕ
 as_joined found = (Joined, found.1)
 
--- the message was received
-abbrev pub as_received : ℕ → ℕ × Option ℕ → ℕ × Option ℕ
-as_received event sent = (sent.0, Some event)
+-- the message was received once more
+abbrev pub as_received : ℕ → ℕ × Option Span → ℕ × Option Span
+as_received event sent = (sent.0, Some (with_later sent.1 event))
 
 -- what is kept of the task after a row of this event that may name it, where this was kept before
 abbrev pub naming_after : Row → ℕ → Text → Found → Found

@@ -11,7 +11,7 @@ use Rattle.tenant_desk.specs.Indexes.{IsIndexOf}
 use Rattle.tenant_desk.specs.declared.index.Index.{Index}
 
 -- The counts are those of the rows, and so is the index, where there is one; and there is room for so many events.
-pub record AreHeld (room : ℕ) (rows : Vec Row) (trees : Vec (Kept EventTree)) (points : Vec (Option Deciding)) (ids : Vec (Kept Id)) (tasks messages : ℕ)
+pub record AreHeld (room : ℕ) (rows : Vec Row) (trees : Vec (Kept EventTree)) (points : Vec (Option Deciding)) (starts : Vec ℕ) (ids : Vec (Kept Id)) (tasks messages : ℕ)
     (index : Option Index) : Type 0 where
   pub tasks_are : tasks ≡ task_count (history_of rows.items)
   pub messages_are : messages ≡ message_count (history_of rows.items)
@@ -19,4 +19,5 @@ pub record AreHeld (room : ℕ) (rows : Vec Row) (trees : Vec (Kept EventTree)) 
   pub row_room : room ≤ vec_capacity rows
   pub tree_room : room ≤ vec_capacity trees
   pub point_room : room ≤ vec_capacity points
+  pub start_room : room ≤ vec_capacity starts
   pub id_room : room ≤ vec_capacity ids

@@ -4,7 +4,7 @@ use Rattle.trace_types.specs.tenant.Rows.{history_of}
 use Rattle.trace_types.specs.tenant.Tenant.{AreLegal}
 use Rattle.trace_types.specs.clock.Clock.{tree_clock}
 use Rattle.trace_types.specs.clock.Stamps.{id_of, tree_of}
-use Rattle.tenant_ledger.specs.Ledger.{MayHavePoint}
+use Rattle.tenant_ledger.specs.Ledger.{MayHavePoint, start_of}
 use Rattle.tenant_desk.specs.Histories.{longer_by}
 use Rattle.tenant_desk.specs.Events.{Events, first_events, events_with}
 use Rattle.tenant_desk.specs.Rules.{Follows, IsPublished, sight_of}
@@ -16,7 +16,7 @@ use Rattle.tenant_desk.specs.declared.published.Published.{Published}
 -- the events with that of an operation, where it has one
 abbrev pub with_some : Option Event → Events → Events
 with_some None events = events
-with_some (Some event) events = events_with event.row event.tree.value event.tree.home event.point event.id.value events
+with_some (Some event) events = events_with event.row event.tree.value event.tree.home event.point event.start event.id.value events
 
 -- what is published after an operation: the events before the operation's own, and that one
 abbrev pub left_by : Published → Operation → Published
@@ -37,6 +37,7 @@ pub record IsNext (events : Events) (event : Event) : Type 0 where
   pub id : event.id.value ≡ id_of tree_clock (event.row ∷ history_of events.rows) event.row.task
   pub home : event.tree.home ≡ events.home
   pub point : MayHavePoint (event.row ∷ history_of events.rows) (suc (length events.rows)) event.point
+  pub start : event.start ≡ start_of (event.row ∷ history_of events.rows) (suc (length events.rows))
 
 -- what is published with one more event
 abbrev pub with_next : Event → Published → Published

@@ -47,6 +47,7 @@ fn event_of<R: Wait>(
         row: prepared.row().share(),
         tree: shared.keep_tree(rt, tree)?,
         point: prepared.point(),
+        start: prepared.start(),
         id: prepared.id().share()?,
     })
 }
@@ -186,8 +187,8 @@ impl Desk {
     /// waits for views that still read what was published before the last report.
     ///
     /// A request is refused with the first code that applies of those that `refusals` of `trace_types` has for it, and
-    /// last with `NoMemory` (507), where a request for memory was refused: a report, `past`, `concurrent` or `stamp`. A
-    /// refused request changes nothing, and may be asked again.
+    /// last with `NoMemory` (507), where a request for memory was refused: a report, `past`, `concurrent`, `cut`, `stamp` or
+    /// `message`. A refused request changes nothing, and may be asked again.
     pub fn call<R: Wait>(&mut self, rt: &R, request: &Request) -> Reply
         ensures steps { Steps self.old.tenant request.now result self.new.tenant }
         ensures legal { AreLegal self.new.tenant.limits self.new.tenant.rows }

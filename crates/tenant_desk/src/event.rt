@@ -7,7 +7,8 @@ use trace_query::Deciding;
 use trace_types::{Memory, Row};
 use tree_forest::Tree;
 
-/// What is published of one event: its row, what it knows, a point that it raised, and the id of its task after it.
+/// What is published of one event: its row, what it knows, a point that it raised, which event started its task, and the id
+/// of its task after it.
 #[derive(Drop)]
 pub struct Event {
     /// The row of the event.
@@ -16,6 +17,8 @@ pub struct Event {
     pub tree: Tree<EvTree>,
     /// A point that the event raised, where one was found.
     pub point: Option<Deciding>,
+    /// The event that started its task, or 0.
+    pub start: u64,
     /// The id that its task has after it.
     pub id: Tree<IdTree>,
 }
@@ -30,6 +33,7 @@ impl Event {
             row: self.row.share(),
             tree: self.tree.share()?,
             point: self.point.as_ref().map(|point| point.share()),
+            start: self.start,
             id: self.id.share()?,
         })
     }

@@ -1,16 +1,16 @@
 //! What is published of a tenant's events, and the answers at it.
 ghost use Rattle.std.specs.Prelude.{◌≡◌, ◌↔◌, ◌<◌, ◌∷◌, suc, length, map, slice_get, Some, is_some, IfSome, IfOk, IfErr, IsOk, MatchResult};
-ghost use Rattle.std.specs.Option.{option_to_list};
 ghost use Rattle.trace_types.specs.tenant.Rows.{History, history_of, is_event, task_count, message_count};
 ghost use Rattle.trace_types.specs.tenant.Tenant.{Answers, reply_to_view};
 ghost use Rattle.tenant_ledger.specs.Ledger.{code_of};
 ghost use Rattle.tenant_desk.specs.Events.{AreSound, published_tenant, no_events, first_events, events_with};
 ghost use Rattle.tenant_desk.specs.Indexes.{IsIndexOf};
-ghost use Rattle.tenant_desk.specs.Searches.{task_due, message_due, send_and_receipts};
+ghost use Rattle.tenant_desk.specs.Searches.{task_due, message_due};
 
 use crate::event::Event;
 use crate::index::Index;
-use crate::search::{message_in, task_in};
+use crate::search::{message_in, receipts_in, task_in};
+use crate::span::Span;
 use event_tree::EvTree;
 use id_tree::IdTree;
 use stamp_codec::write_parts;
@@ -19,15 +19,16 @@ use std::marker::Model;
 use std::sync::Wait;
 use tenant_ledger::{Keep, Share, Shared};
 use trace_query::{
-    Compare, Deciding, QueryFault, concurrent_by_points, order_by_points, pair_of, past_by_points,
+    Compare, Deciding, QueryFault, concurrent_by_points, cut_by_points, order_by_points, pair_of,
+    past_by_points,
 };
 use trace_types::{
-    Code, Kind, Limits, Memory, Name, Numbers, Receipts, Reply, Request, Row, TaskState, Text,
+    Code, Kind, Limits, Memory, Name, Numbers, Reply, Request, Row, TaskState, Text,
 };
 use tree_forest::{Home, Tree};
 
-/// The events of one tenant that are published: of each its row, what it knows, a point that it raised, and the id of its task
-/// after it.
+/// The events of one tenant that are published: of each its row, what it knows, a point that it raised, which event started
+/// its task, and the id of its task after it.
 ///
 /// Room for as many events as the tenant may have, and for the names of its tasks and messages, is taken when it is made, so
 /// that a change takes no memory.
@@ -39,6 +40,8 @@ pub struct Events {
     rows: Vec<Row>,
     trees: Vec<Tree<EvTree>>,
     points: Vec<Option<Deciding>>,
+    /// The event that started each event's task, or 0.
+    starts: Vec<u64>,
     ids: Vec<Tree<IdTree>>,
     /// Tasks and messages by name. There is none after events were taken away, until the next one is added.
     index: Option<Index>,
@@ -67,10 +70,11 @@ impl Model for Events {
       trees = map (λ tree. tree.value) e.trees.items;
       homes = map (λ tree. tree.home) e.trees.items;
       points = e.points.items;
+      starts = e.starts.items;
       ids = map (λ tree. tree.value) e.ids.items;
     } };
 
-    ghost invariant = { λ e. AreHeld e.limits.events e.rows e.trees e.points e.ids e.tasks e.messages e.index };
+    ghost invariant = { λ e. AreHeld e.limits.events e.rows e.trees e.points e.starts e.ids e.tasks e.messages e.index };
 }
 
 impl Events {
@@ -85,6 +89,7 @@ impl Events {
             rows: Vec::with_capacity(alloc, room)?,
             trees: Vec::with_capacity(alloc, room)?,
             points: Vec::with_capacity(alloc, room)?,
+            starts: Vec::with_capacity(alloc, room)?,
             ids: Vec::with_capacity(alloc, room)?,
             index: Some(Index::new(alloc, limits)?),
             alloc,
@@ -120,6 +125,7 @@ impl Events {
     {
         self.trees.truncate(count);
         self.points.truncate(count);
+        self.starts.truncate(count);
         self.ids.truncate(count);
         if count < self.rows.len() {
             self.index = None;
@@ -134,7 +140,7 @@ impl Events {
     pub fn put(&mut self, before: usize, event: Event) -> Result<(), Memory>
         ensures room { IsOk result ↔ (before < self.old.limits.events) }
         ensures events { MatchResult result
-            (λ _. self.new ≡ events_with event.row event.tree.value event.tree.home event.point event.id.value (first_events before self.old))
+            (λ _. self.new ≡ events_with event.row event.tree.value event.tree.home event.point event.start event.id.value (first_events before self.old))
             (λ _. self.new ≡ self.old) }
     {
         if before as u64 >= self.limits.events() {
@@ -162,8 +168,9 @@ impl Events {
         requires room { length self.old.rows < self.old.limits.events }
         requires trees { length self.old.trees < self.old.limits.events }
         requires points { length self.old.points < self.old.limits.events }
+        requires starts { length self.old.starts < self.old.limits.events }
         requires ids { length self.old.ids < self.old.limits.events }
-        ensures { self.new ≡ events_with event.row event.tree.value event.tree.home event.point event.id.value self.old }
+        ensures { self.new ≡ events_with event.row event.tree.value event.tree.home event.point event.start event.id.value self.old }
     {
         let number = self.rows.len() as u64 + 1;
         note(&mut self.index, &event.row, number);
@@ -175,11 +182,12 @@ impl Events {
         self.rows.push_reserved(event.row);
         self.trees.push_reserved(event.tree);
         self.points.push_reserved(event.point);
+        self.starts.push_reserved(event.start);
         self.ids.push_reserved(event.id);
     }
 
     /// Answers a query as the tenant is due of whom these are the events, and refuses every report with `ViewOnly` (410).
-    /// Only `past`, `concurrent` and `stamp` take memory, and may be refused with `NoMemory` (507).
+    /// Only `past`, `concurrent`, `cut`, `stamp` and `message` take memory, and may be refused with `NoMemory` (507).
     pub fn answer<C: Compare<Kept = Tree<EvTree>>>(
         &self,
         compare: &C,
@@ -199,6 +207,7 @@ impl Events {
             Request::Order(first, second) => self.order(compare, first, second),
             Request::Past(event) => self.past(compare, alloc, event),
             Request::Concurrent(event) => self.concurrent_with(compare, alloc, event),
+            Request::Cut(event) => self.cut(compare, alloc, event),
             Request::Event(event) => self.event(event),
             Request::Stamp(event) => self.stamp(alloc, event),
             Request::Task(name) => self.task(&name),
@@ -271,6 +280,21 @@ impl Events {
         listed(concurrent_by_points(compare, alloc, self.trees(), self.points(), event))
     }
 
+    /// The last event of each task that reaches the event, by the trees and the points kept for them.
+    fn cut<C: Compare<Kept = Tree<EvTree>>>(&self, compare: &C, alloc: Global, event: u64) -> Reply
+        requires { AreSound self.now }
+        ensures { Answers (published_tenant self.now) (Request.Cut event) result }
+    {
+        listed(cut_by_points(
+            compare,
+            alloc,
+            self.trees(),
+            self.points(),
+            self.starts(),
+            event,
+        ))
+    }
+
     /// What each event knows, in the order of the events.
     fn trees(&self) -> &[Tree<EvTree>]
         ensures trees { map (λ tree. tree.value) result.now ≡ self.now.trees }
@@ -284,6 +308,13 @@ impl Events {
         ensures { result.now ≡ self.now.points }
     {
         &self.points
+    }
+
+    /// The event that started the task of each event, or 0, in the order of the events.
+    fn starts(&self) -> &[u64]
+        ensures { result.now ≡ self.now.starts }
+    {
+        &self.starts
     }
 
     /// What the event in this place knows.
@@ -353,11 +384,14 @@ impl Events {
     /// The send and the receipts of the message.
     fn message(&self, alloc: Global, name: &Name) -> Reply
         requires { AreSound self.now }
-        ensures { result ≡ reply_to_view (published_tenant self.now) (Request.Message name.now) }
+        ensures { Answers (published_tenant self.now) (Request.Message name.now) result }
     {
-        match self.found_message(name) {
-            Some((sent, received)) => Reply::Message(sent, receipts(alloc, received)),
-            None => Reply::Refused(Code::NoMessage),
+        let Some((sent, received)) = self.found_message(name) else {
+            return Reply::Refused(Code::NoMessage);
+        };
+        match receipts_in(alloc, &self.rows, name, received) {
+            Ok(receipts) => Reply::Message(sent, receipts),
+            Err(Memory) => Reply::Refused(Code::NoMemory),
         }
     }
 
@@ -374,11 +408,11 @@ impl Events {
         }
     }
 
-    /// The event that sent the message, and the one that received it; `None` where there is no such message.
+    /// The event that sent the message, and the first and the last that received it; `None` where there is no such message.
     #[inline(always)]
-    fn found_message(&self, name: &Name) -> Option<(u64, Option<u64>)>
+    fn found_message(&self, name: &Name) -> Option<(u64, Option<Span>)>
         requires { AreSound self.now }
-        ensures { send_and_receipts result ≡ message_due (history_of self.now.rows) name.now }
+        ensures { result ≡ message_due (history_of self.now.rows) name.now }
     {
         match &self.index {
             Some(index) => index.message(name),
@@ -432,17 +466,6 @@ fn message_count(rows: &[Row]) -> u64
     ensures { result ≡ message_count (history_of rows.now) }
 {
     rows.iter().filter(|row| row.kind == Kind::Send).count() as u64
-}
-
-/// The receipts of a message that this event received, if one did.
-fn receipts(alloc: Global, received: Option<u64>) -> Receipts
-    ensures { result ≡ option_to_list received }
-{
-    let mut receipts = Receipts::none(alloc);
-    if let Some(event) = received {
-        receipts.add(event);
-    }
-    receipts
 }
 
 /// The reply that gives these events.

@@ -5,6 +5,7 @@ ghost use Rattle.trace_types.specs.text.Name.{Text as Characters, is_same};
 ghost use Rattle.tenant_desk.specs.Indexes.{IsIndexOf, NotesRow, task_after, naming_after};
 
 use crate::search::state_at;
+use crate::span::Span;
 use indexmap::IndexMap;
 use std::alloc::Global;
 use trace_types::{Kind, Limits, Memory, Name, Row, TaskState};
@@ -16,8 +17,8 @@ use trace_types::{Kind, Limits, Memory, Name, Row, TaskState};
 pub(crate) struct Index {
     /// How far each task has come, and its last event, else the one that started it, else 0.
     tasks: IndexMap<Name, (TaskState, u64)>,
-    /// The event that sent each message, and the one that received it, if one did.
-    messages: IndexMap<Name, (u64, Option<u64>)>,
+    /// The event that sent each message, and the first and the last that received it, if one did.
+    messages: IndexMap<Name, (u64, Option<Span>)>,
 }
 
 impl Index {
@@ -64,7 +65,10 @@ impl Index {
             },
             Kind::Send => put(&mut self.messages, name, (event, None)),
             Kind::Recv => match self.message(&name) {
-                Some((sent, _)) => put(&mut self.messages, name, (sent, Some(event))),
+                Some((sent, received)) => {
+                    let received = Span::with_later(received, event);
+                    put(&mut self.messages, name, (sent, Some(received)))
+                }
                 None => true,
             },
         }
@@ -80,7 +84,7 @@ impl Index {
 
     /// What is kept of the message of this name.
     #[inline(always)]
-    pub(crate) fn message(&self, name: &Name) -> Option<(u64, Option<u64>)>
+    pub(crate) fn message(&self, name: &Name) -> Option<(u64, Option<Span>)>
         ensures { result ≡ get is_same self.now.messages name.now }
     {
         self.messages.get(name).copied()

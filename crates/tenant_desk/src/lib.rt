@@ -16,6 +16,7 @@ mod published;
 mod publisher;
 mod rule;
 mod search;
+mod span;
 mod told;
 mod view;
 mod views;

@@ -1,10 +1,12 @@
 //! What the rows say of a task or of a message, by one search from the newest row to the oldest, where there is no index.
-ghost use Rattle.std.specs.Prelude.{◌≡◌};
-ghost use Rattle.trace_types.specs.tenant.Rows.{history_of, names};
+ghost use Rattle.std.specs.Prelude.{◌≡◌, IfOk};
+ghost use Rattle.trace_types.specs.tenant.Rows.{history_of, names, receipts};
 ghost use Rattle.tenant_ledger.specs.Legal.{IsLegal};
-ghost use Rattle.tenant_desk.specs.Searches.{is_report_of, state_at, task_due, send_and_receipts, message_due};
+ghost use Rattle.tenant_desk.specs.Searches.{is_report_of, state_at, task_due, span_of, message_due};
 
-use trace_types::{Kind, Name, Row, TaskState};
+use crate::span::Span;
+use std::alloc::Global;
+use trace_types::{Kind, Memory, Name, Receipts, Row, TaskState};
 
 /// How far the task has come, and its last event, else the event that started it, else 0; `None` where there is no such
 /// task. The search ends at the newest row that is of the task or started it.
@@ -31,11 +33,11 @@ pub(crate) fn task_in(rows: &[Row], task: &Name) -> Option<(TaskState, u64)>
     }
 }
 
-/// The event that sent the message, and the one that received it; `None` where there is no such message. The search ends
-/// at the row that sent it.
-pub(crate) fn message_in(rows: &[Row], message: &Name) -> Option<(u64, Option<u64>)>
+/// The event that sent the message, and the first and the last that received it; `None` where there is no such message.
+/// The search ends at the row that sent it.
+pub(crate) fn message_in(rows: &[Row], message: &Name) -> Option<(u64, Option<Span>)>
     requires { IsLegal (history_of rows.now) }
-    ensures { send_and_receipts result ≡ message_due (history_of rows.now) message.now }
+    ensures { result ≡ message_due (history_of rows.now) message.now }
 {
     let mut received = None;
     let mut rest = rows;
@@ -44,11 +46,34 @@ pub(crate) fn message_in(rows: &[Row], message: &Name) -> Option<(u64, Option<u6
             return Some((rest.len() as u64, received));
         }
         if is_report_of(Kind::Recv, message, row) {
-            received = Some(rest.len() as u64);
+            received = Some(Span::with_earlier(received, rest.len() as u64));
         }
         rest = earlier;
     }
     None
+}
+
+/// The events that received the message, where their span is given: no row outside it is looked at. `Memory` where a
+/// request for memory was refused; one receipt takes none.
+pub(crate) fn receipts_in(
+    alloc: Global,
+    rows: &[Row],
+    message: &Name,
+    received: Option<Span>,
+) -> Result<Receipts, Memory>
+    requires { received ≡ span_of (receipts (history_of rows.now) message.now) }
+    ensures { IfOk result (λ found. found ≡ receipts (history_of rows.now) message.now) }
+{
+    let mut found = Receipts::none(alloc);
+    let Some(span) = received else {
+        return Ok(found);
+    };
+    for place in span.first as usize - 1..span.last as usize {
+        if is_report_of(Kind::Recv, message, &rows[place]) {
+            found.add(place as u64 + 1)?;
+        }
+    }
+    Ok(found)
 }
 
 /// How far a task has come whose last report is of this kind.

@@ -113,7 +113,8 @@ impl View {
     /// Answers a query at the list that is published then. It waits for nobody, and passes the cache by.
     ///
     /// A report is refused with `ViewOnly` (410), and a query where its desk is gone with `NoPlace` (422); then the view is
-    /// as before. Only `past`, `concurrent` and `stamp` take memory, and may be refused with `NoMemory` (507).
+    /// as before. Only `past`, `concurrent`, `cut`, `stamp` and `message` take memory, and may be refused with `NoMemory`
+    /// (507).
     #[tactic(auto, using(crate::proofs::Viewing::of_log, crate::proofs::Viewing::entered_desk))]
     pub fn ask(&mut self, request: &Request) -> Reply
         ensures answer { Responds self.old request.now result self.new }

@@ -20,5 +20,6 @@ invariant_of-self c =
       row_room = grind (arith, common_steps);
       tree_room = grind (arith, common_steps);
       point_room = grind (arith, common_steps);
+      start_room = grind (arith, common_steps);
       id_room = grind (arith, common_steps);
     }

@@ -4,7 +4,7 @@ use Rattle.tenant_ledger.specs.Legal.{IsLegal}
 use Rattle.tenant_ledger.proofs.clock.Legality.{IsLegal_from_AreLegal}
 use Rattle.tenant_desk.specs.Events.{Events}
 use Rattle.tenant_desk.specs.Indexes.{IsIndexOf}
-use Rattle.tenant_desk.specs.Searches.{send_and_receipts, message_due}
+use Rattle.tenant_desk.specs.Searches.{message_due}
 use Rattle.tenant_desk.proofs.Indexing.{kept_message_due}
 use Rattle.tenant_desk.proofs.events.Events.found_message.Goals as goal
 
@@ -21,4 +21,4 @@ returns-in-Some c =
     let shown : rows ≡ events.rows = ap (λ (seen : Events). seen.rows) c.self.view_is in
     let legal : IsLegal (history_of rows) = subst (λ r. IsLegal (history_of r)) (sym shown) (IsLegal_from_AreLegal events.limits events.rows c.requires.legal) in
     let is = subst (λ index. IfSome index (IsIndexOf (history_of rows))) c.in-Some.is c.self.invariant.index_is in
-    ap send_and_receipts (c.message.ensures ∙ is.messages name) ∙ kept_message_due (history_of rows) name legal ∙ ap (λ r. message_due (history_of r) name) shown
+    c.message.ensures ∙ is.messages name ∙ kept_message_due (history_of rows) name legal ∙ ap (λ r. message_due (history_of r) name) shown
