@@ -10,12 +10,25 @@ import subprocess
 import sys
 
 TOP = os.path.dirname(os.path.dirname(os.path.abspath(__file__)))
+SCRIPT = os.path.basename(sys.argv[0])
 NO_MEMORY = (4, b"", b"itc_trace: no memory\n")
+# Below the ports that the system gives to clients, and others for each script: a server that has ended is asked once more whether
+# it has, and another script's server must not be the one to answer.
+FIRST_PORT = 10000 + os.getpid() % 200 * 100
 
 
 def check(holds, what):
     if not holds:
-        sys.exit(f"{os.path.basename(sys.argv[0])}: wrong: {what}")
+        sys.exit(f"{SCRIPT}: wrong: {what}")
+    check.passed += 1
+
+
+check.passed = 0
+
+
+def tell():
+    """The last line of a script in which nothing is wrong."""
+    print(f"{SCRIPT}: {check.passed} passed")
 
 
 def file_of(run, file):
@@ -56,8 +69,10 @@ def written_export():
 def shim_in(folder):
     """The library that bends calls, as it is loaded before the C library. `cc` makes it, or where there is none the
     toolchain's own C compiler."""
-    toolchain = os.path.dirname(subprocess.run(["rt", "doc"], capture_output=True, text=True, check=True).stdout.strip())
-    compiler = shutil.which("cc") or os.path.join(toolchain, "toolchain/bin/clang")
+    compiler = shutil.which("cc")
+    if not compiler:
+        page = subprocess.run(["rt", "doc"], capture_output=True, text=True, check=True).stdout.strip()
+        compiler = os.path.join(os.path.dirname(page), "toolchain/bin/clang")
     shim = os.path.join(folder, "faults.so")
     source = os.path.join(TOP, ".ci/faults.c")
     subprocess.run([compiler, "-O2", "-shared", "-fPIC", "-nostdlib", "-o", shim, source], check=True)
@@ -70,7 +85,6 @@ class Program:
     def __init__(self, path, shim=None):
         self.path = path
         self.shim = shim
-        self.refused = 0
 
     def start(self, *words, stdout=subprocess.PIPE, **bent):
         """The program as it runs."""
@@ -93,7 +107,6 @@ class Program:
             os.close(reads)
             if not met:
                 break
-            self.refused += 1
         check(at > 0, f"{self.path} asks for no memory")
 
 
@@ -103,21 +116,26 @@ def end_of(program, data=None):
         output, errors = program.communicate(data, timeout=60)
     except subprocess.TimeoutExpired:
         program.kill()
-        sys.exit(f"{os.path.basename(sys.argv[0])}: wrong: {program.args} does not end")
+        sys.exit(f"{SCRIPT}: wrong: {program.args} does not end")
     return program.returncode, output, errors
 
 
 def built(name, shim=None):
-    """The builds of a program: that of LLVM, and where it is there that of Rattle's own compiler."""
-    path = os.path.join(TOP, "crates", name, "out", name)
-    check(os.path.exists(path), f"{path} is not built")
-    return [Program(way, shim) for way in (path, path + ".by-rattle") if os.path.exists(way)]
+    """The builds of a program of these sources: the one that .ci/choose finds, which LLVM made, and that of Rattle's own compiler
+    where it was made after it."""
+    ran = subprocess.run([os.path.join(TOP, ".ci/choose"), name], stdin=subprocess.DEVNULL, stdout=subprocess.PIPE, text=True)
+    path = ran.stdout.strip()
+    if ran.returncode or not os.path.exists(path):
+        sys.exit(f"{SCRIPT}: there is no program {name} of these sources")
+    other = path + ".by-rattle"
+    is_as_new = os.path.exists(other) and os.path.getmtime(other) >= os.path.getmtime(path)
+    return [Program(way, shim) for way in (path, other)[:1 + is_as_new]]
 
 
 def serving(program, *words, **bent):
-    """A program that serves at the first port from 40000 that can be bound, and the port; or how it ended, and no port. It
+    """A program that serves at the first port from FIRST_PORT that can be bound, and the port; or how it ended, and no port. It
     does not outlive the script."""
-    for port in range(40000, 40100):
+    for port in range(FIRST_PORT, FIRST_PORT + 100):
         server = program.start("serve", "--port", str(port), *words, **bent)
         atexit.register(server.kill)
         line = server.stdout.readline()
