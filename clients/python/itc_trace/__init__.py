@@ -8,9 +8,11 @@ from .collector import Collector, NoCollector
 from .noting import touch
 from .races import Race, Races, find_races
 from .session import Refused, Session
+from .shared import shared
 from .tracing import Tracing, install, tracing, uninstall
+from .web import Middleware, Opener, incoming, opener, outgoing
 
 __all__ = [
-    "Collector", "NoCollector", "Race", "Races", "Refused", "Session", "Tracing", "find_races", "install", "touch", "tracing",
-    "uninstall",
+    "Collector", "Middleware", "NoCollector", "Opener", "Race", "Races", "Refused", "Session", "Tracing", "find_races", "incoming",
+    "install", "opener", "outgoing", "shared", "touch", "tracing", "uninstall",
 ]

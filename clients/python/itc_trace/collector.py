@@ -15,7 +15,7 @@ HOST = "127.0.0.1"
 MOST_EVENTS = 16384
 MOST_TASKS = 2048
 MOST_MESSAGES = 16384
-PORTS_TO_TRY = 20
+PORTS_TO_TRY = 5
 
 
 class NoCollector(Exception):
@@ -53,8 +53,12 @@ def free_port() -> int:
         return port
 
 
+BESIDE = '"$@" & collector=$!; exec >&- 2>/dev/null; read -r _; kill "$collector"; wait "$collector"'
+"""Runs the collector until the standard input ends: so it ends with its owner, however that one ends."""
+
+
 class Collector:
-    """A collector of its own, at a free port, with the greatest limits. It ends with `close`."""
+    """A collector of its own, at a free port, with the greatest limits. It ends with `close`, or with this process."""
 
     def __init__(self, *tenants: str) -> None:
         self.port: int = 0
@@ -64,22 +68,16 @@ class Collector:
         for _ in range(PORTS_TO_TRY):
             self.port = free_port()
             limits = ["--events", str(MOST_EVENTS), "--tasks", str(MOST_TASKS), "--messages", str(MOST_MESSAGES)]
-            words = [program, "serve", "--port", str(self.port), "--workers", "16", *limits, *tenants]
-            process = _run_beside(words)
+            process = _run_beside([program, "serve", "--port", str(self.port), "--workers", "16", *limits, *tenants])
             assert process.stdout is not None
             if process.stdout.readline().startswith(b"listening"):
                 return process
-            process.stdout.close()
-            if process.wait() != 3:  # The port was taken in between.
-                break
+            _end(process)  # The port was taken in between, say.
         raise NoCollector(f"{program} does not serve")
 
     def close(self) -> None:
         """Ends the collector."""
-        self._process.terminate()
-        self._process.wait()
-        if self._process.stdout is not None:
-            self._process.stdout.close()
+        _end(self._process)
 
     def __enter__(self) -> Collector:
         return self
@@ -92,9 +90,14 @@ class Collector:
 
 def _run_beside(words: list[str]) -> subprocess.Popen[bytes]:
     """Runs a command that no key of the terminal reaches."""
-    try:
-        return subprocess.Popen(
-            words, stdin=subprocess.DEVNULL, stdout=subprocess.PIPE, stderr=sys.__stderr__, start_new_session=True
-        )
-    except OSError as fault:
-        raise NoCollector(f"{words[0]} does not run: {fault.strerror}") from fault
+    return subprocess.Popen(
+        ["/bin/sh", "-c", BESIDE, "sh", *words], stdin=subprocess.PIPE, stdout=subprocess.PIPE, stderr=sys.__stderr__,
+        start_new_session=True,
+    )
+
+
+def _end(process: subprocess.Popen[bytes]) -> None:
+    for pipe in (process.stdin, process.stdout):
+        if pipe is not None:
+            pipe.close()
+    process.wait()

@@ -86,7 +86,7 @@ def _container_type(base: type) -> type:
         methods = {one: _own_method(base, one) for one in sorted(READS | WRITES) if _is_method(base, one)}
         methods["__reduce_ex__"] = lambda self, _: (base, (base(self),))
         methods["__hash__"] = None
-        made = _container_types[base] = type(base.__name__, (base,), {"_itc_name": None, **methods})
+        made = _container_types[base] = type(base.__name__, (base,), {"_itc_name": None, "__module__": base.__module__, **methods})
     return made
 
 

@@ -420,8 +420,17 @@ class Tracer:
             self._mark(line.end_token)
             if line.end_token.message is None:
                 self._send(line, line.end_token)
+        elif self._may_be_asked_for(line):
+            self._send(line, Token(line, END, None, 0))
         self._leave(line)
         self._end(line, END.giving)
+
+    @staticmethod
+    def _may_be_asked_for(line: Line) -> bool:
+        """Whether somebody may still wait for a task that this one has taken in, and finds no message sent since."""
+        last = line.sent[-1][0] if line.sent else 0
+        return any(child.reference is not None and child.reference() is not None and child.joined_at > last
+                   for child in line.joined)
 
     def _end(self, line: Line, label: str) -> None:
         if not line.has_ended:
@@ -441,6 +450,7 @@ class Tracer:
         self._leave(line)
         self._report(line, "join", child.name, None, code, instruction, label)
         child.joined_by, child.joined_at = line, line.count
+        line.joined.append(child)
         line.known[child] = child.count
 
     def _take_ended(self, line: Line, child: Line, code: CodeType | None, instruction: int, label: str) -> None:

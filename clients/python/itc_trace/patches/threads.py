@@ -48,6 +48,8 @@ def _start(original: Any) -> Any:
         if note is None or self.ident is not None:
             return original(self)  # type: ignore[no-any-return]
         line = Line(state.tracer, thread_name(self))
+        line.must_finish = True
+        line.watch(self)
         self._itc_line = line  # type: ignore[attr-defined]
         note((SPAWN, current(), line, *place(sys._getframe(1))))
         return original(self)  # type: ignore[no-any-return]
