@@ -46,7 +46,7 @@ class Line:
     __slots__ = (
         "tracer", "hint", "waiting", "reference", "must_finish",
         "name", "count", "message", "sent", "pending", "known", "parent", "parent_count",
-        "end_token", "is_finished", "has_ended", "joined_by", "joined_at", "joined", "first_taker",
+        "end_token", "is_finished", "has_ended", "is_gone", "joined_by", "joined_at", "joined", "first_taker",
     )
 
     def __init__(self, tracer: Tracer | None, hint: str) -> None:
@@ -66,6 +66,7 @@ class Line:
         self.end_token: Token | None = None
         self.is_finished = False
         self.has_ended = False
+        self.is_gone = False
         self.joined_by: Line | None = None
         self.joined_at = 0
         self.joined: list[Line] = []

@@ -10,7 +10,7 @@ import socket
 import sys
 import threading
 import time
-from collections import deque
+from collections import defaultdict, deque
 from collections.abc import Callable
 from sys import getrefcount
 from types import CodeType
@@ -18,7 +18,7 @@ from typing import TextIO
 
 from .collector import HOST, MOST_TASKS
 from .journal import Places
-from .lines import END, RESULT, SPAWN, STOP, Line, Note, Token, state
+from .lines import END, GONE, JOIN, RESULT, SPAWN, STOP, TAKE, TAKE_END, Line, Note, Token, state
 from .noting import local
 
 NOTES_AT_ONCE = 1024
@@ -129,6 +129,8 @@ class Tracer:
         self._message_numbers = itertools.count(1)
         self._outside_numbers = itertools.count(1)
         self._finished: list[Line] = []
+        self._takes_left: defaultdict[Line, int] = defaultdict(int)
+        self._gone_soon: set[Line] = set()
         self._is_over = False
         self._all_sent = False
         self._switch = _thread.allocate_lock()
@@ -274,16 +276,43 @@ class Tracer:
             self._give_up(f"{type(fault).__name__} in the tracer: {fault}")
 
     def _report_some(self) -> None:
-        notes, handlers = self.notes, self._handlers
+        batch = self._next_notes()
+        handlers = self._handlers
+        while batch:
+            note = batch.popleft()
+            handlers[note[0]](*note[1:])
+        self._gone_soon.clear()
+        self._flush()
+        self._hold_back(len(self.notes))
+
+    def _next_notes(self) -> deque[Note]:
+        """Some notes, looked through for how often each task is waited for, and which ones nobody can wait for after that."""
+        batch: deque[Note] = deque()
+        notes, takes = self.notes, self._takes_left
         for _ in range(min(len(notes), NOTES_AT_ONCE)):
             try:
                 note = notes.popleft()
             except IndexError:
                 break
-            handlers[note[0]](*note[1:])
-        del note
-        self._flush()
-        self._hold_back(len(notes))
+            batch.append(note)
+            kind = note[0]
+            if kind == TAKE:
+                takes[note[2].line] += 1
+            elif kind in (TAKE_END, JOIN):
+                takes[note[2]] += 1
+            elif kind == GONE:
+                self._gone_soon.add(note[1])
+        return batch
+
+    def _is_waited_for(self, line: Line) -> None:
+        """One of those who wait for it is being looked after."""
+        self._takes_left[line] -= 1
+        if not self._takes_left[line]:
+            del self._takes_left[line]
+
+    def _may_be_asked_for(self, line: Line) -> bool:
+        """Whether somebody may still wait for the task, after those who were looked after."""
+        return line in self._takes_left or not (line.is_gone or line in self._gone_soon)
 
     def _flush(self) -> None:
         if self._texts:
@@ -359,6 +388,10 @@ class Tracer:
             line.pending.append(token)
 
     def _take(self, line: Line, token: Token, code: CodeType | None, instruction: int) -> None:
+        self._is_waited_for(token.line)
+        self._come_after(line, token, code, instruction)
+
+    def _come_after(self, line: Line, token: Token, code: CodeType | None, instruction: int) -> None:
         source = token.line
         if source is line or self._knows(line, source, token.count):
             return
@@ -382,19 +415,18 @@ class Tracer:
         parent = source.parent
         return parent is None or parent is line or line.known.get(parent, 0) >= source.parent_count
 
-    @staticmethod
-    def _is_last_taker(source: Line, token: Token) -> bool:
+    def _is_last_taker(self, source: Line, token: Token) -> bool:
         """Whether the task is finished, and nobody but whoever asks now can wait for it."""
-        is_gone = source.reference is not None and source.reference() is None
-        return source.is_finished and is_gone and token.count == source.count
+        return source.is_finished and token.count == source.count and not self._may_be_asked_for(source)
 
     def _take_end(self, line: Line, source: Line, code: CodeType | None, instruction: int) -> None:
         """The line has seen that the other one is done."""
+        self._is_waited_for(source)
         self._is_done(source)
         if source.end_token is None:
             source.end_token = Token(source, RESULT, code, instruction)
             self._mark(source.end_token)
-        self._take(line, source.end_token, code, instruction)
+        self._come_after(line, source.end_token, code, instruction)
 
     def _is_done(self, line: Line) -> None:
         if not line.is_finished:
@@ -412,7 +444,7 @@ class Tracer:
         """The task does nothing more. A thread ends at once, where several wait for it with a message for all of them."""
         self._is_done(line)
         if not ends:
-            if line.reference is not None and line.reference() is None:
+            if line.is_gone:
                 self._gone(line)
             return
         if is_awaited:
@@ -420,17 +452,15 @@ class Tracer:
             self._mark(line.end_token)
             if line.end_token.message is None:
                 self._send(line, line.end_token)
-        elif self._may_be_asked_for(line):
+        elif self._tells_of_others(line):
             self._send(line, Token(line, END, None, 0))
         self._leave(line)
         self._end(line, END.giving)
 
-    @staticmethod
-    def _may_be_asked_for(line: Line) -> bool:
+    def _tells_of_others(self, line: Line) -> bool:
         """Whether somebody may still wait for a task that this one has taken in, and finds no message sent since."""
         last = line.sent[-1][0] if line.sent else 0
-        return any(child.reference is not None and child.reference() is not None and child.joined_at > last
-                   for child in line.joined)
+        return any(child.joined_at > last and self._may_be_asked_for(child) for child in line.joined)
 
     def _end(self, line: Line, label: str) -> None:
         if not line.has_ended:
@@ -439,10 +469,11 @@ class Tracer:
             line.pending.clear()
 
     def _join(self, line: Line, child: Line, code: CodeType | None, instruction: int) -> None:
+        self._is_waited_for(child)
         if not child.has_ended or child is line or self._knows(line, child, max(child.count, 1)):
             return
         if child.joined_by is not None and child.end_token is not None:
-            self._take(line, child.end_token, code, instruction)
+            self._come_after(line, child.end_token, code, instruction)
         else:
             self._take_ended(line, child, code, instruction, f"join {child.name}")
 
@@ -473,7 +504,7 @@ class Tracer:
         if token.message is None and not joiner.has_ended:
             self._mark(token)
         if token.message is not None or not joiner.has_ended:
-            self._take(line, token, code, instruction)
+            self._come_after(line, token, code, instruction)
 
     def _touch(self, line: Line, thing: str, is_write: bool, code: CodeType | None, instruction: int,
                label: str | None) -> None:
@@ -483,6 +514,7 @@ class Tracer:
 
     def _gone(self, line: Line) -> None:
         """Nobody can wait for the task any more: it ends, and its place in the clock goes to whoever waited first."""
+        line.is_gone = True
         if line.must_finish and not line.is_finished:
             return  # It still runs; its finish will be noted.
         self._is_done(line)
