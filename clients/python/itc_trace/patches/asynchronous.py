@@ -30,6 +30,8 @@ _current_task = asyncio.current_task
 _running_loop = asyncio.events._get_running_loop
 _spawned: dict[int, tuple[Any, Line]] = {}
 """The lines of coroutines that another thread has handed to a loop, until their tasks are made."""
+_named: dict[int, str] = {}
+"""The names that tasks of coroutines are to have, while their tasks are made."""
 
 
 def put(patches: Patches) -> None:
@@ -104,6 +106,7 @@ def _begin_task(task: Any, coro: Any, name: Any) -> Line | None:
     if note is None:
         return None
     _, line = _spawned.pop(id(coro), (None, None))
+    name = _named.pop(id(coro), name)
     if line is None:
         line = _spawn(coro, name, 3)
     if line is not None:
@@ -175,6 +178,8 @@ def _put_tasks(patches: Patches) -> None:
     patches.put(tasks, "Task", TracedTask)
     patches.replace(asyncio, "Future", TracedFuture)
     patches.put(tasks, "_GatheringFuture", TracedGathering)
+    patches.wrap(base_events.BaseEventLoop, "create_task", _naming)
+    patches.replace(asyncio, "create_task", like(tasks.create_task, _naming(tasks.create_task)))
     patches.wrap(base_events.BaseEventLoop, "create_future", _create_future)
     patches.wrap(futures_module, "wrap_future", _wrap_future)
     patches.replace(asyncio, "wrap_future", futures_module.wrap_future)
@@ -192,6 +197,21 @@ _ON_BEHALF = {base_events.BaseEventLoop.run_until_complete.__code__}
 """Code of asyncio that takes a result for the thread that called it."""
 _FOR_THE_PROGRAM = {futures_module.wrap_future.__code__, tasks.shield.__code__}
 """Code of asyncio that makes a future for the program to wait for."""
+
+
+def _naming(original: Any) -> Any:
+    """A maker of tasks that tells the task's name while it makes it; some set the name only afterwards."""
+
+    def create_task(*words: Any, name: Any = None, **named: Any) -> Any:
+        if name is None or state.note is None:
+            return original(*words, name=name, **named)
+        _named[id(words[-1])] = str(name)
+        try:
+            return original(*words, name=name, **named)
+        finally:
+            _named.pop(id(words[-1]), None)
+
+    return create_task
 
 
 def _create_future(original: Any) -> Any:
