@@ -47,11 +47,24 @@ def _add_run(parser: argparse.ArgumentParser) -> None:
     parser.add_argument("--journal", metavar="FILE", help="keep the journal there")
     parser.add_argument("--picture", metavar="FILE", help="draw the trace there")
     parser.add_argument("--quiet", action="store_true", help="write nothing where there is no race")
-    parser.add_argument("words", nargs=argparse.REMAINDER, metavar="PROGRAM|-m MODULE [ARGS..]")
+    parser.usage = "%(prog)s [OPTIONS] PROGRAM|-m MODULE [ARGS..]"
 
 
-def _run(words: argparse.Namespace) -> int:
-    program = words.words[1:] if words.words[:1] == ["--"] else words.words
+FLAGS = {"--quiet", "--help", "-h"}
+
+
+def _divided(words: list[str]) -> tuple[list[str], list[str]]:
+    """The words of `run` up to the program, and the program's own."""
+    place = 1
+    while place < len(words) and words[0] == "run" and words[place].startswith("-") and words[place] not in ("-m", "--"):
+        place += 1 if words[place] in FLAGS or "=" in words[place] else 2
+    if words[:1] != ["run"]:
+        place = len(words)
+    rest = words[place:]
+    return words[:place], rest[1:] if rest[:1] == ["--"] else rest
+
+
+def _run(words: argparse.Namespace, program: list[str]) -> int:
     if not program or program[0] == "-m" and len(program) < 2:
         print("itc_trace: run wants a program, or -m and a module", file=sys.stderr)
         return WORDS_REFUSED
@@ -72,10 +85,11 @@ def _races(words: argparse.Namespace) -> int:
 
 
 def main() -> int:
-    words = _parser().parse_args()
+    own, program = _divided(sys.argv[1:])
+    words = _parser().parse_args(own)
     try:
         if words.command == "run":
-            return _run(words)
+            return _run(words, program)
         if words.command == "races":
             return _races(words)
         if words.command == "relay":
