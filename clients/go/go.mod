@@ -1,3 +1,3 @@
-module itctrace
+module hometturi.example/itctrace
 
 go 1.19

@@ -156,6 +156,9 @@ func (s *Session) Past(event int) ([]int, error) { return s.list("past", event) 
 // Concurrent gives the events that happened neither before this one nor after it.
 func (s *Session) Concurrent(event int) ([]int, error) { return s.list("concurrent", event) }
 
+// Cut gives of each task the last event that this one knows of, increasing; the event itself is among them.
+func (s *Session) Cut(event int) ([]int, error) { return s.list("cut", event) }
+
 // Event gives the report of an event.
 func (s *Session) Event(event int) (Event, error) {
 	words, err := s.Request(fmt.Sprintf("event %d", event))

@@ -31,7 +31,7 @@ def main():
     session, asking = Session(tenant, port), Session(tenant, port, "view")
     print(session.local("root"), session.spawn("root", "a"), session.local("a"), session.local("root"), session.send("a", "m"),
           session.recv("root", "m"), session.end("a"), session.join("root", "a"))
-    print(asking.order(4, 5), asking.order(6, 5), asking.past(5), asking.concurrent(5), asking.past(1))
+    print(asking.order(4, 5), asking.order(6, 5), asking.past(5), asking.concurrent(5), asking.past(1), asking.cut(6))
     print(*asking.event(6), asking.stamp(6), *asking.task("a"), *asking.message("m"), *asking.count())
     print(code(session.local, "nobody"), code(session.local, "a"), code(session.send, "root", "m"), code(asking.local, "root"),
           code(session.past, 9), code(session.local, "\u00e4"), code(session.local, "root\nlocal root"), code(Session, tenant, port),

@@ -1,8 +1,6 @@
 //! Makes every call of the client: see clients/test.
 //!
-//! Usage: rustc --edition 2021 check.rs, and then: ./check PORT TENANT PORT_OF_CUT_REPLIES
-
-mod itc_trace;
+//! Usage: cargo run --example check PORT TENANT PORT_OF_CUT_REPLIES
 
 use itc_trace::{Error, Event, Kind, Session};
 use std::thread;
@@ -38,7 +36,8 @@ fn main() -> Result<(), Box<dyn std::error::Error>> {
     print!("{} {} {} ", session.local("root")?, session.send("a", "m")?, session.recv("root", "m")?);
     println!("{} {}", session.end("a")?, session.join("root", "a")?);
     let (past, concurrent) = (asking.past(5)?, asking.concurrent(5)?);
-    println!("{} {} {past:?} {concurrent:?} {:?}", asking.order(4, 5)?, asking.order(6, 5)?, asking.past(1)?);
+    let cut = asking.cut(6)?;
+    println!("{} {} {past:?} {concurrent:?} {:?} {cut:?}", asking.order(4, 5)?, asking.order(6, 5)?, asking.past(1)?);
     let Event { kind, task, name, follows } = asking.event(6)?;
     let ((state, last), (sent, received)) = (asking.task("a")?, asking.message("m")?);
     let (events, tasks, messages) = asking.count()?;

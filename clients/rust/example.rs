@@ -1,9 +1,6 @@
 //! Two threads sell from one stock, without a lock and with one. The collector tells whether that is a race.
 //!
-//! Usage: rustc --edition 2021 example.rs, and then: ./example PORT TENANT
-
-#[allow(dead_code)]
-mod itc_trace;
+//! Usage: cargo run --example example PORT TENANT
 
 use itc_trace::{Error, Kind, Session};
 use std::sync::atomic::{AtomicI64, Ordering};

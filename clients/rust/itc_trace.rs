@@ -150,6 +150,11 @@ impl Session {
         Ok(self.numbers(&format!("concurrent {event}"))?.split_off(1))
     }
 
+    /// Of each task the last event that this one knows of, increasing; the event itself is among them.
+    pub fn cut(&self, event: u64) -> Result<Vec<u64>, Error> {
+        Ok(self.numbers(&format!("cut {event}"))?.split_off(1))
+    }
+
     pub fn event(&self, event: u64) -> Result<Event, Error> {
         let words = self.request(&format!("event {event}"))?;
         Ok(Event {

@@ -7,11 +7,11 @@ import { screenshots } from "./screenshots.mjs";
 import { broadcasts, busyTrace, lanes, shapes, topic, workedExport } from "./showing.mjs";
 import { size } from "./size.mjs";
 import { BUSY, WORKED } from "./traces.mjs";
-import { address, keyboard, listsAndSearch, moving } from "./using.mjs";
+import { address, keyboard, labels, listsAndSearch, moving } from "./using.mjs";
 
 const [folder, only = ""] = process.argv.slice(2);
 const CHECKS = { "worked export": workedExport, shapes, "500 events": busyTrace, topic, broadcasts, lanes, "spoilt exports": spoilt, opening,
-  "spoilt pictures": spoiltPictures, names, "hostile text": hostileText, "lists and search": listsAndSearch, keyboard, address,
+  "spoilt pictures": spoiltPictures, names, "hostile text": hostileText, "lists and search": listsAndSearch, labels, keyboard, address,
   moving, "16384 events": size };
 
 /** No page asked for anything but files, or complained. */

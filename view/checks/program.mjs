@@ -55,6 +55,6 @@ export function lists(reports, keyword, events) {
 /** What the check answers to these bytes: `yes N` or `no LINE REASON`. */
 export const verdictOf = (bytes) => run(PROGRAM, ["check"], bytes).stdout.toString().trim();
 
-export const pictureOf = (name, bytes) => file(name, ran(PICTURE, [], bytes));
+export const pictureOf = (name, bytes, words = []) => file(name, ran(PICTURE, words, bytes));
 
 export const pictureRun = (bytes) => run(PICTURE, [], bytes);

@@ -1,8 +1,8 @@
 // The checks of what somebody does with the picture: searching, walking, linking and moving.
 import assert from "node:assert/strict";
-import { exportOf, inWork, pictureOf } from "./program.mjs";
+import { exportOf, file, inWork, pictureOf } from "./program.mjs";
 import { chosen, opened, pause, placeOf, press, text } from "./tab.mjs";
-import { busy, seeded } from "./traces.mjs";
+import { busy, seeded, WORKED } from "./traces.mjs";
 
 const CONTROL = 2, SHIFT = 8;
 
@@ -23,6 +23,24 @@ export async function listsAndSearch(tab) {
   await search(tab, "task_1");
   await press(tab, "#found li button");
   assert.equal(await text(tab, "#chosen dd:nth-of-type(2)"), "task_1");
+}
+
+const HOSTILE = "<img src=x onerror=alert(1)> read stock";
+
+/** The labels of a journal, a line of which is cut off, are shown, found and written as text alone. */
+export async function labels(tab) {
+  const row = (event, label) => ({ event, task: "a", thing: null, kind: "read", file: "shop.py", line: 10 + event, label });
+  const lines = [row(3, "write stock"), row(5, HOSTILE)].map((one) => JSON.stringify(one));
+  const journal = file("labels.journal", `${lines.join("\n")}\n{"event":6,"label":"cut`);
+  await opened(tab, pictureOf("labels.html", exportOf(WORKED), ["--labels", journal]));
+  await tab.until(() => page.labels.size === 2);
+  await found(tab, "write st", "Event 3");
+  assert.match(await text(tab, "#chosen dl"), /^labelwrite stocksourceshop\.py:13kindlocal/);
+  await found(tab, "onerror", "Event 5");
+  assert.ok((await text(tab, "#chosen dl")).startsWith(`label${HOSTILE}source`));
+  assert.equal(await tab.run(() => document.querySelectorAll("img").length), 0);
+  await found(tab, "6", "Event 6");
+  assert.ok((await text(tab, "#chosen dl")).startsWith("kindrecv"));
 }
 
 /** The title of a list, and of each item the name that it ends with. */

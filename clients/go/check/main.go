@@ -11,7 +11,7 @@ import (
 	"strconv"
 	"strings"
 
-	"itctrace"
+	"hometturi.example/itctrace"
 )
 
 const tasks, events = 4, 25
@@ -63,7 +63,7 @@ func main() {
 		must(session.Local("root")), must(session.Send("a", "m")), must(session.Recv("root", "m")), must(session.End("a")),
 		must(session.Join("root", "a")))
 	fmt.Println(must(asking.Order(4, 5)), must(asking.Order(6, 5)), text(must(asking.Past(5))), text(must(asking.Concurrent(5))),
-		text(must(asking.Past(1))))
+		text(must(asking.Past(1))), text(must(asking.Cut(6))))
 	event := must(asking.Event(6))
 	state, last, err := asking.Task("a")
 	must(state, err)

@@ -11,7 +11,7 @@ import (
 	"sync"
 	"sync/atomic"
 
-	"itctrace"
+	"hometturi.example/itctrace"
 )
 
 // tracedLock is a lock whose release is a message to whoever acquires it next.

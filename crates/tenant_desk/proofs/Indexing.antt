@@ -1,10 +1,10 @@
 -- What an index keeps of tasks and messages is what the rows say, where they are legal.
-use Rattle.std.proofs.Common.{◌≡◌, ℕ, suc, Bool, true, false, cond, ◌||◌, List, [], ◌∷◌, ◌++◌, length, ◌+◌, Option, Some, None, IfSome, option_map, refl, sym, ap, ◌∙◌, subst, inl, inr, arith}
-use Rattle.std.proofs.lemmas.Bool.{cases_Bool, false≢true, false_from_ne_true, cond-true, cond-false, or_parts}
+use Rattle.std.proofs.Common.{◌≡◌, ℕ, suc, Bool, true, false, cond, List, [], ◌∷◌, ◌++◌, length, ◌+◌, Option, Some, None, IfSome, option_map, refl, sym, ap, ◌∙◌, subst, inl, inr, arith}
+use Rattle.std.proofs.lemmas.Bool.{cases_Bool, false≢true, false_from_ne_true, cond-true, cond-false}
 use Rattle.std.proofs.lemmas.List.{length-reverse, reverse-append}
 use Rattle.trace_types.specs.text.Name.{Text, is_same, root}
 use Rattle.trace_types.proofs.Names.{is_same_iff}
-use Rattle.trace_types.specs.tenant.Rows.{History, history_of, starts, joins, sends, receives, is_known, is_ended, is_joined, is_sent, last_event, send_event, receipts}
+use Rattle.trace_types.specs.tenant.Rows.{History, history_of, starts, joins, sends, receives, is_known, is_ended, is_sent, last_event, send_event, receipts}
 use Rattle.trace_types.specs.declared.row.Row.{Row}
 use Rattle.trace_types.specs.declared.task_state.TaskState.{TaskState}
 use Rattle.trace_types.specs.declared.task_state.TaskState.TheVariants.{Live, Joined}

@@ -1,11 +1,10 @@
 -- What is kept of sound events answers as their tenant is due.
-use Rattle.std.proofs.Common.{◌≡◌, ℕ, suc, ◌-◌, ◌<◌, Bool, true, false, cond, List, length, get_or, slice_get, Option, Some, None, refl, sym, ap, ◌∙◌, inl, inr, arith}
+use Rattle.std.proofs.Common.{◌≡◌, ℕ, suc, ◌-◌, ◌<◌, Bool, true, false, cond, List, length, get_or, slice_get, Option, Some, None, refl, sym, ap, ◌∙◌, inl, arith}
 use Rattle.tenant_ledger.proofs.Words.{length-reverse, same_Some, Answers, reply_to_view, Tenant, Text, Row, Id, EventTree, tree_clock, stamp_of, History, history_of, is_event, id_after}
 use Rattle.trace_types.specs.clock.Stamps.{stamp_text_of}
 use Rattle.trace_types.specs.text.Name.{Text as Name}
 use Rattle.trace_types.specs.text.StampText.{stamp_text}
 use Rattle.trace_types.specs.tenant.Rows.{is_sent, send_event, receipts}
-use Rattle.trace_types.specs.declared.code.Code.TheVariants.{NoMemory, NoMessage}
 use Rattle.trace_types.specs.declared.reply.Reply.TheVariants as reply
 use Rattle.trace_types.specs.declared.request.Request.TheVariants as request
 use Rattle.tenant_ledger.proofs.keeping.Kept.{id_after-older, one_tree, tree_at_event}
@@ -58,32 +57,18 @@ pub stamp_answered : (tenant : Tenant) (event : ℕ) → is_event (history_of te
     → Answers tenant (request.Stamp event) (reply.Stamp text)
 stamp_answered tenant event there text is = inl (rw there (ap reply.Stamp is))
 
--- What is due of a message, where it was sent and where it was not.
+-- a message that was sent is answered with its send and its receipts
 module _ (tenant : Tenant) (message : Name) where
-  abbrev rows_of : History
-  rows_of = history_of tenant.rows
+  abbrev due_where : Bool → Option (ℕ × Option Span)
+  due_where there = cond there (Some (send_event (history_of tenant.rows) message, span_of (receipts (history_of tenant.rows) message))) None
 
-  module _ (sent : ℕ) (span : Option Span) (is : Some (sent, span) ≡ message_due rows_of message) where
-    due_of_sent : (there : Bool) → Some (sent, span) ≡ cond there (Some (send_event rows_of message, span_of (receipts rows_of message))) None
-        → (there ≡ true) × (sent ≡ send_event rows_of message) × (span ≡ span_of (receipts rows_of message))
-    due_of_sent true due =
-        let same = same_Some _ _ due in
-        (refl, ap (λ (one : ℕ × Option Span). one.0) same, ap (λ (one : ℕ × Option Span). one.1) same)
-    due_of_sent false due = absurd (cc due)
+  due_of_sent : (sent : ℕ) (span : Option Span) (there : Bool) → Some (sent, span) ≡ due_where there
+      → (there ≡ true) × (sent ≡ send_event (history_of tenant.rows) message)
+  due_of_sent sent span true due = (refl, ap (λ (one : ℕ × Option Span). one.0) (same_Some _ _ due))
+  due_of_sent sent span false due = absurd (cc due)
 
-    pub message_was_sent : (is_sent rows_of message ≡ true) × (sent ≡ send_event rows_of message) × (span ≡ span_of (receipts rows_of message))
-    message_was_sent = due_of_sent (is_sent rows_of message) is
-
-    -- its receipts are answered, or want of memory is
-    pub message_answered : (found : List ℕ) → found ≡ receipts rows_of message → Answers tenant (request.Message message) (reply.Message sent found)
-    message_answered found all = inl (rw message_was_sent.0 (λ i. reply.Message (message_was_sent.1 i) (all i)))
-
-    pub message_lacks_memory : Answers tenant (request.Message message) (reply.Refused NoMemory)
-    message_lacks_memory = inr (refl, (refl, rw message_was_sent.0 refl), refl)
-
-  pub message_not_answered : None ≡ message_due rows_of message → Answers tenant (request.Message message) (reply.Refused NoMessage)
-  message_not_answered is = inl (rw (unsent (is_sent rows_of message) is) refl)
-    where
-      unsent : (there : Bool) → None ≡ cond there (Some (send_event rows_of message, span_of (receipts rows_of message))) None → there ≡ false
-      unsent true due = absurd (cc due)
-      unsent false due = refl
+  pub message_answered : (sent : ℕ) (span : Option Span) → Some (sent, span) ≡ message_due (history_of tenant.rows) message
+      → (found : List ℕ) → found ≡ receipts (history_of tenant.rows) message → Answers tenant (request.Message message) (reply.Message sent found)
+  message_answered sent span is found all =
+      let due = due_of_sent sent span (is_sent (history_of tenant.rows) message) is in
+      inl (rw due.0 (λ i. reply.Message (due.1 i) (all i)))

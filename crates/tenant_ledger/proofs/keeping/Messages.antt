@@ -1,10 +1,10 @@
 -- What is kept of the messages is right after one more row.
 use Rattle.std.proofs.Common.{◌≡◌, ℕ, suc, ◌+◌, true, false, cond, List, [], ◌∷◌, ◌++◌, length, Option, Some, None, option_map, map, is_some, refl, sym, ap, ◌∙◌, subst, inl, inr, arith}
-use Rattle.tenant_ledger.proofs.Words.{false≢true, cases_Bool, cond-true, cond-false, and_left, and_right, or_left, nat_tests, length-append, map-append, sum_by-append, is_same_iff, is_same-itself, Messages, entry_of, has_receipt_by, Receipt, Sent, with_message, with_changed, with_receipt, without_last_receipt, entry_with_receipt, Limits, Text, is_same, History, names, sends, sends_message, receives, receives_by, receives_message, is_sent, has_received, send_event, receipts, receipts_by_task, message_count, Row, Kind, Send, Recv, IsMessage, AreMessages, Notes, AllowsNamed, IsLegal}
+use Rattle.tenant_ledger.proofs.Words.{false≢true, cases_Bool, cond-true, cond-false, and_left, and_right, or_left, nat_tests, length-append, map-append, sum_by-append, is_same_iff, is_same-itself, Messages, entry_of, has_receipt_by, Receipt, Sent, with_message, with_changed, with_receipt, without_last_receipt, entry_with_receipt, Limits, Text, is_same, History, names, sends, sends_message, receives, receives_message, is_sent, has_received, send_event, receipts, receipts_by_task, message_count, Row, Kind, Send, Recv, IsMessage, AreMessages, Notes, AllowsNamed, IsLegal}
 use Rattle.std.specs.List.{list_any}
 use Rattle.std.proofs.lemmas.List.Folds.{list_any-append}
 use Rattle.message_book.specs.Book as message_book
-use Rattle.message_book.proofs.Messages.{no_first_code, entry_of-changed, without_last_receipt-received}
+use Rattle.message_book.proofs.Messages.{entry_of-changed, without_last_receipt-received}
 use Rattle.tenant_ledger.proofs.keeping.Known.{differ_back}
 
 -- ---- the messages with one more, or with one changed

@@ -1,13 +1,12 @@
 -- Which event started the task of an event: it tells the tasks apart, and comes before the event.
-use Rattle.std.proofs.Common.{◌≡◌, ◌≢◌, ◌⊎◌, ℕ, suc, ◌+◌, ◌-◌, ◌<◌, ◌≤◌, Bool, true, false, IsTrue, eqb, [], ◌∷◌, length, Option, Some, None, unwrap_or, refl, sym, ap, subst, ◌∙◌, inl, inr, arith}
+use Rattle.std.proofs.Common.{◌≡◌, ◌≢◌, ◌⊎◌, ℕ, suc, ◌<◌, ◌≤◌, true, false, IsTrue, eqb, [], ◌∷◌, length, Option, Some, None, unwrap_or, refl, sym, ap, subst, ◌∙◌, inl, inr, arith}
 use Rattle.std.proofs.lemmas.Bool.Decides.{nat_tests}
 use Rattle.std.proofs.lemmas.Bool.{ne_eqb}
 use Rattle.std.proofs.lemmas.Option.{none-some}
 use Rattle.trace_types.proofs.Cuts.{row_there}
 use Rattle.trace_types.proofs.Reachability.{newest-le}
-use Rattle.tenant_ledger.proofs.Words.{false≢true, cases_Bool, cases_eq, cond-true, cond-false, eq-eqb, eqb-true, is_same_iff, Text, is_same, root, History, start_event, start_of, starts, names, is_known, is_event, row_of, are_of_one_task, Row, Kind, Spawn, AllowsNamed, IsLegal}
+use Rattle.tenant_ledger.proofs.Words.{false≢true, cases_Bool, cases_eq, cond-true, cond-false, eq-eqb, is_same_iff, Text, is_same, root, History, start_event, start_of, starts, names, is_known, is_event, row_of, are_of_one_task, Row, Kind, Spawn, AllowsNamed, IsLegal}
 use Rattle.tenant_ledger.proofs.clock.Events.{event_bounds}
-use Rattle.tenant_ledger.proofs.clock.Tasks.{live_is_not_unknown}
 
 -- a row that does not start the task leaves when it was started
 pub start_event-other : (row : Row) (earlier : History) (task : Text) → starts task row ≡ false → start_event (row ∷ earlier) task ≡ start_event earlier task

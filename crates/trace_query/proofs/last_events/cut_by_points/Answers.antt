@@ -1,4 +1,4 @@
-use Rattle.std.proofs.Common.{◌≡◌, ◌+◌, ◌-◌, ◌<◌, ◌≤◌, true, map, length, get_or, ap, sym, ◌∙◌, is_ok, arith}
+use Rattle.std.proofs.Common.{◌≡◌, ◌+◌, ◌-◌, ◌<◌, true, map, length, get_or, ap, sym, ◌∙◌, is_ok, arith}
 use Rattle.std.proofs.lemmas.List.{length-map}
 use Rattle.trace_query.proofs.Gathered.{ArePlaced, refuted_by}
 use Rattle.trace_query.proofs.InOrder.{decided_earlier}

@@ -1,4 +1,4 @@
-use Rattle.std.proofs.Common.{◌≡◌, Some, ◌∷◌, [], not, ap, ◌∙◌}
+use Rattle.std.proofs.Common.{◌≡◌, ◌∷◌, [], not, ap, ◌∙◌}
 use Rattle.tenant_ledger.proofs.Words.{refusal_of_receive, first_code, NoMessage, AlreadyReceived, Contents, history_in, refusals_of_received}
 use Rattle.tenant_ledger.proofs.keeping.Known.{legal_history}
 use Rattle.tenant_ledger.proofs.keeping.Messages.{has_them}

@@ -1,9 +1,8 @@
-use Rattle.std.proofs.Common.{◌≡◌, length, map, sym, ap, ◌∙◌, subst}
+use Rattle.std.proofs.Common.{map, sym, ◌∙◌, subst}
 use Rattle.std.proofs.lemmas.List.{length-map}
-use Rattle.tenant_ledger.proofs.Words.{tenant_of, Tenant, Answers, EventTree}
+use Rattle.tenant_ledger.proofs.Words.{tenant_of, Tenant, Answers}
 use Rattle.trace_types.specs.declared.request.Request.TheVariants as request
 use Rattle.trace_query.specs.Deciding.{DecideInOrder}
-use Rattle.trace_query.specs.Queries.{ComeBefore, cut_by_trees}
 use Rattle.tenant_ledger.proofs.keeping.Told.{as_many_starts, cut_answered, decide_in_order, stand_in_order, starts_before}
 use Rattle.tenant_ledger.proofs.ledger.Ledger.cut.Goals as goal
 

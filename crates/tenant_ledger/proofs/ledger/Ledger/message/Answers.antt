@@ -1,5 +1,5 @@
-use Rattle.std.proofs.Common.{◌≡◌, Some, sym, ap, ◌∙◌, subst, inl}
-use Rattle.tenant_ledger.proofs.Words.{tenant_of, history_in, Tenant, Answers, IsMessage, entry_of}
+use Rattle.std.proofs.Common.{◌∙◌, subst, inl}
+use Rattle.tenant_ledger.proofs.Words.{history_in, Tenant, Answers, IsMessage}
 use Rattle.trace_types.specs.declared.reply.Reply.TheVariants as reply
 use Rattle.trace_types.specs.declared.request.Request.TheVariants as request
 use Rattle.tenant_ledger.proofs.keeping.Messages.{message_told}

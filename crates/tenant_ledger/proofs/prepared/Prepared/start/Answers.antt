@@ -1,4 +1,4 @@
-use Rattle.std.proofs.Common.{◌≡◌, suc, ◌∷◌, ◌++◌, [], length, Some, sym, ap, ◌∙◌, subst}
+use Rattle.std.proofs.Common.{◌≡◌, suc, ◌∷◌, ◌++◌, [], length, sym, ap, ◌∙◌, subst}
 use Rattle.tenant_ledger.proofs.Words.{cond-true, length-reverse, reverse-append, is_same, is_same-itself, history_of, history_in, start_event, start_of, IsTask}
 use Rattle.tenant_ledger.specs.Upcoming.{Upcoming}
 use Rattle.tenant_ledger.proofs.keeping.Starts.{start_of-newest}

@@ -1,3 +1,5 @@
+package itctrace;
+
 import java.io.BufferedInputStream;
 import java.io.EOFException;
 import java.io.IOException;
@@ -140,6 +142,11 @@ public final class Session implements AutoCloseable {
     /** The events that happened neither before this one nor after it. */
     public List<Integer> concurrent(int event) throws IOException {
         return list("concurrent " + event);
+    }
+
+    /** Of each task the last event that this one knows of, increasing; the event itself is among them. */
+    public List<Integer> cut(int event) throws IOException {
+        return list("cut " + event);
     }
 
     public Event event(int event) throws IOException {

@@ -1,3 +1,4 @@
+import itctrace.Session;
 import java.io.IOException;
 
 /**
@@ -69,7 +70,7 @@ public final class Check {
         Session asking = new Session("view", tenant, port);
         tell(session.local("root"), session.spawn("root", "a"), session.local("a"), session.local("root"), session.send("a", "m"),
                 session.recv("root", "m"), session.end("a"), session.join("root", "a"));
-        tell(asking.order(4, 5), asking.order(6, 5), asking.past(5), asking.concurrent(5), asking.past(1));
+        tell(asking.order(4, 5), asking.order(6, 5), asking.past(5), asking.concurrent(5), asking.past(1), asking.cut(6));
         Session.Event event = asking.event(6);
         Session.Task task = asking.task("a");
         Session.Message message = asking.message("m");

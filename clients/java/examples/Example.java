@@ -1,3 +1,4 @@
+import itctrace.Session;
 import java.io.IOException;
 import java.io.UncheckedIOException;
 import java.util.concurrent.locks.ReentrantLock;

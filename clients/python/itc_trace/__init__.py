@@ -1,0 +1,18 @@
+"""A client of itc_trace: reports what a Python program does, and asks how its events are ordered.
+
+`Session` reports and asks by hand. `tracing` and `install` report by themselves what the standard library's threads, locks,
+queues, pools and asyncio do; `shared` and `touch` say what is shared; `races` finds what nothing orders.
+"""
+
+from .collector import Collector, NoCollector
+from .noting import touch
+from .races import Race, Races, find_races
+from .session import Refused, Session
+from .shared import shared
+from .tracing import Tracing, install, tracing, uninstall
+from .web import Middleware, Opener, incoming, opener, outgoing
+
+__all__ = [
+    "Collector", "Middleware", "NoCollector", "Opener", "Race", "Races", "Refused", "Session", "Tracing", "find_races", "incoming",
+    "install", "opener", "outgoing", "shared", "touch", "tracing", "uninstall",
+]

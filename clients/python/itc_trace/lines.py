@@ -1,0 +1,109 @@
+"""What a program's threads note: lines of events, places in them, and the notes themselves.
+
+A thread that is traced does no more than append a note to one list. Another thread turns the notes into reports.
+"""
+
+from __future__ import annotations
+
+import weakref
+from collections.abc import Callable
+from types import CodeType
+from typing import TYPE_CHECKING, Any, NamedTuple
+
+if TYPE_CHECKING:
+    from .tracer import Tracer
+
+MARK, TAKE, TAKE_END, SPAWN, FINISH, JOIN, TOUCH, GONE, SEND, RECV, STOP = range(11)
+
+Note = tuple[Any, ...]
+
+
+class What(NamedTuple):
+    """What a message stands for: the first part of its name, and the words for its sending and its receiving."""
+
+    hint: str
+    giving: str
+    taking: str
+
+
+LOCK = What("lock", "release lock", "acquire lock")
+SEMAPHORE = What("permit", "release semaphore", "acquire semaphore")
+EVENT = What("event", "set event", "see event set")
+BARRIER = What("barrier", "arrive at barrier", "leave barrier")
+QUEUE = What("item", "put item", "get item")
+DONE_ITEM = What("done", "item done", "all items done")
+SUBMIT = What("job", "submit", "run")
+RESULT = What("result", "result", "take result")
+END = What("end", "end", "see the end")
+CALL = What("call", "call soon", "called")
+WORKER = What("ready", "initialise worker", "run in worker")
+OUTSIDE = What("out", "send to another process", "receive from another process")
+
+
+class Line:
+    """The events of one task, in their order. All but the first five fields belong to the thread that reports."""
+
+    __slots__ = (
+        "tracer", "hint", "waiting", "reference", "must_finish",
+        "name", "count", "message", "sent", "pending", "known", "parent", "parent_count",
+        "end_token", "is_finished", "has_ended", "is_gone", "joined_by", "joined_at", "joined", "first_taker",
+    )
+
+    def __init__(self, tracer: Tracer | None, hint: str) -> None:
+        self.tracer = tracer
+        self.hint = hint
+        self.waiting = 0
+        self.reference: weakref.ref[Any] | None = None
+        self.must_finish = False
+        self.name = ""
+        self.count = 0
+        self.message: str | None = None
+        self.sent: list[tuple[int, str]] = []
+        self.pending: list[Token] = []
+        self.known: dict[Line, int] = {}
+        self.parent: Line | None = None
+        self.parent_count = 0
+        self.end_token: Token | None = None
+        self.is_finished = False
+        self.has_ended = False
+        self.is_gone = False
+        self.joined_by: Line | None = None
+        self.joined_at = 0
+        self.joined: list[Line] = []
+        self.first_taker: Line | None = None
+
+    def watch(self, thing: object) -> None:
+        """Notes when the object that stands for this task is gone: nobody can wait for it any more."""
+        self.reference = weakref.ref(thing, self._gone)
+
+    def _gone(self, _: object) -> None:
+        note = state.note
+        if note is not None:
+            note((GONE, self))
+
+
+class Token:
+    """A place in a line, behind the events that it had when the token was noted. Whoever takes it, comes after these."""
+
+    __slots__ = ("line", "what", "code", "instruction", "count", "message")
+
+    def __init__(self, line: Line, what: What, code: CodeType | None, instruction: int) -> None:
+        self.line = line
+        self.what = what
+        self.code = code
+        self.instruction = instruction
+        self.count = 0
+        self.message: str | None = None
+
+
+class State:
+    """Whether tracing is on: `note` takes notes where it is, and is None else."""
+
+    __slots__ = ("note", "tracer")
+
+    def __init__(self) -> None:
+        self.note: Callable[[Note], object] | None = None
+        self.tracer: Tracer | None = None
+
+
+state = State()

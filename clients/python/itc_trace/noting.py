@@ -1,0 +1,129 @@
+"""How the program's own threads note what they do. Each call takes a few microseconds at most, and waits for nobody."""
+
+from __future__ import annotations
+
+import _thread
+import asyncio
+import sys
+import threading
+from asyncio.events import _get_running_loop
+from collections.abc import Callable
+from types import CodeType, FrameType
+from typing import Any
+
+from .lines import MARK, SPAWN, TAKE, TOUCH, Line, Token, What, state
+
+local = threading.local()
+"""`line` is the thread's own line, and that of a pool's job while it runs there."""
+
+INTERNAL = frozenset({"threading", "queue", "concurrent", "asyncio", "logging", "itc_trace"})
+"""Library modules whose own locks and queues are not traced: what they promise is traced as a whole."""
+
+_internal_names: dict[Any, bool] = {}
+
+
+def _task_getter() -> Callable[[Any], Any]:
+    if sys.version_info < (3, 12):
+        getter: Callable[[Any], Any] = asyncio.tasks._current_tasks.get  # type: ignore[attr-defined]
+        return getter
+    return asyncio.current_task
+
+
+_task_of = _task_getter()
+
+
+def is_internal(frame: FrameType) -> bool:
+    """Whether this is code of the library modules that are traced as a whole, or of this package."""
+    name = frame.f_globals.get("__name__")
+    known = _internal_names.get(name)
+    if known is None:
+        known = _internal_names[name] = isinstance(name, str) and name.partition(".")[0] in INTERNAL
+    return known
+
+
+def place(frame: FrameType | None) -> tuple[CodeType | None, int]:
+    """Where the program itself stands: the innermost frame that is not internal."""
+    while frame is not None and is_internal(frame):
+        frame = frame.f_back
+    return (None, 0) if frame is None else (frame.f_code, frame.f_lasti)
+
+
+def current() -> Line:
+    """The line of whatever runs now: a task of asyncio, a pool's job, or the thread."""
+    loop = _get_running_loop()
+    if loop is not None:
+        task = _task_of(loop)
+        if task is not None:
+            line = getattr(task, "_itc_line", None)
+            return line if line is not None and line.tracer is state.tracer else _adopt_task(task)
+    line = getattr(local, "line", None)
+    return line if line is not None and line.tracer is state.tracer else _adopt_thread()
+
+
+def _adopt_task(task: Any) -> Line:
+    """Gives a task a line that was made before tracing began, or by other means than asyncio's own."""
+    line = Line(state.tracer, coroutine_name(task))
+    line.watch(task)
+    task._itc_line = line
+    _begin(line)
+    return line
+
+
+def _adopt_thread() -> Line:
+    thread = threading._active.get(_thread.get_ident())  # type: ignore[attr-defined]
+    line = Line(state.tracer, "thread#" if thread is None else thread_name(thread))
+    local.line = line
+    if thread is not None:
+        thread._itc_line, thread._itc_is_adopted = line, True
+    _begin(line)
+    return line
+
+
+def _begin(line: Line) -> None:
+    tracer, note = line.tracer, state.note
+    if note is not None and tracer is not None:
+        note((SPAWN, tracer.parent_of_strangers, line, None, 0))
+
+
+def thread_name(thread: threading.Thread) -> str:
+    """The name that a thread was given, else that of what it runs with a number."""
+    name = thread.name
+    if name.startswith("Thread-") and name.endswith(")"):
+        return name.partition("(")[2][:-1] + "#"
+    return "thread#" if name.startswith("Thread-") else name
+
+
+def coroutine_name(task: Any) -> str:
+    """The name that a task was given, else that of its coroutine with a number."""
+    name = task.get_name()
+    if not name.startswith("Task-"):
+        return str(name)
+    return getattr(task.get_coro(), "__name__", "task") + "#"
+
+
+def mark(what: What, depth: int = 2) -> Token | None:
+    """A token for the place where the current task is now, for others to take. None where tracing is off."""
+    note = state.note
+    if note is None:
+        return None
+    token = Token(current(), what, *place(sys._getframe(depth)))
+    note((MARK, token))
+    return token
+
+
+def take(token: Token | None, depth: int = 2) -> None:
+    """From now on the current task comes after the place of the token."""
+    note = state.note
+    if note is None or token is None or token.line.tracer is not state.tracer:
+        return
+    line = current()
+    if line is not token.line:
+        note((TAKE, line, token, *place(sys._getframe(depth))))
+
+
+def touch(thing: str, write: bool = False, label: str | None = None) -> None:
+    """Notes that the current task reads or writes the thing, at the line of the program that calls this."""
+    note = state.note
+    if note is not None:
+        frame = sys._getframe(1)
+        note((TOUCH, current(), thing, write, frame.f_code, frame.f_lasti, label))

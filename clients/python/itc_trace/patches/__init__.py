@@ -1,0 +1,25 @@
+"""Everything of the standard library that is traced."""
+
+from __future__ import annotations
+
+from . import asynchronous, futures, queues, threads
+from .base import Patches
+
+_patches: Patches | None = None
+
+
+def put_all() -> None:
+    """Puts all traced methods in place. They note nothing until tracing begins."""
+    global _patches
+    if _patches is None:
+        _patches = Patches()
+        for module in (threads, queues, futures, asynchronous):
+            module.put(_patches)
+
+
+def take_all_back() -> None:
+    """Gives the library its own methods back. What was made meanwhile goes on, and notes nothing."""
+    global _patches
+    if _patches is not None:
+        _patches.take_back()
+        _patches = None

@@ -1,0 +1,574 @@
+"""Traces `asyncio`: each task is a task of the trace, and what asyncio promises puts tasks in order.
+
+Tasks of one loop take turns, but in which order is nobody's promise: that a task runs between two awaits of another is no
+order. Callbacks of a loop belong to the line of the loop's thread.
+"""
+
+from __future__ import annotations
+
+import asyncio
+import asyncio.base_events as base_events
+import asyncio.futures as futures_module
+import asyncio.locks as locks
+import asyncio.queues as queues_module
+import asyncio.tasks as tasks
+import sys
+from collections import deque
+from collections.abc import Iterator
+from typing import Any
+
+from ..lines import BARRIER, CALL, EVENT, LOCK, QUEUE, RESULT, SEMAPHORE, SPAWN, TAKE_END, Line, state
+from ..noting import current, is_internal, mark, place, take
+from .base import Patches, like
+from .futures import take_any
+from .queues import items_of, note_done, take_done
+
+_PlainTask: Any = tasks.Task
+_PlainFuture: Any = futures_module.Future
+_PlainGathering: Any = tasks._GatheringFuture  # type: ignore[attr-defined]
+_current_task = asyncio.current_task
+_running_loop = asyncio.events._get_running_loop
+_spawned: dict[int, tuple[Any, Line]] = {}
+"""The lines of coroutines that another thread has handed to a loop, until their tasks are made."""
+_named: dict[int, str] = {}
+"""The names that tasks of coroutines are to have, while their tasks are made."""
+
+
+def put(patches: Patches) -> None:
+    _put_tasks(patches)
+    _put_loops(patches)
+    _put_locks(patches)
+    _put_events(patches)
+    _put_semaphores(patches)
+    if hasattr(locks, "Barrier"):
+        _put_barriers(patches)
+    _put_queues(patches)
+
+
+class _LikePlain(type):
+    """Futures and tasks that were made otherwise are instances too."""
+
+    def __instancecheck__(cls, instance: object) -> bool:
+        return isinstance(instance, cls.__mro__[1])
+
+
+# Tasks and futures
+
+
+def _waits_inside(frame: Any) -> bool:
+    """Whether asyncio itself looks at a future, on its way to the loop: that is no order for anybody's task."""
+    if not is_internal(frame) or frame.f_code in _ON_BEHALF:
+        return False
+    loop = _running_loop()
+    return loop is None or _current_task(loop) is None
+
+
+def _awaiting(plain: Any) -> Any:
+    """An `__await__` after which the awaiting task comes after the future's result."""
+
+    def __await__(self: Any) -> Iterator[Any]:
+        try:
+            result = yield from plain.__await__(self)
+        finally:
+            if self.done() and state.note is not None:
+                take_any(self)
+        return result
+
+    return __await__
+
+
+def _looking(plain: Any, name: str) -> Any:
+    original = getattr(plain, name)
+
+    def look(self: Any) -> Any:
+        if state.note is not None and self.done() and not _waits_inside(sys._getframe(1)):
+            take_any(self)
+        return original(self)
+
+    return like(original, look)
+
+
+class TracedTask(_PlainTask, metaclass=_LikePlain):  # type: ignore[misc]
+    """A task that is begun by whoever makes it, and awaited by whoever takes its result."""
+
+    def __init__(self, coro: Any, **named: Any) -> None:
+        self._itc_line = _begin_task(self, coro, named.get("name"))
+        super().__init__(coro, **named)
+
+    __await__ = _awaiting(_PlainTask)
+    __iter__ = __await__
+    result = _looking(_PlainTask, "result")
+    exception = _looking(_PlainTask, "exception")
+
+
+def _begin_task(task: Any, coro: Any, name: Any) -> Line | None:
+    note = state.note
+    if note is None:
+        return None
+    _, line = _spawned.pop(id(coro), (None, None))
+    name = _named.pop(id(coro), name)
+    if line is None:
+        line = _spawn(coro, name, 3)
+    if line is not None:
+        line.watch(task)
+    return line
+
+
+def _spawn(coro: Any, name: Any, depth: int) -> Line | None:
+    note = state.note
+    if note is None:
+        return None
+    line = Line(state.tracer, str(name) if name else getattr(coro, "__name__", "task") + "#")
+    note((SPAWN, current(), line, *place(sys._getframe(depth))))
+    return line
+
+
+class TracedFuture(_PlainFuture, metaclass=_LikePlain):  # type: ignore[misc]
+    """A future whose result is a message from who sets it to who takes it."""
+
+    _itc_token = None
+    _itc_sources: tuple[Any, ...] = ()
+
+    def set_result(self, result: Any) -> None:
+        if not self._itc_sources:
+            self._itc_token = mark(RESULT)
+        super().set_result(result)
+
+    def set_exception(self, exception: Any) -> None:
+        if not self._itc_sources:
+            self._itc_token = mark(RESULT)
+        super().set_exception(exception)
+
+    __await__ = _awaiting(_PlainFuture)
+    __iter__ = __await__
+    result = _looking(_PlainFuture, "result")
+    exception = _looking(_PlainFuture, "exception")
+
+
+class TracedGathering(_PlainGathering, metaclass=_LikePlain):  # type: ignore[misc]
+    """The future of a gathering: whoever takes its result comes after all that were gathered."""
+
+    _itc_token = None
+
+    @property
+    def _itc_sources(self) -> list[Any]:
+        error = None if self.cancelled() else _PlainGathering.exception(self)
+        done = [child for child in self._children if child.done()]
+        if error is None:
+            return done
+        return [child for child in done if not child.cancelled() and type(child).__mro__ and _error_of(child) is error]
+
+    __await__ = _awaiting(_PlainGathering)
+    __iter__ = __await__
+    result = _looking(_PlainGathering, "result")
+    exception = _looking(_PlainGathering, "exception")
+
+
+def _error_of(future: Any) -> Any:
+    plain = _PlainTask if isinstance(future, _PlainTask) else _PlainFuture
+    return plain.exception(future)
+
+
+for _traced, _name in ((TracedTask, "Task"), (TracedFuture, "Future"), (TracedGathering, "_GatheringFuture")):
+    _traced.__name__ = _traced.__qualname__ = _name
+
+
+def _put_tasks(patches: Patches) -> None:
+    patches.replace(asyncio, "Task", TracedTask)
+    patches.put(tasks, "Task", TracedTask)
+    patches.replace(asyncio, "Future", TracedFuture)
+    patches.put(tasks, "_GatheringFuture", TracedGathering)
+    patches.wrap(base_events.BaseEventLoop, "create_task", _naming)
+    patches.replace(asyncio, "create_task", like(tasks.create_task, _naming(tasks.create_task)))
+    patches.wrap(base_events.BaseEventLoop, "create_future", _create_future)
+    patches.wrap(futures_module, "wrap_future", _wrap_future)
+    patches.replace(asyncio, "wrap_future", futures_module.wrap_future)
+    patches.wrap(futures_module, "_chain_future", _chain_future)
+    patches.replace(asyncio, "shield", like(tasks.shield, _shield(tasks.shield)))
+    patches.replace(asyncio, "wait", like(tasks.wait, _wait(tasks.wait)))
+    handed = like(tasks.run_coroutine_threadsafe, _run_coroutine_threadsafe(tasks.run_coroutine_threadsafe))
+    patches.replace(asyncio, "run_coroutine_threadsafe", handed)
+    if hasattr(asyncio, "TaskGroup"):
+        patches.wrap(asyncio.TaskGroup, "create_task", _group_create_task)
+        patches.wrap(asyncio.TaskGroup, "__aexit__", _group_leave)
+
+
+_ON_BEHALF = {base_events.BaseEventLoop.run_until_complete.__code__}
+"""Code of asyncio that takes a result for the thread that called it."""
+_FOR_THE_PROGRAM = {futures_module.wrap_future.__code__, tasks.shield.__code__}
+"""Code of asyncio that makes a future for the program to wait for."""
+
+
+def _naming(original: Any) -> Any:
+    """A maker of tasks that tells the task's name while it makes it; some set the name only afterwards."""
+
+    def create_task(*words: Any, name: Any = None, **named: Any) -> Any:
+        if name is None or state.note is None:
+            return original(*words, name=name, **named)
+        _named[id(words[-1])] = str(name)
+        try:
+            return original(*words, name=name, **named)
+        finally:
+            _named.pop(id(words[-1]), None)
+
+    return create_task
+
+
+def _create_future(original: Any) -> Any:
+    def create_future(self: Any) -> Any:
+        frame = sys._getframe(1)
+        if is_internal(frame) and frame.f_code not in _FOR_THE_PROGRAM:
+            return original(self)
+        return TracedFuture(loop=self)
+
+    return create_future
+
+
+def _wrap_future(original: Any) -> Any:
+    def wrap_future(future: Any, *, loop: Any = None) -> Any:
+        made = original(future, loop=loop)
+        if made is not future and isinstance(made, TracedFuture):
+            made._itc_sources = (future,)
+        return made
+
+    return wrap_future
+
+
+def _chain_future(original: Any) -> Any:
+    def _chain_future(source: Any, destination: Any) -> None:
+        if not asyncio.isfuture(destination):
+            destination._itc_sources = (source,)
+        original(source, destination)
+
+    return _chain_future
+
+
+def _shield(original: Any) -> Any:
+    def shield(arg: Any) -> Any:
+        inner = asyncio.ensure_future(arg) if asyncio.isfuture(arg) or asyncio.iscoroutine(arg) else arg
+        outer = original(inner)
+        if outer is not inner and type(outer) is TracedFuture:
+            outer._itc_sources = (inner,)
+        return outer
+
+    return shield
+
+
+def _wait(original: Any) -> Any:
+    async def wait(fs: Any, **named: Any) -> Any:
+        done, pending = await original(fs, **named)
+        for future in done:
+            take_any(future)
+        return done, pending
+
+    return wait
+
+
+def _run_coroutine_threadsafe(original: Any) -> Any:
+    def run_coroutine_threadsafe(coro: Any, loop: Any) -> Any:
+        line = _spawn(coro, None, 2) if asyncio.iscoroutine(coro) else None
+        if line is not None:
+            _spawned[id(coro)] = coro, line
+        return original(coro, loop)
+
+    return run_coroutine_threadsafe
+
+
+def _group_create_task(original: Any) -> Any:
+    def create_task(self: Any, coro: Any, **named: Any) -> Any:
+        task = original(self, coro, **named)
+        line = getattr(task, "_itc_line", None)
+        if line is not None:
+            self.__dict__.setdefault("_itc_lines", []).append(line)
+        return task
+
+    return create_task
+
+
+def _group_leave(original: Any) -> Any:
+    async def __aexit__(self: Any, *words: Any) -> Any:
+        try:
+            return await original(self, *words)
+        finally:
+            note = state.note
+            if note is not None:
+                for line in self.__dict__.pop("_itc_lines", ()):
+                    if line.tracer is state.tracer:
+                        note((TAKE_END, current(), line, *place(sys._getframe(1))))
+
+    return __aexit__
+
+
+# Callbacks of loops
+
+
+def _put_loops(patches: Patches) -> None:
+    loop = base_events.BaseEventLoop
+    for name in ("call_soon", "call_soon_threadsafe"):
+        patches.wrap(loop, name, _call)
+    patches.wrap(loop, "call_at", _call_at)
+
+
+def _is_the_programs(callback: Any) -> bool:
+    function = getattr(callback, "__func__", callback)
+    function = getattr(function, "func", function)
+    if isinstance(getattr(callback, "__self__", None), TracedFuture | asyncio.Event):
+        return True
+    module = getattr(function, "__module__", None)
+    return isinstance(module, str) and module.partition(".")[0] not in {"asyncio", "_asyncio", "concurrent", "itc_trace"}
+
+
+def _after_caller(callback: Any) -> Any:
+    """The callback, called after whoever asked for it."""
+    if state.note is None or not callable(callback) or not _is_the_programs(callback):
+        return callback
+    token = mark(CALL, 4)
+    if token is None:
+        return callback
+
+    def called(*args: Any) -> Any:
+        take(token)
+        return callback(*args)
+
+    return like(callback, called)
+
+
+def _call(original: Any) -> Any:
+    def call(self: Any, callback: Any, *args: Any, context: Any = None) -> Any:
+        if state.note is not None:
+            callback = _after_caller(callback)
+        return original(self, callback, *args, context=context)
+
+    return call
+
+
+def _call_at(original: Any) -> Any:
+    def call_at(self: Any, when: Any, callback: Any, *args: Any, context: Any = None) -> Any:
+        if state.note is not None:
+            callback = _after_caller(callback)
+        return original(self, when, callback, *args, context=context)
+
+    return call_at
+
+
+# Locks
+
+
+def _put_locks(patches: Patches) -> None:
+    patches.put(locks.Lock, "_itc_token", None)
+    patches.put(locks.Lock, "_itc_is_silent", False)
+    patches.wrap(locks.Lock, "acquire", _lock_acquire)
+    patches.wrap(locks.Lock, "release", _lock_release)
+    patches.wrap(locks.Condition, "__init__", _condition_begin)
+
+
+def _condition_begin(original: Any) -> Any:
+    def __init__(self: Any, lock: Any = None, **named: Any) -> None:
+        original(self, lock, **named)
+        if lock is None and is_internal(sys._getframe(1)):
+            self._lock._itc_is_silent = True
+
+    return __init__
+
+
+def _lock_acquire(original: Any) -> Any:
+    async def acquire(self: Any) -> Any:
+        told = await original(self)
+        token, self._itc_token = self._itc_token, None
+        take(token)
+        return told
+
+    return acquire
+
+
+def _lock_release(original: Any) -> Any:
+    def release(self: Any) -> None:
+        if state.note is not None and not self._itc_is_silent and self._locked:
+            self._itc_token = mark(LOCK)
+        original(self)
+
+    return release
+
+
+# Events
+
+
+def _put_events(patches: Patches) -> None:
+    event = locks.Event
+    patches.put(event, "_itc_token", None)
+    patches.put(event, "_itc_is_silent", False)
+    patches.wrap(event, "__init__", _event_begin)
+    patches.wrap(event, "set", _event_set)
+    patches.wrap(event, "wait", _event_wait)
+    patches.wrap(event, "is_set", _event_is_set)
+
+
+def _event_begin(original: Any) -> Any:
+    def __init__(self: Any, **named: Any) -> None:
+        original(self, **named)
+        self._itc_is_silent = is_internal(sys._getframe(1))
+
+    return __init__
+
+
+def _event_set(original: Any) -> Any:
+    def set(self: Any) -> None:
+        if state.note is not None and not self._value and not self._itc_is_silent:
+            self._itc_token = mark(EVENT)
+        original(self)
+
+    return set
+
+
+def _event_wait(original: Any) -> Any:
+    async def wait(self: Any) -> Any:
+        told = await original(self)
+        take(self._itc_token)
+        return told
+
+    return wait
+
+
+def _event_is_set(original: Any) -> Any:
+    def is_set(self: Any) -> bool:
+        is_on = bool(original(self))
+        if is_on and self._itc_token is not None and not is_internal(sys._getframe(1)):
+            take(self._itc_token)
+        return is_on
+
+    return is_set
+
+
+# Semaphores
+
+
+def _put_semaphores(patches: Patches) -> None:
+    patches.wrap(locks.Semaphore, "__init__", _semaphore_begin)
+    patches.wrap(locks.Semaphore, "acquire", _semaphore_acquire)
+    patches.wrap(locks.Semaphore, "release", _semaphore_release)
+
+
+def _semaphore_begin(original: Any) -> Any:
+    def __init__(self: Any, value: int = 1, **named: Any) -> None:
+        original(self, value, **named)
+        if value <= 65536:
+            self._itc_permits = deque([None] * value)
+
+    return __init__
+
+
+def _semaphore_acquire(original: Any) -> Any:
+    async def acquire(self: Any) -> Any:
+        told = await original(self)
+        permits = self.__dict__.get("_itc_permits")
+        if permits:
+            take(permits.popleft())
+        return told
+
+    return acquire
+
+
+def _semaphore_release(original: Any) -> Any:
+    def release(self: Any) -> None:
+        permits = self.__dict__.get("_itc_permits")
+        if permits is not None:
+            permits.append(mark(SEMAPHORE))
+        original(self)
+
+    return release
+
+
+# Barriers
+
+
+def _put_barriers(patches: Patches) -> None:
+    barrier = locks.Barrier
+    patches.put(barrier, "_itc_arrived", ())
+    patches.put(barrier, "_itc_opened", None)
+    patches.wrap(barrier, "_block", _barrier_block)
+    patches.wrap(barrier, "_release", _barrier_release)
+    patches.wrap(barrier, "_wait", _barrier_wait)
+
+
+def _barrier_block(original: Any) -> Any:
+    async def _block(self: Any) -> None:
+        await original(self)
+        if self._count == 0:
+            self._itc_arrived = []
+        if state.note is not None and type(self._itc_arrived) is list:
+            self._itc_arrived.append(mark(BARRIER))
+
+    return _block
+
+
+def _barrier_release(original: Any) -> Any:
+    async def _release(self: Any) -> None:
+        for token in self._itc_arrived:
+            take(token)
+        self._itc_arrived = ()
+        self._itc_opened = mark(BARRIER)
+        await original(self)
+
+    return _release
+
+
+def _barrier_wait(original: Any) -> Any:
+    async def _wait(self: Any) -> None:
+        await original(self)
+        take(self._itc_opened)
+
+    return _wait
+
+
+# Queues
+
+
+def _put_queues(patches: Patches) -> None:
+    queue = queues_module.Queue
+    patches.wrap(queue, "put_nowait", _put_nowait)
+    patches.wrap(queue, "get_nowait", _get_nowait)
+    patches.wrap(queue, "task_done", _task_done)
+    patches.wrap(queue, "join", _queue_join)
+
+
+def _put_nowait(original: Any) -> Any:
+    def put_nowait(self: Any, item: Any) -> None:
+        token = mark(QUEUE)
+        if token is None:
+            return original(self, item)  # type: ignore[no-any-return]
+        items = items_of(self)
+        items.add(item, token)
+        try:
+            return original(self, item)  # type: ignore[no-any-return]
+        except BaseException:
+            items.remove(item, from_end=True)
+            raise
+
+    return put_nowait
+
+
+def _get_nowait(original: Any) -> Any:
+    def get_nowait(self: Any) -> Any:
+        item = original(self)
+        items = self.__dict__.get("_itc_items")
+        if items is not None:
+            take(items.remove(item))
+        return item
+
+    return get_nowait
+
+
+def _task_done(original: Any) -> Any:
+    def task_done(self: Any) -> None:
+        note_done(self)
+        return original(self)  # type: ignore[no-any-return]
+
+    return task_done
+
+
+def _queue_join(original: Any) -> Any:
+    async def join(self: Any) -> None:
+        await original(self)
+        take_done(self)
+
+    return join

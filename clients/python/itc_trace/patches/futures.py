@@ -1,0 +1,217 @@
+"""Traces `concurrent.futures`: a job comes after its submission, and whoever takes a result after the job.
+
+Each job of a pool is a task of its own, whichever thread runs it: a pool promises no order between its jobs. Where one thread
+runs all of them, or where tasks become scarce, a job belongs to the line of the pool's thread.
+"""
+
+from __future__ import annotations
+
+import concurrent.futures
+import concurrent.futures._base as base
+import concurrent.futures.thread as pools
+import sys
+from collections.abc import Iterator
+from typing import Any
+
+from ..lines import FINISH, RESULT, SPAWN, SUBMIT, TAKE_END, WORKER, Line, state
+from ..noting import current, is_internal, local, mark, place, take
+from .base import Patches, like
+
+_DONE = {base.CANCELLED, base.CANCELLED_AND_NOTIFIED, base.FINISHED}
+
+
+def put(patches: Patches) -> None:
+    future = base.Future
+    patches.put(future, "_itc_token", None)
+    patches.put(future, "_itc_sources", ())
+    for name in ("set_result", "set_exception"):
+        patches.wrap(future, name, _set)
+    for name in ("result", "exception"):
+        patches.wrap(future, name, _result)
+    patches.wrap(future, "cancel", _cancel)
+    patches.wrap(future, "done", _done)
+    patches.wrap(future, "add_done_callback", _add_done_callback)
+    _put_pools(patches)
+    patches.replace(concurrent.futures, "wait", like(base.wait, _wait(base.wait)))
+    patches.replace(concurrent.futures, "as_completed", like(base.as_completed, _as_completed(base.as_completed)))
+
+
+# Results
+
+
+def take_result(future: Any, depth: int = 2) -> None:
+    """From now on the current task comes after whatever gave the future its result."""
+    if future._itc_sources:
+        for source in future._itc_sources:
+            take_any(source, depth + 1)
+    elif future._itc_token is not None:
+        take(future._itc_token, depth + 1)
+
+
+def take_any(future: Any, depth: int = 2) -> None:
+    """The same of a future of any kind: of a task of asyncio it is the task's end."""
+    line = getattr(future, "_itc_line", None)
+    if line is not None and not isinstance(future, base.Future):
+        note = state.note
+        if note is not None and line.tracer is state.tracer:
+            note((TAKE_END, current(), line, *place(sys._getframe(depth))))
+    elif hasattr(future, "_itc_sources"):
+        take_result(future, depth + 1)
+
+
+def _set(original: Any) -> Any:
+    def set(self: Any, value: Any) -> None:
+        if state.note is not None and not self._itc_sources:
+            self._itc_token = mark(RESULT)
+        original(self, value)
+
+    return set
+
+
+def _cancel(original: Any) -> Any:
+    def cancel(self: Any) -> bool:
+        token = mark(RESULT)
+        is_cancelled = bool(original(self))
+        if is_cancelled and self._itc_token is None:
+            self._itc_token = token
+        return is_cancelled
+
+    return cancel
+
+
+def _result(original: Any) -> Any:
+    def result(self: Any, timeout: float | None = None) -> Any:
+        try:
+            return original(self, timeout)
+        finally:
+            if self._state in _DONE:
+                take_result(self)
+
+    return result
+
+
+def _done(original: Any) -> Any:
+    def done(self: Any) -> bool:
+        is_done = bool(original(self))
+        if is_done and not is_internal(sys._getframe(1)):
+            take_result(self)
+        return is_done
+
+    return done
+
+
+def _add_done_callback(original: Any) -> Any:
+    def add_done_callback(self: Any, fn: Any) -> None:
+        if self._state in _DONE and not is_internal(sys._getframe(1)):
+            take_result(self)  # It is called at once.
+        return original(self, fn)  # type: ignore[no-any-return]
+
+    return add_done_callback
+
+
+def _wait(original: Any) -> Any:
+    def wait(fs: Any, timeout: float | None = None, return_when: str = base.ALL_COMPLETED) -> Any:
+        told = original(fs, timeout, return_when)
+        for future in told.done:
+            take_result(future)
+        return told
+
+    return wait
+
+
+def _as_completed(original: Any) -> Any:
+    def as_completed(fs: Any, timeout: float | None = None) -> Iterator[Any]:
+        for future in original(fs, timeout):
+            take_result(future)
+            yield future
+
+    return as_completed
+
+
+# Pools
+
+
+def _put_pools(patches: Patches) -> None:
+    patches.wrap(pools.ThreadPoolExecutor, "submit", _submit)
+    patches.wrap(pools.ThreadPoolExecutor, "shutdown", _shutdown)
+    patches.wrap(pools._WorkItem, "__init__", _item_begin)
+    patches.wrap(pools._WorkItem, "run", _item_run)
+
+
+def _submit(original: Any) -> Any:
+    def submit(self: Any, fn: Any, /, *args: Any, **kwargs: Any) -> Any:
+        local.submitting = self, getattr(fn, "__name__", "job")
+        try:
+            return original(self, fn, *args, **kwargs)
+        finally:
+            local.submitting = None
+
+    return submit
+
+
+def _item_begin(original: Any) -> Any:
+    def __init__(self: Any, future: Any, *words: Any) -> None:
+        original(self, future, *words)
+        submitting = getattr(local, "submitting", None)
+        if state.note is not None and submitting is not None:
+            _begin_job(self, future, *submitting)
+
+    return __init__
+
+
+def _begin_job(item: Any, future: Any, pool: Any, name: str) -> None:
+    """The job is begun where it is submitted."""
+    note, tracer = state.note, state.tracer
+    if note is None or tracer is None:
+        return
+    tracer.lines_made += 1
+    if pool._max_workers == 1 or tracer.lines_made > tracer.most_lines:
+        item._itc_submitted = mark(SUBMIT, 5)
+        return
+    line = Line(tracer, name + "#")
+    line.watch(future)
+    future._itc_line = item._itc_line = line
+    item._itc_is_after_worker = getattr(pool, "_initializer", None) is not None
+    pool.__dict__.setdefault("_itc_jobs", []).append(line)
+    note((SPAWN, current(), line, *place(sys._getframe(4))))
+
+
+def _item_run(original: Any) -> Any:
+    def run(self: Any, *words: Any) -> None:
+        line = self.__dict__.get("_itc_line")
+        if line is None or line.tracer is not state.tracer:
+            take(self.__dict__.get("_itc_submitted"))
+            return original(self, *words)  # type: ignore[no-any-return]
+        ready = mark(WORKER) if self._itc_is_after_worker else None
+        worker = getattr(local, "line", None)
+        line.must_finish = True
+        local.line = line
+        take(ready)
+        try:
+            return original(self, *words)  # type: ignore[no-any-return]
+        finally:
+            local.line = worker
+            note = state.note
+            if note is not None:
+                note((FINISH, line, False, False))
+
+    return run
+
+
+def _shutdown(original: Any) -> Any:
+    def shutdown(self: Any, wait: bool = True, **named: Any) -> None:
+        original(self, wait, **named)
+        jobs = self.__dict__.get("_itc_jobs")
+        if wait and jobs:
+            _take_jobs(jobs)
+
+    return shutdown
+
+
+def _take_jobs(jobs: list[Line]) -> None:
+    """Whoever has waited for the pool's end comes after all of its jobs."""
+    where = place(sys._getframe(2))
+    for line in list(jobs):
+        note = state.note
+        if note is not None and line.tracer is state.tracer:
+            note((TAKE_END, current(), line, *where))

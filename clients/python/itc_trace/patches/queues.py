@@ -1,0 +1,153 @@
+"""Traces `queue`: an item is a message from who puts it to who gets it."""
+
+from __future__ import annotations
+
+import _queue
+import _thread
+import queue
+import sys
+from collections import deque
+from typing import Any
+
+from ..lines import DONE_ITEM, QUEUE, Token, state
+from ..noting import is_internal, mark, take
+from .base import Patches
+
+_guard = _thread.RLock()
+_PlainSimpleQueue: Any = _queue.SimpleQueue
+
+
+def put(patches: Patches) -> None:
+    patches.wrap(queue.Queue, "put", _put)
+    patches.wrap(queue.Queue, "get", _get)
+    patches.wrap(queue.Queue, "task_done", _task_done)
+    patches.wrap(queue.Queue, "join", _join)
+    patches.replace(queue, "SimpleQueue", TracedSimpleQueue)
+
+
+class Items:
+    """The tokens of what lies in a queue, by the identity of the items."""
+
+    def __init__(self, is_stack: bool) -> None:
+        self._tokens: dict[int, deque[Token | None]] = {}
+        self._is_stack = is_stack
+
+    def add(self, item: object, token: Token | None) -> None:
+        with _guard:
+            self._tokens.setdefault(id(item), deque()).append(token)
+
+    def remove(self, item: object, from_end: bool = False) -> Token | None:
+        """The token of an item that has been taken out. Where one thing lies there twice, the queue's order decides."""
+        with _guard:
+            tokens = self._tokens.get(id(item))
+            if not tokens:
+                return None
+            token = tokens.pop() if self._is_stack or from_end else tokens.popleft()
+            if not tokens:
+                del self._tokens[id(item)]
+            return token
+
+
+def items_of(one: Any) -> Items:
+    items: Items | None = one.__dict__.get("_itc_items")
+    if items is None:
+        items = one.__dict__.setdefault("_itc_items", Items("Lifo" in type(one).__name__))
+    return items
+
+
+def _put(original: Any) -> Any:
+    def put(self: Any, item: Any, block: bool = True, timeout: float | None = None) -> None:
+        token = mark(QUEUE)
+        if token is None:
+            return original(self, item, block, timeout)  # type: ignore[no-any-return]
+        items = items_of(self)
+        items.add(item, token)
+        try:
+            return original(self, item, block, timeout)  # type: ignore[no-any-return]
+        except BaseException:
+            items.remove(item, from_end=True)
+            raise
+
+    return put
+
+
+def _get(original: Any) -> Any:
+    def get(self: Any, block: bool = True, timeout: float | None = None) -> Any:
+        item = original(self, block, timeout)
+        items = self.__dict__.get("_itc_items")
+        if items is not None:
+            take(items.remove(item))
+        return item
+
+    return get
+
+
+def note_done(one: Any) -> None:
+    """Keeps for whoever joins the queue where each task has said last that an item is done."""
+    token = mark(DONE_ITEM, 3)
+    if token is not None:
+        with _guard:
+            one.__dict__.setdefault("_itc_done", {})[token.line] = token
+
+
+def take_done(one: Any) -> None:
+    with _guard:
+        tokens = list(one.__dict__.get("_itc_done", {}).values())
+    for token in tokens:
+        take(token, 3)
+
+
+def _task_done(original: Any) -> Any:
+    def task_done(self: Any) -> None:
+        note_done(self)
+        return original(self)  # type: ignore[no-any-return]
+
+    return task_done
+
+
+def _join(original: Any) -> Any:
+    def join(self: Any) -> None:
+        original(self)
+        take_done(self)
+
+    return join
+
+
+class _Box:
+    """An item on its way through a queue, with its token."""
+
+    __slots__ = ("item", "token")
+
+    def __init__(self, item: Any, token: Token) -> None:
+        self.item = item
+        self.token = token
+
+
+class TracedSimpleQueue(_PlainSimpleQueue):  # type: ignore[misc]
+    """A simple queue that hands the place of each `put` on with the item."""
+
+    def __new__(cls) -> Any:
+        if is_internal(sys._getframe(1)):
+            return _PlainSimpleQueue()
+        return _PlainSimpleQueue.__new__(cls)
+
+    def put(self, item: Any, block: bool = True, timeout: float | None = None) -> None:
+        token = mark(QUEUE) if state.note is not None else None
+        _PlainSimpleQueue.put(self, item if token is None else _Box(item, token), block, timeout)
+
+    def get(self, block: bool = True, timeout: float | None = None) -> Any:
+        return _opened(_PlainSimpleQueue.get(self, block, timeout))
+
+    def put_nowait(self, item: Any) -> None:
+        token = mark(QUEUE) if state.note is not None else None
+        _PlainSimpleQueue.put_nowait(self, item if token is None else _Box(item, token))
+
+    def get_nowait(self) -> Any:
+        return _opened(_PlainSimpleQueue.get_nowait(self))
+
+
+def _opened(item: Any) -> Any:
+    if type(item) is _Box:
+        take(item.token, 3)
+        return item.item
+    return item

@@ -1,0 +1,300 @@
+"""Traces `threading`: what its threads, locks, events, barriers and semaphores put in order."""
+
+from __future__ import annotations
+
+import _thread
+import sys
+import threading
+from collections import deque
+from typing import Any
+
+from ..lines import BARRIER, EVENT, FINISH, JOIN, SEMAPHORE, SPAWN, Line, state
+from ..noting import current, is_internal, local, mark, place, take, thread_name
+from .base import Patches
+from .locks import TracedLock, TracedRLock
+
+_PLAIN_RLOCK: Any = _thread.RLock
+
+MOST_PERMITS = 65536
+"""A semaphore that begins with more of them holds nobody back, and is not traced."""
+
+
+def put(patches: Patches) -> None:
+    patches.replace(threading, "Lock", TracedLock)
+    patches.replace(threading, "RLock", TracedRLock)
+    _put_threads(patches)
+    patches.wrap(threading.Condition, "__init__", _condition_begin)
+    _put_events(patches)
+    _put_semaphores(patches)
+    _put_barriers(patches)
+
+
+# Threads
+
+
+def _put_threads(patches: Patches) -> None:
+    thread = threading.Thread
+    patches.wrap(thread, "start", _start)
+    patches.wrap(thread, "_bootstrap", _bootstrap)
+    patches.wrap(thread, "join", _join)
+    patches.wrap(thread, "is_alive", _is_alive)
+    for name in ("start_new_thread", "start_new"):
+        patches.replace(_thread, name, _start_plain(getattr(_thread, name)))
+
+
+def _start(original: Any) -> Any:
+    def start(self: threading.Thread) -> None:
+        note = state.note
+        if note is None or self.ident is not None:
+            return original(self)  # type: ignore[no-any-return]
+        line = Line(state.tracer, thread_name(self))
+        line.must_finish = True
+        line.watch(self)
+        self._itc_line = line  # type: ignore[attr-defined]
+        note((SPAWN, current(), line, *place(sys._getframe(1))))
+        return original(self)  # type: ignore[no-any-return]
+
+    return start
+
+
+def _bootstrap(original: Any) -> Any:
+    def bootstrap(self: threading.Thread) -> None:
+        line = self.__dict__.get("_itc_line")
+        if line is None:
+            return original(self)  # type: ignore[no-any-return]
+        local.line = line
+        try:
+            return original(self)  # type: ignore[no-any-return]
+        finally:
+            _note_end(line)
+
+    return bootstrap
+
+
+def _note_end(line: Line) -> None:
+    note = state.note
+    if note is not None and line.tracer is state.tracer:
+        note((FINISH, line, True, line.waiting > 1))
+
+
+def _join(original: Any) -> Any:
+    def join(self: threading.Thread, timeout: float | None = None) -> None:
+        line = self.__dict__.get("_itc_line")
+        if line is None or state.note is None:
+            return original(self, timeout)  # type: ignore[no-any-return]
+        line.waiting += 1
+        try:
+            original(self, timeout)
+        finally:
+            line.waiting -= 1
+        if not threading.Thread.is_alive.__wrapped__(self):  # type: ignore[attr-defined]
+            _note_join(self, line)
+        return None
+
+    return join
+
+
+def _is_alive(original: Any) -> Any:
+    def is_alive(self: threading.Thread) -> bool:
+        alive = bool(original(self))
+        line = self.__dict__.get("_itc_line")
+        if not alive and line is not None and not is_internal(sys._getframe(1)):
+            _note_join(self, line)
+        return alive
+
+    return is_alive
+
+
+def _note_join(thread: threading.Thread, line: Line) -> None:
+    note = state.note
+    if note is None or line.tracer is not state.tracer:
+        return
+    if thread.__dict__.pop("_itc_is_adopted", False):
+        note((FINISH, line, True, False))  # It began before tracing did, so nobody noted its end.
+    note((JOIN, current(), line, *place(sys._getframe(2))))
+
+
+def _start_plain(original: Any) -> Any:
+    def start_new_thread(function: Any, args: Any, kwargs: Any = None, /) -> int:
+        note = state.note
+        words = (args,) if kwargs is None else (args, kwargs)
+        frame = sys._getframe(1)
+        if note is None or is_internal(frame) or not callable(function):
+            return original(function, *words)  # type: ignore[no-any-return]
+        line = Line(state.tracer, getattr(function, "__name__", "thread") + "#")
+
+        def run(*args: Any, **kwargs: Any) -> None:
+            local.line = line
+            try:
+                function(*args, **kwargs)
+            finally:
+                _note_end(line)
+
+        note((SPAWN, current(), line, *place(frame)))
+        return original(run, *words)  # type: ignore[no-any-return]
+
+    return start_new_thread
+
+
+# Conditions: their lock tells all, since whoever notifies holds it, and whoever wakes up has acquired it again.
+
+
+def _condition_begin(original: Any) -> Any:
+    def __init__(self: threading.Condition, lock: Any = None) -> None:
+        if lock is None and not is_internal(sys._getframe(1)):
+            lock = _traced_rlock()
+        elif lock is None:
+            lock = _PLAIN_RLOCK()
+        original(self, lock)
+
+    return __init__
+
+
+def _traced_rlock() -> Any:
+    lock = _PLAIN_RLOCK.__new__(TracedRLock)
+    lock._token, lock._depth = None, 0
+    return lock
+
+
+# Events
+
+
+def _put_events(patches: Patches) -> None:
+    event = threading.Event
+    patches.put(event, "_itc_is_silent", False)
+    patches.put(event, "_itc_token", None)
+    patches.wrap(event, "__init__", _event_begin)
+    patches.wrap(event, "set", _event_set)
+    patches.wrap(event, "wait", _event_wait)
+    patches.wrap(event, "is_set", _event_is_set)
+    if "isSet" in vars(event):
+        patches.wrap(event, "isSet", _event_is_set)
+
+
+def _event_begin(original: Any) -> Any:
+    def __init__(self: Any) -> None:
+        original(self)
+        self._itc_is_silent = is_internal(sys._getframe(1))
+
+    return __init__
+
+
+def _event_set(original: Any) -> Any:
+    def set(self: Any) -> None:
+        if state.note is not None and not self._flag and not self._itc_is_silent:
+            self._itc_token = mark(EVENT)
+        original(self)
+
+    return set
+
+
+def _event_wait(original: Any) -> Any:
+    def wait(self: Any, timeout: float | None = None) -> bool:
+        is_set = bool(original(self, timeout))
+        if is_set and self._itc_token is not None:
+            take(self._itc_token)
+        return is_set
+
+    return wait
+
+
+def _event_is_set(original: Any) -> Any:
+    def is_set(self: Any) -> bool:
+        is_on = bool(original(self))
+        if is_on and self._itc_token is not None and not is_internal(sys._getframe(1)):
+            take(self._itc_token)
+        return is_on
+
+    return is_set
+
+
+# Semaphores: the permits are handed on first in, first out, those that were there from the beginning first.
+
+
+def _put_semaphores(patches: Patches) -> None:
+    semaphore, bounded = threading.Semaphore, threading.BoundedSemaphore
+    patches.wrap(semaphore, "__init__", _semaphore_begin)
+    patches.wrap(semaphore, "acquire", _semaphore_acquire)
+    patches.put(semaphore, "__enter__", semaphore.acquire)
+    patches.wrap(semaphore, "release", _semaphore_release)
+    patches.wrap(bounded, "release", _semaphore_release)
+
+
+def _semaphore_begin(original: Any) -> Any:
+    def __init__(self: Any, value: int = 1) -> None:
+        original(self, value)
+        is_the_programs = isinstance(self, threading.BoundedSemaphore) or not is_internal(sys._getframe(1))
+        if is_the_programs and value <= MOST_PERMITS:
+            self._itc_permits = deque([None] * value)
+
+    return __init__
+
+
+def _semaphore_acquire(original: Any) -> Any:
+    def acquire(self: Any, blocking: bool = True, timeout: float | None = None) -> bool:
+        is_acquired = bool(original(self, blocking, timeout))
+        permits = self.__dict__.get("_itc_permits")
+        if is_acquired and permits:
+            take(permits.popleft())
+        return is_acquired
+
+    return acquire
+
+
+def _semaphore_release(original: Any) -> Any:
+    def release(self: Any, n: int = 1) -> None:
+        permits = self.__dict__.get("_itc_permits")
+        if permits is None:
+            return original(self, n)  # type: ignore[no-any-return]
+        token = mark(SEMAPHORE)
+        permits.extend([token] * n)
+        try:
+            return original(self, n)  # type: ignore[no-any-return]
+        except BaseException:
+            for _ in range(n):
+                permits.pop()
+            raise
+
+    return release
+
+
+# Barriers: the last one that arrives comes after all the others, and all leave after it.
+
+
+def _put_barriers(patches: Patches) -> None:
+    barrier = threading.Barrier
+    patches.put(barrier, "_itc_arrived", ())
+    patches.put(barrier, "_itc_opened", None)
+    patches.wrap(barrier, "_enter", _barrier_enter)
+    patches.wrap(barrier, "_release", _barrier_release)
+    patches.wrap(barrier, "_wait", _barrier_wait)
+
+
+def _barrier_enter(original: Any) -> Any:
+    def _enter(self: Any) -> None:
+        original(self)
+        if self._count == 0:
+            self._itc_arrived = []
+        if state.note is not None and type(self._itc_arrived) is list:
+            self._itc_arrived.append(mark(BARRIER))
+
+    return _enter
+
+
+def _barrier_release(original: Any) -> Any:
+    def _release(self: Any) -> None:
+        for token in self._itc_arrived:
+            take(token)
+        self._itc_arrived = ()
+        original(self)
+        self._itc_opened = mark(BARRIER)
+
+    return _release
+
+
+def _barrier_wait(original: Any) -> Any:
+    def _wait(self: Any, timeout: float | None) -> None:
+        original(self, timeout)
+        take(self._itc_opened)
+
+    return _wait

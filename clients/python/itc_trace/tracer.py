@@ -1,0 +1,602 @@
+"""Turns notes into reports, in one thread, and reads the replies in another."""
+
+from __future__ import annotations
+
+import _thread
+import itertools
+import json
+import re
+import socket
+import sys
+import threading
+import time
+from collections import defaultdict, deque
+from collections.abc import Callable
+from sys import getrefcount
+from types import CodeType
+from typing import TextIO
+
+from .collector import HOST, MOST_TASKS
+from .journal import Places
+from .lines import END, GONE, JOIN, RESULT, SPAWN, STOP, TAKE, TAKE_END, Line, Note, Token, state
+from .noting import local
+
+NOTES_AT_ONCE = 1024
+MOST_WAITING = 200_000
+FEW_WAITING = 50_000
+SHORTEST_REST, LONGEST_REST = 0.001, 0.02
+ANSWER_WAIT = 10.0
+END_WAIT = 60.0
+MOST_NAME = 24
+MOST_TAG = 8
+ANY_PROCESS = "p"
+
+
+def _references_of_nobody() -> int:
+    """How many references a thing has that only one list knows, while it is looked at."""
+    things = [object()]
+    for thing in things:
+        return getrefcount(thing)
+    return 0
+
+
+REFERENCES_OF_NOBODY = _references_of_nobody()
+
+FULL = {413, 414, 415}
+NOT_MINE = {405, 407}
+"""What a message of another process may be refused for: it was never sent, or this task has it."""
+
+
+def _clean(hint: str, room: int) -> str:
+    name = re.sub(r"[^A-Za-z0-9]+", "_", hint).strip("_")
+    return name[:room].strip("_") or "task"
+
+
+class Names:
+    """Gives each task a name of its own, short and readable."""
+
+    def __init__(self, prefix: str) -> None:
+        self._prefix = prefix
+        self._numbers: dict[str, int] = {}
+
+    def new(self, hint: str) -> str:
+        explicit = not hint.endswith("#")
+        base = _clean(hint.rstrip("#"), MOST_NAME - len(self._prefix) - 6)
+        number = self._numbers.get(base, 0) + 1
+        name = base if explicit and number == 1 else f"{base}_{number}"
+        while name in self._numbers:
+            number += 1
+            name = f"{base}_{number}"
+        self._numbers[base] = number
+        self._numbers[name] = max(self._numbers.get(name, 0), 1)
+        return self._prefix + name
+
+
+class Outstanding:
+    """A report that is on its way."""
+
+    __slots__ = ("text", "task", "thing", "kind", "code", "instruction", "label", "waiter", "may_be_refused")
+
+    def __init__(self, text: str, task: str, thing: str | None, kind: str, code: CodeType | None, instruction: int,
+                 label: str) -> None:
+        self.text = text
+        self.task = task
+        self.thing = thing
+        self.kind = kind
+        self.code = code
+        self.instruction = instruction
+        self.label = label
+        self.waiter: Waiter | None = None
+        self.may_be_refused = False
+
+
+def _release(lock: _thread.LockType) -> None:
+    """Releases a lock, also where somebody else was faster."""
+    try:
+        lock.release()
+    except RuntimeError:
+        pass
+
+
+class Waiter:
+    """Lets one thread wait until a report was answered."""
+
+    def __init__(self) -> None:
+        self._lock = _thread.allocate_lock()
+        self._lock.acquire()
+        self.is_answered = False
+
+    def wait(self, seconds: float) -> bool:
+        self._lock.acquire(True, seconds)
+        return self.is_answered
+
+    def answer(self, is_answered: bool) -> None:
+        self.is_answered = is_answered
+        _release(self._lock)
+
+
+class Tracer:
+    """Reports for one process to one tenant, from `start` to `stop`."""
+
+    def __init__(self, port: int, tenant: str, journal: TextIO, process: str | None = None, host: str = HOST) -> None:
+        self.notes: deque[Note] = deque()
+        self.lines_made = 0
+        self.most_lines = MOST_TASKS // 2
+        self._journal = journal
+        self._places = Places()
+        self._outstanding: deque[Outstanding] = deque()
+        self._texts: list[str] = []
+        self._message_numbers = itertools.count(1)
+        self._outside_numbers = itertools.count(1)
+        self._finished: list[Line] = []
+        self._takes_left: defaultdict[Line, int] = defaultdict(int)
+        self._gone_soon: set[Line] = set()
+        self._is_over = False
+        self._all_sent = False
+        self._switch = _thread.allocate_lock()
+        self._hurry = _thread.allocate_lock()
+        self._hurry.acquire()
+        self._ended = Waiter()
+        self._reader_ended = Waiter()
+        self._handlers: list[Callable[..., None]] = [
+            self._mark, self._take, self._take_end, self._spawn, self._finish, self._join, self._touch, self._gone,
+            self._send_outside, self._receive_outside, self._stop_reporting,
+        ]
+        self._connect(host, port, tenant, process)
+
+    # Beginning
+
+    def _connect(self, host: str, port: int, tenant: str, process: str | None) -> None:
+        self._socket = socket.create_connection((host, port))
+        try:
+            self._socket.setsockopt(socket.IPPROTO_TCP, socket.TCP_NODELAY, 1)
+            self._rest = b""
+            count = self._ask(f"report {tenant}\ncount")
+            if not count.startswith("200 "):
+                raise ConnectionError(f"{tenant}: {count}")
+            self.main = Line(self, "root")
+            self.main.name = "root"
+            self.parent_of_strangers = self.main
+            self.prefix = ""
+            if process is not None or int(count.split()[1]) > 0:
+                self._begin_beside_others(process or ANY_PROCESS)
+        except BaseException:
+            self._socket.close()
+            raise
+        self._names = Names(self.prefix)
+        self._names.new("root")
+
+    def _begin_beside_others(self, process: str) -> None:
+        """Takes a task of its own in a trace that others report to as well, and a first part for all its names."""
+        base = re.sub(r"[^A-Za-z0-9]+", "", process)[: MOST_TAG - 3] or ANY_PROCESS
+        for number in itertools.count(1):
+            tag = base if number == 1 and base != ANY_PROCESS else f"{base}{number}"
+            reply = self._ask(f"spawn root {tag}")
+            if reply.startswith("201 "):
+                self.main.name = self.main.hint = tag
+                self.prefix = f"{tag}_"
+                row = Outstanding("", "root", None, "spawn", None, 0, f"start process {tag}")
+                self._journal.write(self._row(int(reply[4:]), row))
+                return
+            if not reply.startswith("402"):
+                raise ConnectionError(f"spawn root {tag}: {reply}")
+
+    def _ask(self, lines: str) -> str:
+        self._socket.sendall(f"{lines}\n".encode())
+        while b"\n" not in self._rest:
+            more = self._socket.recv(65536)
+            if not more:
+                raise ConnectionError("the collector has ended the session")
+            self._rest += more
+        reply, _, self._rest = self._rest.partition(b"\n")
+        return reply.decode()
+
+    def start(self) -> None:
+        """From here on notes are taken."""
+        _thread.start_new_thread(self._report_all, ())
+        _thread.start_new_thread(self._read_all, ())
+        local.line = self.main
+        if threading.active_count() > 1:
+            self.parent_of_strangers = Line(self, "others")
+            self.notes.append((SPAWN, self.main, self.parent_of_strangers, None, 0))
+        state.tracer = self
+        state.note = self.notes.append
+
+    # Ending
+
+    def stop(self) -> None:
+        """Takes no more notes, and waits until all that were taken are reported and answered."""
+        with self._switch:
+            if state.tracer is self:
+                state.note = None
+                state.tracer = None
+        if not self._is_over:
+            self.notes.append((STOP,))
+            self.hurry()
+            if not self._ended.wait(END_WAIT) and not self._is_over:
+                self._give_up("the collector does not answer")
+        self._end_session()
+        self._reader_ended.wait(ANSWER_WAIT)
+        self._socket.close()
+
+    def forget(self) -> None:
+        """In a child process after a fork: the session is the parent's."""
+        state.note = None
+        state.tracer = None
+        self._is_over = True
+        self._socket.close()
+
+    def _give_up(self, reason: str) -> None:
+        """Stops tracing in the middle. The program goes on."""
+        with self._switch:
+            if self._is_over:
+                return
+            self._is_over = True
+            if state.tracer is self:
+                state.note = None
+        self.notes.clear()
+        self._end_session()
+        while self._outstanding:
+            waiter = self._outstanding.popleft().waiter
+            if waiter is not None:
+                waiter.answer(False)
+        if sys.__stderr__ is not None:
+            print(f"itc_trace: tracing stops: {reason}", file=sys.__stderr__, flush=True)
+        self._ended.answer(True)
+
+    def _end_session(self) -> None:
+        try:
+            self._socket.shutdown(socket.SHUT_RDWR)
+        except OSError:
+            pass
+
+    def hurry(self) -> None:
+        """Has the notes reported at once."""
+        _release(self._hurry)
+
+    def fresh_message(self) -> str:
+        return f"{self.prefix}out_{next(self._outside_numbers)}"
+
+    # The thread that reports
+
+    def _report_all(self) -> None:
+        rest = SHORTEST_REST
+        try:
+            while not self._is_over and not self._all_sent:
+                if self.notes:
+                    self._report_some()
+                    rest = SHORTEST_REST
+                elif self._hurry.acquire(True, rest):
+                    rest = SHORTEST_REST
+                else:
+                    rest = min(2 * rest, LONGEST_REST)
+        except OSError:
+            self._give_up("the collector is gone")
+        except BaseException as fault:  # Nothing that happens here may reach the program.
+            self._give_up(f"{type(fault).__name__} in the tracer: {fault}")
+
+    def _report_some(self) -> None:
+        batch = self._next_notes()
+        handlers = self._handlers
+        while batch:
+            note = batch.popleft()
+            handlers[note[0]](*note[1:])
+        self._gone_soon.clear()
+        self._flush()
+        self._hold_back(len(self.notes))
+
+    def _next_notes(self) -> deque[Note]:
+        """Some notes, looked through for how often each task is waited for, and which ones nobody can wait for after that."""
+        batch: deque[Note] = deque()
+        notes, takes = self.notes, self._takes_left
+        for _ in range(min(len(notes), NOTES_AT_ONCE)):
+            try:
+                note = notes.popleft()
+            except IndexError:
+                break
+            batch.append(note)
+            kind = note[0]
+            if kind == TAKE:
+                takes[note[2].line] += 1
+            elif kind in (TAKE_END, JOIN):
+                takes[note[2]] += 1
+            elif kind == GONE:
+                self._gone_soon.add(note[1])
+        return batch
+
+    def _is_waited_for(self, line: Line) -> None:
+        """One of those who wait for it is being looked after."""
+        self._takes_left[line] -= 1
+        if not self._takes_left[line]:
+            del self._takes_left[line]
+
+    def _may_be_asked_for(self, line: Line) -> bool:
+        """Whether somebody may still wait for the task, after those who were looked after."""
+        return line in self._takes_left or not (line.is_gone or line in self._gone_soon)
+
+    def _flush(self) -> None:
+        if self._texts:
+            text = "".join(self._texts)
+            self._texts.clear()
+            self._socket.sendall(text.encode())
+
+    def _hold_back(self, waiting: int) -> None:
+        """Has the program wait where it notes faster than its notes are reported."""
+        if waiting < MOST_WAITING and state.note != self._note_slowly:
+            return
+        with self._switch:
+            if state.tracer is self and state.note is not None:
+                state.note = self._note_slowly if waiting > FEW_WAITING else self.notes.append
+
+    def _note_slowly(self, note: Note) -> None:
+        while len(self.notes) > FEW_WAITING and not self._is_over:
+            time.sleep(0.001)
+        self.notes.append(note)
+
+    # Reports
+
+    def _report(self, line: Line, kind: str, name: str, thing: str | None, code: CodeType | None, instruction: int,
+                label: str) -> Outstanding:
+        keyword = "local" if thing is not None else kind
+        text = f"{keyword} {line.name} {name}\n" if name else f"{keyword} {line.name}\n"
+        report = Outstanding(text, line.name, thing, kind, code, instruction, label)
+        self._outstanding.append(report)
+        self._texts.append(text)
+        line.count += 1
+        line.message = None
+        return report
+
+    def _send(self, line: Line, token: Token) -> None:
+        """Reports a message for all tokens that were noted at the place where the line is."""
+        message = f"{self.prefix}{token.what.hint}_{next(self._message_numbers)}"
+        self._report(line, "send", message, None, token.code, token.instruction, token.what.giving)
+        self._sent(line, message)
+
+    def _sent(self, line: Line, message: str) -> None:
+        line.message = message
+        line.sent.append((line.count, message))
+        for token in line.pending:
+            token.message = message
+            token.count = line.count
+        line.pending.clear()
+
+    def _leave(self, line: Line) -> None:
+        """Before the line goes on: where somebody may still take one of its tokens, they become a message."""
+        pending = line.pending
+        if not pending:
+            return
+        for token in pending:
+            if getrefcount(token) > REFERENCES_OF_NOBODY:
+                self._send(line, token)
+                return
+        pending.clear()
+
+    def _receive(self, line: Line, token: Token, code: CodeType | None, instruction: int) -> None:
+        self._leave(line)
+        assert token.message is not None
+        self._report(line, "recv", token.message, None, code, instruction, token.what.taking)
+        line.known[token.line] = token.count
+
+    # Notes
+
+    def _mark(self, token: Token) -> None:
+        line = token.line
+        token.count = line.count
+        if line.message is not None:
+            token.message = line.message
+        else:
+            line.pending.append(token)
+
+    def _take(self, line: Line, token: Token, code: CodeType | None, instruction: int) -> None:
+        self._is_waited_for(token.line)
+        self._come_after(line, token, code, instruction)
+
+    def _come_after(self, line: Line, token: Token, code: CodeType | None, instruction: int) -> None:
+        source = token.line
+        if source is line or self._knows(line, source, token.count):
+            return
+        if token.message is None:
+            if source.has_ended:
+                self._take_ended(line, source, code, instruction, token.what.taking)
+                return
+            if self._is_last_taker(source, token):
+                self._end(source, token.what.giving)
+                self._join_now(line, source, code, instruction, token.what.taking)
+                return
+            self._send(source, token)
+        if source.first_taker is None:
+            source.first_taker = line
+        self._receive(line, token, code, instruction)
+
+    def _knows(self, line: Line, source: Line, count: int) -> bool:
+        """Whether it is plain that the line comes after so many events of the other. Others are asked for."""
+        if count > 0:
+            return line.known.get(source, 0) >= count
+        parent = source.parent
+        return parent is None or parent is line or line.known.get(parent, 0) >= source.parent_count
+
+    def _is_last_taker(self, source: Line, token: Token) -> bool:
+        """Whether the task is finished, and nobody but whoever asks now can wait for it."""
+        return source.is_finished and token.count == source.count and not self._may_be_asked_for(source)
+
+    def _take_end(self, line: Line, source: Line, code: CodeType | None, instruction: int) -> None:
+        """The line has seen that the other one is done."""
+        self._is_waited_for(source)
+        self._is_done(source)
+        if source.end_token is None:
+            source.end_token = Token(source, RESULT, code, instruction)
+            self._mark(source.end_token)
+        self._come_after(line, source.end_token, code, instruction)
+
+    def _is_done(self, line: Line) -> None:
+        if not line.is_finished:
+            line.is_finished = True
+            self._finished.append(line)
+
+    def _spawn(self, parent: Line, child: Line, code: CodeType | None, instruction: int) -> None:
+        self._leave(parent)
+        child.name = self._names.new(child.hint)
+        self._report(parent, "spawn", child.name, None, code, instruction, f"start {child.name}")
+        child.parent, child.parent_count = parent, parent.count
+        child.known[parent] = parent.count
+
+    def _finish(self, line: Line, ends: bool, is_awaited: bool) -> None:
+        """The task does nothing more. A thread ends at once, where several wait for it with a message for all of them."""
+        self._is_done(line)
+        if not ends:
+            if line.is_gone:
+                self._gone(line)
+            return
+        if is_awaited:
+            line.end_token = Token(line, END, None, 0)
+            self._mark(line.end_token)
+            if line.end_token.message is None:
+                self._send(line, line.end_token)
+        elif self._tells_of_others(line):
+            self._send(line, Token(line, END, None, 0))
+        self._leave(line)
+        self._end(line, END.giving)
+
+    def _tells_of_others(self, line: Line) -> bool:
+        """Whether somebody may still wait for a task that this one has taken in, and finds no message sent since."""
+        last = line.sent[-1][0] if line.sent else 0
+        return any(child.joined_at > last and self._may_be_asked_for(child) for child in line.joined)
+
+    def _end(self, line: Line, label: str) -> None:
+        if not line.has_ended:
+            line.has_ended = True
+            self._report(line, "end", "", None, None, 0, label)
+            line.pending.clear()
+
+    def _join(self, line: Line, child: Line, code: CodeType | None, instruction: int) -> None:
+        self._is_waited_for(child)
+        if not child.has_ended or child is line or self._knows(line, child, max(child.count, 1)):
+            return
+        if child.joined_by is not None and child.end_token is not None:
+            self._come_after(line, child.end_token, code, instruction)
+        else:
+            self._take_ended(line, child, code, instruction, f"join {child.name}")
+
+    def _join_now(self, line: Line, child: Line, code: CodeType | None, instruction: int, label: str) -> None:
+        self._leave(line)
+        self._report(line, "join", child.name, None, code, instruction, label)
+        child.joined_by, child.joined_at = line, line.count
+        line.joined.append(child)
+        line.known[child] = child.count
+
+    def _take_ended(self, line: Line, child: Line, code: CodeType | None, instruction: int, label: str) -> None:
+        if child.joined_by is None:
+            self._join_now(line, child, code, instruction, label)
+        else:
+            self._take_late(line, child, code, instruction)
+
+    def _take_late(self, line: Line, child: Line, code: CodeType | None, instruction: int) -> None:
+        """Another task has joined this one already: the line comes after the first message that the joiner sent since."""
+        joiner = child.joined_by
+        if joiner is None or joiner is line:
+            return
+        token = Token(joiner, END, code, instruction)
+        token.count = child.joined_at
+        for count, message in joiner.sent:
+            if count >= child.joined_at:
+                token.count, token.message = count, message
+                break
+        if token.message is None and not joiner.has_ended:
+            self._mark(token)
+        if token.message is not None or not joiner.has_ended:
+            self._come_after(line, token, code, instruction)
+
+    def _touch(self, line: Line, thing: str, is_write: bool, code: CodeType | None, instruction: int,
+               label: str | None) -> None:
+        self._leave(line)
+        kind = "write" if is_write else "read"
+        self._report(line, kind, "", thing, code, instruction, label or f"{kind} {thing}")
+
+    def _gone(self, line: Line) -> None:
+        """Nobody can wait for the task any more: it ends, and its place in the clock goes to whoever waited first."""
+        line.is_gone = True
+        if line.must_finish and not line.is_finished:
+            return  # It still runs; its finish will be noted.
+        self._is_done(line)
+        if line.has_ended or not line.name:
+            return
+        line.pending.clear()
+        self._end(line, END.giving)
+        taker = line.first_taker
+        if taker is not None and not taker.is_finished and not taker.has_ended:
+            self._join_now(taker, line, None, 0, f"join {line.name}")
+
+    def _send_outside(self, line: Line, message: str, waiter: Waiter, code: CodeType | None, instruction: int) -> None:
+        report = self._report(line, "send", message, None, code, instruction, "send to another process")
+        report.waiter = waiter
+        self._sent(line, message)
+
+    def _receive_outside(self, line: Line, message: str, code: CodeType | None, instruction: int) -> None:
+        self._leave(line)
+        report = self._report(line, "recv", message, None, code, instruction, "receive from another process")
+        report.may_be_refused = True
+
+    def _stop_reporting(self) -> None:
+        for line in self._finished:
+            if not line.has_ended and line.name:
+                line.pending.clear()
+                self._end(line, END.giving)
+        self._flush()
+        self._all_sent = True
+        if not self._outstanding:
+            self._ended.answer(True)
+
+    # The thread that reads replies
+
+    def _read_all(self) -> None:
+        try:
+            rest = self._rest
+            while not self._is_over:
+                more = self._socket.recv(262144)
+                if not more:
+                    break
+                *replies, rest = (rest + more).split(b"\n")
+                self._journal.write("".join([self._replied(reply) for reply in replies]))
+                self._journal.flush()
+                if self._all_sent and not self._outstanding:
+                    self._ended.answer(True)
+                    return
+            if not self._all_sent or self._outstanding:
+                self._give_up("the collector is gone")
+        except (OSError, ValueError):
+            self._give_up("the collector is gone")
+        except BaseException as fault:
+            self._give_up(f"{type(fault).__name__} in the tracer: {fault}")
+        finally:
+            self._reader_ended.answer(True)
+
+    def _replied(self, reply: bytes) -> str:
+        """The journal's row of a report that was taken, else nothing."""
+        if self._is_over:
+            return ""
+        report = self._outstanding.popleft()
+        is_taken = reply.startswith(b"201 ")
+        if report.waiter is not None:
+            report.waiter.answer(is_taken)
+        if is_taken:
+            return self._row(int(reply[4:]), report)
+        self._is_refused(report, reply.decode("ascii", "replace"))
+        return ""
+
+    def _is_refused(self, report: Outstanding, reply: str) -> None:
+        code = int(reply[:3]) if reply[:3].isdigit() else 0
+        if report.may_be_refused and code in NOT_MINE:
+            return
+        if code in FULL:
+            self._give_up(f"the trace is full ({reply})")
+        else:
+            self._give_up(f"{report.text.strip()}: {reply}")
+
+    def _row(self, event: int, report: Outstanding) -> str:
+        place = self._places.text(report.code, report.instruction)
+        thing = "null" if report.thing is None else json.dumps(report.thing)
+        return (
+            f'{{"event":{event},"task":"{report.task}","thing":{thing},"kind":"{report.kind}",{place},'
+            f'"label":{json.dumps(report.label)}}}\n'
+        )
+

@@ -1,0 +1,81 @@
+"""Messages between processes that report to one tenant, by hand or in a header of HTTP."""
+
+from __future__ import annotations
+
+import re
+import sys
+import urllib.request
+from collections.abc import Callable, Iterable
+from http.client import HTTPResponse
+from typing import Any
+
+from .lines import RECV, SEND, state
+from .noting import current, place
+from .tracer import ANSWER_WAIT, Waiter
+
+HEADER = "Itc-Trace"
+VARIABLE = "HTTP_ITC_TRACE"
+NAME = re.compile(r"[A-Za-z0-9_]{1,24}")
+
+
+def outgoing() -> str | None:
+    """The name of a new message from here: hand it to another process, which calls `incoming` with it.
+
+    It returns once the collector has the message, so that no receipt can come before. It is None where tracing is off.
+    """
+    note, tracer = state.note, state.tracer
+    if note is None or tracer is None:
+        return None
+    message, waiter = tracer.fresh_message(), Waiter()
+    note((SEND, current(), message, waiter, *place(sys._getframe(1))))
+    tracer.hurry()
+    return message if waiter.wait(ANSWER_WAIT) else None
+
+
+def incoming(message: str | None) -> None:
+    """From now on the current task comes after the place where this message was sent. What is no message is passed over."""
+    note = state.note
+    if note is not None and message is not None and NAME.fullmatch(message):
+        note((RECV, current(), message, *place(sys._getframe(1))))
+
+
+class Opener(urllib.request.BaseHandler):
+    """Sends a message with each request, and receives the one that the response brings."""
+
+    def http_request(self, request: urllib.request.Request) -> urllib.request.Request:
+        message = outgoing()
+        if message is not None:
+            request.add_unredirected_header(HEADER, message)
+        return request
+
+    def http_response(self, request: urllib.request.Request, response: HTTPResponse) -> HTTPResponse:
+        incoming(response.headers.get(HEADER))
+        return response
+
+    https_request = http_request
+    https_response = http_response
+
+
+def opener(*handlers: Any) -> urllib.request.OpenerDirector:
+    """An opener of urllib whose requests and responses are messages."""
+    return urllib.request.build_opener(Opener, *handlers)
+
+
+Application = Callable[[dict[str, Any], Callable[..., Any]], Iterable[bytes]]
+
+
+class Middleware:
+    """A WSGI application whose requests and responses are messages."""
+
+    def __init__(self, application: Application) -> None:
+        self._application = application
+
+    def __call__(self, environ: dict[str, Any], start_response: Callable[..., Any]) -> Iterable[bytes]:
+        incoming(environ.get(VARIABLE))
+
+        def start_traced(status: str, headers: list[tuple[str, str]], *error: Any) -> Any:
+            message = outgoing()
+            named = [] if message is None else [(HEADER, message)]
+            return start_response(status, [*headers, *named], *error)
+
+        return self._application(environ, start_traced)

@@ -1,0 +1,109 @@
+"""What the tests share: a collector, threads in a known order, and the races of a scenario."""
+
+from __future__ import annotations
+
+import _thread
+import atexit
+import os
+import subprocess
+import sys
+import tempfile
+import threading
+import unittest
+from collections.abc import Callable
+from pathlib import Path
+from typing import Any
+
+from itc_trace import Collector, Races, tracing
+from itc_trace.journal import Row, read_journal
+
+PACKAGE = Path(__file__).resolve().parent.parent
+EXAMPLES = PACKAGE / "examples"
+WAIT = 20
+
+_TENANTS = [f"t{number}" for number in range(16)]
+_free: list[tuple[int, str]] = []
+
+
+def fresh_tenant() -> tuple[int, str]:
+    """A port and a tenant to which nobody has reported."""
+    if not _free:
+        collector = Collector(*_TENANTS)
+        atexit.register(collector.close)
+        _free.extend((collector.port, tenant) for tenant in _TENANTS)
+    return _free.pop()
+
+
+class Step:
+    """Lets one thread wait for another without anything that is traced."""
+
+    def __init__(self) -> None:
+        self._lock = _thread.allocate_lock()
+        self._lock.acquire()
+
+    def done(self) -> None:
+        self._lock.release()
+
+    def wait(self) -> None:
+        if not self._lock.acquire(True, WAIT):
+            raise TimeoutError("a step was not done")
+
+
+def in_turn(*steps: Callable[[], object]) -> None:
+    """Runs each in a thread of its own, one after another, and lets nothing that is traced tell so."""
+    done = [Step() for _ in steps]
+
+    def run(number: int) -> None:
+        if number > 0:
+            done[number - 1].wait()
+        steps[number]()
+        done[number].done()
+
+    threads = [threading.Thread(target=run, args=(number,), name=f"step{number}") for number in range(len(steps))]
+    for thread in threads:
+        thread.start()
+    for thread in threads:
+        thread.join(WAIT)
+
+
+class TracedCase(unittest.TestCase):
+    """A test of what a scenario's trace says."""
+
+    rows: list[Row]
+
+    def races(self, scenario: Callable[[], Any]) -> Races:
+        """The races of the scenario; `rows` has its journal afterwards."""
+        port, tenant = fresh_tenant()
+        with tempfile.NamedTemporaryFile("r", suffix=".journal") as journal:
+            with tracing(port=port, tenant=tenant, journal=journal.name) as traced:
+                scenario()
+            found = traced.races()
+            self.rows = list(read_journal(journal))
+        self.assertEqual([row.event for row in self.rows], list(range(1, len(self.rows) + 1)), "an event is missing")
+        return found
+
+    def assert_ordered(self, scenario: Callable[[], Any]) -> None:
+        found = self.races(scenario)
+        self.assertFalse(found.races, found.text())
+        self.assertGreater(found.touches, 1)
+
+    def assert_race(self, scenario: Callable[[], Any]) -> None:
+        found = self.races(scenario)
+        self.assertTrue(found.races, found.text())
+
+    def assert_racing_things(self, things: str, scenario: Callable[[], Any]) -> None:
+        """Exactly these things have races."""
+        found = self.races(scenario)
+        self.assertEqual(sorted({race.thing for race in found}), sorted(things.split()), found.text())
+
+
+
+def run_python(*words: str, **variables: str) -> subprocess.CompletedProcess[str]:
+    """Runs `python3 WORDS..` with the package at hand."""
+    environment = {**os.environ, "PYTHONPATH": str(PACKAGE), **variables}
+    return subprocess.run([sys.executable, *words], capture_output=True, text=True, env=environment, timeout=120, check=False)
+
+
+def run_traced(*words: str, **variables: str) -> subprocess.CompletedProcess[str]:
+    """Runs `python3 -m itc_trace run WORDS..`."""
+    return run_python("-m", "itc_trace", "run", *words, **variables)

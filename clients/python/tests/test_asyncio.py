@@ -1,0 +1,462 @@
+"""Each primitive of `asyncio` by itself."""
+
+from __future__ import annotations
+
+import asyncio
+import sys
+import threading
+import unittest
+from collections.abc import Awaitable, Callable, Coroutine
+from typing import Any
+
+from itc_trace import touch
+
+from .support import WAIT, TracedCase
+from .test_threads import write
+
+Work = Callable[[], Awaitable[Any]]
+
+
+async def one_after_another(*steps: Work) -> None:
+    """Runs each in a task of its own, one after another, and lets nothing that is traced tell so."""
+    done = [False] * len(steps)
+
+    async def run(number: int) -> None:
+        while number > 0 and not done[number - 1]:
+            await asyncio.sleep(0)
+        await steps[number]()
+        done[number] = True
+
+    await asyncio.gather(*(run(number) for number in range(len(steps))))
+
+
+async def writing(thing: str = "x") -> None:
+    write(thing)
+
+
+class Asynchronous(TracedCase):
+    def ordered(self, main: Callable[[], Coroutine[Any, Any, Any]]) -> None:
+        self.assert_ordered(lambda: asyncio.run(main()))
+
+    def race(self, main: Callable[[], Coroutine[Any, Any, Any]]) -> None:
+        self.assert_race(lambda: asyncio.run(main()))
+
+    def racing(self, things: str, main: Callable[[], Coroutine[Any, Any, Any]]) -> None:
+        self.assert_racing_things(things, lambda: asyncio.run(main()))
+
+
+class Tasks(Asynchronous):
+    def test_a_run_comes_between_what_precedes_and_what_follows(self) -> None:
+        def scenario() -> None:
+            write()
+            asyncio.run(writing())
+            write()
+
+        self.assert_ordered(scenario)
+
+    def test_a_task_comes_after_its_making_and_before_its_await(self) -> None:
+        async def main() -> None:
+            write()
+            await asyncio.create_task(writing())
+            write()
+
+        self.ordered(main)
+
+    def test_a_failed_task_comes_before_its_await_too(self) -> None:
+        async def fail() -> None:
+            write()
+            raise ValueError
+
+        async def main() -> None:
+            with self.assertRaises(ValueError):
+                await asyncio.create_task(fail())
+            write()
+
+        self.ordered(main)
+
+    def test_what_follows_the_making_is_not_ordered(self) -> None:
+        async def main() -> None:
+            task = asyncio.create_task(writing())
+            write()
+            await task
+
+        self.race(main)
+
+    def test_two_tasks_are_not_ordered_by_turns(self) -> None:
+        async def main() -> None:
+            await one_after_another(writing, writing)
+
+        self.race(main)
+
+    def test_an_await_of_a_coroutine_is_no_task(self) -> None:
+        async def main() -> None:
+            await writing()
+            write()
+
+        self.ordered(main)
+        self.assertEqual(len({row.task for row in self.rows if row.is_touch}), 1)
+
+    def test_gather_comes_after_all(self) -> None:
+        async def main() -> None:
+            write("x")
+            await asyncio.gather(writing("y"), writing("z"), asyncio.create_task(writing("u")))
+            for thing in "xyzu":
+                write(thing)
+
+        self.ordered(main)
+
+    def test_gathered_tasks_are_not_ordered(self) -> None:
+        async def main() -> None:
+            await asyncio.gather(writing(), writing())
+
+        self.race(main)
+
+    def test_wait_comes_after_those_that_are_done(self) -> None:
+        async def main() -> None:
+            never = asyncio.create_task(asyncio.sleep(WAIT))
+            task = asyncio.create_task(writing())
+            await asyncio.wait([task, never], return_when=asyncio.FIRST_COMPLETED)
+            write()
+            never.cancel()
+
+        self.ordered(main)
+
+    def test_other_ways_to_wait_come_after_the_task(self) -> None:
+        async def as_completed(task: Any) -> None:
+            for one in asyncio.as_completed([task]):
+                await one
+
+        for wait in (lambda task: asyncio.wait_for(task, WAIT), asyncio.shield, as_completed):
+            with self.subTest(wait=wait):
+
+                async def main() -> None:
+                    await wait(asyncio.create_task(writing()))
+                    write()
+
+                self.ordered(main)
+
+    def test_a_result_that_is_looked_at_comes_after_the_task(self) -> None:
+        async def main() -> None:
+            task = asyncio.create_task(writing())
+            await asyncio.sleep(0.01)
+            task.result()
+            write()
+
+        self.ordered(main)
+
+    def test_a_group_comes_after_all_of_its_tasks(self) -> None:
+        async def main() -> None:
+            async with asyncio.TaskGroup() as group:
+                group.create_task(writing("x"))
+                group.create_task(writing("y"))
+            write("x")
+            write("y")
+
+        self.ordered(main)
+
+    def test_several_who_await_one_task_are_not_ordered_by_that(self) -> None:
+        async def main() -> None:
+            task = asyncio.create_task(writing())
+
+            async def wait() -> None:
+                await task
+                touch("x")
+                write("y")
+
+            await one_after_another(wait, wait)
+
+        self.racing("y", main)
+
+    def test_tasks_are_named(self) -> None:
+        async def main() -> None:
+            await asyncio.create_task(writing(), name="alice")
+            await asyncio.create_task(writing())
+
+        self.ordered(main)
+        self.assertEqual([row.task for row in self.rows if row.is_touch], ["alice", "writing_1"])
+
+    def test_hundreds_of_tasks_end_and_are_joined(self) -> None:
+        async def main() -> None:
+            for _ in range(500):
+                await asyncio.create_task(writing())
+
+        self.ordered(main)
+        self.assertGreater([row.kind for row in self.rows].count("join"), 400)
+
+
+class Futures(Asynchronous):
+    def test_a_future_carries_order(self) -> None:
+        for make in (asyncio.get_running_loop, None):
+            with self.subTest(make=make):
+
+                async def main() -> None:
+                    future = asyncio.Future() if make is None else make().create_future()
+
+                    async def give() -> None:
+                        write()
+                        future.set_result(None)
+                        write("y")
+
+                    async def take() -> None:
+                        await future
+                        write()
+                        write("y")
+
+                    await asyncio.gather(take(), give())
+
+                self.racing("y", main)
+
+    def test_to_thread_is_ordered_both_ways(self) -> None:
+        async def main() -> None:
+            write()
+            await asyncio.to_thread(write)
+            write()
+
+        self.ordered(main)
+
+    def test_what_runs_in_a_thread_meanwhile_is_not_ordered(self) -> None:
+        async def main() -> None:
+            waiting = asyncio.ensure_future(asyncio.to_thread(write))
+            await asyncio.sleep(0.02)
+            write()
+            await waiting
+
+        self.race(main)
+
+    def test_an_executor_is_ordered_both_ways(self) -> None:
+        async def main() -> None:
+            write()
+            await asyncio.get_running_loop().run_in_executor(None, write)
+            write()
+
+        self.ordered(main)
+
+    def test_a_coroutine_of_another_thread_is_ordered_both_ways(self) -> None:
+        async def main() -> None:
+            loop = asyncio.get_running_loop()
+
+            def work() -> None:
+                write()
+                asyncio.run_coroutine_threadsafe(writing(), loop).result(WAIT)
+                write()
+
+            await asyncio.to_thread(work)
+
+        self.ordered(main)
+
+    def test_a_coroutine_of_another_thread_is_not_ordered_with_what_follows(self) -> None:
+        async def main() -> None:
+            loop = asyncio.get_running_loop()
+
+            def work() -> None:
+                future = asyncio.run_coroutine_threadsafe(writing(), loop)
+                write()
+                future.result(WAIT)
+
+            await asyncio.to_thread(work)
+
+        self.race(main)
+
+    def test_a_callback_comes_after_who_asked_for_it(self) -> None:
+        async def main() -> None:
+            loop = asyncio.get_running_loop()
+            for call in (loop.call_soon, loop.call_soon_threadsafe, lambda run: loop.call_later(0.001, run)):
+                write()
+                call(write)
+                await asyncio.sleep(0.01)
+                break
+
+        self.assert_ordered(lambda: asyncio.run(main()))
+
+    def test_a_call_from_another_thread_wakes_in_order(self) -> None:
+        async def main() -> None:
+            loop, event = asyncio.get_running_loop(), asyncio.Event()
+
+            def work() -> None:
+                write()
+                loop.call_soon_threadsafe(event.set)
+
+            thread = threading.Thread(target=work)
+            thread.start()
+            await event.wait()
+            write()
+            thread.join()
+
+        self.ordered(main)
+
+    def test_a_timer_of_the_loop_orders_nothing(self) -> None:
+        async def main() -> None:
+            async def sleep() -> None:
+                await asyncio.sleep(0.01)
+                write()
+
+            await asyncio.gather(writing(), sleep())
+
+        self.race(main)
+
+
+class Locks(Asynchronous):
+    def test_who_acquires_comes_after_who_released(self) -> None:
+        for make in (asyncio.Lock, lambda: asyncio.Semaphore(1), lambda: asyncio.BoundedSemaphore(1), asyncio.Condition):
+            with self.subTest(make=make):
+
+                async def main() -> None:
+                    lock = make()
+
+                    async def work() -> None:
+                        async with lock:
+                            write()
+                            await asyncio.sleep(0)
+
+                    await asyncio.gather(work(), work(), work())
+
+                self.ordered(main)
+
+    def test_what_follows_a_release_is_not_ordered(self) -> None:
+        async def main() -> None:
+            lock = asyncio.Lock()
+
+            async def first() -> None:
+                async with lock:
+                    pass
+                write()
+
+            async def second() -> None:
+                async with lock:
+                    write()
+
+            await one_after_another(first, second)
+
+        self.race(main)
+
+    def test_a_permit_that_was_there_carries_no_order(self) -> None:
+        async def main() -> None:
+            semaphore = asyncio.Semaphore(2)
+
+            async def work() -> None:
+                async with semaphore:
+                    write()
+
+            await one_after_another(work, work)
+
+        self.race(main)
+
+    def test_who_is_notified_comes_after_who_notified(self) -> None:
+        async def main() -> None:
+            condition, ready = asyncio.Condition(), []
+
+            async def consume() -> None:
+                async with condition:
+                    while not ready:
+                        await condition.wait()
+                write()
+
+            async def produce() -> None:
+                async with condition:
+                    write()
+                    ready.append(1)
+                    condition.notify_all()
+
+            await asyncio.gather(consume(), produce())
+
+        self.ordered(main)
+
+    def test_an_event_carries_order(self) -> None:
+        async def main() -> None:
+            event = asyncio.Event()
+
+            async def first() -> None:
+                write()
+                event.set()
+                write("y")
+
+            async def second() -> None:
+                await event.wait()
+                write()
+                write("y")
+
+            await asyncio.gather(second(), first())
+
+        self.racing("y", main)
+
+    @unittest.skipUnless(hasattr(asyncio, "Barrier"), "this Python has no barrier")
+    def test_a_barrier_orders_arriving_before_leaving(self) -> None:
+        async def main() -> None:
+            barrier = asyncio.Barrier(3)
+
+            async def work(number: int) -> None:
+                for _ in range(2):
+                    write(f"x{number}")
+                    await barrier.wait()
+                    for other in range(3):
+                        touch(f"x{other}")
+                    await barrier.wait()
+                write("y")
+
+            await asyncio.gather(*(work(number) for number in range(3)))
+
+        self.racing("y", main)
+
+
+class Queues(Asynchronous):
+    def test_who_gets_an_item_comes_after_who_put_it(self) -> None:
+        for make in (asyncio.Queue, asyncio.LifoQueue, asyncio.PriorityQueue):
+            for size in (0, 1):
+                with self.subTest(make=make, size=size):
+
+                    async def main() -> None:
+                        queue = make(size)
+
+                        async def produce() -> None:
+                            for number in range(3):
+                                write(f"x{number}")
+                                await queue.put(number)
+                            write("y")
+
+                        async def consume() -> None:
+                            for _ in range(3):
+                                write(f"x{await queue.get()}")
+                            write("y")
+
+                        await asyncio.gather(consume(), produce())
+
+                    self.racing("y", main)
+
+    def test_who_is_woken_by_another_item_is_not_ordered_by_that(self) -> None:
+        async def main() -> None:
+            queue: asyncio.Queue[str] = asyncio.Queue()
+
+            async def put(thing: str) -> None:
+                write(thing)
+                queue.put_nowait(thing)
+
+            async def get() -> None:
+                self.assertEqual(await queue.get(), "x")
+                write("x")
+                write("y")
+
+            await one_after_another(lambda: put("x"), lambda: put("y"), get)
+
+        self.racing("y", main)
+
+    def test_join_comes_after_every_item_that_is_done(self) -> None:
+        async def main() -> None:
+            queue: asyncio.Queue[str] = asyncio.Queue()
+
+            async def work() -> None:
+                write(await queue.get())
+                queue.task_done()
+
+            workers = [asyncio.create_task(work()) for _ in range(2)]
+            queue.put_nowait("x")
+            queue.put_nowait("y")
+            await queue.join()
+            write("x")
+            write("y")
+            await asyncio.gather(*workers)
+
+        self.ordered(main)
+
+
+if __name__ == "__main__":
+    sys.exit(unittest.main())

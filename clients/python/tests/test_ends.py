@@ -1,0 +1,163 @@
+"""Where tracing ends before the program does: limits that are reached, a collector that is gone, a process that forks."""
+
+from __future__ import annotations
+
+import os
+import subprocess
+import tempfile
+import threading
+import unittest
+from pathlib import Path
+
+from itc_trace import Collector, Session, touch, tracing
+from itc_trace.collector import find_program, free_port
+from itc_trace.journal import read_journal
+
+from .support import run_python, run_traced
+
+COUNTING = """
+import threading, time, itc_trace
+lock, done = threading.Lock(), []
+def work():
+    for _ in range(200):
+        with lock:
+            itc_trace.touch("x", write=True)
+    done.append(1)
+threads = [threading.Thread(target=work) for _ in range(8)]
+for thread in threads:
+    thread.start()
+for thread in threads:
+    thread.join()
+print("done:", len(done))
+"""
+
+
+class Served:
+    """A collector with limits."""
+
+    def __init__(self, *limits: str) -> None:
+        self.port = free_port()
+        words = [find_program(), "serve", "--port", str(self.port), *limits, "trace"]
+        self.process = subprocess.Popen(words, stdout=subprocess.PIPE)
+        assert self.process.stdout is not None
+        self.process.stdout.readline()
+
+    def __enter__(self) -> Served:
+        return self
+
+    def __exit__(self, *_: object) -> None:
+        self.process.kill()
+        self.process.wait()
+        assert self.process.stdout is not None
+        self.process.stdout.close()
+
+
+class Ends(unittest.TestCase):
+    def program(self, text: str) -> str:
+        folder = tempfile.TemporaryDirectory()
+        self.addCleanup(folder.cleanup)
+        path = Path(folder.name, "program.py")
+        path.write_text(text)
+        return str(path)
+
+    def test_a_full_trace_stops_tracing_and_not_the_program(self) -> None:
+        for limits, reply in ((["--events", "100"], "413 events full"), (["--tasks", "5"], "414 tasks full"),
+                              (["--messages", "3"], "415 messages full")):
+            with self.subTest(reply=reply), Served(*limits) as served:
+                slow = COUNTING.replace("with lock:", "with lock:\n            time.sleep(0)")
+                ran = run_traced("--quiet", "--port", str(served.port), self.program(slow))
+                self.assertEqual((ran.returncode, ran.stdout), (0, "done: 8\n"), ran.stderr)
+                self.assertEqual(ran.stderr, f"itc_trace: tracing stops: the trace is full ({reply})\n")
+
+    def test_a_full_trace_tells_no_race_that_is_none(self) -> None:
+        with Served("--events", "300") as served, tempfile.NamedTemporaryFile("r") as journal:
+            ran = run_traced("--port", str(served.port), "--journal", journal.name, self.program(COUNTING))
+            self.assertEqual(ran.returncode, 0, ran.stderr)
+            self.assertLessEqual(len(list(read_journal(journal))), 300)
+
+    def test_a_collector_that_ends_stops_tracing_and_not_the_program(self) -> None:
+        with Served() as served, tempfile.NamedTemporaryFile("r") as journal:
+            with tracing(port=served.port, journal=journal.name):
+                touch("x")
+                served.process.kill()
+                served.process.wait()
+                lock, done = threading.Lock(), []
+
+                def work() -> None:
+                    for _ in range(100):
+                        with lock:
+                            touch("x", write=True)
+                    done.append(1)
+
+                threads = [threading.Thread(target=work) for _ in range(4)]
+                for thread in threads:
+                    thread.start()
+                for thread in threads:
+                    thread.join()
+            self.assertEqual(len(done), 4)
+
+    def test_a_collector_that_ends_is_told_in_one_line(self) -> None:
+        program = self.program(f"import os, signal, time\nos.kill(int(os.environ['VICTIM']), signal.SIGKILL)\n{COUNTING}")
+        with Served() as served:
+            ran = run_traced("--port", str(served.port), program, VICTIM=str(served.process.pid))
+            self.assertEqual((ran.returncode, ran.stdout), (0, "done: 8\n"), ran.stderr)
+            lines = ran.stderr.splitlines()
+            self.assertEqual(lines[0], "itc_trace: tracing stops: the collector is gone")
+            self.assertEqual(len(lines), 2, ran.stderr)
+
+    def test_no_collector_is_told_before_the_program_runs(self) -> None:
+        ran = run_traced("--port", str(free_port()), self.program(COUNTING))
+        self.assertEqual((ran.returncode, ran.stdout), (2, ""), ran.stderr)
+
+    def test_a_program_s_own_status_stays(self) -> None:
+        for text, status in (("import sys; sys.exit(7)", 7), ("raise ValueError", 1), ("import os; os._exit(9)", 9),
+                             ("import os, signal; os.kill(os.getpid(), signal.SIGTERM)", 128 + 15)):
+            with self.subTest(text=text):
+                self.assertEqual(run_traced(self.program(text)).returncode, status)
+
+    def test_an_exit_at_once_loses_no_race(self) -> None:
+        text = COUNTING.replace("with lock:", "if True:") + "import os; os._exit(0)"
+        self.assertEqual(run_traced(self.program(text)).returncode, 66)
+
+    def test_a_traceback_is_the_program_s_own(self) -> None:
+        program = self.program("def fail():\n    raise ValueError('x')\nfail()\n")
+        traced, plain = run_traced("--quiet", program), run_python(program)
+        self.assertEqual(traced.stderr, plain.stderr)
+
+    def test_words_and_paths_are_the_program_s_own(self) -> None:
+        text = "import sys, os; print(sys.argv, __name__, __file__, sys.path[0], sys.flags.optimize)"
+        program = self.program(text)
+        for words in ([], ["a", "--port", "1"]):
+            self.assertEqual(run_traced("--quiet", program, *words).stdout, run_python(program, *words).stdout)
+
+    def test_a_module_is_run_as_one(self) -> None:
+        ran = run_traced("--quiet", "-m", "json.tool", "--help")
+        self.assertEqual(ran.stdout, run_python("-m", "json.tool", "--help").stdout)
+
+    @unittest.skipUnless(hasattr(os, "fork"), "there is no fork here")
+    def test_a_forked_child_reports_nothing(self) -> None:
+        text = """
+import os, itc_trace
+itc_trace.touch("x", write=True)
+child = os.fork()
+itc_trace.touch("x" if child else "y", write=True)
+if child:
+    os.waitpid(child, 0)
+    print("parent")
+"""
+        with tempfile.NamedTemporaryFile("r") as journal:
+            ran = run_traced("--quiet", "--journal", journal.name, self.program(text))
+            self.assertEqual((ran.returncode, ran.stdout, ran.stderr), (0, "parent\n", ""))
+            self.assertEqual([row.thing for row in read_journal(journal)], ["x", "x"])
+
+    def test_two_runs_report_to_one_tenant(self) -> None:
+        with Collector("trace") as collector:
+            for _ in range(2):
+                ran = run_traced("--port", str(collector.port), self.program(COUNTING))
+                self.assertEqual(ran.returncode, 0, ran.stderr)
+            with Session("trace", collector.port, "view") as view:
+                self.assertEqual(view.task("p1")[0], "live")
+
+
+if __name__ == "__main__":
+    unittest.main()

@@ -1,0 +1,307 @@
+"""Each primitive of `queue` and of `concurrent.futures` by itself."""
+
+from __future__ import annotations
+
+import concurrent.futures
+import queue
+import threading
+import time
+import unittest
+from concurrent.futures import Future, ThreadPoolExecutor
+from typing import Any
+
+from itc_trace import touch
+
+from .support import WAIT, Step, TracedCase, in_turn
+from .test_threads import write
+
+KINDS: list[Any] = [queue.Queue, queue.LifoQueue, queue.PriorityQueue, lambda: queue.SimpleQueue()]
+
+
+class Queues(TracedCase):
+    def test_who_gets_an_item_comes_after_who_put_it(self) -> None:
+        for make in KINDS:
+            with self.subTest(make=make):
+
+                def scenario() -> None:
+                    one = make()
+
+                    def first() -> None:
+                        write()
+                        one.put(1)
+
+                    def second() -> None:
+                        one.get(timeout=WAIT)
+                        write()
+
+                    in_turn(first, second)
+
+                self.assert_ordered(scenario)
+
+    def test_what_follows_put_is_not_ordered(self) -> None:
+        for make in KINDS:
+            with self.subTest(make=make):
+
+                def scenario() -> None:
+                    one = make()
+
+                    def first() -> None:
+                        one.put(1)
+                        write()
+
+                    def second() -> None:
+                        one.get()
+                        write()
+
+                    in_turn(first, second)
+
+                self.assert_race(scenario)
+
+    def test_an_item_of_somebody_else_orders_nothing(self) -> None:
+        for make, racing in zip(KINDS, ("y", "x", "y", "y")):
+            with self.subTest(make=make):
+
+                def scenario() -> None:
+                    one = make()
+
+                    def put(thing: str) -> None:
+                        write(thing)
+                        one.put(thing)
+
+                    def get() -> None:
+                        one.get()
+                        write("x")
+                        write("y")
+
+                    in_turn(lambda: put("x"), lambda: put("y"), get)
+
+                self.assert_racing_things(racing, scenario)
+
+    def test_the_same_item_twice_is_told_apart(self) -> None:
+        def scenario() -> None:
+            one: queue.Queue[None] = queue.Queue()
+
+            def put(thing: str) -> None:
+                write(thing)
+                one.put(None)
+
+            def get() -> None:
+                one.get()
+                write("x")
+                write("y")
+
+            in_turn(lambda: put("x"), lambda: put("y"), get)
+
+        self.assert_racing_things("y", scenario)
+
+    def test_join_comes_after_every_item_that_is_done(self) -> None:
+        def scenario() -> None:
+            one: queue.Queue[int] = queue.Queue()
+
+            def work(thing: str) -> None:
+                one.get()
+                write(thing)
+                one.task_done()
+
+            one.put(1)
+            one.put(2)
+            workers = [threading.Thread(target=work, args=(thing,)) for thing in "xy"]
+            for worker in workers:
+                worker.start()
+            one.join()
+            write("x")
+            write("y")
+            for worker in workers:
+                worker.join()
+
+        self.assert_ordered(scenario)
+
+    def test_a_full_queue_takes_no_token(self) -> None:
+        def scenario() -> None:
+            one: queue.Queue[int] = queue.Queue(1)
+            one.put(1)
+            with self.assertRaises(queue.Full):
+                one.put_nowait(1)
+            one.get()
+            one.put(1)
+            self.assertEqual(one.get(), 1)
+            with self.assertRaises(queue.Empty):
+                one.get_nowait()
+
+        self.races(scenario)
+
+
+class Pools(TracedCase):
+    def test_a_job_comes_after_its_submission(self) -> None:
+        for workers in (1, 4):
+            with self.subTest(workers=workers):
+
+                def scenario() -> None:
+                    with ThreadPoolExecutor(workers) as pool:
+                        write()
+                        pool.submit(write)
+
+                self.assert_ordered(scenario)
+
+    def test_what_follows_submit_is_not_ordered(self) -> None:
+        for workers in (1, 4):
+            with self.subTest(workers=workers):
+
+                def scenario() -> None:
+                    with ThreadPoolExecutor(workers) as pool:
+                        pool.submit(write)
+                        write()
+
+                self.assert_race(scenario)
+
+    def test_who_takes_a_result_comes_after_the_job(self) -> None:
+        for take in (lambda future: future.result(), lambda future: future.exception(), wait_until_done,
+                     lambda future: concurrent.futures.wait([future]),
+                     lambda future: list(concurrent.futures.as_completed([future]))):
+            for workers in (1, 4):
+                with self.subTest(take=take, workers=workers):
+
+                    def scenario() -> None:
+                        with ThreadPoolExecutor(workers) as pool:
+                            take(pool.submit(write))
+                            write()
+
+                    self.assert_ordered(scenario)
+
+    def test_the_end_of_a_pool_comes_after_its_jobs(self) -> None:
+        def scenario() -> None:
+            kept = []
+            with ThreadPoolExecutor(4) as pool:
+                kept.append(pool.submit(write, "x"))
+                pool.submit(write, "y")
+            write("x")
+            write("y")
+
+        self.assert_ordered(scenario)
+
+    def test_jobs_of_one_pool_are_not_ordered(self) -> None:
+        def scenario() -> None:
+            with ThreadPoolExecutor(4) as pool:
+                for _ in range(4):
+                    pool.submit(write)
+                    time.sleep(0.01)
+
+        self.assert_race(scenario)
+
+    def test_jobs_of_a_pool_of_one_thread_are_ordered(self) -> None:
+        def scenario() -> None:
+            with ThreadPoolExecutor(1) as pool:
+                for _ in range(4):
+                    pool.submit(write)
+
+        self.assert_ordered(scenario)
+
+    def test_map_is_ordered_both_ways(self) -> None:
+        def scenario() -> None:
+            write("x")
+            with ThreadPoolExecutor(4) as pool:
+                for number in pool.map(lambda number: (touch("x"), write(f"y{number}"), number)[2], range(4)):
+                    write(f"y{number}")
+
+        self.assert_ordered(scenario)
+
+    def test_who_does_not_take_the_result_is_not_ordered(self) -> None:
+        def scenario() -> None:
+            with ThreadPoolExecutor(2) as pool:
+                future = pool.submit(write)
+                time.sleep(0.02)
+                write()
+                future.result()
+
+        self.assert_race(scenario)
+
+    def test_a_failed_job_tells_its_end_too(self) -> None:
+        def fail() -> None:
+            write()
+            raise ValueError
+
+        def scenario() -> None:
+            with ThreadPoolExecutor(2) as pool:
+                with self.assertRaises(ValueError):
+                    pool.submit(fail).result()
+                write()
+
+        self.assert_ordered(scenario)
+
+    def test_the_initializer_comes_before_the_jobs(self) -> None:
+        for workers in (1, 3):
+            with self.subTest(workers=workers):
+
+                def scenario() -> None:
+                    with ThreadPoolExecutor(workers, initializer=lambda: touch("x")) as pool:
+                        pool.submit(time.sleep, 0).result()
+
+                self.races(scenario)
+                self.assertEqual([row.kind for row in self.rows if row.is_touch], ["read"])
+
+    def test_two_who_take_one_result_are_not_ordered_by_that(self) -> None:
+        def scenario() -> None:
+            with ThreadPoolExecutor(2) as pool:
+                future = pool.submit(write)
+
+                def take() -> None:
+                    future.result()
+                    touch("x")
+                    write("y")
+
+                in_turn(take, take)
+
+        self.assert_racing_things("y", scenario)
+
+    def test_a_future_made_by_hand_carries_order(self) -> None:
+        def scenario() -> None:
+            future: Future[int] = Future()
+
+            def first() -> None:
+                write()
+                future.set_result(1)
+                write("y")
+
+            def second() -> None:
+                future.result(WAIT)
+                write()
+                write("y")
+
+            in_turn(first, second)
+
+        self.assert_racing_things("y", scenario)
+
+    def test_a_callback_comes_after_the_job(self) -> None:
+        def scenario() -> None:
+            step = Step()
+            with ThreadPoolExecutor(2) as pool:
+                future = pool.submit(lambda: (step.wait(), write()))
+                future.add_done_callback(lambda _: write())
+                step.done()
+            done: Future[int] = pool_result()
+            done.add_done_callback(lambda _: touch("z"))
+
+        self.assert_ordered(scenario)
+
+    def test_thousands_of_jobs_do_not_use_up_the_tasks(self) -> None:
+        def scenario() -> None:
+            with ThreadPoolExecutor(2) as pool:
+                for _ in range(3000):
+                    pool.submit(int).result()
+
+        self.races(scenario)
+        self.assertLess(len({row.task for row in self.rows}), 1100)
+
+
+def pool_result() -> Future[int]:
+    with ThreadPoolExecutor(2) as pool:
+        return pool.submit(int)
+
+
+def wait_until_done(future: Future[Any]) -> None:
+    while not future.done():
+        time.sleep(0.001)
+
+
+if __name__ == "__main__":
+    unittest.main()

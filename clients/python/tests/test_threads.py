@@ -1,0 +1,568 @@
+"""Each primitive of `threading` by itself: the order that it gives, and none that it does not give."""
+
+from __future__ import annotations
+
+import _thread
+import threading
+import time
+import unittest
+from typing import Any
+
+from itc_trace import touch
+
+from .support import WAIT, Step, TracedCase, in_turn
+
+
+def write(thing: str = "x") -> None:
+    touch(thing, write=True)
+
+
+class Threads(TracedCase):
+    def test_what_precedes_start_comes_before_the_thread(self) -> None:
+        def scenario() -> None:
+            write()
+            thread = threading.Thread(target=write)
+            thread.start()
+            thread.join()
+
+        self.assert_ordered(scenario)
+
+    def test_what_follows_start_is_not_ordered_with_the_thread(self) -> None:
+        def scenario() -> None:
+            thread = threading.Thread(target=write)
+            thread.start()
+            write()
+            thread.join()
+
+        self.assert_race(scenario)
+
+    def test_join_comes_after_the_thread(self) -> None:
+        def scenario() -> None:
+            thread = threading.Thread(target=write)
+            thread.start()
+            thread.join()
+            write()
+
+        self.assert_ordered(scenario)
+
+    def test_join_that_times_out_orders_nothing(self) -> None:
+        def scenario() -> None:
+            step, seen = Step(), Step()
+
+            def work() -> None:
+                write()
+                seen.done()
+                step.wait()
+
+            thread = threading.Thread(target=work)
+            thread.start()
+            seen.wait()
+            thread.join(0.01)
+            write()
+            step.done()
+            thread.join()
+
+        self.assert_race(scenario)
+
+    def test_a_thread_seen_dead_has_happened_before(self) -> None:
+        def scenario() -> None:
+            thread = threading.Thread(target=write)
+            thread.start()
+            while thread.is_alive():
+                time.sleep(0.001)
+            write()
+
+        self.assert_ordered(scenario)
+
+    def test_two_threads_are_not_ordered_by_their_parent(self) -> None:
+        self.assert_race(lambda: in_turn(write, write))
+
+    def test_all_who_join_come_after_the_thread(self) -> None:
+        def scenario() -> None:
+            thread = threading.Thread(target=write)
+
+            def wait() -> None:
+                thread.join()
+                touch("x")
+
+            thread.start()
+            in_turn(wait, wait)
+            wait()
+
+        self.assert_ordered(scenario)
+
+    def test_several_who_wait_for_a_thread_are_not_ordered_by_that(self) -> None:
+        def scenario() -> None:
+            step = Step()
+
+            def work() -> None:
+                step.wait()
+                write()
+
+            def wait() -> None:
+                thread.join()
+                touch("x")
+                write("y")
+
+            thread = threading.Thread(target=work)
+            thread.start()
+            waiting = [threading.Thread(target=wait) for _ in range(2)]
+            for one in waiting:
+                one.start()
+            time.sleep(0.1)
+            step.done()
+            for one in waiting:
+                one.join()
+
+        self.assert_racing_things("y", scenario)
+
+    def test_a_subclass_with_its_own_run_is_traced(self) -> None:
+        class Worker(threading.Thread):
+            def run(self) -> None:
+                write()
+
+        def scenario() -> None:
+            worker = Worker()
+            worker.start()
+            worker.join()
+            write()
+
+        self.assert_ordered(scenario)
+        self.assertIn("join", [row.kind for row in self.rows])
+
+    def test_a_timer_comes_after_its_start(self) -> None:
+        def scenario() -> None:
+            write()
+            timer = threading.Timer(0.01, write)
+            timer.start()
+            timer.join()
+            write()
+
+        self.assert_ordered(scenario)
+
+    def test_a_plain_thread_comes_after_its_start(self) -> None:
+        def scenario() -> None:
+            step = Step()
+
+            def work() -> None:
+                write()
+                step.done()
+
+            write()
+            _thread.start_new_thread(work, ())
+            step.wait()
+            time.sleep(0.05)
+
+        self.assert_ordered(scenario)
+
+    def test_tasks_are_named_after_threads(self) -> None:
+        def scenario() -> None:
+            threads = [threading.Thread(target=write, name="alice"), threading.Thread(target=write, name="a b-c" * 20),
+                       threading.Thread(target=write), threading.Thread(target=write, name="alice")]
+            for thread in threads:
+                thread.start()
+                thread.join()
+
+        self.assert_ordered(scenario)
+        names = [row.task for row in self.rows if row.is_touch]
+        self.assertEqual([names[0], names[2], names[3]], ["alice", "write_1", "alice_2"])
+        self.assertLessEqual(len(names[1]), 24)
+
+
+class Locks(TracedCase):
+    def test_who_acquires_comes_after_who_released(self) -> None:
+        for make in (threading.Lock, threading.RLock):
+            with self.subTest(make=make):
+                lock = make()
+
+                def work() -> None:
+                    with lock:
+                        write()
+
+                self.assert_ordered(lambda: in_turn(work, work, work))
+
+    def test_what_follows_a_release_is_not_ordered(self) -> None:
+        for make in (threading.Lock, threading.RLock):
+            with self.subTest(make=make):
+                lock = make()
+
+                def first() -> None:
+                    with lock:
+                        pass
+                    write()
+
+                def second() -> None:
+                    with lock:
+                        write()
+
+                self.assert_race(lambda: in_turn(first, second))
+
+    def test_an_event_before_the_release_is_kept_apart_from_one_behind_it(self) -> None:
+        def scenario() -> None:
+            lock = threading.Lock()
+
+            def first() -> None:
+                with lock:
+                    write("x")
+                write("y")
+
+            def second() -> None:
+                with lock:
+                    write("x")
+                    write("y")
+
+            in_turn(first, second)
+
+        self.assert_racing_things("y", scenario)
+
+    def test_two_locks_order_nothing_between_them(self) -> None:
+        def scenario() -> None:
+            one, other = threading.Lock(), threading.Lock()
+
+            def work(lock: Any) -> None:
+                with lock:
+                    write()
+
+            in_turn(lambda: work(one), lambda: work(other))
+
+        self.assert_race(scenario)
+
+    def test_only_the_outermost_release_of_an_rlock_counts(self) -> None:
+        def scenario() -> None:
+            lock = threading.RLock()
+            inside, go_on = Step(), Step()
+
+            def first() -> None:
+                with lock:
+                    with lock:
+                        pass
+                    write()
+                inside.done()
+
+            def second() -> None:
+                inside.wait()
+                with lock:
+                    write()
+                go_on.done()
+
+            threads = [threading.Thread(target=first), threading.Thread(target=second)]
+            for thread in threads:
+                thread.start()
+            go_on.wait()
+            for thread in threads:
+                thread.join()
+
+        self.assert_ordered(scenario)
+
+    def test_acquire_and_release_by_name_count_too(self) -> None:
+        def scenario() -> None:
+            lock = threading.Lock()
+
+            def work() -> None:
+                lock.acquire(timeout=WAIT)
+                write()
+                lock.release()
+
+            in_turn(work, work)
+
+        self.assert_ordered(scenario)
+
+    def test_an_acquire_that_fails_orders_nothing(self) -> None:
+        def scenario() -> None:
+            lock = threading.Lock()
+
+            def first() -> None:
+                with lock:
+                    pass
+                lock.acquire()
+                write()
+
+            def second() -> None:
+                self.assertFalse(lock.acquire(blocking=False))
+                write()
+
+            in_turn(first, second)
+
+        self.assert_race(scenario)
+
+    def test_a_loop_of_one_thread_sends_nothing(self) -> None:
+        def scenario() -> None:
+            lock = threading.Lock()
+            for _ in range(100):
+                with lock:
+                    touch("x", write=True)
+
+        self.assert_ordered(scenario)
+        self.assertEqual({row.kind for row in self.rows}, {"write"})
+
+    def test_a_lock_has_all_that_a_lock_has(self) -> None:
+        def scenario() -> None:
+            lock = threading.Lock()
+            self.assertIsInstance(lock, _thread.LockType)
+            self.assertFalse(lock.locked())
+            with lock:
+                self.assertTrue(lock.locked())
+            with self.assertRaises(RuntimeError):
+                lock.release()
+            with self.assertRaises(TypeError):
+                lock.__reduce__()
+            again = threading.RLock()
+            with self.assertRaises(RuntimeError):
+                again.release()
+
+        self.races(scenario)
+
+
+class Conditions(TracedCase):
+    def test_who_wakes_up_comes_after_who_notified(self) -> None:
+        for make in (threading.Lock, threading.RLock):
+            with self.subTest(make=make):
+                self.assert_ordered(lambda: self.hand_over(threading.Condition(make())))
+        self.assert_ordered(lambda: self.hand_over(threading.Condition()))
+
+    @staticmethod
+    def hand_over(condition: threading.Condition) -> None:
+        ready: list[int] = []
+
+        def consume() -> None:
+            with condition:
+                while not ready:
+                    condition.wait(WAIT)
+            write()
+
+        def produce() -> None:
+            with condition:
+                write()
+                ready.append(1)
+                condition.notify()
+
+        threads = [threading.Thread(target=consume), threading.Thread(target=produce)]
+        for thread in threads:
+            thread.start()
+        for thread in threads:
+            thread.join()
+
+    def test_what_follows_the_notifier_s_release_is_not_ordered(self) -> None:
+        def scenario() -> None:
+            condition, ready = threading.Condition(), []
+            woken = Step()
+
+            def consume() -> None:
+                with condition:
+                    while not ready:
+                        condition.wait(WAIT)
+                woken.wait()
+                write()
+
+            def produce() -> None:
+                with condition:
+                    ready.append(1)
+                    condition.notify_all()
+                write()
+                woken.done()
+
+            threads = [threading.Thread(target=consume), threading.Thread(target=produce)]
+            for thread in threads:
+                thread.start()
+            for thread in threads:
+                thread.join()
+
+        self.assert_race(scenario)
+
+
+class Semaphores(TracedCase):
+    def test_a_permit_carries_order(self) -> None:
+        def scenario() -> None:
+            semaphore = threading.Semaphore(0)
+
+            def first() -> None:
+                write()
+                semaphore.release()
+
+            def second() -> None:
+                semaphore.acquire()
+                write()
+
+            in_turn(first, second)
+
+        self.assert_ordered(scenario)
+
+    def test_a_semaphore_of_one_is_a_lock(self) -> None:
+        for make in (threading.Semaphore, threading.BoundedSemaphore):
+            with self.subTest(make=make):
+                semaphore = make(1)
+
+                def work() -> None:
+                    with semaphore:
+                        write()
+
+                self.assert_ordered(lambda: in_turn(work, work, work))
+
+    def test_a_permit_that_was_there_carries_no_order(self) -> None:
+        def scenario() -> None:
+            semaphore = threading.Semaphore(2)
+
+            def work() -> None:
+                with semaphore:
+                    write()
+
+            in_turn(work, work)
+
+        self.assert_race(scenario)
+
+    def test_an_acquire_comes_after_one_release_alone(self) -> None:
+        def scenario() -> None:
+            semaphore = threading.Semaphore(0)
+
+            def release(thing: str) -> None:
+                write(thing)
+                semaphore.release()
+
+            def take() -> None:
+                semaphore.acquire()
+                write("x")
+                write("y")
+
+            in_turn(lambda: release("x"), lambda: release("y"), take)
+
+        self.assert_racing_things("y", scenario)
+
+    def test_one_release_of_many_permits_is_known_to_all(self) -> None:
+        def scenario() -> None:
+            semaphore = threading.Semaphore(0)
+
+            def first() -> None:
+                write()
+                semaphore.release(2)
+
+            def second() -> None:
+                semaphore.acquire()
+                touch("x")
+
+            in_turn(first, second, second)
+
+        self.assert_ordered(scenario)
+
+
+class Events(TracedCase):
+    def test_who_waits_comes_after_who_set_it(self) -> None:
+        for look in ("wait", "is_set"):
+            with self.subTest(look=look):
+                event = threading.Event()
+
+                def first() -> None:
+                    write()
+                    event.set()
+
+                def second() -> None:
+                    self.assertTrue(getattr(event, look)())
+                    touch("x")
+
+                self.assert_ordered(lambda: in_turn(first, second, second))
+
+    def test_a_wait_that_times_out_orders_nothing(self) -> None:
+        def scenario() -> None:
+            event = threading.Event()
+
+            def first() -> None:
+                event.wait(0.001)
+                write()
+
+            def second() -> None:
+                write()
+                event.set()
+
+            in_turn(first, second)
+
+        self.assert_race(scenario)
+
+    def test_who_sets_it_again_is_not_waited_for(self) -> None:
+        def scenario() -> None:
+            event = threading.Event()
+
+            def second() -> None:
+                write()
+                event.set()
+
+            def third() -> None:
+                event.wait()
+                write()
+
+            in_turn(event.set, second, third)
+
+        self.assert_race(scenario)
+
+    def test_what_follows_set_is_not_ordered(self) -> None:
+        def scenario() -> None:
+            event = threading.Event()
+
+            def first() -> None:
+                event.set()
+                write()
+
+            def second() -> None:
+                event.wait()
+                write()
+
+            in_turn(first, second)
+
+        self.assert_race(scenario)
+
+
+class Barriers(TracedCase):
+    def meet(self, before: str, after: str, rounds: int = 1) -> None:
+        barrier = threading.Barrier(3)
+
+        def work(number: int) -> None:
+            for _ in range(rounds):
+                touch(f"{before}{number}", write=True)
+                barrier.wait(WAIT)
+                for other in range(3):
+                    touch(f"{after}{other}")
+                barrier.wait(WAIT)
+
+        threads = [threading.Thread(target=work, args=(number,)) for number in range(3)]
+        for thread in threads:
+            thread.start()
+        for thread in threads:
+            thread.join()
+
+    def test_all_who_arrive_come_before_all_who_leave(self) -> None:
+        self.assert_ordered(lambda: self.meet("x", "x", rounds=3))
+
+    def test_what_follows_a_barrier_is_not_ordered(self) -> None:
+        def scenario() -> None:
+            barrier = threading.Barrier(2)
+
+            def work() -> None:
+                barrier.wait(WAIT)
+                write()
+
+            threads = [threading.Thread(target=work) for _ in range(2)]
+            for thread in threads:
+                thread.start()
+            for thread in threads:
+                thread.join()
+
+        self.assert_race(scenario)
+
+    def test_the_action_comes_between_arriving_and_leaving(self) -> None:
+        def scenario() -> None:
+            barrier = threading.Barrier(2, action=lambda: touch("x", write=True))
+
+            def work(thing: str) -> None:
+                write(thing)
+                barrier.wait(WAIT)
+                touch("x")
+
+            barrier_things = [threading.Thread(target=work, args=(f"y{number}",)) for number in range(2)]
+            for thread in barrier_things:
+                thread.start()
+            for thread in barrier_things:
+                thread.join()
+
+        self.assert_ordered(scenario)
+
+
+if __name__ == "__main__":
+    unittest.main()
