@@ -36,8 +36,8 @@ fn main() -> Result<(), Box<dyn std::error::Error>> {
     print!("{} {} {} ", session.local("root")?, session.send("a", "m")?, session.recv("root", "m")?);
     println!("{} {}", session.end("a")?, session.join("root", "a")?);
     let (past, concurrent) = (asking.past(5)?, asking.concurrent(5)?);
-    let cut = asking.cut(6)?;
-    println!("{} {} {past:?} {concurrent:?} {:?} {cut:?}", asking.order(4, 5)?, asking.order(6, 5)?, asking.past(1)?);
+    let known = asking.cut(6)?;
+    println!("{} {} {past:?} {concurrent:?} {:?} {known:?}", asking.order(4, 5)?, asking.order(6, 5)?, asking.past(1)?);
     let Event { kind, task, name, follows } = asking.event(6)?;
     let ((state, last), (sent, received)) = (asking.task("a")?, asking.message("m")?);
     let (events, tasks, messages) = asking.count()?;

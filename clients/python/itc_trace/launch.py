@@ -16,13 +16,18 @@ from collections.abc import Callable
 
 from .tracing import Tracing
 
+WORDS_REFUSED = 2
 OWN_FILES = (__file__, runpy.__file__, "<frozen runpy>")
 
 
 def main() -> None:
     configuration = json.loads(sys.argv[1])
     words = sys.argv[2:]
-    traced = Tracing(**configuration).start()
+    try:
+        traced = Tracing(**configuration).start()
+    except OSError as fault:  # Another session reports, say.
+        print(f"itc_trace: {fault}", file=sys.stderr)
+        sys.exit(WORDS_REFUSED)
     atexit.register(traced.stop)
     _stop_at_exit(traced)
     if words[0] == "-m":
@@ -72,7 +77,7 @@ def _guarded(run: Callable[[], object]) -> None:
         trace = error.__traceback__
         while trace is not None and trace.tb_frame.f_code.co_filename in OWN_FILES:
             trace = trace.tb_next
-        sys.excepthook(type(error), error, trace)
+        sys.excepthook(type(error), error.with_traceback(trace), trace)
         sys.exit(130 if isinstance(error, KeyboardInterrupt) else 1)
 
 

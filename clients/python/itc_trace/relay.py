@@ -162,14 +162,17 @@ class Client(Pipe):
 
     def _hand_on(self, lines: list[bytes]) -> None:
         assert self.upstream is not None
+        is_last = False
         for place, line in enumerate(lines):
             if line == QUIT or line == QUIT + b"\r":
                 del lines[place:]
-                self.leave()
+                is_last = True
                 break
         if lines:
             self.waiting += len(lines)
             self.upstream.ask(self, [line if len(line) <= MOST_LINE + 1 else FAULTY_LINE for line in lines])
+        if is_last:
+            self.leave()
 
     def leave(self) -> None:
         """No more is asked; what was asked is still answered."""

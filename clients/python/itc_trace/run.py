@@ -14,6 +14,7 @@ from urllib.parse import quote
 
 from .collector import HOST, Collector, find_in_repository
 from .races import Races, find_races
+from .session import Session
 from .snapshot import snapshot
 from .tracing import OWN_TENANT
 
@@ -40,6 +41,7 @@ def run(asked: Run) -> int:
     """The program's own status, or 66 where it has a race."""
     with tempfile.TemporaryDirectory(prefix="itc_trace_") as work:
         if asked.port is not None:
+            Session(asked.tenant, asked.port, "view", asked.host).close()  # Where there is none, nothing is run.
             return _run_with(asked, asked.port, work)
         with Collector(asked.tenant) as collector:
             return _run_with(asked, collector.port, work)

@@ -31,13 +31,22 @@ WRITES = frozenset(
 
 IN_PLACE = frozenset(name for name in WRITES if name.startswith("__i"))
 
-NEVER_WRAPPED = (type(None), bool, int, float, complex, str, bytes, tuple, frozenset, type, types.FunctionType, types.ModuleType)
+NEVER_WRAPPED = (
+    type(None), bool, int, float, complex, str, bytes, tuple, frozenset, type, types.FunctionType, types.BuiltinFunctionType,
+    types.ModuleType,
+)
 """What cannot change, or is no thing that tasks share."""
 
 CONTAINERS = (dict, list, set, bytearray, deque)
 
-REFERENCES_OF_A_NEW_VALUE = 4
-"""How many references a value has that was made for the call of `shared` alone."""
+
+
+def _references(value: object) -> int:
+    return sys.getrefcount(value)
+
+
+REFERENCES_OF_A_NEW_VALUE = _references({}) if sys.version_info < (3, 14) else 0
+"""How many references a value has that was made for the call alone. Later Pythons do not count those of variables."""
 
 
 def shared(value: T, name: str) -> T:
@@ -157,8 +166,10 @@ class StandIn:
 
     def __getattribute__(self, name: str) -> Any:
         value = object.__getattribute__(self, "_itc_value")
+        if name in type(self).__dict__:
+            return object.__getattribute__(self, name)
         if name.startswith("__") and name.endswith("__"):
-            return getattr(value, name) if name != "__class__" else type(value)
+            return getattr(value, name)
         found = _class_attribute(type(value), name)
         if isinstance(found, types.FunctionType) and name not in _instance_names(value):
             return types.MethodType(found, self)
