@@ -54,10 +54,10 @@ def current() -> Line:
     if loop is not None:
         task = _task_of(loop)
         if task is not None:
-            line = getattr(task, "_itc_line", None)
+            line: Line | None = getattr(task, "_itc_line", None)
             return line if line is not None and line.tracer is state.tracer else _adopt_task(task)
-    line = getattr(local, "line", None)
-    return line if line is not None and line.tracer is state.tracer else _adopt_thread()
+    own: Line | None = getattr(local, "line", None)
+    return own if own is not None and own.tracer is state.tracer else _adopt_thread()
 
 
 def _adopt_task(task: Any) -> Line:

@@ -19,6 +19,8 @@ from .session import Refused, Session
 
 WRITE = "write"
 NO_SUCH_REQUEST = 400
+EVENTS_OF_AN_ORDER = 50
+"""A cut looks at all events, and takes about as long as one order for so many of them."""
 
 
 @dataclass(frozen=True)
@@ -112,13 +114,18 @@ class _Cuts:
         self._cuts: dict[int, dict[str, int]] = {}
         self.questions = 0
 
+    def wanted(self, things: Things) -> int:
+        """How many cuts are to be asked for."""
+        return len(self._wanted(things))
+
+    def _wanted(self, things: Things) -> set[int]:
+        return {
+            self._epochs[event] for tasks in things.values() for touches in tasks.values() for event in touches.events
+        }
+
     def prepare(self, things: Things) -> None:
         """Asks for the cut of each touch that may be part of a race, and of no two with the same one."""
-        wanted = {
-            self._epochs[event]
-            for tasks in things.values() for touches in tasks.values() for event in touches.events
-        }
-        events = sorted(wanted)
+        events = sorted(self._wanted(things))
         self.questions += len(events)
         for event, reply in zip(events, self._view.ask(f"cut {event}" for event in events)):
             self._cuts[event] = self._read(event, reply)
@@ -174,6 +181,10 @@ class _Orders:
         self._known: dict[tuple[int, int], list[int]] = {}
         self.questions = 0
 
+    def expected(self, things: Things) -> int:
+        """About how many orders are to be asked for: one for each touch and each other task."""
+        return sum((len(tasks) - 1) * sum(len(touches.events) for touches in tasks.values()) for tasks in things.values())
+
     def prepare(self, things: Things) -> None:
         walks = {
             (id(one), id(other)): _walk(one, other)
@@ -217,15 +228,16 @@ def find_races(tenant: str, port: int, journal: Iterable[str], host: str = HOST)
 
 
 def _ask_for_orders(view: Session, rows: list[Row], things: Things) -> _Cuts | _Orders:
-    """By cuts, or, where a collector knows none, by orders."""
+    """By cuts or by orders, whichever takes less time; by orders, where a collector knows no cut."""
     cuts = _Cuts(view, rows, is_complete=view.count()[0] == len(rows))
-    try:
-        cuts.prepare(things)
-        return cuts
-    except Refused as refused:
-        if refused.code != NO_SUCH_REQUEST:
-            raise
     orders = _Orders(view)
+    if cuts.wanted(things) * max(1, len(rows) // EVENTS_OF_AN_ORDER) <= orders.expected(things):
+        try:
+            cuts.prepare(things)
+            return cuts
+        except Refused as refused:
+            if refused.code != NO_SUCH_REQUEST:
+                raise
     orders.prepare(things)
     return orders
 

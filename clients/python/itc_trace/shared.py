@@ -6,7 +6,7 @@ import sys
 import types
 from collections import deque
 from collections.abc import Callable
-from typing import Any, TypeVar
+from typing import Any, TypeVar, cast
 
 from .lines import TOUCH, state
 from .noting import current, is_internal
@@ -56,9 +56,10 @@ def shared(value: T, name: str) -> T:
     """
     if state.note is None and not _patched() or isinstance(value, NEVER_WRAPPED):
         return value
-    if type(value) in (dict, list, set) and sys.getrefcount(value) <= REFERENCES_OF_A_NEW_VALUE:
-        return _copied(value, name)
-    return _wrapped(value, name)
+    kind: Any = type(value)
+    if kind in (dict, list, set) and sys.getrefcount(value) <= REFERENCES_OF_A_NEW_VALUE:
+        return cast(T, _copied(value, name))
+    return cast(T, _wrapped(value, name))
 
 
 def _patched() -> bool:
@@ -92,10 +93,10 @@ _container_types: dict[type, type] = {}
 def _container_type(base: type) -> type:
     made = _container_types.get(base)
     if made is None:
-        methods = {one: _own_method(base, one) for one in sorted(READS | WRITES) if _is_method(base, one)}
+        methods: dict[str, Any] = {one: _own_method(base, one) for one in sorted(READS | WRITES) if _is_method(base, one)}
         methods["__reduce_ex__"] = lambda self, _: (base, (base(self),))
         methods["__hash__"] = None
-        made = _container_types[base] = type(base.__name__, (base,), {"_itc_name": None, "__module__": base.__module__, **methods})
+        made = _container_types[base] = type(base.__name__, (base,), {**methods, "_itc_name": None, "__module__": base.__module__})
     return made
 
 
@@ -119,7 +120,7 @@ def _own_method(base: type, name: str) -> Callable[..., Any]:
 
 
 def _wrapped(value: Any, name: str) -> Any:
-    made = object.__new__(_stand_in_type(type(value)))
+    made: Any = object.__new__(_stand_in_type(type(value)))
     object.__setattr__(made, "_itc_value", value)
     object.__setattr__(made, "_itc_name", name)
     return made
@@ -160,7 +161,7 @@ class StandIn:
 
     __slots__ = ("_itc_value", "_itc_name", "__weakref__")
 
-    @property
+    @property  # type: ignore[misc]
     def __class__(self) -> Any:
         return type(object.__getattribute__(self, "_itc_value"))
 

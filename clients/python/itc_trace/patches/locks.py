@@ -10,7 +10,7 @@ from ..lines import LOCK, MARK, TAKE, Token, state
 from ..noting import current, is_internal, place
 
 _allocate = _thread.allocate_lock
-_PlainRLock: Any = _thread.RLock
+_PlainRLock: Any = vars(_thread)["RLock"]
 
 
 class _LikeLock(type):
@@ -25,6 +25,9 @@ class TracedLock(metaclass=_LikeLock):
 
     __slots__ = ("_lock", "_token", "__weakref__")
 
+    _lock: Any
+    _token: Token | None
+
     def __new__(cls) -> Any:
         if is_internal(sys._getframe(1)):
             return _allocate()
@@ -33,7 +36,7 @@ class TracedLock(metaclass=_LikeLock):
         made._token = None
         return made
 
-    @property
+    @property  # type: ignore[misc]
     def __class__(self) -> Any:
         return _thread.LockType
 
@@ -61,14 +64,14 @@ class TracedLock(metaclass=_LikeLock):
         self._lock.release()
 
     def locked(self) -> bool:
-        return self._lock.locked()
+        return bool(self._lock.locked())
 
     acquire_lock = acquire
     release_lock = release
     locked_lock = locked
 
     def _at_fork_reinit(self) -> None:
-        self._lock._at_fork_reinit()  # type: ignore[attr-defined]
+        self._lock._at_fork_reinit()
         self._token = None
 
     def __reduce__(self) -> Any:
@@ -80,6 +83,9 @@ class TracedLock(metaclass=_LikeLock):
 
 class TracedRLock(_PlainRLock):  # type: ignore[misc]
     """A lock that its owner may acquire again. Only what happens outermost is a message."""
+
+    _token: Token | None
+    _depth: int
 
     def __new__(cls, *words: Any, **named: Any) -> Any:
         if is_internal(sys._getframe(1)):

@@ -2,7 +2,6 @@
 
 from __future__ import annotations
 
-import _queue
 import _thread
 import queue
 import sys
@@ -13,8 +12,8 @@ from ..lines import DONE_ITEM, QUEUE, Token, state
 from ..noting import is_internal, mark, take
 from .base import Patches
 
-_guard = _thread.RLock()
-_PlainSimpleQueue: Any = _queue.SimpleQueue
+_guard = vars(_thread)["RLock"]()
+_PlainSimpleQueue: Any = queue.SimpleQueue
 
 
 def put(patches: Patches) -> None:

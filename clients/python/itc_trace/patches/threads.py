@@ -13,7 +13,7 @@ from ..noting import current, is_internal, local, mark, place, take, thread_name
 from .base import Patches
 from .locks import TracedLock, TracedRLock
 
-_PLAIN_RLOCK: Any = _thread.RLock
+_PLAIN_RLOCK: Any = vars(_thread)["RLock"]
 
 MOST_PERMITS = 65536
 """A semaphore that begins with more of them holds nobody back, and is not traced."""
