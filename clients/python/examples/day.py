@@ -1,4 +1,4 @@
-"""The processes of a shop: a store that keeps its stock in a file and sells over HTTP, a seller, and an audit that reads the file.
+"""The processes of a shop: a store that has its stock in a file and sells over HTTP, a seller, and an audit of the file.
 
 With `fixed` the audit asks the store first whether the day is over, and the store stays open until it has.
 

@@ -13,6 +13,6 @@ from .tracing import Tracing, install, tracing, uninstall
 from .web import Middleware, Opener, incoming, opener, outgoing
 
 __all__ = [
-    "Collector", "Middleware", "NoCollector", "Opener", "Race", "Races", "Refused", "Session", "Tracing", "find_races", "incoming",
-    "install", "opener", "outgoing", "shared", "touch", "tracing", "uninstall",
+    "Collector", "Middleware", "NoCollector", "Opener", "Race", "Races", "Refused", "Session", "Tracing", "find_races",
+    "incoming", "install", "opener", "outgoing", "shared", "touch", "tracing", "uninstall",
 ]

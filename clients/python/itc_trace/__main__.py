@@ -24,6 +24,7 @@ def _parser() -> argparse.ArgumentParser:
     races = commands.add_parser("races", help="list the races of a trace by its journal")
     _add_port(races)
     races.add_argument("tenant")
+    races.add_argument("--picture", metavar="FILE", help="the picture of the trace, for links into it")
     races.add_argument("journal", nargs="+", help="the journal of each process")
     relaying = commands.add_parser("relay", help="let many processes report to one tenant")
     relaying.add_argument("--listen", type=int, required=True, help="the port that the processes report to")
@@ -80,7 +81,7 @@ def _journals(names: list[str]) -> Iterator[str]:
 
 def _races(words: argparse.Namespace) -> int:
     found = find_races(words.tenant, words.port, _journals(words.journal), words.host)
-    print(told(found))
+    print(told(found, words.picture))
     return RACES_FOUND if found else 0
 
 

@@ -93,10 +93,12 @@ _container_types: dict[type, type] = {}
 def _container_type(base: type) -> type:
     made = _container_types.get(base)
     if made is None:
-        methods: dict[str, Any] = {one: _own_method(base, one) for one in sorted(READS | WRITES) if _is_method(base, one)}
+        names = [one for one in sorted(READS | WRITES) if _is_method(base, one)]
+        methods: dict[str, Any] = {one: _own_method(base, one) for one in names}
         methods["__reduce_ex__"] = lambda self, _: (base, (base(self),))
         methods["__hash__"] = None
-        made = _container_types[base] = type(base.__name__, (base,), {**methods, "_itc_name": None, "__module__": base.__module__})
+        named = {"_itc_name": None, "__module__": base.__module__}
+        made = _container_types[base] = type(base.__name__, (base,), {**methods, **named})
     return made
 
 
