@@ -1,0 +1,169 @@
+"""Measures what tracing costs, what the relay carries, and how long races take: the numbers of docs/python.md.
+
+Usage: python3 measure.py [cost] [relay] [races]
+"""
+
+import json
+import multiprocessing
+import queue
+import random
+import subprocess
+import sys
+import threading
+import time
+from collections.abc import Callable, Iterator
+from typing import Any
+
+from itc_trace import Collector, Session, find_races, touch, tracing
+
+TURNS, TRIES = 10000, 5
+PROCESSES, REPORTS, AT_ONCE = 32, 512, 64
+EVENTS, THINGS, LOCKS = 16000, 200, 10
+
+
+# The cost of one turn of a loop
+
+
+def lock_turns(turns: int) -> None:
+    lock = threading.Lock()
+    for _ in range(turns):
+        with lock:
+            pass
+
+
+def touch_turns(turns: int) -> None:
+    for _ in range(turns):
+        touch("x")
+
+
+def lock_and_touch_turns(turns: int) -> None:
+    lock = threading.Lock()
+    for _ in range(turns):
+        with lock:
+            touch("x", write=True)
+
+
+def queue_turns(turns: int) -> None:
+    one: queue.Queue[int] = queue.Queue()
+    for _ in range(turns):
+        one.put(1)
+        one.get()
+
+
+def two_threads_turns(turns: int) -> None:
+    lock = threading.Lock()
+
+    def work() -> None:
+        for _ in range(turns // 2):
+            with lock:
+                pass
+
+    threads = [threading.Thread(target=work) for _ in range(2)]
+    for thread in threads:
+        thread.start()
+    for thread in threads:
+        thread.join()
+
+
+def microseconds(run: Callable[[int], None]) -> float:
+    start = time.perf_counter()
+    run(TURNS)
+    return (time.perf_counter() - start) / TURNS * 1e6
+
+
+def traced_microseconds(run: Callable[[int], None]) -> float:
+    traced = tracing().start()
+    try:
+        return microseconds(run)
+    finally:
+        traced.close()
+
+
+def measure_cost() -> None:
+    for run in (lock_turns, touch_turns, lock_and_touch_turns, queue_turns, two_threads_turns):
+        plain = min(microseconds(run) for _ in range(TRIES))
+        traced = min(traced_microseconds(run) for _ in range(TRIES))
+        print(f"{run.__name__}: {plain:.1f} microseconds untraced, {traced:.1f} traced", flush=True)
+
+
+# Reports through the relay
+
+
+def report(port: int, at_once: int, ready: Any, go: Any, times: Any) -> None:
+    with Session("trace", port) as session:
+        ready.release()
+        go.wait()
+        start = time.time()
+        for _ in range(0, REPORTS, at_once):
+            list(session.ask(["local root"] * at_once))
+        times.put((start, time.time()))
+
+
+def measure_relay() -> None:
+    for at_once in (AT_ONCE, 1):
+        with Collector("trace") as collector:
+            words = [sys.executable, "-m", "itc_trace", "relay", "--listen", "0", "--port", str(collector.port)]
+            with subprocess.Popen(words, stdout=subprocess.PIPE) as relay:
+                assert relay.stdout is not None
+                seconds = report_by_many(int(relay.stdout.readline().split()[1]), at_once)
+                relay.terminate()
+        print(f"{PROCESSES} processes, {at_once} at once: {PROCESSES * REPORTS / seconds:.0f} reports a second", flush=True)
+
+
+def report_by_many(port: int, at_once: int) -> float:
+    ready, go, times = multiprocessing.Semaphore(0), multiprocessing.Event(), multiprocessing.Queue()
+    given = (port, at_once, ready, go, times)
+    processes = [multiprocessing.Process(target=report, args=given) for _ in range(PROCESSES)]
+    for process in processes:
+        process.start()
+    for _ in processes:
+        ready.acquire()
+    go.set()
+    told = [times.get() for _ in processes]
+    for process in processes:
+        process.join()
+    return max(end for _, end in told) - min(start for start, _ in told)
+
+
+# Races of a long trace
+
+
+def reports(tasks: int, locked: bool) -> Iterator[tuple[str, str, str | None]]:
+    """Reports, each with the kind and the thing that the journal has of it: all touches in locks, or none of them."""
+    chance, names = random.Random(1), ["root", *(f"t{number}" for number in range(1, tasks))]
+    last: dict[int, tuple[str, str]] = {}
+    for name in names[1:]:
+        yield f"spawn root {name}", "spawn", None
+    for number in range(EVENTS):
+        task, lock = chance.choice(names), chance.randrange(LOCKS)
+        if locked and lock in last and last[lock][1] != task:
+            yield f"recv {task} {last[lock][0]}", "recv", None
+        yield f"local {task}", chance.choice(["read", "read", "write"]), f"thing{chance.randrange(THINGS)}"
+        if locked:
+            last[lock] = f"m{number}", task
+            yield f"send {task} m{number}", "send", None
+
+
+def measure_races() -> None:
+    for locked in (True, False):
+        for tasks in (4, 16, 64):
+            with Collector("trace") as collector:
+                rows = [report for report, _ in zip(reports(tasks, locked), range(EVENTS))]
+                with Session("trace", collector.port) as session:
+                    list(session.ask(line for line, _, _ in rows))
+                journal = [journal_line(event, *row) for event, row in enumerate(rows, 1)]
+                start = time.perf_counter()
+                found = find_races("trace", collector.port, journal)
+                seconds = time.perf_counter() - start
+            print(f"{tasks} tasks, {'locked' if locked else 'free'}: {seconds:.2f} s: {found.summary()}", flush=True)
+
+
+def journal_line(event: int, line: str, kind: str, thing: str | None) -> str:
+    row = {"event": event, "task": line.split()[1], "thing": thing, "kind": kind, "file": "f.py", "line": 1, "label": ""}
+    return json.dumps(row) + "\n"
+
+
+if __name__ == "__main__":
+    for name, measured in (("cost", measure_cost), ("relay", measure_relay), ("races", measure_races)):
+        if name in sys.argv[1:] or len(sys.argv) == 1:
+            measured()
