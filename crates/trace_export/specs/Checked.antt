@@ -1,5 +1,5 @@
 -- What a check leaves, of what its reader gave before and after.
-use Rattle.std.specs.Prelude.{◌≡◌, ℕ, suc, ◌<◌, ◌≤◌, IsTrue, List, [], ◌∷◌, ◌++◌, length, Option, Some, None}
+use Rattle.std.specs.Prelude.{◌≡◌, ℕ, suc, ◌+◌, ◌<◌, ◌≤◌, ◌⊎◌, IsTrue, List, [], ◌∷◌, ◌++◌, length, Option, Some, None}
 use Rattle.trace_types.specs.text.Name.{Text}
 use Rattle.line_protocol.specs.declared.line.Line.{Line}
 use Rattle.line_protocol.specs.declared.line.Line.TheVariants.{Whole, TooLong as TooLongLine, End}
@@ -7,9 +7,12 @@ use Rattle.line_protocol.specs.Source.{Given, HasToldEnd}
 use Rattle.line_protocol.specs.declared.read_fault.ReadFault.{ReadFault}
 use Rattle.line_protocol.specs.declared.read_fault.ReadFault.TheVariants as read_fault
 use Rattle.trace_export.specs.Graph.{IsKeptGraph}
+use Rattle.trace_export.specs.Heading.{IsHeader, IsNoHeader, lines_ahead}
 use Rattle.trace_export.specs.Verdict.{IsVerdict, IsRightNext, IsFaulty}
-use Rattle.trace_export.specs.declared.graph.Graph.{Graph}
+use Rattle.trace_export.specs.declared.collected.Collected.{Collected}
+use Rattle.trace_export.specs.declared.header.Header.{Header}
 use Rattle.trace_export.specs.declared.placed.Placed.{Placed}
+use Rattle.trace_export.specs.declared.reason.Reason.{Reason}
 use Rattle.trace_export.specs.declared.check_fault.CheckFault.{CheckFault}
 use Rattle.trace_export.specs.declared.check_fault.CheckFault.TheVariants.{Read, TooLong}
 use Rattle.trace_export.specs.declared.verdict.Verdict.{Verdict}
@@ -38,14 +41,37 @@ IsTextFound Whole line text = (text ≡ line) × (length line ≤ 65536)
 IsTextFound TooLongLine line text = 65536 < length text
 IsTextFound End line text = ⊥
 
--- A line with this text is right, and its event is kept; or it is faulty, and the verdict says so.
-abbrev pub IsJudgedAs : Option Verdict → Graph → Graph → Text → Type 0
-IsJudgedAs None old new text =
-    (placed : Placed) × IsRightNext old.placed.items text placed × (new.placed.items ≡ old.placed.items ++ placed ∷ []) × IsKeptGraph new
+-- The first line, which has this text, is this header, and there are no events.
+pub record IsHeaded (old new : Collected) (text : Text) : Type 0 where
+  pub header : Header
+  pub first : (old.header ≡ None) × (old.graph.placed.items ≡ [])
+  pub is : IsHeader text header
+  pub headed : new.header ≡ Some header
+  pub none : new.graph.placed.items ≡ []
+  pub kept : IsKeptGraph new.graph
+
+-- A line with this text is right, and its event is kept. It is no header, where it may be one.
+pub record IsKept (old new : Collected) (text : Text) : Type 0 where
+  pub placed : Placed
+  pub no_header : old.header ≡ None → old.graph.placed.items ≡ [] → IsNoHeader text
+  pub same : new.header ≡ old.header
+  pub right : IsRightNext old.graph.placed.items text placed
+  pub more : new.graph.placed.items ≡ old.graph.placed.items ++ placed ∷ []
+  pub kept : IsKeptGraph new.graph
+
+-- A line with this text is faulty for this reason. It is no header, where it may be one.
+pub record IsRefused (reason : Reason) (old : Collected) (text : Text) : Type 0 where
+  pub no_header : old.header ≡ None → old.graph.placed.items ≡ [] → IsNoHeader text
+  pub faulty : IsFaulty reason old.graph.placed.items text
+
+-- The line is a header or that of an event, and is kept; or it is faulty, and the verdict says so.
+abbrev pub IsJudgedAs : Option Verdict → Collected → Collected → Text → Type 0
+IsJudgedAs None old new text = IsHeaded old new text ⊎ IsKept old new text
 IsJudgedAs (Some (Yes count)) old new text = ⊥
-IsJudgedAs (Some (No number reason)) old new text = (number ≡ suc (length old.placed.items)) × IsFaulty reason old.placed.items text
+IsJudgedAs (Some (No number reason)) old new text =
+    (number ≡ lines_ahead old.header + suc (length old.graph.placed.items)) × IsRefused reason old text
 
 -- What is answered where this was found: at the end that all lines were right.
-abbrev pub IsJudged : Line → Text → Option Verdict → Graph → Graph → Type 0
-IsJudged End line verdict old new = verdict ≡ Some (Yes (length old.placed.items))
+abbrev pub IsJudged : Line → Text → Option Verdict → Collected → Collected → Type 0
+IsJudged End line verdict old new = verdict ≡ Some (Yes (length old.graph.placed.items))
 IsJudged found line verdict old new = (text : Text) → IsTextFound found line text → IsJudgedAs verdict old new text

@@ -6,9 +6,11 @@ use Rattle.trace_types.specs.text.Name.{Text}
 use Rattle.trace_types.specs.declared.row.Row.{Row}
 use Rattle.line_protocol.specs.Sink.{Taken}
 use Rattle.line_protocol.specs.TextsInTurn.{WritesTexts, BeginsFirst, BreaksOffAt}
+use Rattle.trace_export.specs.Heading.{header_line}
 use Rattle.trace_export.specs.Listing.{Listed, listed_line}
 use Rattle.trace_export.specs.declared.export_fault.ExportFault.{ExportFault}
 use Rattle.trace_export.specs.declared.export_fault.ExportFault.TheVariants.{Write, Memory}
+use Rattle.trace_export.specs.declared.header.Header.{Header}
 
 -- what is listed of an event: its number, its row and its stamp's text
 abbrev pub listed_row : ℕ → Row → Text → Listed
@@ -31,13 +33,13 @@ lines_after count [] stamps = []
 lines_after count (row ∷ rows) stamps =
     listed_line (listed_row (suc count) row (stamp_at stamps (suc count))) ∷ lines_after (suc count) rows stamps
 
--- the lines of an export: one for each row, with its end
-abbrev pub export_lines : List Row → List Text → List Text
-export_lines rows stamps = lines_after 0 rows stamps
+-- the lines of an export: its header and one for each row, each with its end
+abbrev pub export_lines : Header → List Row → List Text → List Text
+export_lines header rows stamps = header_line header ∷ lines_after 0 rows stamps
 
 -- the text of an export
-abbrev pub export_text : List Row → List Text → Text
-export_text rows stamps = concat (export_lines rows stamps)
+abbrev pub export_text : Header → List Row → List Text → Text
+export_text header rows stamps = concat (export_lines header rows stamps)
 
 -- These lines were written, one behind the other and each with patience of its own, and no call failed.
 pub record WritesLines (before after : Taken) (lines : List Text) : Type 0 where

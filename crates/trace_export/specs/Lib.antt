@@ -3,6 +3,7 @@ pub mod Checked
 pub mod Edges
 pub mod Export
 pub mod Graph
+pub mod Heading
 pub mod Laws
 pub mod Listing
 pub mod Reasons

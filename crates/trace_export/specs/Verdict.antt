@@ -1,5 +1,5 @@
 -- What a check of bytes answers.
-use Rattle.std.specs.Prelude.{◌≡◌, ℕ, suc, ◌<◌, ◌≤◌, List, [], ◌∷◌, ◌++◌, length, All}
+use Rattle.std.specs.Prelude.{◌≡◌, ℕ, suc, ◌+◌, ◌<◌, ◌≤◌, List, [], ◌∷◌, ◌++◌, length, All, Option}
 use Rattle.std.specs.List.Sorted.{IsStrictlyIncreasing}
 use Rattle.trace_types.specs.text.Name.{Text}
 use Rattle.trace_types.specs.text.Lines.{lines}
@@ -10,6 +10,8 @@ use Rattle.stamp_codec.specs.StampText.{Written, written_tree}
 use Rattle.stamp_codec.specs.Reading.{SpellsNormal}
 use Rattle.trace_export.specs.Listing.{Listed, ListsAs, IsReadAs}
 use Rattle.trace_export.specs.Edges.{Placing, AreOrderedAlike, IsPlaced}
+use Rattle.trace_export.specs.Heading.{AreParts, lines_ahead}
+use Rattle.trace_export.specs.declared.header.Header.{Header}
 use Rattle.trace_export.specs.declared.placed.Placed.{Placed}
 use Rattle.trace_export.specs.declared.reason.Reason.{Reason}
 use Rattle.trace_export.specs.declared.reason.Reason.TheVariants.{NoJson, NoEvent, Number, Preds, Stamp, Order}
@@ -87,18 +89,25 @@ IsFaulty NoJson earlier line = ¬ IsJsonLine line
 IsFaulty NoEvent earlier line = IsJsonLine line × ((listed : Listed) → ¬ ListsAs line listed)
 IsFaulty reason earlier line = (listed : Listed) × IsListing line listed × IsRefusedFor reason earlier listed
 
--- the first faulty line, and the first reason there
-pub record FailsAt (all : List Text) (number : ℕ) (reason : Reason) : Type 0 where
+-- the first faulty of these lines, which come after so many, and the first reason there
+pub record FailsAt (ahead : ℕ) (all : List Text) (number : ℕ) (reason : Reason) : Type 0 where
   pub before : List Text
   pub line : Text
   pub rest : List Text
   pub splits : all ≡ before ++ line ∷ rest
-  pub counts : number ≡ suc (length before)
+  pub counts : number ≡ ahead + suc (length before)
   pub placing : Placing
   pub right : AreRightAfter [] before placing
   pub faulty : IsFaulty reason placing line
 
--- the verdict on the bytes: all lines are right and so many, or the first faulty one
-abbrev pub IsVerdict : List ℕ → Verdict → Type 0
-IsVerdict bytes (Yes count) = (count ≡ length (lines bytes)) × ((placing : Placing) × AreRightAfter [] (lines bytes) placing)
-IsVerdict bytes (No number reason) = FailsAt (lines bytes) number reason
+-- the verdict on lines of events, which come after so many: all are right and so many, or the first faulty one
+abbrev pub IsVerdictOnEvents : ℕ → List Text → Verdict → Type 0
+IsVerdictOnEvents ahead events (Yes count) = (count ≡ length events) × ((placing : Placing) × AreRightAfter [] events placing)
+IsVerdictOnEvents ahead events (No number reason) = FailsAt ahead events number reason
+
+-- The verdict on the bytes: that on the lines of events. A first line that is no header counts as one of these.
+pub record IsVerdict (bytes : List ℕ) (verdict : Verdict) : Type 0 where
+  pub header : Option Header
+  pub events : List Text
+  pub parts : AreParts (lines bytes) header events
+  pub judged : IsVerdictOnEvents (lines_ahead header) events verdict
