@@ -7,7 +7,7 @@ use Rattle.trace_export.specs.declared.placed.Placed.{Placed}
 use Rattle.trace_export.specs.Edges.{Placing, IsPlaced, placed_at, AreOrderedAlike}
 use Rattle.trace_export.specs.Graph.{AreEarlier, EdgesLeadBack, AreAllAlike}
 use Rattle.trace_export.specs.Listing.{ListsAs}
-use Rattle.trace_export.specs.Laws.{event_line, IsListedIn, IsGoodExport}
+use Rattle.trace_export.specs.Laws.{event_line, IsListedIn, AreGoodEvents}
 use Rattle.trace_export.specs.Verdict.{AreRightAfter, IsRightNext, HasTree}
 use Rattle.trace_export.proofs.Alike.{alike_next}
 use Rattle.trace_export.proofs.Connecting.{with_next, length-with_next, placed_at-earlier, placed_at-next, back-with_next, connected_itself}
@@ -91,7 +91,7 @@ ordered_all placing alike a b first second = elim (cases_eq a b) [
   ]
 ]
 
-pub good_export : (these : List Text) (placing : Placing) → AreRightAfter [] these placing → IsGoodExport these placing
-good_export these placing right =
+pub good_events : (these : List Text) (placing : Placing) → AreRightAfter [] these placing → AreGoodEvents these placing
+good_events these placing right =
     let good = good_all [] these [] placing good_none right in
     record { counted = good.counted; listed = good.listed; ordered = ordered_all placing good.alike }

@@ -1,5 +1,5 @@
 -- Lines that were found right, one more, and the verdict.
-use Rattle.std.proofs.Common.{◌≡◌, ℕ, ◌+◌, ◌^◌, IsTrue, true, false, Some, None, List, [], ◌∷◌, ◌++◌, length, refl, sym, ap, subst, ◌∙◌, arith, length-append, append_assoc}
+use Rattle.std.proofs.Common.{◌≡◌, ℕ, suc, ◌+◌, ◌^◌, IsTrue, true, false, inl, inr, Option, Some, None, List, [], ◌∷◌, ◌++◌, length, refl, sym, ap, subst, ◌∙◌, arith, length-append, append_assoc}
 use Rattle.std.proofs.lemmas.Bool.{ltb-true, ltb-false}
 use Rattle.std.proofs.lemmas.List.{append-nil}
 use Rattle.trace_types.specs.text.Name.{Text}
@@ -13,11 +13,13 @@ use Rattle.line_protocol.specs.Source.{Given, HasToldEnd}
 use Rattle.line_protocol.proofs.LineReadingLemmas.{HasRead-start, HasRead-line, HasRead-end}
 use Rattle.trace_export.specs.declared.placed.Placed.{Placed}
 use Rattle.trace_export.specs.declared.reason.Reason.{Reason}
-use Rattle.trace_export.specs.declared.graph.Graph.{Graph}
+use Rattle.trace_export.specs.declared.collected.Collected.{Collected}
+use Rattle.trace_export.specs.declared.header.Header.{Header}
 use Rattle.trace_export.specs.declared.verdict.Verdict.{Verdict}
 use Rattle.trace_export.specs.declared.verdict.Verdict.TheVariants.{Yes, No}
 use Rattle.trace_export.specs.Edges.{Placing}
 use Rattle.trace_export.specs.Graph.{IsKeptGraph}
+use Rattle.trace_export.specs.Heading.{AreParts, IsHeader, IsNoHeader, lines_ahead}
 use Rattle.trace_export.specs.Checked.{Judges, IsTextFound, IsJudged, IsJudgedAs}
 use Rattle.trace_export.specs.Verdict.{AreRightAfter, IsRightNext, IsFaulty}
 
@@ -26,11 +28,37 @@ abbrev pub export_bounds : ReadingBounds
 export_bounds = record { bytes = 65536; reads = 2 ^ 30 }
 
 -- Since the reader had given `start`, these lines were found, each of them right.
-pub record FoundRight (start given : List ℕ) (held : Held) (placing : Placing) : Type 0 where
+pub record FoundRight (start given : List ℕ) (held : Held) (header : Option Header) (placing : Placing) : Type 0 where
   pub found : List Text
+  pub events : List Text
   pub read : HasRead start given held found
-  pub right : AreRightAfter [] found placing
-  pub counted : length found ≡ length placing
+  pub parts : AreParts found header events
+  pub right : AreRightAfter [] events placing
+  pub counted : length events ≡ length placing
+
+-- the line may be the first, and is then no header
+abbrev pub IsNoFirstHeader : Option Header → Placing → Text → Type 0
+IsNoFirstHeader header placing line = header ≡ None → placing ≡ [] → IsNoHeader line
+
+-- more lines of events behind those in parts
+parts_more : (header : Option Header) (found events : List Text) (line : Text) (rest : List Text) → AreParts found header events → (header ≡ None → events ≡ [] → IsNoHeader line)
+    → AreParts (found ++ line ∷ rest) header (events ++ line ∷ rest)
+parts_more None found [] line rest parts none = (ap (λ these. these ++ line ∷ rest) parts.0, none refl refl)
+parts_more None found (first ∷ events) line rest parts none = (ap (λ these. these ++ line ∷ rest) parts.0, parts.1)
+parts_more (Some header) found events line rest parts none = (parts.0, ap (λ these. these ++ line ∷ rest) parts.1, parts.2)
+
+-- there are as many lines as it says
+parts_count : (header : Option Header) (found events : List Text) → AreParts found header events → length found ≡ lines_ahead header + length events
+parts_count None found events parts = omega (arith, ap length parts.0)
+parts_count (Some header) found events parts = omega (arith, ap length parts.1)
+
+no_texts : (events : List Text) → length events ≡ 0 → events ≡ []
+no_texts [] counted = refl
+no_texts (line ∷ events) counted = absurd (omega (arith, counted))
+
+no_events : (events : List Text) (placing : Placing) → length events ≡ length placing → events ≡ [] → placing ≡ []
+no_events events [] counted none = refl
+no_events events (placed ∷ placing) counted none = absurd (omega (arith, counted, ap length none))
 
 -- one more line is right
 right_more : (earlier placing : Placing) (found : List Text) (line : Text) (placed : Placed) → AreRightAfter earlier found placing → IsRightNext placing line placed
@@ -43,52 +71,85 @@ right_more earlier placing [] line placed right next = (
 right_more earlier placing (first ∷ found) line placed right next =
     (right.0, right.1, right_more (earlier ++ right.0 ∷ []) placing found line placed right.2 next)
 
-pub found_none : (start : List ℕ) (held : Held) → held.left ≡ [] → FoundRight start start held []
-found_none start held none = record { found = []; read = HasRead-start start held none; right = refl; counted = refl }
+pub found_none : (start : List ℕ) (held : Held) → held.left ≡ [] → FoundRight start start held None []
+found_none start held none = record { found = []; events = []; read = HasRead-start start held none; parts = (refl, tt); right = refl; counted = refl }
 
-found_more : {start given given' : List ℕ} {held held' : Held} {placing : Placing} {line : Text} {placed : Placed} → FoundRight start given held placing
+found_more : {start given given' : List ℕ} {held held' : Held} {header : Option Header} {placing : Placing} {line : Text} {placed : Placed} → FoundRight start given held header placing
     → GivesLine given given' held.left held'.left held'.is_ended line → (IsTrue held.is_ended → (given' ≡ given) × IsTrue held'.is_ended)
-    → IsRightNext placing line placed → FoundRight start given' held' (placing ++ placed ∷ [])
-found_more {placing = placing} {line = line} {placed = placed} before gives at_end next = record {
+    → IsNoFirstHeader header placing line → IsRightNext placing line placed → FoundRight start given' held' header (placing ++ placed ∷ [])
+found_more {header = header} {placing = placing} {line = line} {placed = placed} before gives at_end none next = record {
   found = before.found ++ line ∷ [];
+  events = before.events ++ line ∷ [];
   read = HasRead-line before.read gives at_end;
-  right = right_more [] placing before.found line placed before.right next;
-  counted = omega (arith, length-append before.found (line ∷ []), length-append placing (placed ∷ []), before.counted);
+  parts = parts_more header before.found before.events line [] before.parts (λ headless empty. none headless (no_events before.events placing before.counted empty));
+  right = right_more [] placing before.events line placed before.right next;
+  counted = omega (arith, length-append before.events (line ∷ []), length-append placing (placed ∷ []), before.counted);
 }
 
+-- the first line is a header
+found_header : {start given given' : List ℕ} {held held' : Held} {header : Option Header} {placing : Placing} {line : Text} (first : Header) → FoundRight start given held header placing
+    → GivesLine given given' held.left held'.left held'.is_ended line → (IsTrue held.is_ended → (given' ≡ given) × IsTrue held'.is_ended)
+    → header ≡ None → placing ≡ [] → IsHeader line first → FoundRight start given' held' (Some first) []
+found_header {header = None} {placing = []} {line = line} first before gives at_end headless empty is =
+    let none : before.found ≡ [] = before.parts.0 ∙ no_texts before.events before.counted in
+    record {
+      found = before.found ++ line ∷ [];
+      events = [];
+      read = HasRead-line before.read gives at_end;
+      parts = (line, ap (λ these. these ++ line ∷ []) none, is);
+      right = refl;
+      counted = refl;
+    }
+found_header {header = Some other} first before gives at_end headless empty is = absurd (cc headless)
+found_header {header = None} {placing = placed ∷ placing} first before gives at_end headless empty is = absurd (cc empty)
+
 -- At the end of the input all lines are right.
-judges_yes : (before after : Given) (held : Held) (placing : Placing) → FoundRight before.bytes after.bytes held placing → held.left ≡ [] → HasToldEnd after
+judges_yes : (before after : Given) (held : Held) (header : Option Header) (placing : Placing) → FoundRight before.bytes after.bytes held header placing → held.left ≡ [] → HasToldEnd after
     → Judges before after (Yes (length placing))
-judges_yes before after held placing found none told = record {
+judges_yes before after held header placing found none told = record {
   came = found.read.came;
   grows = found.read.grows;
   all = told;
   is_due = λ rest ends.
       let all : lines (found.read.came ++ rest) ≡ found.found = ap (λ more. lines (found.read.came ++ more)) (ends told.0) ∙ ap lines (append-nil found.read.came) ∙ HasRead-end found.read none in
-      (sym found.counted ∙ ap length (sym all), (placing, subst (λ (these : List Text). AreRightAfter [] these placing) (sym all) found.right));
+      record {
+        header = header;
+        events = found.events;
+        parts = subst (λ (these : List Text). AreParts these header found.events) (sym all) found.parts;
+        judged = (sym found.counted, (placing, found.right));
+      };
 }
 
 -- A line that was read to its end is faulty.
-judges_no : (before after : Given) (given : List ℕ) (held held' : Held) (placing : Placing) (line : Text) (reason : Reason) (number : ℕ) → FoundRight before.bytes given held placing
+judges_no : (before after : Given) (given : List ℕ) (held held' : Held) (header : Option Header) (placing : Placing) (line : Text) (reason : Reason) (number : ℕ) → FoundRight before.bytes given held header placing
     → GivesLine given after.bytes held.left held'.left held'.is_ended line → (IsTrue held.is_ended → (after.bytes ≡ given) × IsTrue held'.is_ended)
-    → (IsTrue held'.is_ended → IsTrue after.has_ended) → IsFaulty reason placing line → number ≡ length placing + 1
+    → (IsTrue held'.is_ended → IsTrue after.has_ended) → IsNoFirstHeader header placing line → IsFaulty reason placing line → number ≡ lines_ahead header + suc (length placing)
     → Judges before after (No number reason)
-judges_no before after given held held' placing line reason number found gives at_end told faulty counts =
+judges_no before after given held held' header placing line reason number found gives at_end told none faulty counts =
     let read : HasRead before.bytes after.bytes held' (found.found ++ line ∷ []) = HasRead-line found.read gives at_end in
     record {
       came = read.came;
       grows = read.grows;
       all = tt;
-      is_due = λ rest ends. record {
-        before = found.found;
-        line = line;
-        rest = lines (held'.left ++ rest);
-        splits = read.so_far rest (λ ended. ends (told ended)) ∙ append_assoc found.found (line ∷ []) (lines (held'.left ++ rest));
-        counts = omega (arith, counts, found.counted);
-        placing = placing;
-        right = found.right;
-        faulty = faulty;
-      };
+      is_due = λ rest ends.
+          let behind = lines (held'.left ++ rest) in
+          let all : lines (read.came ++ rest) ≡ found.found ++ line ∷ behind = read.so_far rest (λ ended. ends (told ended)) ∙ append_assoc found.found (line ∷ []) behind in
+          record {
+            header = header;
+            events = found.events ++ line ∷ behind;
+            parts = subst (λ (these : List Text). AreParts these header (found.events ++ line ∷ behind)) (sym all)
+                (parts_more header found.found found.events line behind found.parts (λ headless empty. none headless (no_events found.events placing found.counted empty)));
+            judged = record {
+              before = found.events;
+              line = line;
+              rest = behind;
+              splits = refl;
+              counts = omega (arith, counts, found.counted);
+              placing = placing;
+              right = found.right;
+              faulty = faulty;
+            };
+          };
     }
 
 -- a line was found, with this text
@@ -99,26 +160,26 @@ text_found old new TooLong bounds finds some = (finds.0, finds.1, ltb-true 65536
 text_found old new End bounds finds some = absurd (some refl)
 
 -- What was found next: since `before` the lines were right, and of the source and what is held it is known how they went on.
-pub record FindsOn (before middle after : Given) (held held' : Held) (graph : Graph) (found : Line) : Type 0 where
-  pub right : FoundRight before.bytes middle.bytes held graph.placed.items
+pub record FindsOn (before middle after : Given) (held held' : Held) (collected : Collected) (found : Line) : Type 0 where
+  pub right : FoundRight before.bytes middle.bytes held collected.header collected.graph.placed.items
   pub bounds : held'.bounds ≡ export_bounds
   pub finds : Finds middle.bytes after.bytes held held' found
   pub at_end : IsTrue held.is_ended → (after.bytes ≡ middle.bytes) × IsTrue held'.is_ended
   pub told : IsTrue held'.is_ended → HasToldEnd after
 
-judges_as : {before middle after : Given} {held held' : Held} {old : Graph} {found : Line} (new : Graph) (verdict : Verdict) (text : Text) → FindsOn before middle after held held' old found
+judges_as : {before middle after : Given} {held held' : Held} {old : Collected} {found : Line} (new : Collected) (verdict : Verdict) (text : Text) → FindsOn before middle after held held' old found
     → GivesLine middle.bytes after.bytes held.left held'.left held'.is_ended text → IsJudgedAs (Some verdict) old new text → Judges before after verdict
 judges_as new (Yes count) text on gives judged = absurd judged
 judges_as {before} {middle} {after} {held} {held'} {old} new (No number reason) text on gives judged =
-    judges_no before after middle.bytes held held' old.placed.items text reason number on.right gives on.at_end (λ ended. (on.told ended).0) judged.1 (omega (arith, judged.0))
+    judges_no before after middle.bytes held held' old.header old.graph.placed.items text reason number on.right gives on.at_end (λ ended. (on.told ended).0) judged.1.no_header judged.1.faulty judged.0
 
 -- the verdict with which a check ends
-pub judges_over : (before middle after : Given) (held held' : Held) (old new : Graph) (found : Line) (verdict : Verdict) → FindsOn before middle after held held' old found
+pub judges_over : (before middle after : Given) (held held' : Held) (old new : Collected) (found : Line) (verdict : Verdict) → FindsOn before middle after held held' old found
     → IsJudged found held'.line (Some verdict) old new → Judges before after verdict
 judges_over before middle after held held' old new End verdict on judged =
-    let same : verdict ≡ Yes (length old.placed.items) = cc judged in
+    let same : verdict ≡ Yes (length old.graph.placed.items) = cc judged in
     subst (Judges before after) (sym same)
-    (judges_yes before after held old.placed.items (subst (λ bytes. FoundRight before.bytes bytes held old.placed.items) (sym on.finds.0) on.right) on.finds.1 (on.told on.finds.3))
+    (judges_yes before after held old.header old.graph.placed.items (subst (λ bytes. FoundRight before.bytes bytes held old.header old.graph.placed.items) (sym on.finds.0) on.right) on.finds.1 (on.told on.finds.3))
 judges_over before middle after held held' old new Whole verdict on judged =
     let text = text_found held held' Whole on.bounds on.finds (λ same. absurd (cc)) in
     judges_as new verdict text.0 on text.1 (judged text.0 text.2)
@@ -126,17 +187,24 @@ judges_over before middle after held held' old new TooLong verdict on judged =
     let text = text_found held held' TooLong on.bounds on.finds (λ same. absurd (cc)) in
     judges_as new verdict text.0 on text.1 (judged text.0 text.2)
 
-right_on : {before middle after : Given} {held held' : Held} {old : Graph} {found : Line} (new : Graph) (text : Text) → FindsOn before middle after held held' old found
+right_on : {before middle after : Given} {held held' : Held} {old : Collected} {found : Line} (new : Collected) (text : Text) → FindsOn before middle after held held' old found
     → GivesLine middle.bytes after.bytes held.left held'.left held'.is_ended text → IsJudgedAs None old new text
-    → FoundRight before.bytes after.bytes held' new.placed.items × IsKeptGraph new
-right_on {before} {after = after} {held' = held'} new text on gives judged = (
-  subst (λ (placing : Placing). FoundRight before.bytes after.bytes held' placing) (sym judged.2) (found_more on.right gives on.at_end judged.1),
-  judged.3,
+    → FoundRight before.bytes after.bytes held' new.header new.graph.placed.items × IsKeptGraph new.graph
+right_on {before} {after = after} {held' = held'} new text on gives (inl headed) = (
+  subst (λ (header : Option Header). FoundRight before.bytes after.bytes held' header new.graph.placed.items) (sym headed.headed)
+      (subst (λ (placing : Placing). FoundRight before.bytes after.bytes held' (Some headed.header) placing) (sym headed.none)
+      (found_header headed.header on.right gives on.at_end headed.first.0 headed.first.1 headed.is)),
+  headed.kept,
+)
+right_on {before} {after = after} {held' = held'} {old} new text on gives (inr kept) = (
+  subst (λ (header : Option Header). FoundRight before.bytes after.bytes held' header new.graph.placed.items) (sym kept.same)
+      (subst (λ (placing : Placing). FoundRight before.bytes after.bytes held' old.header placing) (sym kept.more) (found_more on.right gives on.at_end kept.no_header kept.right)),
+  kept.kept,
 )
 
 -- the check goes on
-pub judged_right : (before middle after : Given) (held held' : Held) (old new : Graph) (found : Line) → FindsOn before middle after held held' old found
-    → IsJudged found held'.line None old new → FoundRight before.bytes after.bytes held' new.placed.items × IsKeptGraph new
+pub judged_right : (before middle after : Given) (held held' : Held) (old new : Collected) (found : Line) → FindsOn before middle after held held' old found
+    → IsJudged found held'.line None old new → FoundRight before.bytes after.bytes held' new.header new.graph.placed.items × IsKeptGraph new.graph
 judged_right before middle after held held' old new End on judged = absurd (cc judged)
 judged_right before middle after held held' old new Whole on judged =
     let text = text_found held held' Whole on.bounds on.finds (λ same. absurd (cc)) in

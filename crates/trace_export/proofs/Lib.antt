@@ -2,6 +2,7 @@ pub mod Alike
 pub mod BitSets
 pub mod Connecting
 mod GoodExports
+mod Headings
 pub mod Judging
 pub mod Numbers
 pub mod Ordering

@@ -4,8 +4,7 @@ ghost use Rattle.line_protocol.specs.Source.{StopsAtEnd};
 ghost use Rattle.trace_export.specs.Checked.{Judges, IsJudged};
 ghost use Rattle.trace_export.specs.Graph.{IsKeptGraph};
 
-use crate::add_line::add_line;
-use crate::graph::Graph;
+use crate::collected::Collected;
 use crate::{CheckFault, Reason, Verdict};
 use line_protocol::{Buffer, Line, Source};
 use std::alloc::Global;
@@ -20,7 +19,7 @@ const MOST_READS: u64 = 1 << 30;
 /// Whether the lines that a reader gives are an export, in which the trees of every two events compare as the listed edges
 /// say. It reads to the end, or to the end of the first faulty line.
 ///
-/// A line of more than 65536 bytes is faulty. `Read` comes where a read failed, `TooLong` where 2^30 reads were made, and
+/// A first line that is a header counts as no event. A line of more than 65536 bytes is faulty. `Read` comes where a read failed, `TooLong` where 2^30 reads were made, and
 /// `Memory` where a request for memory was refused.
 pub fn check<R: Source>(alloc: Global, reader: &mut R) -> Result<Verdict, CheckFault>
     ensures verdict { IfOk result (Judges (R.seen reader.old) (R.seen reader.new)) }
@@ -34,31 +33,30 @@ pub fn check<R: Source>(alloc: Global, reader: &mut R) -> Result<Verdict, CheckF
     ensures too_long { IsErrOf result CheckFault.TooLong → (R.seen reader.new).reads ≡ (R.seen reader.old).reads + 2 ^ 30 }
 {
     let mut lines = Buffer::with_bounds(alloc, MOST_BYTES, MOST_READS)?;
-    let mut graph = Graph::new(alloc)?;
+    let mut collected = Collected::new(alloc)?;
     loop {
         let found = lines.next_line(reader)?;
-        if let Some(verdict) = judge(&mut graph, alloc, found, lines.line())? {
+        if let Some(verdict) = judge(&mut collected, alloc, found, lines.line())? {
             return Ok(verdict);
         }
     }
 }
 
-/// Adds the event that a line lists, where it is right; else gives the verdict, as at the end. A line that is too long has
-/// no text.
+/// Keeps what a line lists, where it is right; else gives the verdict, as at the end. A line that is too long has no text.
 fn judge(
-    graph: &mut Graph,
+    collected: &mut Collected,
     alloc: Global,
     found: Line,
     line: &[u8],
 ) -> Result<Option<Verdict>, Memory>
-    requires graph { IsKeptGraph graph.old }
+    requires graph { IsKeptGraph collected.old.graph }
     requires whole { found ≡ Line.Whole → length line.now ≤ 65536 }
-    ensures { IfOk result (λ verdict. IsJudged found line.now verdict graph.old graph.new) }
+    ensures { IfOk result (λ verdict. IsJudged found line.now verdict collected.old collected.new) }
 {
-    let number = graph.len() as u64 + 1;
+    let number = collected.len() + 1;
     let fault = match found {
-        Line::End => return Ok(Some(Verdict::Yes(graph.len() as u64))),
-        Line::Whole => add_line(graph, alloc, line)?,
+        Line::End => return Ok(Some(Verdict::Yes(collected.graph.len() as u64))),
+        Line::Whole => collected.add(alloc, line)?,
         Line::TooLong => Some(Reason::NoJson),
     };
     match fault {

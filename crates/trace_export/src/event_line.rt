@@ -1,10 +1,11 @@
 //! What a line of an export lists.
-ghost use Rattle.std.specs.Prelude.{◌≡◌, ◌≢◌, ◌≤◌, IfSome, IsSomeAnd, string_bytes, Option, List, ℕ, Some, None, MatchOption, map, length};
+ghost use Rattle.std.specs.Prelude.{◌≡◌, ◌≢◌, ◌≤◌, Option, List, ℕ, Some, None, MatchOption, map, length};
 ghost use Rattle.trace_types.specs.text.Name.{Text};
 ghost use Rattle.trace_types.specs.text.Text.{kind_text, name_text};
 ghost use Rattle.serde_json.specs.View.{view, items_of};
 ghost use Rattle.trace_export.specs.Listing.{Listed, IsJsonOf, listed_of, FitsKind, numbers_json};
 
+use crate::member::value_of;
 use serde_json::Value;
 use std::alloc::Global;
 use trace_types::{Kind, Name, Preds};
@@ -84,16 +85,5 @@ pub(crate) fn read_listed(alloc: Global, json: &Value) -> Option<EventLine<'_>>
             stamp,
             task,
         }),
-    }
-}
-
-/// The value of the member, where it has this key.
-fn value_of<'a>(member: Option<(&'a String, &'a Value)>, key: &str) -> Option<&'a Value>
-    ensures { MatchOption result (IfSome member.entry (λ pair. string_bytes pair.0.now ≢ key.now))
-        (λ value. IsSomeAnd member.entry (λ pair. (string_bytes pair.0.now ≡ key.now) × (value ≡ pair.1))) }
-{
-    match member {
-        Some((found, value)) if found.as_str() == key => Some(value),
-        _ => None,
     }
 }

@@ -1,4 +1,4 @@
-use Rattle.std.proofs.Common.{sym, ap, Some, None, subst, arith}
+use Rattle.std.proofs.Common.{sym, ap, Option, Some, None, [], subst, arith}
 use Rattle.trace_types.specs.text.Name.{Text}
 use Rattle.line_protocol.specs.Held.{Held, ReadingBounds}
 use Rattle.line_protocol.specs.LineReading.{Reads}
@@ -6,6 +6,7 @@ use Rattle.line_protocol.proofs.LineReadingLemmas.{Reads-none, Reads-on, has_tol
 use Rattle.line_protocol.specs.Held.{fresh_within}
 use Rattle.trace_export.specs.Checked.{IsJudged}
 use Rattle.trace_export.specs.Edges.{Placing}
+use Rattle.trace_export.specs.declared.header.Header.{Header}
 use Rattle.trace_export.proofs.Judging.{FoundRight, FindsOn, export_bounds, found_none, judges_over, judged_right}
 use Rattle.trace_export.proofs.checking.check.Goals as goal
 use Rattle.trace_export.proofs.checking.check.Given.{Over}
@@ -13,25 +14,26 @@ use Rattle.trace_export.proofs.checking.check.Goals.{After-judge}
 
 -- all reads that were made
 reads_so_far : (g : Over) (c : After-judge g) → Reads (g.R.Source.seen c.args.reader.now) (g.R.Source.seen c.next_line.new.source) (fresh_within export_bounds) c.next_line.new.self 0
-reads_so_far g c = Reads-on {failed = 0} c.loop-graph.invariant.reads (λ ended. ap g.R.Source.seen (c.next_line.ensures.at_end ended).0) c.in_ok-found.ensures.finds.reads.reads
+reads_so_far g c = Reads-on {failed = 0} c.loop-collected.invariant.reads (λ ended. ap g.R.Source.seen (c.next_line.ensures.at_end ended).0) c.in_ok-found.ensures.finds.reads.reads
 
 -- what was found
 found_on : (g : Over) (c : After-judge g)
-    → FindsOn (g.R.Source.seen c.args.reader.now) (g.R.Source.seen c.loop-graph.reader) (g.R.Source.seen c.next_line.new.source) c.loop-graph.lines c.next_line.new.self c.loop-graph.graph c.in_ok-found.found
+    → FindsOn (g.R.Source.seen c.args.reader.now) (g.R.Source.seen c.loop-collected.reader) (g.R.Source.seen c.next_line.new.source) c.loop-collected.lines c.next_line.new.self c.loop-collected.collected c.in_ok-found.found
 found_on g c = record {
-  right = c.loop-graph.invariant.found;
+  right = c.loop-collected.invariant.found;
   bounds = (reads_so_far g c).bounds;
   finds = c.in_ok-found.ensures.finds.line;
   at_end = λ ended. (ap (λ source. (g.R.Source.seen source).bytes) (c.next_line.ensures.at_end ended).0, (c.next_line.ensures.at_end ended).1);
   told = has_told_end (reads_so_far g c);
 }
 
-pub loop-graph-init : goal.loop-graph-init
-loop-graph-init g c =
+pub loop-collected-init : goal.loop-collected-init
+loop-collected-init g c =
     let held = c.in_ok-lines.ensures in
     record {
-      found = subst (λ (placing : Placing). FoundRight (g.R.Source.seen c.args.reader.now).bytes (g.R.Source.seen c.args.reader.now).bytes c.in_ok-lines.lines placing) (sym c.in_ok-graph.ensures.none) (found_none _ c.in_ok-lines.lines (ap (λ (h : Held). h.left) held));
-      graph = c.in_ok-graph.ensures.graph;
+      found = subst (λ (placing : Placing). FoundRight (g.R.Source.seen c.args.reader.now).bytes (g.R.Source.seen c.args.reader.now).bytes c.in_ok-lines.lines c.in_ok-collected.collected.header placing) (sym c.in_ok-collected.ensures.none.1)
+          (subst (λ (header : Option Header). FoundRight (g.R.Source.seen c.args.reader.now).bytes (g.R.Source.seen c.args.reader.now).bytes c.in_ok-lines.lines header []) (sym c.in_ok-collected.ensures.none.0) (found_none _ c.in_ok-lines.lines (ap (λ (h : Held). h.left) held)));
+      graph = c.in_ok-collected.ensures.graph;
       reads = rw held (Reads-none _ _);
       most = rw held (omega arith);
     }
@@ -39,18 +41,18 @@ loop-graph-init g c =
 pub returns-in-Some-clause-verdict : goal.returns-in-Some-clause-verdict
 returns-in-Some-clause-verdict g c =
     let at = goal.at.returns-in-Some-clause-verdict g c in
-    judges_over (g.R.Source.seen c.args.reader.now) (g.R.Source.seen c.loop-graph.reader) (g.R.Source.seen c.next_line.new.source) c.loop-graph.lines c.next_line.new.self c.loop-graph.graph c.judge.new.graph
+    judges_over (g.R.Source.seen c.args.reader.now) (g.R.Source.seen c.loop-collected.reader) (g.R.Source.seen c.next_line.new.source) c.loop-collected.lines c.next_line.new.self c.loop-collected.collected c.judge.new.collected
     c.in_ok-found.found c.in-Some.verdict (found_on g at.After-judge)
-    (subst (λ (line : Text). IsJudged c.in_ok-found.found line (Some c.in-Some.verdict) c.loop-graph.graph c.judge.new.graph) c.line.ensures
-    (subst (λ verdict. IsJudged c.in_ok-found.found c.line.result.now verdict c.loop-graph.graph c.judge.new.graph) c.in-Some.is c.in_ok-verdict.ensures))
+    (subst (λ (line : Text). IsJudged c.in_ok-found.found line (Some c.in-Some.verdict) c.loop-collected.collected c.judge.new.collected) c.line.ensures
+    (subst (λ verdict. IsJudged c.in_ok-found.found c.line.result.now verdict c.loop-collected.collected c.judge.new.collected) c.in-Some.is c.in_ok-verdict.ensures))
 
-pub loop-graph-preserved : goal.loop-graph-preserved
-loop-graph-preserved g c =
-    let at = goal.at.loop-graph-preserved g c in
-    let right = judged_right (g.R.Source.seen c.args.reader.now) (g.R.Source.seen c.loop-graph.reader) (g.R.Source.seen c.next_line.new.source) c.loop-graph.lines c.next_line.new.self c.loop-graph.graph c.judge.new.graph
+pub loop-collected-preserved : goal.loop-collected-preserved
+loop-collected-preserved g c =
+    let at = goal.at.loop-collected-preserved g c in
+    let right = judged_right (g.R.Source.seen c.args.reader.now) (g.R.Source.seen c.loop-collected.reader) (g.R.Source.seen c.next_line.new.source) c.loop-collected.lines c.next_line.new.self c.loop-collected.collected c.judge.new.collected
     c.in_ok-found.found (found_on g at.After-judge)
-    (subst (λ (line : Text). IsJudged c.in_ok-found.found line None c.loop-graph.graph c.judge.new.graph) c.line.ensures
-    (subst (λ verdict. IsJudged c.in_ok-found.found c.line.result.now verdict c.loop-graph.graph c.judge.new.graph) c.in_default.is c.in_ok-verdict.ensures)) in
+    (subst (λ (line : Text). IsJudged c.in_ok-found.found line None c.loop-collected.collected c.judge.new.collected) c.line.ensures
+    (subst (λ verdict. IsJudged c.in_ok-found.found c.line.result.now verdict c.loop-collected.collected c.judge.new.collected) c.in_default.is c.in_ok-verdict.ensures)) in
     record {
       found = right.0;
       graph = right.1;

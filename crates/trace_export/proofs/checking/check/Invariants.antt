@@ -5,13 +5,13 @@ use Rattle.trace_export.specs.Graph.{IsKeptGraph}
 use Rattle.trace_export.proofs.Judging.{FoundRight, export_bounds}
 use Rattle.trace_export.proofs.checking.check.Given as goal
 
-abbrev pub invariant-loop-graph : goal.invariant-loop-graph
-invariant-loop-graph g l = record {
-  found : FoundRight (g.R.Source.seen l.fn.reader).bytes (g.R.Source.seen l.reader).bytes l.lines l.graph.placed.items;
-  graph : IsKeptGraph l.graph;
+abbrev pub invariant-loop-collected : goal.invariant-loop-collected
+invariant-loop-collected g l = record {
+  found : FoundRight (g.R.Source.seen l.fn.reader).bytes (g.R.Source.seen l.reader).bytes l.lines l.collected.header l.collected.graph.placed.items;
+  graph : IsKeptGraph l.collected.graph;
   reads : Reads (g.R.Source.seen l.fn.reader) (g.R.Source.seen l.reader) (fresh_within export_bounds) l.lines 0;
   most : l.lines.reads ≤ 2 ^ 30;
 }
 
-abbrev pub decreases-loop-graph : goal.decreases-loop-graph
-decreases-loop-graph g l = work_left l.lines
+abbrev pub decreases-loop-collected : goal.decreases-loop-collected
+decreases-loop-collected g l = work_left l.lines

@@ -1,0 +1,53 @@
+//! The header of an export.
+ghost use Rattle.std.specs.Prelude.{◌≡◌, ◌≤◌, IfOk, IsTrue, MatchOption, length};
+ghost use Rattle.serde_json.specs.View.{view};
+ghost use Rattle.trace_export.specs.Heading.{IsHeader, IsHeaderJson, IsNoHeader};
+ghost use Rattle.trace_export.specs.declared.header.Header.{Header as Listed};
+
+use crate::member::value_of;
+use serde_json::{Category, Value};
+use std::alloc::Global;
+use trace_types::{Limits, Memory, Name};
+
+/// Whose export it is, and under which limits the tenant was.
+#[derive(Clone, Copy, Debug)]
+pub struct Header {
+    pub tenant: Name,
+    pub limits: Limits,
+}
+
+/// The version of exports that have a header.
+pub(crate) const VERSION: u64 = 2;
+
+/// The header that the line is; `None` exactly where it is none.
+pub(crate) fn read_header(alloc: Global, line: &[u8]) -> Result<Option<Header>, Memory>
+    requires short { length line.now ≤ 65536 }
+    ensures { IfOk result (λ header. MatchOption header (IsNoHeader line.now) (IsHeader line.now)) }
+{
+    let Ok(text) = str::from_utf8(line) else {
+        return Ok(None);
+    };
+    match Value::from_str(alloc, text) {
+        Ok(json) => Ok(header_of(&json)),
+        Err(error) if error.classify() == Category::Memory => Err(Memory),
+        Err(_) => Ok(None),
+    }
+}
+
+/// The header that the JSON is; `None` exactly where it is none.
+fn header_of(json: &Value) -> Option<Header>
+    ensures { MatchOption result ((header : Listed) → ¬ IsHeaderJson (view json.now) header)
+        (λ header. IsHeaderJson (view json.now) header) }
+{
+    let mut members = json.as_object()?.iter();
+    let events = value_of(members.next(), "events")?.as_u64()?;
+    let messages = value_of(members.next(), "messages")?.as_u64()?;
+    let tasks = value_of(members.next(), "tasks")?.as_u64()?;
+    let tenant = Name::read(value_of(members.next(), "tenant")?.as_str()?.as_bytes())?;
+    let version = value_of(members.next(), "version")?.as_u64()?;
+    if version != VERSION || members.next().is_some() {
+        return None;
+    }
+    let limits = Limits::read(events, tasks, messages)?;
+    Some(Header { tenant, limits })
+}
