@@ -6,10 +6,16 @@ use Rattle.trace_types.specs.text.Name.{Text}
 use Rattle.trace_types.specs.declared.row.Row.{Row}
 use Rattle.trace_types.specs.declared.row.Kind.{Kind}
 use Rattle.trace_types.specs.declared.row.Kind.TheVariants.{Local, Spawn, Send, Recv, End, Join}
+use Rattle.trace_types.specs.tenant.Limits.{default_limits}
 use Rattle.trace_export.specs.Export.{export_text}
+use Rattle.trace_export.specs.declared.header.Header.{Header}
 
 abbrev row : Text → Kind → Option Text → List ℕ → Row
 row task kind name preds = record { kind = kind; task = task; name = name; preds = preds }
+
+-- the header of a tenant that has the limits that stand where none are asked for
+abbrev header : Header
+header = record { tenant = codes "x"; limits = default_limits }
 
 -- rows of every kind
 abbrev rows : List Row
@@ -36,8 +42,9 @@ stamps =
     ∷ codes "[1;5]" ∷ []
 
 pub export_text-rows :
-    export_text rows stamps
-    ≡ codes "{\"event\":1,\"kind\":\"local\",\"name\":\"-\",\"preds\":[],\"stamp\":\"[1;1]\",\"task\":\"root\"}" ++ 10 ∷ []
+    export_text header rows stamps
+    ≡ codes "{\"events\":4096,\"messages\":2048,\"tasks\":512,\"tenant\":\"x\",\"version\":2}" ++ 10 ∷ []
+    ++ codes "{\"event\":1,\"kind\":\"local\",\"name\":\"-\",\"preds\":[],\"stamp\":\"[1;1]\",\"task\":\"root\"}" ++ 10 ∷ []
     ++ codes "{\"event\":2,\"kind\":\"spawn\",\"name\":\"a\",\"preds\":[1],\"stamp\":\"[(1,0);2]\",\"task\":\"root\"}" ++ 10 ∷ []
     ++ codes "{\"event\":3,\"kind\":\"local\",\"name\":\"-\",\"preds\":[2],\"stamp\":\"[(0,1);(2,0,1)]\",\"task\":\"a\"}" ++ 10 ∷ []
     ++ codes "{\"event\":4,\"kind\":\"local\",\"name\":\"-\",\"preds\":[2],\"stamp\":\"[(1,0);(2,1,0)]\",\"task\":\"root\"}" ++ 10 ∷ []

@@ -1,42 +1,83 @@
 //! The writing of an export.
-ghost use Rattle.std.specs.Prelude.{◌≡◌, ◌<◌, ◌≤◌, IfOk, IfErr, IsErrOf, length, string_bytes};
+ghost use Rattle.std.specs.Prelude.{◌≡◌, ◌<◌, ◌≤◌, ◌++◌, codes, false, IfOk, IfErr, IsErrOf, length, string_bytes};
 ghost use Rattle.std.specs.Str.{IsUtf8};
 ghost use Rattle.line_protocol.specs.Writing.{EndsInFault, WritesPart, WritesWhole};
 ghost use Rattle.serde_json.specs.View.{view, items_view};
+ghost use Rattle.serde_json.specs.Written.{compact_text, has_float};
 ghost use Rattle.trace_types.specs.text.Text.{kind_text, name_text};
 ghost use Rattle.trace_export.specs.Export.{export_lines, listed_row, stamp_at, WritesLines, BreaksLines};
+ghost use Rattle.trace_export.specs.Heading.{header_json, header_line};
 ghost use Rattle.trace_export.specs.Listing.{listed_json, listed_line, numbers_json};
 
-use crate::{ExportFault, StampTexts};
+use crate::header::VERSION;
+use crate::{ExportFault, Header, StampTexts};
 use line_protocol::{Sink, write_bytes};
 use serde_json::{Map, Value, put};
 use std::alloc::Global;
 use trace_types::{Kind, Memory, Name, Preds, Row};
 
-/// Writes the export of these rows, whose stamps have these texts: a line for each, with its end. It gives the number of
-/// rows, and flushes nothing.
+/// Writes the export of these rows, whose stamps have these texts: the header and a line for each row, each with its end.
+/// It gives the number of rows, and flushes nothing.
 ///
 /// `Write` comes where a write failed or 1048576 writes of one line were interrupted, and `Memory` where a request for
 /// memory was refused.
 pub fn export_rows<T: StampTexts, W: Sink>(
     alloc: Global,
+    header: &Header,
     rows: &[Row],
     stamps: &T,
     writer: &mut W,
 ) -> Result<u64, ExportFault>
     requires { length (T.texts stamps.now) ≡ length rows.now }
     ensures count { IfOk result (λ count. count ≡ length rows.now) }
-    ensures whole { IfOk result (λ _. WritesLines (W.seen writer.old) (W.seen writer.new) (export_lines rows.now (T.texts stamps.now))) }
-    ensures fault { IfErr result (λ fault. BreaksLines fault (W.seen writer.old) (W.seen writer.new) (export_lines rows.now (T.texts stamps.now))) }
+    ensures whole { IfOk result (λ _. WritesLines (W.seen writer.old) (W.seen writer.new) (export_lines header.now rows.now (T.texts stamps.now))) }
+    ensures fault { IfErr result (λ fault. BreaksLines fault (W.seen writer.old) (W.seen writer.new) (export_lines header.now rows.now (T.texts stamps.now))) }
     ensures write { IsErrOf result ExportFault.Write → EndsInFault (W.seen writer.old) (W.seen writer.new) }
     ensures write_failed { (W.seen writer.old).failures < (W.seen writer.new).failures → IsErrOf result ExportFault.Write }
 {
+    write_header(alloc, header, writer)?;
     let mut count = 0;
     for row in rows {
         count += 1;
         write_row(alloc, count, row, stamps, writer)?;
     }
     Ok(count)
+}
+
+/// Writes the line of the header.
+fn write_header<W: Sink>(alloc: Global, header: &Header, writer: &mut W) -> Result<(), ExportFault>
+    ensures whole { IfOk result (λ _. WritesWhole (W.seen writer.old) (W.seen writer.new) (header_line header.now)) }
+    ensures part { IsErrOf result ExportFault.Write → WritesPart (W.seen writer.old) (W.seen writer.new) (header_line header.now) }
+    ensures unchanged { IsErrOf result ExportFault.Memory → writer.new ≡ writer.old }
+{
+    let json = header_json(alloc, header)?;
+    let line = with_end(alloc, &json)?;
+    write_bytes(writer, &line)?;
+    Ok(())
+}
+
+/// The header as JSON.
+fn header_json(alloc: Global, header: &Header) -> Result<Value, Memory>
+    ensures { IfOk result (λ json. view json ≡ header_json header.now) }
+{
+    let limits = header.limits;
+    let mut members = Map::new(alloc);
+    put(&mut members, alloc, "events", Value::from(limits.events()))?;
+    put(
+        &mut members,
+        alloc,
+        "messages",
+        Value::from(limits.messages()),
+    )?;
+    put(&mut members, alloc, "tasks", Value::from(limits.tasks()))?;
+    put(
+        &mut members,
+        alloc,
+        "tenant",
+        Value::try_from_str(alloc, as_str(&header.tenant))?,
+    )?;
+    put(&mut members, alloc, "version", Value::from(VERSION))?;
+    Ok(Value::Object(members))
 }
 
 /// Writes the line of one row.
@@ -67,6 +108,14 @@ fn line_of(alloc: Global, event: u64, row: &Row, stamp: Vec<u8>) -> Result<Vec<u
         unreachable!();
     };
     let json = json_of(alloc, event, row, stamp)?;
+    let line = with_end(alloc, &json)?;
+    Ok(line)
+}
+
+/// The text of the JSON, with the end of a line.
+fn with_end(alloc: Global, json: &Value) -> Result<Vec<u8>, Memory>
+    ensures { IfOk result (λ line. has_float (view json.now) ≡ false → line.items ≡ compact_text (view json.now) ++ codes "\n") }
+{
     let mut line = json.to_vec(alloc)?;
     line.push(b'\n')?;
     Ok(line)

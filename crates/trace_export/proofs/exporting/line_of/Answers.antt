@@ -7,6 +7,6 @@ use Rattle.trace_export.proofs.exporting.line_of.Goals as goal
 
 pub returns : goal.returns
 returns c =
-    line_is (view c.in_ok-json.json) (listed_row c.args.event c.args.row.now c.args.stamp.items) c.in_ok-line.line.items c.push.new.self.items
+    line_is (view c.in_ok-json.json) (listed_row c.args.event c.args.row.now c.args.stamp.items) c.in_ok-line.line.items
     (c.in_ok-json.ensures ∙ ap (λ stamp. listed_json (listed_row c.args.event c.args.row.now stamp.items)) c.in-Ok.ensures.ok)
-    c.in_ok-line.ensures.text c.in_ok-push.ensures.items
+    c.in_ok-line.ensures
