@@ -12,6 +12,7 @@ use Rattle.trace_export.specs.Export.{BreaksLines, WritesLines, export_lines}
 use Rattle.trace_types.specs.declared.row.Row.{Row}
 use Rattle.trace_export.specs.declared.export_fault.ExportFault.{ExportFault}
 use Rattle.trace_export.specs.declared.export_fault.ExportFault.TheVariants as export
+use Rattle.trace_export.specs.declared.header.Header.{Header}
 use Rattle.trace_world.specs.Faults.{replay_fault_of_export}
 use Rattle.std.proofs.lemmas.List.{append-nil}
 use Rattle.std.specs.Io.KnownBytes.{Keeps}
@@ -115,5 +116,5 @@ ends_held_back wrote held = elim held.1.fault [
 ]
 
 -- the rows are those of the ledger
-pub of_ledger : (P : List Text → Type 0) (rows rows' : List Row) → rows ≡ rows' → P (export_lines rows (stamp_texts rows')) → P (export_of rows')
-of_ledger P rows rows' same holds = subst (λ (these : List Row). P (export_lines these (stamp_texts rows'))) same holds
+pub of_ledger : (P : List Text → Type 0) (header : Header) (rows rows' : List Row) → rows ≡ rows' → P (export_lines header rows (stamp_texts rows')) → P (export_of header rows')
+of_ledger P header rows rows' same holds = subst (λ (these : List Row). P (export_lines header these (stamp_texts rows'))) same holds

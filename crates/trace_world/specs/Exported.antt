@@ -1,5 +1,5 @@
 -- What a replay did that writes an export in place of replies.
-use Rattle.std.specs.Prelude.{◌≡◌, ◌≢◌, ℕ, ◌⊎◌, Bool, IsTrue, List, ◌++◌, length, map, IfSome}
+use Rattle.std.specs.Prelude.{◌≡◌, ◌≢◌, ℕ, ◌⊎◌, Bool, IsTrue, List, ◌++◌, length, map, IfSome, Some, slice_get}
 use Rattle.std.specs.Io.KnownBytes.{Keeps}
 use Rattle.trace_types.specs.text.Name.{Text}
 use Rattle.trace_types.specs.text.Lines.{lines}
@@ -16,6 +16,7 @@ use Rattle.line_protocol.specs.Writing.{GoesWell, GoesWrong}
 use Rattle.line_protocol.specs.Patience.{FlushesPatiently, GivesUpFlushing}
 use Rattle.trace_export.specs.Export.{BreaksLines, WritesLines, export_lines}
 use Rattle.trace_export.specs.declared.export_fault.ExportFault.TheVariants as export
+use Rattle.trace_export.specs.declared.header.Header.{Header}
 use Rattle.trace_world.specs.Replayed.{AreFirstLines, LeadsTo}
 use Rattle.trace_world.specs.declared.counts.Counts.{Counts}
 use Rattle.trace_world.specs.declared.replay_fault.ReplayFault.{ReplayFault}
@@ -25,9 +26,13 @@ use Rattle.trace_world.specs.declared.replay_fault.ReplayFault.TheVariants.{Writ
 abbrev pub stamp_texts : List Row → List Text
 stamp_texts rows = map (stamp_text_of (history_of rows)) (events (history_of rows))
 
--- the lines of the export of these rows
-abbrev pub export_of : List Row → List Text
-export_of rows = export_lines rows (stamp_texts rows)
+-- the header is that of the tenant at this place
+abbrev pub IsHeaderOf : World → ℕ → Header → Type 0
+IsHeaderOf world tenant header = (slice_get world.names tenant ≡ Some header.tenant) × (header.limits ≡ world.limits)
+
+-- the lines of the export of these rows, with this header
+abbrev pub export_of : Header → List Row → List Text
+export_of header rows = export_lines header rows (stamp_texts rows)
 
 -- These lines of all tenants, with these marks, lead from the old world to the new one, whatever was to be answered.
 abbrev pub LeadsThere : World → List Text → List Bool → World → Type 0
@@ -67,14 +72,17 @@ HandsOnAll before after =
 abbrev pub HoldsBack : Taken → Taken → Type 0
 HoldsBack before after = (after.bytes ≡ before.bytes) × GoesWrong before after × GivesUpFlushing before.calls after.calls
 
--- All lines were done, and then the export of the rows was written that the tenant's requests among them leave.
+-- All lines were done, and then the export of the rows was written that the tenant's requests among them leave, with the
+-- tenant's header.
 pub record Exports (before after : Given) (taken taken' : Taken) (old : World) (tenant count : ℕ) (new : World) : Type 0 where
   pub takes : TakesAll before after old new
+  pub header : Header
+  pub headed : IsHeaderOf old tenant header
   pub rows : List Row
   pub left : AreRowsLeft old (lines takes.came) takes.marks tenant rows
   pub counted : count ≡ length rows
   pub between : Taken
-  pub writes : WritesLines taken between (export_of rows)
+  pub writes : WritesLines taken between (export_of header rows)
   pub hands_on : HandsOnAll between taken'
 
 -- how the fault came while the lines were written
@@ -88,9 +96,11 @@ StopsExport fault taken taken' these = ⊥
 -- All lines were done, and the fault came while the export was written: a front of it was, or all of it and the flush failed.
 pub record ExportsInPart (fault : ReplayFault) (before after : Given) (taken taken' : Taken) (old : World) (tenant : ℕ) (new : World) : Type 0 where
   pub takes : TakesAll before after old new
+  pub header : Header
+  pub headed : IsHeaderOf old tenant header
   pub rows : List Row
   pub left : AreRowsLeft old (lines takes.came) takes.marks tenant rows
-  pub stops : StopsExport fault taken taken' (export_of rows)
+  pub stops : StopsExport fault taken taken' (export_of header rows)
 
 -- A fault came: while the lines were read, and then nothing was written, and for want of memory nothing was read or done
 -- either; or afterwards.

@@ -13,7 +13,7 @@ use std::sync::Wait;
 use trace_export::export_rows;
 
 /// Reads lines of all tenants and does what they ask, as [`crate::replay`] does, but writes no reply; at the end of the
-/// input it writes the export of the tenant at this place. It gives the number of its rows.
+/// input it writes the export of the tenant at this place, with a header. It gives the number of its rows.
 ///
 /// `Read` and `TooLong` come before anything is written. `Memory` comes before anything is read or written, or while the
 /// export is written; `Write` comes while it is written.
@@ -41,6 +41,7 @@ pub fn replay_export<T: Wait, R: Source, W: Sink>(
     ensures write { IsErrOf result ReplayFault.Write → EndsInFault (W.seen writer.old) (W.seen writer.new) }
     ensures write_failed { (W.seen writer.old).failures < (W.seen writer.new).failures → IsErrOf result ReplayFault.Write }
 {
+    let header = world.header(tenant);
     take_in(rt, alloc, world, reader)?;
     let ledger = world.ledger(tenant);
     let stamps = LedgerStamps {
@@ -48,7 +49,7 @@ pub fn replay_export<T: Wait, R: Source, W: Sink>(
         ledger,
         shared: world.shared(),
     };
-    let count = export_rows(alloc, ledger.rows(), &stamps, writer)?;
+    let count = export_rows(alloc, &header, ledger.rows(), &stamps, writer)?;
     flush(writer)?;
     Ok(count)
 }

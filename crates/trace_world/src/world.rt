@@ -5,6 +5,7 @@ ghost use Rattle.order_cache.specs.Capacity.{IsCapacity};
 ghost use Rattle.trace_types.specs.tenant.Tenant.{fresh};
 ghost use Rattle.trace_types.specs.world.Replay.{place_of};
 ghost use Rattle.trace_types.specs.world.World.{StepsOne, IsAfter, IsDue};
+ghost use Rattle.trace_world.specs.Exported.{IsHeaderOf};
 ghost use Rattle.trace_world.specs.Tenants.{IsLedTo, IsWorld, StepsAt, are_distinct, can_be_tenants};
 
 use order_cache::CacheFault;
@@ -12,6 +13,7 @@ use std::alloc::Global;
 use std::marker::Model;
 use std::sync::{Arc, Wait};
 use tenant_ledger::{Ledger, Shared};
+use trace_export::Header;
 use trace_types::{Limits, Memory, Name, Reply, Request, WorldFault};
 
 /// The ledger of a tenant that keeps its ids and trees with all others.
@@ -119,6 +121,17 @@ impl World {
         ensures { slice_get self.now.tenants tenant ≡ Some result.now }
     {
         &self.ledgers[tenant]
+    }
+
+    /// The header of the export of the tenant at this place.
+    pub(crate) fn header(&self, tenant: usize) -> Header
+        requires { tenant < length self.now.tenants }
+        ensures { IsHeaderOf self.now tenant result }
+    {
+        Header {
+            tenant: self.names[tenant],
+            limits: self.limits,
+        }
     }
 
     /// Does one request of the tenant at this place. It answers 507 only where memory was refused. It may wait where what
