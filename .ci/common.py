@@ -47,9 +47,10 @@ def deep_export(owned, known):
 
 
 def exports():
-    """A good export, and the same with another stamp; and good and spoilt ones of deep stamps. Each has how its check ends
-    and how many reads that takes."""
+    """A good export, with and without its header, and the same with another stamp; and good and spoilt ones of deep stamps.
+    Each has how its check ends and how many reads that takes."""
     yield file_of("an_export_is_right", "stdin"), (0, b"yes 8\n", b""), 2
+    yield file_of("an_export_has_a_header", "stdin"), (0, b"yes 8\n", b""), 2
     yield file_of("an_export_has_another_stamp", "stdin"), (1, b"no 6 6\n", b""), 1
     for owned, known, ended, reads in (
         ("1", 2, (0, b"yes 2\n", b""), 2),

@@ -1,6 +1,6 @@
 // Checks an export as `itc_trace check` does, in plain Rust, for speed alone: no proofs.
 //
-// It reads an export from standard input, with each line as the program writes it. It prints `yes N`, or `no LINE 6` for the
+// It reads an export from standard input, with each line as the program writes it, and passes its header over. It prints `yes N`, or `no LINE 6` for the
 // first event whose tree does not compare with the earlier ones as the edges say; and on standard error two processor times
 // in seconds: of the check of all events, after they were read, and of all that it did.
 //
@@ -57,7 +57,8 @@ fn read_line(line: &str, number: usize) -> Option<Event> {
 fn read_all() -> Vec<Event> {
     let mut text = String::new();
     stdin().lock().read_to_string(&mut text).expect("an export");
-    let events = text.lines().enumerate().map(|(place, line)| read_line(line, place + 1));
+    let lines = text.lines().skip_while(|line| line.starts_with("{\"events\":"));
+    let events = lines.enumerate().map(|(place, line)| read_line(line, place + 1));
     events.map(|event| event.expect("a line of an export")).collect()
 }
 

@@ -11,7 +11,9 @@ import re
 import sys
 
 MOST_BYTES, MOST_EVENTS, MOST_JSON_LEVELS, MOST_STAMP_LEVELS, GREATEST_SUM = 65536, 16384, 127, 2048, 2 ** 63 - 1
+MOST_TASKS, MOST_MESSAGES, VERSION = 2048, 16384, 2
 KEYS = {"event", "kind", "name", "preds", "stamp", "task"}
+HEADER_KEYS = {"events", "messages", "tasks", "tenant", "version"}
 NAME = re.compile(r"[A-Za-z0-9_]{1,24}")
 sys.setrecursionlimit(4 * MOST_STAMP_LEVELS)
 sys.set_int_max_str_digits(0)
@@ -125,6 +127,25 @@ def read_line(line, number):
     return event["preds"], read_stamp(event["stamp"])
 
 
+def is_within(value, most):
+    return type(value) is int and 1 <= value <= most
+
+
+def is_header(line):
+    """Whether the first line is a header, which has a version. A spoilt one is faulty."""
+    if len(line) > MOST_BYTES:
+        raise Faulty(1)
+    value = read_json(line)
+    if not isinstance(value, Members) or "version" not in dict(value):
+        return False
+    header = dict(value)
+    if (set(header) != HEADER_KEYS or not is_within(header["events"], MOST_EVENTS)
+            or not is_within(header["tasks"], MOST_TASKS) or not is_within(header["messages"], MOST_MESSAGES)
+            or not is_name(header["tenant"]) or type(header["version"]) is not int or header["version"] != VERSION):
+        raise Faulty(2)
+    return True
+
+
 def lines(data):
     *ended, rest = data.split(b"\n")
     return [line.removesuffix(b"\r") for line in ended] + [rest] * (rest != b"")
@@ -175,15 +196,18 @@ def first_out_of_order(listed):
 
 
 def verdict(data):
-    listed, fault = [], None
+    listed, fault, ahead = [], None, 0
     for number, line in enumerate(lines(data), 1):
         try:
-            listed.append(read_line(line, number))
+            if number == 1 and is_header(line):
+                ahead = 1
+            else:
+                listed.append(read_line(line, number - ahead))
         except Faulty as faulty:
             fault = f"no {number} {faulty}"
             break
     event = first_out_of_order(listed)
-    return f"no {event} 6" if event else fault or f"yes {len(listed)}"
+    return f"no {ahead + event} 6" if event else fault or f"yes {len(listed)}"
 
 
 if __name__ == "__main__":

@@ -1,14 +1,15 @@
 #!/usr/bin/env python3
 """Changes a good export in one place: `spoil.py SEED` reads it from standard input and writes the changed one.
 
-With the same seed it makes the same change: to one byte, key, value, number, edge or stamp, to two of them in one line, or
-to how JSON is laid out; now and then to nothing. Some changes leave an export that is good.
+With the same seed it makes the same change: to one byte, key, value, number, edge or stamp, to two of them in one line, to
+how JSON is laid out, or to its header; now and then to nothing. Some changes leave an export that is good.
 """
 import json
 import random
 import re
 import sys
 
+HEADER = '{"events":4096,"messages":2048,"tasks":512,"tenant":"x","version":2}'
 BYTES = b'0123456789,;:()[]{}"\\-+.eEtnu_a \t\r\n\x00\x1f\x7f\x80\xc3\xff'
 NUMBERS = ["0", "-0", "-1", "1.0", "1e0", "01", "16384", "16385", "18446744073709551615", "18446744073709551616",
            "9223372036854775807", "9223372036854775808", "1e400", "1" + "0" * 400, "NaN", "Infinity"]
@@ -32,14 +33,34 @@ def line_of(members, colon=":", comma=","):
     return "{" + comma.join(key + colon + value for key, value in members) + "}"
 
 
+def lines_of(export):
+    """The lines, and how many of them come before those of events."""
+    lines = export.decode().splitlines()
+    return lines, int(lines[0].startswith('{"events"'))
+
+
+def text_of(lines):
+    return "".join(line + "\n" for line in lines).encode()
+
+
 def at_some_line(change):
     """The change of a list of members, as one of a whole export."""
     def change_export(export, choose):
-        lines = export.decode().splitlines()
-        place = choose.randrange(len(lines))
+        lines, ahead = lines_of(export)
+        place = choose.randrange(ahead, len(lines))
         members = members_of(lines[place])
-        lines[place] = change(members, choose, place + 1) or line_of(members)
-        return "".join(line + "\n" for line in lines).encode()
+        lines[place] = change(members, choose, place - ahead + 1) or line_of(members)
+        return text_of(lines)
+    return change_export
+
+
+def at_header(change):
+    """The change of the members of a header, as one of a whole export. An export without one gets one first."""
+    def change_export(export, choose):
+        lines, ahead = lines_of(export)
+        header = lines[0] if ahead else HEADER
+        members = members_of(header)
+        return text_of([change(members, choose) or line_of(members), *lines[ahead:]])
     return change_export
 
 
@@ -70,6 +91,47 @@ def some_key(members, choose, number):
     another = choose.choice([key.upper(), key[:-2] + '"', choose.choice(members)[0], r'"\u0073tamp"'])
     more = [[*members, again], [again, *members], [*members, ['"more"', value]]]
     members[:] = choose.choice([before + after, *more, [*before, [another, value], *after]])
+
+
+def some_header_key(members, choose):
+    """A key of the header less, one more, one twice, or another one."""
+    place = choose.randrange(len(members))
+    key, value = members[place]
+    before, after = members[:place], members[place + 1:]
+    another = choose.choice([key.upper(), key[:-2] + '"', choose.choice(members)[0], r'"\u0074enant"', '"event"'])
+    again = [key, choose.choice([value, *VALUES])]
+    members[:] = choose.choice([before + after, [*members, again], [again, *members], [*members, ['"more"', value]],
+                                [*before, [another, value], *after]])
+
+
+def some_header_value(members, choose):
+    choose.choice(members)[1] = choose.choice(VALUES)
+
+
+def some_limit(members, choose):
+    """A limit at or outside its range."""
+    choose.choice(members[:3])[1] = choose.choice(["0", "1", "2048", "2049", "16384", "16385", "-1", "1.0", '"1"', "65536"])
+
+
+def some_version(members, choose):
+    members[4][1] = choose.choice(["0", "1", "2", "3", "2.0", "2e0", '"2"', "null", "-2", "18446744073709551616"])
+
+
+def some_tenant(members, choose):
+    members[3][1] = json.dumps(choose.choice(WORDS))
+
+
+def header_layout(members, choose):
+    return layout(members, choose, 1)
+
+
+def some_headers(export, choose):
+    """No header, one more, or one in another place; or a header alone."""
+    lines, ahead = lines_of(export)
+    header = lines[0] if ahead else HEADER
+    place = choose.randrange(len(lines) + 1)
+    return text_of(choose.choice([lines[ahead:], [header, *lines], [*lines[:place], header, *lines[place:]], [header],
+                                  [*lines[ahead:], header], [lines[-1], *lines[:-1]]]))
 
 
 def some_value(members, choose, number):
@@ -126,7 +188,9 @@ def layout(members, choose, number):
 
 CHANGES = [nothing, some_byte, some_byte, some_end,
            *map(at_some_line, [some_key, some_value, some_word, some_number, some_number, some_edge, some_edge, some_stamp,
-                               two_at_once, layout])]
+                               two_at_once, layout]),
+           some_headers, *map(at_header, [some_header_key, some_header_value, some_limit, some_version, some_tenant,
+                                          header_layout])]
 
 
 def spoiled(export, choose):
