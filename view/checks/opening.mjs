@@ -48,8 +48,9 @@ export async function opening(tab) {
   assert.equal(await notice(tab), "No export is open.");
   await picked(tab, file("lost.export", lost));
   assert.equal(await notice(tab), "lost.export: 11 events, 3 tasks, 0 messages, 12 edges. Checked: yes 11.");
+  assert.equal(await text(tab, "#limits"), "Limits: 16384 events, 2048 tasks, 16384 messages.");
   await picked(tab, file("wrong.export", wrong));
-  assert.match(await notice(tab), /^wrong\.export: no 7 6\. Line 7 is faulty, reason 6: with some earlier event the trees/);
+  assert.match(await notice(tab), /^wrong\.export: no 8 6\. Line 8 is faulty, reason 6: with some earlier event the trees/);
   await picked(tab, file("cut.export", lost.subarray(0, 300)));
   assert.match(await notice(tab), /^cut\.export: no 4 1\. Line 4 is faulty, reason 1: it is no JSON/);
   assert.equal(await tab.run(() => page.isShown), false);
@@ -62,7 +63,7 @@ export async function opening(tab) {
 export function spoiltPictures() {
   const lost = exportOf(LOST_UPDATE).toString(), random = seeded(7);
   const bytes = Buffer.from(Array.from({ length: 4096 }, () => Math.floor(random() * 256)));
-  const cases = [[lost.replace(...WRONG), "line 7, reason 6"], [lost.replace("[5]", "[9]"), "line 7, reason 4"],
+  const cases = [[lost.replace(...WRONG), "line 8, reason 6"], [lost.replace("[5]", "[9]"), "line 8, reason 4"],
     [bytes, "line 1, reason 1"], ["<script>", "line 1, reason 1"], ["\n", "line 1, reason 1"]];
   for (const [input, told] of cases) {
     const { status, stdout, stderr } = pictureRun(input);

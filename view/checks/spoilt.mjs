@@ -26,6 +26,15 @@ const CHANGES = [[2, /.*/, ""], [3, ',"task":"a"', ""], [4, '"event":4', '"event
   [1, /$/, " ".repeat(65536 - 78)], [1, /$/, " ".repeat(65537 - 78)],
   ...VALUES.map((value) => [3, '{"event":3', `{"event":${value},"event":3`]), ...STAMPS.map((stamp) => [1, "[1;1]", stamp])];
 
+// What stands in the header in place of what.
+const HEADERS = [['"version":2', '"version":3'], ['"version":2', '"version":2.0'], ['"version":2', '"version":"2"'],
+  ['"version":2', '"version":1,"version":2'], [',"version":2', ""], ['"tenant":"x"', '"tenant":""'],
+  ['"tenant":"x"', `"tenant":"${"a".repeat(24)}"`], ['"tenant":"x"', `"tenant":"${"a".repeat(25)}"`],
+  ['"tenant":"x"', '"tenant":"\\u0078"'], ['"tenant":"x"', '"tenant":7'], ['"tenant":"x",', ""], ["{", '{"more":1,'],
+  ["{", '{"event":1,'], [/$/, "\n{}"], [/^/, " "], [/$/, " ".repeat(65536)],
+  ...["events", "messages", "tasks"].flatMap((key) => ["0", "1", "2048", "2049", "16384", "16385", "1.0", "-1", '"1"', "null"]
+    .map((value) => [new RegExp(`"${key}":[0-9]+`), `"${key}":${value}`]))];
+
 // Numbers of two events, one after the other: only the greater one may follow.
 const WIDE = [2n ** 53n, 2n ** 31n - 1n, 2n ** 31n, 2n ** 32n, 2n ** 63n - 2n]
   .flatMap((number) => [[number, number + 1n], [number + 1n, number]]);
@@ -45,12 +54,16 @@ function alone(numbers) {
 const long = (events) => alone(Array.from({ length: events }, (_, event) => event + 1));
 
 export function spoiltExports() {
-  const worked = exportOf(WORKED).toString(), lines = worked.split("\n").slice(0, -1);
+  const worked = exportOf(WORKED).toString(), [header, ...lines] = worked.split("\n").slice(0, -1);
+  const events = lines.map((line) => `${line}\n`).join(""), behindHeader = (text) => `${header}\n${text}`;
   const small = exportOf(busy(seeded(6), 60, 8, 20));
   const seeds = Array.from({ length: SEEDS }, (_, seed) => ran("python3", [SPOIL, String(seed + 1)], small));
-  const whole = ["", worked, worked.slice(0, -1), worked.replaceAll("\n", "\r\n"), `${worked}\n`, lines.slice(0, 3).join("\n"),
-    `\ufeff${worked}`, long(16384), long(16385)];
+  const whole = ["", header, worked, events, worked.slice(0, -1), worked.replaceAll("\n", "\r\n"), `${worked}\n`,
+    lines.slice(0, 3).join("\n"), `\ufeff${worked}`, behindHeader(worked), events + header, long(16384), long(16385),
+    behindHeader(long(16384)), behindHeader(long(16385))];
   const bytes = [Buffer.from([0, 255, 10, 13]), Buffer.from(worked.replace('"a"', '"\x80"'), "latin1")];
-  const texts = [...whole, ...CHANGES.map((change) => changed(lines, change)), ...WIDE.map(alone)];
+  const changes = CHANGES.map((change) => changed(lines, change)), headers = HEADERS.map((change) => header.replace(...change));
+  const texts = [...whole, ...changes, ...changes.map(behindHeader), ...headers.map((spoilt) => `${spoilt}\n${events}`),
+    ...WIDE.map(alone)];
   return [...texts.map((text) => Buffer.from(text)), ...bytes, ...seeds];
 }
