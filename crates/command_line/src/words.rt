@@ -18,7 +18,8 @@ use trace_types::Limits;
 const HELP: &str = "\
 A tenant is a group of tasks whose events are ordered among themselves. Its requests report
 events, as `local root` and `send root m`, and ask about them, as `order 1 2`. An export is a
-tenant's trace as lines of JSON, one for each event, with its stamp and the events that it follows.
+tenant's trace as lines of JSON: a header, and one for each event, with its stamp and the events
+that it follows.
 
 Example:
   printf 'x local root\\nx local root\\nx order 1 2\\n' | itc_trace replay x
@@ -37,8 +38,8 @@ Requests that ask, and are answered 200:
   order A B, past A, concurrent A, cut A, event A, stamp A, task TASK, message MESSAGE, count
 
 Each tenant starts with the task root, and has the limits for itself. No reply depends on how many
-comparisons are remembered. With --export no reply is written, and at the end a line of JSON for
-each event of that tenant.
+comparisons are remembered. With --export no reply is written, and at the end lines of JSON: one
+that names the tenant and its limits, and one for each event of it.
 
 Examples:
   printf 'x local root\\ny local root\\nx stamp 1\\n' | itc_trace replay --events 100 x y
@@ -46,6 +47,7 @@ Examples:
   y 201 1
   x 200 [1;1]
   printf 'x local root\\n' | itc_trace replay --export x x
+  {\"events\":4096,\"messages\":2048,\"tasks\":512,\"tenant\":\"x\",\"version\":2}
   {\"event\":1,\"kind\":\"local\",\"name\":\"-\",\"preds\":[],\"stamp\":\"[1;1]\",\"task\":\"root\"}";
 
 /// What help on `serve` says after the options.
@@ -66,12 +68,13 @@ Example:
 
 /// What help on `check` says after the options.
 const CHECK_HELP: &str = "\
-Standard input is an export. The answer is `yes N` where each of its N lines is right, with status
-0; else `no LINE REASON` with the first faulty line, from 1, and the number of the first of these
-reasons, with status 1:
+Standard input is an export, with its header or without. The answer is `yes N` where every line is
+right and N of them list events, with status 0; else `no LINE REASON` with the first faulty line,
+from 1, and the number of the first of these reasons, with status 1:
   1 it is no JSON, or has more than 65536 bytes
-  2 it is no object of the keys event, kind, name, preds, stamp and task, with their kinds of values
-  3 its event is not the number of the line, or is above 16384
+  2 it is no object of the keys event, kind, name, preds, stamp and task, with their kinds of values,
+    nor as the first line a header of the keys events, messages, tasks, tenant and version, which is 2
+  3 its event is not the number of the line, the header not counted, or is above 16384
   4 its preds do not increase, or are no earlier events
   5 its stamp is none
   6 the trees of an earlier event and of this one do not compare as the preds say
