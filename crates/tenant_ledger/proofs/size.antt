@@ -1,0 +1,5 @@
+pub mod Counts
+pub mod Limits
+pub mod StampTexts
+pub mod Stamps
+pub mod Texts
