@@ -3,15 +3,17 @@ use Rattle.std.proofs.Common.{◌≡◌, ℕ, suc, ◌<◌, ◌≤◌, List, [],
 use Rattle.std.proofs.lemmas.Bool.{cases_eq, cases_lt, cond-true, cond-false, eq-eqb, ne_eqb}
 use Rattle.std.proofs.lemmas.List.{length-reverse, reverse-append, reverse-reverse, take-append-le}
 use Rattle.std.proofs.Math.Seq.{take-length}
+use Rattle.trace_types.specs.text.Name.{Text}
 use Rattle.trace_types.specs.clock.Id.{Zero}
 use Rattle.trace_types.specs.clock.EventTree.{Leaf}
 use Rattle.trace_types.specs.clock.Clock.{tree_clock}
+use Rattle.trace_types.specs.clock.Size.{inner_of_id}
 use Rattle.trace_types.specs.clock.Stamps.{id_of, tree_of, stamp_of}
 use Rattle.trace_types.specs.tenant.Rows.{History, history_of, spawn_count}
 use Rattle.trace_types.specs.declared.row.Row.{Row}
 use Rattle.id_tree.proofs.Places.{inner_of_id-le}
 use Rattle.event_tree.proofs.Places.{inner_of_tree-le}
-use Rattle.tenant_ledger.specs.Size.{spawns_up_to, HasInnerAtMost}
+use Rattle.tenant_ledger.specs.Size.{AreSized, HasInnerAtMost, spawns_up_to}
 use Rattle.tenant_ledger.proofs.size.Stamps.{places_of, place_count-le_spawns, among-id_of, among-tree_of}
 
 -- the rows of a history up to an event
@@ -71,3 +73,11 @@ pub within_spawns : (rows : List Row) (event : ℕ) → HasInnerAtMost (spawns_u
 within_spawns rows event =
     subst (λ found. HasInnerAtMost (spawn_count (history_of (take event found))) (stamp_of tree_clock (history_of rows) event)) (reverse-reverse rows)
     (stamp_is_within (history_of rows) event)
+
+-- the id of a task is within all spawns
+id_is_within : (history : History) (task : Text) → inner_of_id (id_of tree_clock history task) ≤ spawn_count history
+id_is_within history task =
+    omega (arith, place_count-le_spawns history, inner_of_id-le (id_of tree_clock history task) (places_of history) (among-id_of history task))
+
+pub are_sized : (rows : List Row) → AreSized rows
+are_sized rows = record { ids = id_is_within (history_of rows); stamps = within_spawns rows }

@@ -1,5 +1,5 @@
-use Rattle.tenant_ledger.proofs.size.Counts.{within_spawns}
+use Rattle.tenant_ledger.proofs.size.Counts.{are_sized}
 use Rattle.tenant_ledger.proofs.laws.size.Goals as goal
 
 pub returns : goal.returns
-returns c = within_spawns
+returns c = are_sized
