@@ -2,3 +2,4 @@ pub mod Crossing
 pub mod Words
 pub mod clock
 pub mod keeping
+pub mod size

@@ -3,4 +3,5 @@ pub mod Legal
 pub mod Invariant
 pub mod Ledger
 pub mod Laws
+pub mod Size
 pub mod Upcoming

@@ -1,5 +1,6 @@
 //! What a ledger keeps.
-ghost use Rattle.std.specs.Prelude.{◌≡◌, ◌-◌, ◌<◌, ◌≤◌, true, IfOk, OnOk, IfErr, IfSome, is_some, Some, None, All, length, if◌then◌else◌, slice_get, map};
+ghost use Rattle.std.specs.Prelude.{◌≡◌, ◌-◌, ◌<◌, ◌≤◌, true, IsTrue, IfOk, OnOk, IfErr, IfSome, is_some, Some, None, All, length, if◌then◌else◌, slice_get, map};
+ghost use Rattle.trace_types.specs.tenant.Limits.{are_limits};
 ghost use Rattle.trace_types.specs.tenant.Rows.{row_of, is_event};
 ghost use Rattle.trace_types.specs.clock.Stamps.{stamp_text_of};
 ghost use Rattle.trace_types.specs.tenant.Tenant.{fresh};
@@ -117,6 +118,15 @@ impl<S: Keep> Book<S> {
             tasks,
             messages: MessageBook::new(alloc, limits.messages())?,
         })
+    }
+
+    /// The limits of the tenant.
+    pub(crate) fn limits(&self) -> Limits
+        ensures limits { result ≡ self.now.limits }
+        ensures ranges { IsTrue (are_limits self.now.limits.events self.now.limits.tasks self.now.limits.messages) }
+    {
+        let _ = self.limits.events();
+        self.limits
     }
 
     /// The accepted rows, the oldest first.

@@ -1,15 +1,16 @@
 //! What the stamps of a tenant's events mean.
-ghost use Rattle.std.specs.Prelude.{ℕ, IsTrue, List};
+ghost use Rattle.std.specs.Prelude.{ℕ, ◌≤◌, IsTrue, List, length};
 ghost use Rattle.trace_types.specs.clock.Clock.{tree_clock};
-ghost use Rattle.trace_types.specs.tenant.Limits.{Limits};
+ghost use Rattle.trace_types.specs.tenant.Limits.{Limits, are_limits};
 ghost use Rattle.trace_types.specs.tenant.Reachability.{order_of};
 ghost use Rattle.trace_types.specs.tenant.Rows.{history_of, is_event};
-ghost use Rattle.trace_types.specs.clock.Stamps.{tree_of};
+ghost use Rattle.trace_types.specs.clock.Stamps.{tree_of, stamp_text_of};
 ghost use Rattle.trace_types.specs.tenant.Tenant.{AreLegal};
 ghost use Rattle.trace_types.specs.declared.row.Row.{Row};
 ghost use Rattle.event_tree.specs.Comparison.{StandsAs};
 ghost use Rattle.trace_types.specs.clock.Points.{Point};
 ghost use Rattle.tenant_ledger.specs.Laws.{DecidesReach, IsAtMostItsNumber, IsRaisedBy};
+ghost use Rattle.tenant_ledger.specs.Size.{AreShort, AreSized, IsWithinLimits};
 
 /// For legal rows and any two events, comparing what the events know gives their order in the graph: the interval
 /// tree clock (Almeida, Baquero and Fonte 2008) tells happened-before (Lamport 1978).
@@ -29,4 +30,26 @@ pub fn greatest_value()
 pub fn private_point()
     ensures { (limits : Limits) (rows : List Row) → AreLegal limits rows → (event : ℕ) (point : Point)
         → IsRaisedBy (history_of rows) event point → DecidesReach (history_of rows) event point }
+{}
+
+/// Legal rows are no more than the limit on events, and their tasks no more than that on tasks.
+pub fn limits()
+    ensures { (limits : Limits) (rows : List Row) → IsTrue (are_limits limits.events limits.tasks limits.messages)
+        → AreLegal limits rows → IsWithinLimits limits (history_of rows) }
+{}
+
+/// The id of each task, and the id and the tree of each event's stamp, have at most as many inner nodes as tasks had been
+/// spawned. So the size of a stamp depends on the spawns alone, however many events there are.
+pub fn size()
+    ensures { (rows : List Row) → AreSized rows }
+{}
+
+/// For legal rows the text of a stamp has at most 18 bytes for each spawn, and 9 more: `4 s + 1` for the id, `14 s + 5`
+/// for the tree, whose numbers have at most five digits, and 3 around them. A tenant has at most 2047 spawns, which
+/// makes 36855 bytes.
+pub fn text_size()
+    ensures spawns { (limits : Limits) (rows : List Row) → IsTrue (are_limits limits.events limits.tasks limits.messages)
+        → AreLegal limits rows → AreShort rows }
+    ensures greatest { (limits : Limits) (rows : List Row) → IsTrue (are_limits limits.events limits.tasks limits.messages)
+        → AreLegal limits rows → (event : ℕ) → length (stamp_text_of (history_of rows) event) ≤ 36855 }
 {}

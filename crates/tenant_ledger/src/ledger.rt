@@ -7,6 +7,7 @@ ghost use Rattle.trace_types.specs.clock.Stamps.{tree_of};
 ghost use Rattle.trace_types.specs.tenant.Tenant.{fresh, step, Steps, Answers, AreLegal, is_report, reply_to_view, with_row};
 ghost use Rattle.event_tree.specs.Comparison.{StandsAs};
 ghost use Rattle.tenant_ledger.specs.Ledger.{code_of, is_brief};
+ghost use Rattle.tenant_ledger.specs.Size.{AreShort, AreSized, IsShort};
 
 use crate::book::Book;
 use crate::share::{Keep, MeantId, Share, Through};
@@ -78,6 +79,19 @@ impl<S: Keep> Ledger<S> {
         laws::clock();
     }
 
+    /// How large the ids and the stamps of the tenant are, by [`laws::size`] and [`laws::text_size`].
+    ///
+    /// It does nothing.
+    pub fn size(&self)
+        ensures sizes { AreSized self.now.rows }
+        ensures texts { AreShort self.now.rows }
+    {
+        let _ = self.book.limits();
+        self.legal();
+        laws::size();
+        laws::text_size();
+    }
+
     fn legal(&self)
         ensures { AreLegal self.now.limits self.now.rows }
     {
@@ -89,7 +103,24 @@ impl<S: Keep> Ledger<S> {
     /// A request is refused with the first code that applies of those that `refusals` of `trace_types` has for it, and
     /// last with `NoMemory` (507), where a request for memory was refused: a report, `past`, `concurrent`, `cut`, `stamp` or
     /// `message`. A refused request changes nothing.
+    #[tactic(auto, using(crate::proofs::size::Replies::short_reply))]
     pub fn report<R>(&mut self, rt: &R, request: &Request) -> Reply
+    where
+        S: Share<R>,
+        ensures steps { Steps self.old request.now result self.new }
+        ensures legal { AreLegal self.new.limits self.new.rows }
+        ensures sizes { AreSized self.new.rows }
+        ensures short { IsShort self.old.rows request.now result }
+    {
+        self.size();
+        let reply = self.take(rt, request);
+        self.size();
+        reply
+    }
+
+    /// The same, by itself.
+    #[inline(always)]
+    fn take<R>(&mut self, rt: &R, request: &Request) -> Reply
     where
         S: Share<R>,
         ensures steps { Steps self.old request.now result self.new }
@@ -142,7 +173,18 @@ impl<S: Keep> Ledger<S> {
 
     /// Answers a query as [`Ledger::report`] does, and refuses every report with `ViewOnly` (410). Only `past`,
     /// `concurrent`, `cut`, `stamp` and `message` take memory, and may be refused with `NoMemory` (507).
+    #[tactic(auto, using(crate::proofs::size::Replies::short_answer))]
     pub fn ask<C: Compare<Kept = S::Kept>>(&self, compare: &C, request: &Request) -> Reply
+        ensures answer { Answers self.now request.now result }
+        ensures short { IsShort self.now.rows request.now result }
+    {
+        self.size();
+        self.look_up(compare, request)
+    }
+
+    /// The same, by itself.
+    #[inline(always)]
+    fn look_up<C: Compare<Kept = S::Kept>>(&self, compare: &C, request: &Request) -> Reply
         ensures { Answers self.now request.now result }
     {
         match *request {
@@ -173,7 +215,7 @@ impl<S: Keep> Ledger<S> {
         let share = self.book.share();
         match *request {
             Request::Order(first, second) => self.order_kept(rt, first, second),
-            _ => self.ask(&Through { rt, share }, request),
+            _ => self.look_up(&Through { rt, share }, request),
         }
     }
 

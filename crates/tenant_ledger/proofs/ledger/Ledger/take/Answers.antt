@@ -1,7 +1,7 @@
 use Rattle.std.proofs.Common.{sym, subst}
 use Rattle.tenant_ledger.proofs.Words.{Tenant, Answers, Steps}
 use Rattle.tenant_ledger.proofs.keeping.Refused.{query_steps}
-use Rattle.tenant_ledger.proofs.ledger.Ledger.report.Goals as goal
+use Rattle.tenant_ledger.proofs.ledger.Ledger.take.Goals as goal
 
 pub returns-then-not-is_report-clause-steps : goal.returns-then-not-is_report-clause-steps
 returns-then-not-is_report-clause-steps g c =

@@ -1,0 +1,6 @@
+pub mod Counts
+pub mod Limits
+pub mod Replies
+pub mod StampTexts
+pub mod Stamps
+pub mod Texts
