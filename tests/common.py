@@ -1,5 +1,5 @@
-"""What the scripts of this folder share: the programs as they were built, with calls that are bent or not; the stored runs;
-and clients of a program that serves."""
+"""What the tests of the built programs share: the programs as they were built, with calls that are bent or not; the stored
+runs; and clients of a program that serves."""
 import atexit
 import contextlib
 import itertools
@@ -75,7 +75,7 @@ def shim_in(folder):
         page = subprocess.run(["rt", "doc"], capture_output=True, text=True, check=True).stdout.strip()
         compiler = os.path.join(os.path.dirname(page), "toolchain/bin/clang")
     shim = os.path.join(folder, "faults.so")
-    source = os.path.join(TOP, ".ci/faults.c")
+    source = os.path.join(TOP, "tests/faults.c")
     subprocess.run([compiler, "-O2", "-shared", "-fPIC", "-nostdlib", "-o", shim, source], check=True)
     return shim
 
