@@ -3,7 +3,7 @@ import { join } from "node:path";
 import { busy, seeded, WORKED } from "./traces.mjs";
 import { exportOf, ran, TOP } from "./program.mjs";
 
-const SPOIL = join(TOP, "bench/spoil.py"), SEEDS = 120;
+const SPOIL = join(TOP, "tests/spoil.py"), SEEDS = 120;
 const nested = (levels) => "[".repeat(levels) + "]".repeat(levels);
 const around = (levels, before, middle) => before.repeat(levels) + middle + ")".repeat(levels);
 
