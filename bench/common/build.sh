@@ -1,9 +1,9 @@
-# What the scripts here share. Where it is read, `top` is the top of the repository and `work` a new folder.
+# What the scripts of bench share. Where it is read, `top` is the top of the repository and `work` a new folder.
 
-# build_plain PROGRAM..: compiles these programs in plain Rust.
+# build_plain FILE..: compiles these files of bench, named without their ending, to programs in plain Rust.
 build_plain() {
-    for program; do
-        rustc -O -o "$work/$program" "$top/bench/$program.rs"
+    for file; do
+        rustc -O -o "$work/${file##*/}" "$top/bench/$file.rs"
     done
 }
 

@@ -1,5 +1,5 @@
-// The operations of ids and event trees in plain Rust, by the published algorithms, for `plain.rs` and `trees.rs`: no
-// proofs, and a refused request for memory ends the program.
+// The operations of ids and event trees in plain Rust, by the published algorithms, for the programs of the other folders:
+// no proofs, and a refused request for memory ends the program.
 //
 // Trees share their parts: both children of a node stand in one block behind one `Arc`, and what an operation leaves as it
 // was is kept by a count. To clone an id or a tree takes no memory.
