@@ -1,6 +1,6 @@
 
 // The same loads over one book of this program behind a `RwLock`: tasks and messages are found by its maps, and an event is
-// compared with a later one at its point. The script puts this behind all of plain.rs but its `main`.
+// compared with a later one at its point. The script puts this behind all of replay/plain.rs but its `main`.
 use std::sync::atomic::{AtomicBool, Ordering as AtomicOrdering};
 use std::sync::RwLock;
 use std::time::Instant;

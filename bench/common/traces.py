@@ -1,5 +1,6 @@
 #!/usr/bin/env python3
-"""Writes the traces that `run` replays into a folder, and for each a line: its name, and the words that both programs take.
+"""Writes the traces that `replay/run` replays into a folder, and for each a line: its name, and the words that both programs
+take.
 
 They are the same at every run. All requests are accepted or answered.
 """

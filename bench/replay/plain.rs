@@ -11,7 +11,7 @@
 // With `--points` it keeps with each event a point that it raised, and its value there, and a list compares two events at the
 // point of the earlier one alone.
 #[allow(dead_code)]
-#[path = "common/clock.rs"]
+#[path = "../common/clock.rs"]
 mod clock;
 
 use clock::{write_number, write_stamp, Id, Tree, ZERO};
