@@ -7,13 +7,14 @@ build_plain() {
     done
 }
 
-# build_rattle PROGRAM CRATE..: proves and builds a program in Rattle, in a copy of the crates that it stands on.
+# build_rattle FILE CRATE..: proves and builds this file of bench, a program in Rattle, in a copy of the crates that it stands on.
 build_rattle() {
-    program=$1
+    file=$1
+    program=${file##*/}
     shift
     git init -q "$work"
     mkdir -p "$work/crates/$program/src"
-    cp "$top/bench/$program.rattle" "$work/crates/$program/src/main.rt"
+    cp "$top/bench/$file.rattle" "$work/crates/$program/src/main.rt"
     for crate; do
         cp -a "$top/crates/$crate" "$work/crates/"
         grep "^$crate:" "$top/crates.txt"
