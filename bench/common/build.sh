@@ -28,6 +28,6 @@ build_rattle() {
 
 # build_trees: the program of the operations of the trees, in both.
 build_trees() {
-    build_plain trees
-    build_rattle trees trace_types id_tree event_tree stamp_codec
+    build_plain trees/plain
+    build_rattle trees/trees trace_types id_tree event_tree stamp_codec
 }

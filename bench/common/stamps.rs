@@ -1,4 +1,4 @@
-// Reads the texts of stamps in plain Rust, for `trees.rs` and `check_plain.rs`: a text is refused without a place.
+// Reads the texts of stamps in plain Rust, for the folders trees and checks: a text is refused without a place.
 use crate::clock::{Id, Tree};
 
 pub struct Stamp {

@@ -1,4 +1,4 @@
-"""The stamps on which `trees` and `blocks` try each operation: its name, what the trees are like, the word by which the two
+"""The stamps on which `run` and `blocks` try each operation: its name, what the trees are like, the word by which the two
 programs know it, and the texts of two stamps. They are the same at every run.
 """
 import random

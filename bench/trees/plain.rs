@@ -1,8 +1,8 @@
 // Times the same operations in plain Rust.
 #[allow(dead_code)]
-#[path = "common/clock.rs"]
+#[path = "../common/clock.rs"]
 mod clock;
-#[path = "common/stamps.rs"]
+#[path = "../common/stamps.rs"]
 mod stamps;
 
 use clock::{write_stamp, Id, Tree};
