@@ -10,10 +10,10 @@
 // Of each event two places are kept: where its tree was above another one last, and where another one was above it last. To
 // tell that a tree is not below another these are looked at first.
 #[allow(dead_code)]
-#[path = "common/clock.rs"]
+#[path = "../common/clock.rs"]
 mod clock;
 #[allow(dead_code)]
-#[path = "common/stamps.rs"]
+#[path = "../common/stamps.rs"]
 mod stamps;
 
 use clock::{Path, Tree};
