@@ -7,7 +7,7 @@ import { dirname, join } from "node:path";
 import { fileURLToPath } from "node:url";
 
 export const TOP = dirname(dirname(dirname(fileURLToPath(import.meta.url))));
-export const TEMPLATE = join(TOP, "view/trace.html");
+export const TEMPLATE = join(TOP, "browser/picture.html");
 const PICTURE = join(TOP, "picture"), PROGRAM = process.env.ITC_TRACE;
 const GREATEST = ["--events", "16384", "--tasks", "2048", "--messages", "16384"];
 const work = mkdtempSync(join(tmpdir(), "picture-test-"));

@@ -1,4 +1,4 @@
-// Checks the page in headless Chromium against what the program answers: see `view/test`.
+// Checks the page in headless Chromium against what the program answers: see `browser/test`.
 import assert from "node:assert/strict";
 import { Browser } from "./browser.mjs";
 import { hostileText, names, opening, policyFits, spoilt, spoiltPictures } from "./opening.mjs";
@@ -27,10 +27,10 @@ async function check(browser) {
   const names = Object.keys(CHECKS).filter((name) => only === "" || only.split(",").includes(name));
   for (const name of names) {
     const told = await CHECKS[name](tab, phone);
-    console.log(`view/test: ${name}: right${told ? `: ${told}` : ""}`);
+    console.log(`browser/test: ${name}: right${told ? `: ${told}` : ""}`);
     nothingElse(name, [tab, phone]);
   }
-  if (folder) console.log(`view/test: screenshots: ${await screenshots(browser, folder)}`);
+  if (folder) console.log(`browser/test: screenshots: ${await screenshots(browser, folder)}`);
 }
 
 let browser;
@@ -41,7 +41,7 @@ try {
   browser = new Browser("chromium");
   await check(browser);
 } catch (fault) {
-  console.error(`view/test: ${fault.stack}`);
+  console.error(`browser/test: ${fault.stack}`);
   process.exitCode = 1;
 } finally {
   await browser?.close();

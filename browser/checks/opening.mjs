@@ -21,7 +21,7 @@ export function policyFits() {
   const policy = ["default-src 'none'", ...hashes, "require-trusted-types-for 'script'", "trusted-types 'none'", "base-uri 'none'",
     "form-action 'none'"].join("; ");
   assert.ok(html.includes(`<meta http-equiv="Content-Security-Policy" content="${policy}">`),
-    `the policy of view/trace.html has to be: ${policy}`);
+    `the policy of browser/picture.html has to be: ${policy}`);
 }
 
 /** The page answers to each export as the check does, and says the line and the reason. */
