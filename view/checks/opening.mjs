@@ -48,7 +48,6 @@ export async function opening(tab) {
   assert.equal(await notice(tab), "No export is open.");
   await picked(tab, file("lost.export", lost));
   assert.equal(await notice(tab), "lost.export: 11 events, 3 tasks, 0 messages, 12 edges. Checked: yes 11.");
-  assert.equal(await text(tab, "#limits"), "Limits: 16384 events, 2048 tasks, 16384 messages.");
   await picked(tab, file("wrong.export", wrong));
   assert.match(await notice(tab), /^wrong\.export: no 8 6\. Line 8 is faulty, reason 6: with some earlier event the trees/);
   await picked(tab, file("cut.export", lost.subarray(0, 300)));
@@ -57,6 +56,21 @@ export async function opening(tab) {
   await tab.drop(file("dropped.export", exportOf(WITH_LOCK)), 400, 400);
   await tab.until(() => document.getElementById("notice").textContent.startsWith("dropped.export: 9 events"));
   assert.deepEqual(await tab.run(() => [page.isShown, page.verdict]), [true, "yes 9"]);
+}
+
+/** Both versions are drawn, and a header alone is taken. A header tells whose trace it is, and under which limits. */
+export async function versions(tab) {
+  const whole = exportOf(LOST_UPDATE), behind = whole.indexOf(10) + 1;
+  const limits = "Limits: 16384 events, 2048 tasks, 16384 messages.";
+  const counts = "11 events, 3 tasks, 0 messages, 12 edges. Checked: yes 11.";
+  const none = "0 events, 0 tasks, 0 messages, 0 edges. Checked: yes 0.";
+  const cases = [[whole, counts, "Tenant x", limits], [whole.subarray(behind), counts, "Marks", ""],
+    [whole.subarray(0, behind), none, "Tenant x", limits]];
+  for (const [bytes, told, ...about] of cases) {
+    await opened(tab, pictureOf("version.html", bytes));
+    assert.equal(await notice(tab), told);
+    assert.deepEqual([await text(tab, "#about h2"), await text(tab, "#limits")], about);
+  }
 }
 
 /** `picture` tells the line and the reason of what is no export, writes nothing then, and takes any bytes. */
