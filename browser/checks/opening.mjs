@@ -2,7 +2,7 @@
 import assert from "node:assert/strict";
 import { createHash } from "node:crypto";
 import { readFileSync } from "node:fs";
-import { exportOf, file, pictureOf, pictureRun, TEMPLATE, verdictOf } from "./program.mjs";
+import { exportOf, file, pictureOf, pictureRun, sentences, TEMPLATE, verdictOf } from "./program.mjs";
 import { spoiltExports } from "./spoilt.mjs";
 import { notice, opened, picked, press, text } from "./tab.mjs";
 import { LOST_UPDATE, NAMES, seeded, WITH_LOCK } from "./traces.mjs";
@@ -24,17 +24,17 @@ export function policyFits() {
     `the policy of browser/picture.html has to be: ${policy}`);
 }
 
-/** The page answers to each export as the check does, and says the line and the reason. */
+/** The page answers to each export as the check does, and says the line and the reason, in the words of the help. */
 export async function spoilt(tab) {
-  const exports = spoiltExports(), counts = new Map();
+  const exports = spoiltExports(), counts = new Map(), words = sentences();
   await tab.open(TEMPLATE);
   for (const bytes of exports) {
     const wanted = verdictOf(bytes), [, line, reason = "none"] = wanted.split(" ");
     await tab.run((base64) => page.open(bytesOf(base64), "spoilt"), bytes.toString("base64"));
     await tab.until(() => page.verdict !== null);
     assert.equal(await tab.run(() => page.verdict), wanted, `of ${bytes.subarray(0, 3000)}`);
-    const start = reason === "none" ? "spoilt: " : `spoilt: no ${line} ${reason}. Line ${line} is faulty, reason ${reason}: `;
-    assert.ok((await notice(tab)).startsWith(start), await notice(tab));
+    const fault = `no ${line} ${reason}. Line ${line} is faulty, reason ${reason}: ${words.get(reason)}`;
+    assert.ok((await notice(tab)).startsWith(reason === "none" ? "spoilt: " : `spoilt: ${fault}`), await notice(tab));
     counts.set(reason, (counts.get(reason) ?? 0) + 1);
   }
   for (const reason of "123456") assert.ok(counts.get(reason) > 0, `no export is faulty for reason ${reason}`);
@@ -48,26 +48,42 @@ export async function opening(tab) {
   assert.equal(await notice(tab), "No export is open.");
   await picked(tab, file("lost.export", lost));
   assert.equal(await notice(tab), "lost.export: 11 events, 3 tasks, 0 messages, 12 edges. Checked: yes 11.");
-  assert.equal(await text(tab, "#limits"), "Limits: 16384 events, 2048 tasks, 16384 messages.");
   await picked(tab, file("wrong.export", wrong));
-  assert.match(await notice(tab), /^wrong\.export: no 8 6\. Line 8 is faulty, reason 6: with some earlier event the trees/);
+  assert.match(await notice(tab), /^wrong\.export: no 8 6\. Line 8 is faulty, reason 6: The trees of this event and of an earlier one /);
   await picked(tab, file("cut.export", lost.subarray(0, 300)));
-  assert.match(await notice(tab), /^cut\.export: no 4 1\. Line 4 is faulty, reason 1: it is no JSON/);
+  assert.match(await notice(tab), /^cut\.export: no 4 1\. Line 4 is faulty, reason 1: The line is no JSON /);
   assert.equal(await tab.run(() => page.isShown), false);
   await tab.drop(file("dropped.export", exportOf(WITH_LOCK)), 400, 400);
   await tab.until(() => document.getElementById("notice").textContent.startsWith("dropped.export: 9 events"));
   assert.deepEqual(await tab.run(() => [page.isShown, page.verdict]), [true, "yes 9"]);
 }
 
-/** `picture` tells the line and the reason of what is no export, writes nothing then, and takes any bytes. */
+/** Both versions are drawn, and a header alone is taken. A header tells whose trace it is, and under which limits. */
+export async function versions(tab) {
+  const whole = exportOf(LOST_UPDATE), behind = whole.indexOf(10) + 1;
+  const limits = "Limits: 16384 events, 2048 tasks, 16384 messages.";
+  const counts = "11 events, 3 tasks, 0 messages, 12 edges. Checked: yes 11.";
+  const none = "0 events, 0 tasks, 0 messages, 0 edges. Checked: yes 0.";
+  const cases = [[whole, counts, "Tenant x", limits], [whole.subarray(behind), counts, "Marks", ""],
+    [whole.subarray(0, behind), none, "Tenant x", limits]];
+  for (const [bytes, told, ...about] of cases) {
+    await opened(tab, pictureOf("version.html", bytes));
+    assert.equal(await notice(tab), told);
+    assert.deepEqual([await text(tab, "#about h2"), await text(tab, "#limits")], about);
+  }
+}
+
+/** `picture` tells the line and the reason of what is no export, in the words of the help, writes nothing then, and takes any
+ * bytes. */
 export function spoiltPictures() {
-  const lost = exportOf(LOST_UPDATE).toString(), random = seeded(7);
+  const lost = exportOf(LOST_UPDATE).toString(), random = seeded(7), words = sentences();
   const bytes = Buffer.from(Array.from({ length: 4096 }, () => Math.floor(random() * 256)));
-  const cases = [[lost.replace(...WRONG), "line 8, reason 6"], [lost.replace("[5]", "[9]"), "line 8, reason 4"],
-    [bytes, "line 1, reason 1"], ["<script>", "line 1, reason 1"], ["\n", "line 1, reason 1"]];
-  for (const [input, told] of cases) {
+  const cases = [[lost.replace(...WRONG), 8, "6"], [lost.replace("[5]", "[9]"), 8, "4"], [bytes, 1, "1"], ["<script>", 1, "1"],
+    ["\n", 1, "1"], [lost.replace(":2}", ":3}"), 1, "2"]];
+  for (const [input, line, reason] of cases) {
     const { status, stdout, stderr } = pictureRun(input);
-    assert.deepEqual([status, stdout.length, stderr.toString()], [1, 0, `picture: no export: ${told}\n`]);
+    const told = `picture: no export: line ${line}, reason ${reason}: ${words.get(reason)}\n`;
+    assert.deepEqual([status, stdout.length, stderr.toString()], [1, 0, told]);
   }
   assert.deepEqual(pictureRun(lost).stdout, pictureRun(lost).stdout, "the same export gives the same page");
 }

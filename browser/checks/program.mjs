@@ -55,6 +55,12 @@ export function lists(reports, keyword, events) {
 /** What the check answers to these bytes: `yes N` or `no LINE REASON`. */
 export const verdictOf = (bytes) => run(PROGRAM, ["check"], bytes).stdout.toString().trim();
 
+/** The sentence for each reason, as the help of the check has it. */
+export function sentences() {
+  const help = ran(PROGRAM, ["check", "--help"]).toString();
+  return new Map([...help.matchAll(/^ {2}(\d) (.*)$/gm)].map(([, reason, sentence]) => [reason, sentence]));
+}
+
 export const pictureOf = (name, bytes, words = []) => file(name, ran(PICTURE, words, bytes));
 
 export const pictureRun = (bytes) => run(PICTURE, [], bytes);
