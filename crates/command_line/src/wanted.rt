@@ -1,4 +1,4 @@
-//! What a replay or a service is asked for.
+//! What replays and services are asked for.
 ghost use Rattle.std.specs.Prelude.{IsTrue};
 ghost use Rattle.trace_types.specs.text.Name.{is_between};
 
@@ -9,10 +9,11 @@ use trace_types::Limits;
 pub struct Replay {
     /// The limits that each of the tenants has.
     pub limits: Limits,
-    /// How many comparisons are remembered, of all tenants together: 1 to 65536.
+    /// How many comparisons the cache of all tenants remembers: 1 to 65536.
     pub cache: u64,
+    /// The tenants as they are written, which may be no names.
     pub tenants: Vec<String>,
-    /// The tenant whose export is to be written in place of replies.
+    /// The tenant whose export is written in place of replies.
     pub export: Option<String>,
     ghost in_range: { IsTrue (is_between 1 65536 cache) },
 }
@@ -24,12 +25,13 @@ pub struct Serve {
     pub port: u64,
     /// How many sessions are held at once: 1 to 32.
     pub workers: u64,
-    /// After how many connections no more is taken: 1 to 1048576.
+    /// After how many connections no more are taken: 1 to 1048576.
     pub sessions: u64,
     /// The limits that each of the tenants has.
     pub limits: Limits,
-    /// How many comparisons are remembered, of all tenants together: 1 to 65536.
+    /// How many comparisons the cache of all tenants remembers: 1 to 65536.
     pub cache: u64,
+    /// The tenants as they are written, which may be no names.
     pub tenants: Vec<String>,
     ghost cache_in_range: { IsTrue (is_between 1 65536 cache) },
     ghost port_in_range: { IsTrue (is_between 1 65535 port) },

@@ -1,4 +1,4 @@
-//! The words of the command line.
+//! Words of the command line.
 ghost use Rattle.std.specs.Prelude.{◌≡◌, ◌↔◌, IsTrue, ℕ, false, [], Some, Err, map, option_map, IfOk, IfErr, IfSome, string_bytes};
 ghost use Rattle.clap.specs.Words.{app_of, found_of, kind_of, rows_of, rule_of, subcommand_rows_of};
 ghost use Rattle.clap.specs.declared.builder.Command.TheViews.{out-Command as fields_of};
@@ -100,7 +100,7 @@ const WORKERS_HELP: &str = "How many sessions are held at once: 1 to 32 [default
 const SESSIONS_HELP: &str =
     "After how many connections no more is taken: 1 to 1048576 [default: 1048576]";
 
-/// How many comparisons are remembered where the words do not say it.
+/// How many comparisons are remembered if the words do not say it.
 const DEFAULT_CACHE: u64 = 1024;
 
 /// The most comparisons that may be remembered.
@@ -109,31 +109,34 @@ const MOST_CACHE: u64 = 65536;
 /// The greatest port.
 const MOST_PORT: u64 = 65535;
 
-/// How many sessions are held at once where the words do not say it.
+/// How many sessions are held at once if the words do not say it.
 const DEFAULT_WORKERS: u64 = 4;
 
 /// The most sessions that may be held at once.
 const MOST_WORKERS: u64 = 32;
 
-/// The most connections that may be taken, which is also how many are where the words do not say it.
+/// The most connections that may be taken. As many are taken if the words do not say it.
 const MOST_SESSIONS: u64 = 1048576;
 
 /// What the words ask for.
 #[derive(Drop)]
 pub enum Asked {
+    /// To replay lines, or to write an export after them.
     Replay(Replay),
+    /// To serve programs that connect.
     Serve(Serve),
     /// The check of an export.
     Check,
-    /// To show this text: help.
+    /// To show this text, which is help or the version.
     Show(String),
 }
 
 /// Why the words are not followed.
 #[derive(Drop)]
 pub enum Refusal {
-    /// They are refused with this text.
+    /// The words are refused with this text, which may be empty.
     Words(String),
+    /// The call ran out of memory.
     Memory,
 }
 
@@ -264,10 +267,14 @@ fn export<'a>(alloc: Global) -> Arg<'a>
 
 /// What the words after the program's name ask for.
 ///
-/// Taken are `replay` and then, in any order, 1 or more tenants, each of the options `--events N`, `--tasks N`,
-/// `--messages N` and `--cache N` once at most, with a whole number in its range, and `--export NAME` once at most; or
-/// `serve` and then, in any order, 1 or more tenants, `--port N`, the same options with numbers, `--workers N` and
-/// `--sessions N`; or `check` alone.
+/// They are one of these commands, with what follows it in any order. An option stands once at most, and N is a whole
+/// number in its range.
+///
+/// | Command | What follows |
+/// |---|---|
+/// | `replay` | 1 or more tenants, `--events N`, `--tasks N`, `--messages N`, `--cache N`, `--export NAME` |
+/// | `serve` | `--port N` and 1 or more tenants, the options with numbers of `replay`, `--workers N`, `--sessions N` |
+/// | `check` | Nothing |
 pub fn read_words<S: AsStr>(alloc: Global, words: &[S]) -> Result<Asked, Refusal>
     // Limits and tenants are read as they stand, and want of memory alone prevents it.
     ensures asked { IfSome (asked_in (map S.text words.now)) (λ asked. ReadsWords asked result) }
@@ -373,7 +380,7 @@ fn export_of(alloc: Global, matches: &ArgMatches) -> Result<Option<String>, Refu
     }
 }
 
-/// The limits that were found; `None` where one is out of its range.
+/// The limits that were found, or `None` if one is out of its range.
 fn limits_of(matches: &ArgMatches) -> Option<Limits>
     ensures { FindsLimits (subcommand_rows_of matches.now) result }
 {
@@ -385,7 +392,7 @@ fn limits_of(matches: &ArgMatches) -> Option<Limits>
     )
 }
 
-/// The number of the option of this name, or the default where it was not used; `None` where it is not one from 1 to this most.
+/// The number of the option of this name, or the default if it was not used. It is `None` outside 1 to `most`.
 fn number_of(matches: &ArgMatches, name: &str, default: u64, most: u64) -> Option<u64>
     ensures found { (number : ℕ) → number_found name.now default most (subcommand_rows_of matches.now) ≡ Some number → result ≡ Some number }
     ensures in_range { IfSome result (λ number. IsTrue (is_between 1 most number)) }
@@ -399,7 +406,7 @@ fn number_of(matches: &ArgMatches, name: &str, default: u64, most: u64) -> Optio
     }
 }
 
-/// The number of the option of this name, or the default where it was not used.
+/// The number of the option of this name, or the default if it was not used.
 fn amount_of(replay: &ArgMatches, name: &str, default: u64) -> u64
     ensures { (number : ℕ) → amount_in name.now default (rows_of (found_of replay.now)) ≡ Some number → result ≡ number }
 {

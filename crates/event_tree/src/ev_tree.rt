@@ -1,4 +1,4 @@
-//! The event tree, kept normal.
+//! Event trees, kept normal.
 ghost use Rattle.std.specs.Prelude.{◌≡◌, ◌≢◌, ◌+◌, ◌-◌, ◌^◌, ◌<◌, ◌≤◌, ◌↔◌, min, max, IfOk, IfSome, IfNone, IsOk, IsTrue, false};
 ghost use Rattle.trace_types.specs.clock.Id.{Zero, One};
 ghost use Rattle.trace_types.specs.clock.EventTree.{Leaf, Node as plain_Node, IsNormal, value, minimum, maximum};
@@ -32,9 +32,10 @@ mod growth;
 mod joining;
 mod risen;
 
-/// An event tree in normal form, whose greatest value is below 2^64.
+/// An event tree in normal form, whose greatest value is below 2^64 (Almeida, Baquero and Fonte 2008).
 ///
-/// Trees share their parts: what an operation leaves as it was stands in both trees, and is counted.
+/// Trees share their parts: an operation counts a part that it leaves as it was, and makes no copy. A call that is handed
+/// an allocator returns `Memory` if it runs out of memory, or if such a count is full.
 #[cycle(ev_tree)]
 #[derive(Drop)]
 pub struct EvTree {
@@ -53,7 +54,7 @@ enum Node {
     },
 }
 
-/// Both children of an inner node, and the digest of the two.
+/// The children of an inner node, and the digest of the two.
 #[cycle(ev_tree)]
 #[derive(Drop)]
 struct Children {
@@ -62,10 +63,10 @@ struct Children {
     digest: u64,
 }
 
-/// What a tree is made of, with the children of an inner node lent.
+/// The parts of a tree, with the children of an inner node lent.
 #[derive(Debug, Drop)]
 pub enum Parts<'a> {
-    /// One value everywhere.
+    /// The tree has one value everywhere.
     Leaf(u64),
     /// The least value, and what each half adds to it.
     Node(u64, &'a EvTree, &'a EvTree),
@@ -94,7 +95,7 @@ impl Model for EvTree {
 }
 
 impl EvTree {
-    /// The tree with one value everywhere.
+    /// The tree with one value everywhere. It takes no memory.
     pub fn leaf(n: u64) -> EvTree
         ensures { result ≡ Leaf n }
     {
@@ -105,7 +106,7 @@ impl EvTree {
 
     /// The normal form of the tree with `n` added to what `left` and `right` say of the two halves.
     ///
-    /// `Memory` where a request for memory was refused; both trees are then lost. A leaf takes none.
+    /// It takes one block, or none if it comes to a leaf. Both trees are lost if it returns `Memory`.
     pub fn fork(alloc: Global, n: u64, left: EvTree, right: EvTree) -> Result<EvTree, Memory>
         requires { n + max (maximum left) (maximum right) < 2 ^ 64 }
         ensures exact { IfOk result (λ tree. tree ≡ norm n left right) }
@@ -164,7 +165,7 @@ impl EvTree {
         }
     }
 
-    /// The tree with its least value raised by so much, over the same children.
+    /// The tree with its least value raised by `by`, over the same children.
     fn lifted(&self, by: u64) -> Result<EvTree, Memory>
         requires { by + maximum self.now < 2 ^ 64 }
         ensures exact { IfOk result (λ tree. tree ≡ lifted by self.now) }
@@ -186,7 +187,7 @@ impl EvTree {
         }
     }
 
-    /// What the tree is made of.
+    /// The parts of the tree. It takes no memory.
     pub fn parts(&self) -> Parts<'_>
         ensures exact { tree_of_parts result ≡ self.now }
         ensures normal { IsNormal self.now }
@@ -200,9 +201,8 @@ impl EvTree {
         }
     }
 
-    /// The same tree, over the same children.
-    ///
-    /// It takes no memory, and constant time. `Memory` where one part would stand in more trees than can be counted.
+    /// An equal tree over the same children, made in constant time and without a block of memory. Returns `Memory` if a
+    /// part would stand in more trees than can be counted.
     pub fn share(&self, _alloc: Global) -> Result<EvTree, Memory>
         ensures exact { IfOk result (λ tree. tree ≡ self.now) }
         ensures leaf { IsLeafTree self.now → IsOk result }
@@ -223,10 +223,10 @@ impl EvTree {
         }
     }
 
-    /// The tree that has at each point the greater of the values of the two (Almeida, Baquero and Fonte 2008).
+    /// The tree that has at each point the greater of the two values, by the published `join`.
     ///
-    /// It shares every part that one of the two has, and makes no node where one is below the other. `Memory` where a
-    /// request for memory was refused.
+    /// It shares every part that one of the two has, and makes no node if one tree is nowhere above the other. Returns
+    /// `Memory` if it runs out of memory.
     pub fn join(&self, alloc: Global, other: &EvTree) -> Result<EvTree, Memory>
         ensures { IfOk result (λ tree. tree ≡ join self.now other.now) }
     {
@@ -235,11 +235,11 @@ impl EvTree {
         joined(alloc, self, 0, other, 0)?.tree(self, 0, other, 0)
     }
 
-    /// The tree raised at points of the id, by filling where that changes it and else by growing (Almeida, Baquero and
-    /// Fonte 2008).
+    /// The tree after an event of this id, by the published `event`: it fills the tree if that changes it, and else grows
+    /// it.
     ///
-    /// It makes the path to what is raised, and shares the rest. `Memory` where a request for memory was refused; the id
-    /// that owns everything takes none.
+    /// It makes the nodes on the way to what is raised, and shares the rest. Returns `Memory` if it runs out of memory.
+    /// An id of everything takes none.
     pub fn event(alloc: Global, id: &IdTree, tree: &EvTree) -> Result<EvTree, Memory>
         requires some { id.now ≢ Zero }
         requires fits { maximum tree.now + 1 < 2 ^ 64 }
@@ -253,9 +253,11 @@ impl EvTree {
         Ok(grown)
     }
 
-    /// The tree after the event, as [`EvTree::event`] gives it, and a point of the id that the event raised, with the value
-    /// there. Finding it takes no memory. There is none only where one of the two trees is higher than the 128 levels of a
-    /// [`Point`] and each raised point that was found lies below them.
+    /// The tree after the event, as [`EvTree::event`] gives it, and a point of the id that the event raised, with the
+    /// value there.
+    ///
+    /// Finding the point takes no memory. There is none only if one of the two trees is higher than the 128 levels of a
+    /// [`Point`].
     pub fn event_with_point(
         alloc: Global,
         id: &IdTree,
@@ -278,7 +280,7 @@ impl EvTree {
         Ok((filled, raised))
     }
 
-    /// A number that equal trees share, in one step. Most trees that differ have others, but not all.
+    /// A number that equal trees share, found in one step. Most trees that differ have different numbers.
     pub fn digest(&self) -> u64
         ensures { result ≡ tree_digest self.now }
     {
@@ -288,8 +290,8 @@ impl EvTree {
         }
     }
 
-    /// How many inner nodes the tree has, or `u64::MAX` if it has more. A part that stands in it twice counts twice. It walks
-    /// the whole tree, and takes no memory.
+    /// How many inner nodes the tree has, or `u64::MAX` if there are more. A part that stands in it twice counts twice.
+    /// It walks the whole tree, and takes no memory.
     pub fn inner(&self) -> u64
         ensures { result ≡ min (inner_of_tree self.now) (2 ^ 64 - 1) }
     {
@@ -303,9 +305,10 @@ impl EvTree {
         }
     }
 
-    /// Whether the two trees have the same value at each point, which as they are normal is whether they are equal. It
-    /// looks at the digests first, at each node, so that it walks two trees that differ hardly ever; two that are equal it
-    /// walks whole.
+    /// Whether the two trees have the same value at each point, so whether they are equal.
+    ///
+    /// It compares digests at each node first, so it hardly ever walks through trees that differ. It walks through equal
+    /// trees whole. It takes no memory.
     pub fn same(&self, other: &EvTree) -> bool
         ensures { IsTrue result ↔ (self.now ≡ other.now) }
     {
@@ -328,7 +331,7 @@ impl EvTree {
         }
     }
 
-    /// The least value at any point.
+    /// The least value at any point, found in one step.
     pub fn min(&self) -> u64
         ensures { result ≡ minimum self.now }
     {
@@ -338,7 +341,7 @@ impl EvTree {
         }
     }
 
-    /// The greatest value at any point.
+    /// The greatest value at any point, found in one step.
     pub fn max(&self) -> u64
         ensures { result ≡ maximum self.now }
     {
@@ -348,7 +351,7 @@ impl EvTree {
         }
     }
 
-    /// The value at the point, along the one path to it. It takes no memory.
+    /// The value at the point, by a walk along the one path to it. It takes no memory.
     pub fn value_at(&self, point: &Point) -> u64
         ensures { result ≡ value self.now point.now }
     {
@@ -372,8 +375,8 @@ impl EvTree {
         }
     }
 
-    /// Whether the value at the point is at least this one, along the path to it, as far down as the ranges leave it open. It
-    /// takes no memory.
+    /// Whether the value at the point is at least `least`. It walks along the path to the point until the ranges of
+    /// values decide, and takes no memory.
     pub fn is_at_least(&self, point: &Point, least: u64) -> bool
         ensures { IsTrue result ↔ (least ≤ value self.now point.now) }
     {
@@ -404,8 +407,8 @@ impl EvTree {
         }
     }
 
-    /// Whether no value of this tree is above that of `other` at the same point, by a walk over both that ends at the
-    /// first place which refutes it.
+    /// Whether no value of this tree is above that of `other` at the same point. It walks both trees up to the first
+    /// place that refutes it, and takes no memory.
     pub fn leq(&self, other: &EvTree) -> bool
         ensures { IsTrue result ↔ IsBelow self.now other.now }
     {
@@ -414,9 +417,9 @@ impl EvTree {
         is_below(self, 0, other, 0)
     }
 
-    /// The same by that walk. Where some value is above, the path is then such a place; only such a place takes memory.
+    /// Answers as [`EvTree::leq`] does, by the same walk. If some value is above, the path leads to such a place.
     ///
-    /// Where a request for memory was refused, the path is then some path.
+    /// Only that path takes memory. After an `AllocError` the path leads to some place.
     pub fn leq_or_path(&self, other: &EvTree, path: &mut Path) -> Result<bool, AllocError>
         ensures below { IfOk result (λ below. IsTrue below ↔ IsBelow self.now other.now) }
         ensures above { IfOk result (λ below. below ≡ false → value other.now path.new < value self.now path.new) }
@@ -427,7 +430,7 @@ impl EvTree {
         is_below_or_path(self, 0, other, 0, path)
     }
 
-    /// How this tree stands to `other`, by one walk over both.
+    /// How this tree stands to `other`, by one walk over both. It takes no memory.
     pub fn order(&self, other: &EvTree) -> Order
         ensures { StandsAs result self.now other.now }
     {
@@ -436,8 +439,10 @@ impl EvTree {
         self.standing(other, compare(self, 0, other, 0))
     }
 
-    /// How this tree stands to `other`, if walks over so many inner nodes of both show it: for who has a shorter way than
-    /// a long walk.
+    /// How this tree stands to `other`, or `None` if walks over `steps` inner nodes do not show it. It takes no memory.
+    ///
+    /// It is for a caller that has a shorter way than a long walk. A budget of the inner nodes of both trees always gives
+    /// the answer.
     pub fn order_within(&self, other: &EvTree, steps: u64) -> Option<Order>
         ensures order { IfSome result (λ order. StandsAs order self.now other.now) }
         ensures short { IfNone result (steps < inner_of_tree self.now + inner_of_tree other.now) }
@@ -450,7 +455,7 @@ impl EvTree {
         Some(self.standing(other, Directions { below, above }))
     }
 
-    /// How this tree stands to `other` where these directions hold.
+    /// How this tree stands to `other` if these directions hold.
     fn standing(&self, other: &EvTree, holding: Directions) -> Order
         requires below { IsTrue holding.below ↔ IsBelow self.now other.now }
         requires above { IsTrue holding.above ↔ IsBelow other.now self.now }

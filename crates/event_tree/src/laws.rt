@@ -1,4 +1,4 @@
-//! The laws of event trees, each the contract of a function that does nothing.
+//! The laws of event trees. Each is the contract of a function that does nothing.
 ghost use Rattle.trace_types.specs.clock.EventTree.{EventTree};
 ghost use Rattle.event_tree.specs.Laws.{NormalIsCanonical, NormKeepsValues, NormIsNormal, HasExtremes, StandSomehow, StandOneWay, SameIsEqual};
 ghost use Rattle.event_tree.specs.Laws.{JoinHasTheGreater, JoinIsNormal};
@@ -6,7 +6,7 @@ ghost use Rattle.event_tree.specs.Laws.{FillLowersNone, FillStaysOutside, FillIs
 ghost use Rattle.event_tree.specs.Laws.{EventLowersNone, EventStaysOutside, EventRises, EventIsBounded, EventIsNormal};
 ghost use Rattle.event_tree.specs.Tables.{FollowsJoinTable, FollowsGrowTable, FollowsEventTable};
 
-/// A normal tree is told by its values.
+/// Two normal trees with equal values at every point are the same tree.
 pub fn canonical()
     ensures { NormalIsCanonical }
 {}
@@ -17,7 +17,7 @@ pub fn norm_value()
     ensures normal { NormIsNormal }
 {}
 
-/// The least and the greatest value of a tree are those of its values, and the tree has both.
+/// The least and the greatest value of a tree are values that it has, and bound all others.
 pub fn extremes()
     ensures { (tree : EventTree) → HasExtremes tree }
 {}
@@ -46,14 +46,14 @@ pub fn join_value()
     ensures normal { JoinIsNormal }
 {}
 
-/// Filling below an id raises values at points that the id owns, and no other.
+/// Filling below an id lowers no value, and raises values only at points that the id owns.
 pub fn fill_raises()
     ensures lowers_none { FillLowersNone }
     ensures outside { FillStaysOutside }
     ensures normal { FillIsNormal }
 {}
 
-/// An event raises some value at points that the id owns, and no other.
+/// An event lowers no value. It raises one at least, at points that its id owns, and no other.
 pub fn event_raises()
     ensures lowers_none { EventLowersNone }
     ensures outside { EventStaysOutside }

@@ -1,4 +1,4 @@
-//! The path.
+//! Paths, which are points of any depth.
 ghost use Rattle.std.specs.Prelude.{◌≡◌, ◌∷◌, [], IfOk};
 ghost use Rattle.trace_types.specs.clock.Points.{half_of, within_half};
 ghost use Rattle.event_tree.specs.PathCode.{half_on, point_of};
@@ -6,10 +6,10 @@ ghost use Rattle.event_tree.specs.PathCode.{half_on, point_of};
 use std::alloc::{AllocError, Global};
 use std::marker::Model;
 
-/// A point at which trees are read, as deep as there is need. Past its end it goes on to the left.
+/// A point at which trees are read, as deep as needed. Below its end it goes on to the left.
 #[derive(Drop)]
 pub struct Path {
-    /// Whether it goes to the right, at each level from the lowest one up.
+    /// Whether the path goes to the right, at each level from the lowest one up.
     rights: Vec<bool>,
 }
 
@@ -32,7 +32,7 @@ impl Path {
         }
     }
 
-    /// Makes this path the same as the other. Where a request for memory was refused, it is then some path.
+    /// Makes this path equal to the other. After an `AllocError` this path leads to some place.
     pub fn copy_from(&mut self, other: &Path) -> Result<(), AllocError>
         ensures { IfOk result (λ done. self.new ≡ other.now) }
     {

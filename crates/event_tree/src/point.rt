@@ -1,23 +1,25 @@
-//! The point.
+//! Points of 128 levels.
 ghost use Rattle.std.specs.Prelude.{◌≡◌};
 ghost use Rattle.event_tree.specs.PointCode.{halves_of};
 
 use std::marker::Model;
 
-/// A point at which trees are read: the half in which it lies at each of 128 levels, from the root down. Below them it
-/// goes on to the left.
+/// A point at which trees are read: the half in which it lies at each of 128 levels, from the root down. Below these
+/// levels it goes on to the left.
 #[derive(Debug, Drop)]
 pub struct Point {
     /// The halves of the upper 64 levels, the uppermost as the lowest bit: 0 is left, 1 is right.
     upper: u64,
-    /// Those of the 64 levels below.
+    /// The halves of the 64 levels below these.
     lower: u64,
 }
 
-/// A point that an event raised, and the value there after it.
+/// A point that an event raised, and the value there.
 #[derive(Debug, Drop)]
 pub struct RaisedPoint {
+    /// A point of the id that had the event.
     pub point: Point,
+    /// The value there after the event.
     pub value: u64,
 }
 
@@ -37,7 +39,7 @@ impl Model for Point {
 }
 
 impl Point {
-    /// The point whose halves are the bits of the number, the uppermost the lowest.
+    /// The point whose halves are the bits of the number, with the uppermost as the lowest.
     pub(crate) fn of(halves: u128) -> Point
         ensures { result ≡ halves_of 128 halves }
     {
@@ -54,7 +56,7 @@ impl Point {
         u128::from(self.upper) + WORD * u128::from(self.lower)
     }
 
-    /// The same point.
+    /// An equal point. It takes no memory.
     pub fn share(&self) -> Point
         ensures { result ≡ self.now }
     {

@@ -1,4 +1,4 @@
-//! What ids mean, point by point: each law is the contract of a function with an empty body.
+//! What ids mean, point by point. Each law is the contract of a function that does nothing.
 ghost use Rattle.std.specs.Prelude.{◌≡◌, ◌≢◌, ◌||◌};
 ghost use Rattle.trace_types.specs.clock.Points.{Point};
 ghost use Rattle.trace_types.specs.clock.Id.{Id, Zero, Pair, owns, AreDisjoint, IsNormalId};
@@ -7,19 +7,19 @@ ghost use Rattle.trace_types.specs.clock.IdOperations.{norm_id, split, sum};
 
 use crate::IdTree;
 
-/// Each tree is normal.
+/// Every `IdTree` is normal.
 pub fn each_tree_is_normal(id: &IdTree)
     ensures { IsNormalId id.now }
 {
     let _parts = id.parts();
 }
 
-/// Of a point that is owned, exactly one part of a split owns it, and no part owns any other.
+/// If an id owns a point, exactly one part of its split owns the point. Neither part owns any other point.
 pub fn split_shares_out_the_points()
     ensures { (id : Id) → SharesOut id (split id).0 (split id).1 }
 {}
 
-/// The parts of a split are disjoint, so that they may be summed.
+/// The parts of a split are disjoint, so they may be summed.
 pub fn split_parts_are_disjoint()
     ensures { (id : Id) → AreDisjoint (split id).0 (split id).1 }
 {}
@@ -29,7 +29,7 @@ pub fn sum_undoes_split()
     ensures { (id : Id) → IsNormalId id → sum (split id).0 (split id).1 ≡ id }
 {}
 
-/// An id that owns a point is split into two that do.
+/// An id that owns a point is split into two ids that each own one.
 pub fn split_gives_each_part_some()
     ensures { (id : Id) → id ≢ Zero → ((split id).0 ≢ Zero) × ((split id).1 ≢ Zero) }
 {}

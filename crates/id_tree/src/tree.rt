@@ -14,10 +14,10 @@ use std::marker::Model;
 use std::sync::Arc;
 use trace_types::{Memory, digest_of_both};
 
-/// The points that one party may count on, as a tree in normal form (Almeida, Baquero and Fonte 2008).
+/// The points that one task owns, as a tree in normal form (Almeida, Baquero and Fonte 2008).
 ///
-/// Ids share their parts: a pair is one block of memory, and a part that stays as it was is kept by a count. Each call
-/// that is handed an allocator answers `Memory` where a block is refused, or where such a count is full.
+/// Ids share their parts: a pair is one block of memory, and a part that stays as it was is counted once more. A call
+/// that is handed an allocator returns `Memory` if it runs out of memory, or if such a count is full.
 #[cycle(tree)]
 #[derive(Drop)]
 pub struct IdTree {
@@ -32,7 +32,7 @@ enum Node {
     Pair(Arc<Halves>),
 }
 
-/// Both halves of a pair, and the digest of the pair.
+/// The halves of a pair, and its digest.
 #[cycle(tree)]
 #[derive(Drop)]
 struct Halves {
@@ -41,14 +41,14 @@ struct Halves {
     digest: u64,
 }
 
-/// What an id is made of, with the halves of a pair lent.
+/// The parts of an id, with the halves of a pair lent.
 #[derive(Debug, Drop)]
 pub enum Parts<'a> {
-    /// No point.
+    /// The id owns no point.
     Zero,
-    /// Every point.
+    /// The id owns every point.
     One,
-    /// What is owned of the left half, and of the right. They are not both nothing, and not both everything.
+    /// What is owned of the left half and of the right half. They are not both nothing, and not both everything.
     Pair(&'a IdTree, &'a IdTree),
 }
 
@@ -102,7 +102,7 @@ impl IdTree {
         matches!(self.node, Node::One)
     }
 
-    /// What the id is made of.
+    /// The parts of the id. It takes no memory.
     pub fn parts(&self) -> Parts<'_>
         ensures exact { id_of_parts result ≡ self.now }
         ensures normal { IsNormalId self.now }
@@ -116,7 +116,7 @@ impl IdTree {
 
     /// The id that owns in each half what the id for that half owns, in normal form.
     ///
-    /// Takes one block at most, and none where the id is nothing or everything. Where it is refused, both ids are lost.
+    /// It takes one block, or none if the id comes to nothing or everything. Both ids are lost if it returns `Memory`.
     pub fn fork(alloc: Global, left: IdTree, right: IdTree) -> Result<IdTree, Memory>
         ensures exact { IfOk result (λ id. id ≡ norm_id left right) }
         ensures leaf { IsLeafId (norm_id left right) → IsOk result }
@@ -130,10 +130,10 @@ impl IdTree {
         }
     }
 
-    /// Two ids that share out the points of this one, by the published `split`. Both own some where this one does.
+    /// Two ids that share out the points of this one, by the published `split`. Both own a point if this one does.
     ///
-    /// Takes a block for each pair on the way to where the id is divided, in each of the two, so two of everything; of
-    /// nothing it takes none.
+    /// It takes two blocks for the place where the id is divided, and two for each pair above that place. An id of
+    /// nothing takes none.
     #[tactic(auto, using(crate::proofs::Split::split_both))]
     pub fn split(&self, alloc: Global) -> Result<(IdTree, IdTree), Memory>
         ensures exact { IfOk result (λ parts. parts ≡ split self.now) }
@@ -160,7 +160,7 @@ impl IdTree {
 
     /// The id that owns what this one or the other owns, by the published `sum`.
     ///
-    /// Takes a block for each pair of which both ids own a part, but none where the two own nothing or everything.
+    /// It takes one block for each pair of which both ids own a part, if that part of the sum is not everything.
     pub fn sum(&self, alloc: Global, other: &IdTree) -> Result<IdTree, Memory>
         requires { AreDisjoint self.now other.now }
         ensures exact { IfOk result (λ id. id ≡ sum self.now other.now) }
@@ -178,7 +178,7 @@ impl IdTree {
         }
     }
 
-    /// Whether no point is owned by both. Walks the two trees at once.
+    /// Whether no point is owned by both. It walks both trees at once, and takes no memory.
     pub fn disjoint(&self, other: &IdTree) -> bool
         ensures { IsTrue result ↔ AreDisjoint self.now other.now }
     {
@@ -191,8 +191,8 @@ impl IdTree {
         }
     }
 
-    /// The same id, in one step and without memory, whatever the id. `Memory` where a pair would stand in more ids than
-    /// can be counted.
+    /// An equal id, made in one step and without a block of memory. Returns `Memory` if a pair would stand in more ids
+    /// than can be counted.
     pub fn share(&self, _alloc: Global) -> Result<IdTree, Memory>
         ensures exact { IfOk result (λ id. id ≡ self.now) }
         ensures leaf { IsLeafId self.now → IsOk result }
@@ -206,7 +206,7 @@ impl IdTree {
         }
     }
 
-    /// A number that equal ids share, in one step. Most ids that differ have others, but not all.
+    /// A number that equal ids share, found in one step. Most ids that differ have different numbers.
     pub fn digest(&self) -> u64
         ensures { result ≡ digest_of self.now }
     {
@@ -217,8 +217,8 @@ impl IdTree {
         }
     }
 
-    /// How many inner nodes the id has, or `u64::MAX` if it has more. A part that stands in it twice counts twice. It walks
-    /// the whole id, and takes no memory.
+    /// How many inner nodes the id has, or `u64::MAX` if there are more. A part that stands in it twice counts twice. It
+    /// walks the whole id, and takes no memory.
     pub fn inner(&self) -> u64
         ensures { result ≡ min (inner_of_id self.now) (2 ^ 64 - 1) }
     {
@@ -232,8 +232,10 @@ impl IdTree {
         }
     }
 
-    /// Whether the two ids own the same points, which as they are normal is whether they are equal. It looks at the digests
-    /// first, at each pair, so that it walks two ids that differ hardly ever; two that are equal it walks whole.
+    /// Whether the two ids own the same points, so whether they are equal.
+    ///
+    /// It compares digests at each pair first, so it hardly ever walks through ids that differ. It walks through equal
+    /// ids whole. It takes no memory.
     pub fn same(&self, other: &IdTree) -> bool
         ensures { IsTrue result ↔ (self.now ≡ other.now) }
     {
@@ -308,7 +310,7 @@ impl IdTree {
     }
 }
 
-/// Writes the id as a text, as in `((1,0),1)`.
+/// Writes the id as in `((1,0),1)`.
 impl fmt::Debug for IdTree {
     fn fmt<W: fmt::Write>(&self, f: &mut fmt::Formatter<W>) -> fmt::Result {
         match self.parts() {

@@ -1,4 +1,4 @@
-//! Why the program does not do what it was asked.
+//! The faults of the program.
 ghost use Rattle.std.specs.Prelude.{◌≡◌};
 ghost use Rattle.itc_trace.specs.Fault.{status_of, line_of_fault, fault_of_world, fault_of_replay, fault_of_check, fault_of_refusal, fault_of_serving};
 ghost use Rattle.itc_trace.specs.Program.{TellsFault};
@@ -15,15 +15,19 @@ use trace_world::ReplayFault;
 pub(crate) enum Fault {
     /// The words are no text.
     Words,
-    /// A tenant's name is no name, a tenant stands twice, there are more than 16, or the one to be exported is none of them.
+    /// A tenant's name is no name, one stands twice, there are more than 16, or the one to be exported is none of them.
     Tenants,
     /// The port could not be bound.
     Port,
     /// No connection could be accepted.
     Accept,
+    /// A read failed.
     Read,
+    /// A write or a flush failed.
     Write,
+    /// The input needs more than 2^30 reads.
     TooLong,
+    /// The program ran out of memory.
     Memory,
 }
 
@@ -55,7 +59,7 @@ impl Fault {
         }
     }
 
-    /// Writes the fault's line, hands it on, and answers its status. Where that fails the status tells alone.
+    /// Writes the fault's line, hands it on, and answers its status. Only the status tells of the fault if that fails.
     pub(crate) fn tell<E: Sink>(self, errors: &mut E) -> u8
         ensures status { result ≡ status_of self }
         ensures told { TellsFault (E.seen errors.old) (E.seen errors.new) self }

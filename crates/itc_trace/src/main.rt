@@ -1,12 +1,17 @@
-//! The trace collector's program: it replays lines of requests and writes the replies, or checks an export.
+//! The trace collector's program. It replays lines of requests and writes the replies, serves programs that connect, or
+//! checks an export.
 //!
-//! `itc_trace replay [--events N] [--tasks N] [--messages N] [--cache N] [--export NAME] TENANT..` serves 1 to 16
-//! tenants, each of which has the limits for itself; `itc_trace check` judges an export. `itc_trace help replay` and
-//! `itc_trace help check` tell more.
+//! | Words | What they do |
+//! |---|---|
+//! | `replay TENANT..` | Answers the lines of 1 to 16 tenants, each of which has the limits for itself |
+//! | `replay --export NAME TENANT..` | Does the lines, and writes the export of one tenant |
+//! | `serve --port N TENANT..` | Answers programs that connect |
+//! | `check` | Says whether an export is right |
+//! | `help`, `help replay`, `help serve`, `help check` | Tells of all options |
 //!
-//! `main` hands its words and the standard streams to [`start`], and ends with the status that it answers. `start` runs what
-//! the words after the first ask: [`program::run`] says what comes of it, by the contracts of `replay` of `trace_world` and
-//! `check` of `trace_export`.
+//! `main` hands its words and the standard streams to [`start`], and ends with the status that it answers. `start` runs
+//! what the words after the first ask. [`program::run`] says what comes of them, by the contracts of `replay` of
+//! `trace_world` and `check` of `trace_export`.
 #![tactic(auto)]
 
 ghost use Rattle.std.specs.Prelude.{◌≡◌, drop, map, IfOk, IfErr, string_bytes};
@@ -39,7 +44,7 @@ fn main(rt: HostRuntime) -> ExitCode {
     }
 }
 
-/// The words that the program was given. An error comes where one of them is no text, or for want of memory.
+/// The words that the program was given. It is an error if one of them is no text, or if it runs out of memory.
 ///
 /// No contract of the runtime says which words it gives, so none here can.
 fn all_words(rt: &HostRuntime) -> io::Result<Vec<String>> {
@@ -47,8 +52,7 @@ fn all_words(rt: &HostRuntime) -> io::Result<Vec<String>> {
     Ok(words)
 }
 
-/// Runs what these words ask, of which the first is the program's own name; the status of the run is that with which the
-/// program ends.
+/// Runs what these words ask. The first is the program's own name. The program ends with the status of the run.
 fn start<T, R: Source, W: Sink, E: Sink>(
     rt: &T,
     words: io::Result<Vec<String>>,

@@ -28,15 +28,31 @@ use trace_world::{World, replay, replay_export};
 
 /// Does what the words after the program's name ask, and answers the status with which the program ends.
 ///
-/// Taken are `replay` and then, in any order, 1 to 16 tenants, none twice, and each of these options once at most:
-/// `--events N` with N from 1 to 16384 (4096 where it is left out), `--tasks N` with N from 1 to 2048 (512),
-/// `--messages N` with N from 1 to 16384 (2048), `--cache N` with N from 1 to 65536 (1024) and `--export NAME` with the name
-/// of one of the tenants; or `serve` and then, in any order, tenants and options as these but `--export`, `--port N` with N
-/// from 1 to 65535, and, once at most, `--workers N` with N from 1 to 32 (4) and `--sessions N` with N from 1 to 1048576
-/// (1048576); or `check` alone.
-/// The status is 0 where all lines were replayed, the export was written or is right, programs were served, or all of the
-/// help was shown, 1 where the export is faulty, 2 where the words or the tenants are refused, 3 for a failed read or write,
-/// too long an input, a port that cannot be bound or connections that cannot be accepted, and 4 for want of memory.
+/// The words are one of these commands, with what follows it in any order. An option stands once at most. Tenants are 1
+/// to 16 names, none twice.
+///
+/// | Command | What follows |
+/// |---|---|
+/// | `replay` | Tenants, the options below, and `--export NAME` with the name of one of the tenants |
+/// | `serve` | Tenants, `--port N` with N from 1 to 65535, the options below, `--workers N` and `--sessions N` |
+/// | `check` | Nothing |
+///
+/// | Option | Range of N | If it is left out |
+/// |---|---|---|
+/// | `--events N` | 1 to 16384 | 4096 |
+/// | `--tasks N` | 1 to 2048 | 512 |
+/// | `--messages N` | 1 to 16384 | 2048 |
+/// | `--cache N` | 1 to 65536 | 1024 |
+/// | `--workers N` | 1 to 32 | 4 |
+/// | `--sessions N` | 1 to 1048576 | 1048576 |
+///
+/// | Status | When |
+/// |---|---|
+/// | 0 | All lines were replayed, the export was written or is right, programs were served, or all of the help was shown |
+/// | 1 | The export is faulty |
+/// | 2 | The words or the tenants are refused |
+/// | 3 | A read or a write failed, the input is too long, no port could be bound, or no connection accepted |
+/// | 4 | It ran out of memory |
 pub fn run<T, S: AsStr, R: Source, W: Sink, E: Sink>(
     rt: &T,
     words: &[S],
@@ -80,7 +96,7 @@ fn refuse<E: Sink>(errors: &mut E, text: &str) -> u8
     Fault::Words.status()
 }
 
-/// Shows help, were it by the program's name alone.
+/// Shows help. An empty text is shown as the program's name.
 fn show_help<W: Sink>(writer: &mut W, text: &str) -> Result<(), Fault>
     ensures shown { ShowsSome (W.seen writer.old) (W.seen writer.new) }
     ensures ok { OnOk result (ShowsSomeAll (W.seen writer.old) (W.seen writer.new)) }
@@ -182,7 +198,7 @@ fn check_input<R: Source, W: Sink, E: Sink>(
     }
 }
 
-/// Checks the export that the reader gives, writes the verdict, and answers the status that tells it too.
+/// Checks the export that the reader gives, writes the verdict, and answers the status for the verdict.
 fn tell_verdict<R: Source, W: Sink>(
     alloc: Global,
     reader: &mut R,

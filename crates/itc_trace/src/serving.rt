@@ -1,4 +1,4 @@
-//! Serving programs that connect.
+//! How programs that connect are served.
 ghost use Rattle.std.specs.Prelude.{◌≡◌, ◌≢◌, ◌<◌, true, IfErr, IfOk, OnOk, map, string_bytes};
 ghost use Rattle.command_line.specs.Demand.{ToServe};
 ghost use Rattle.command_line.specs.Reading.{service_of};
@@ -40,7 +40,7 @@ where
     }
 }
 
-/// Serves the tenants to programs that connect, until so many have connected and all their sessions have ended.
+/// Serves the tenants until as many programs connected as were asked for and all their sessions ended.
 fn serve_tenants<T, W: Sink>(
     rt: &T,
     alloc: Global,

@@ -1,4 +1,4 @@
-//! The bytes that a line reader has read.
+//! Buffers, in which lines lie as they were read.
 ghost use Rattle.std.specs.Prelude.{◌≡◌, ◌↔◌, ◌+◌, ◌-◌, ◌≤◌, ◌<◌, ◌^◌, IsTrue, [], false, IfOk, OnOk, OnErr, length, take, drop, slice_range, position, ◌==◌};
 ghost use Rattle.trace_types.specs.text.Lines.{without_return};
 ghost use Rattle.line_protocol.specs.Held.{fresh_held, fresh_within};
@@ -12,7 +12,7 @@ use std::alloc::Global;
 use std::marker::Model;
 use trace_types::Memory;
 
-/// The bytes that were read. A contract sees what a line reader holds.
+/// The bytes that were read and are still needed. A contract sees what a line reader holds.
 #[derive(Drop)]
 pub struct Buffer {
     bytes: Vec<u8>,
@@ -22,7 +22,7 @@ pub struct Buffer {
     /// The bytes that belong to no line yet are `bytes[start..end]`.
     start: usize,
     end: usize,
-    /// Where these have their first end of line.
+    /// The place of their first end of line.
     line_feed: Option<usize>,
     is_ended: bool,
     reads: u64,
@@ -59,23 +59,27 @@ impl Model for Buffer {
 }
 
 impl Buffer {
-    /// How many bytes there is room for at least.
+    /// The least room, in bytes.
     const LEAST_ROOM: usize = 65536;
 
-    /// How many reads are made for requests at most.
+    /// The most reads that are made for requests.
     pub(crate) const MOST_READS: u64 = 1 << 30;
 
-    /// How many bytes a line of requests has at most.
+    /// The most bytes of a line of requests.
     pub(crate) const MOST_BYTES: usize = 200;
 
-    /// Nothing that was read yet, for requests: lines of at most 200 bytes, and at most 2^30 reads.
+    /// A buffer that has read nothing, for requests: lines of at most 200 bytes, and at most 2^30 reads. Returns `Memory`
+    /// if it runs out of memory.
     pub fn new(alloc: Global) -> Result<Buffer, Memory>
         ensures { IfOk result (λ buffer. buffer ≡ fresh_held) }
     {
         Buffer::with_bounds(alloc, Buffer::MOST_BYTES, Buffer::MOST_READS)
     }
 
-    /// Nothing that was read yet, for lines of at most `bytes` bytes and at most `reads` reads.
+    /// A buffer that has read nothing, for lines of at most `bytes` bytes and at most `reads` reads. Returns `Memory` if
+    /// it runs out of memory.
+    ///
+    /// It takes 65536 bytes, or two more than the longest line if that is more.
     pub fn with_bounds(alloc: Global, bytes: usize, reads: u64) -> Result<Buffer, Memory>
         requires bytes { (1 ≤ bytes) × (bytes ≤ 65536) }
         requires reads { (1 ≤ reads) × (reads ≤ 2 ^ 30) }
@@ -97,7 +101,7 @@ impl Buffer {
         })
     }
 
-    /// The line that was found last.
+    /// The line that was found last, without its end.
     pub fn line(&self) -> &[u8]
         ensures { result.now ≡ self.now.line }
     {
@@ -111,9 +115,9 @@ impl Buffer {
         !self.is_ended && self.end_of_line().is_none()
     }
 
-    /// Finds the next line of the source. It takes no memory.
+    /// Finds the next line of the source. It takes no memory, and makes an interrupted read again.
     ///
-    /// `Read` comes where a read failed, `TooLong` where all the reads that may be made into this buffer were made.
+    /// Returns `Read` if a read failed, and `TooLong` if all the reads that may be made into this buffer were made.
     pub fn next_line<R: Source>(&mut self, source: &mut R) -> Result<Line, ReadFault>
         ensures finds { FindsNext (R.seen source.old) (R.seen source.new) self.old self.new result }
         ensures at_end { IsTrue self.old.is_ended → (source.new ≡ source.old) × IsTrue self.new.is_ended }
@@ -128,7 +132,7 @@ impl Buffer {
         }
     }
 
-    /// Reads until the line has its end, or is seen to be too long or to be the last.
+    /// Reads until the line has its end, is too long, or is the last one. Gives the place of the end.
     fn find_end<R: Source>(&mut self, source: &mut R) -> Result<Option<usize>, ReadFault>
         ensures comes { Comes (R.seen source.old).bytes (R.seen source.new).bytes self.old.left self.new.left }
         ensures found { FindsEnd self.old self.new result }
@@ -144,7 +148,7 @@ impl Buffer {
         }
     }
 
-    /// Where the bytes that are left have their first end of line.
+    /// The place of the first end of line in the bytes that are left.
     fn end_of_line(&self) -> Option<usize>
         ensures { IsEnd self.now.left result }
     {
@@ -215,7 +219,7 @@ impl Buffer {
         self.end - self.start
     }
 
-    /// Throws the first bytes away that are left.
+    /// Drops the first bytes that are left.
     fn drop_front(&mut self, count: usize)
         requires { count ≤ length self.old.left }
         ensures { self.new ≡ record self.old { left = drop count self.old.left } }
@@ -224,7 +228,7 @@ impl Buffer {
         self.line_feed = first_end(&self.bytes[self.start..self.end]);
     }
 
-    /// Throws the bytes away that are left.
+    /// Drops the bytes that are left.
     fn drop_left(&mut self)
         ensures { self.new ≡ record self.old { left = [] } }
     {
@@ -232,7 +236,7 @@ impl Buffer {
         self.line_feed = None;
     }
 
-    /// Reads once; an interrupted read is tried again.
+    /// Reads once. An interrupted read is made again.
     fn read_more<R: Source>(&mut self, source: &mut R) -> Result<(), ReadFault>
         requires room { length self.old.left ≤ self.old.bounds.bytes + 1 }
         requires open { self.old.is_ended ≡ false }
@@ -251,7 +255,7 @@ impl Buffer {
         Err(ReadFault::TooLong)
     }
 
-    /// Makes one read into all the room that is free, with what is left moved to the front.
+    /// Makes one read into all free room, with what is left moved to the front.
     fn fill<R: Source>(&mut self, source: &mut R) -> Result<(), Stop>
         requires room { length self.old.left ≤ self.old.bounds.bytes + 1 }
         requires open { self.old.is_ended ≡ false }
@@ -276,7 +280,7 @@ impl Buffer {
     }
 }
 
-/// Moves the bytes from `start` to `end` to the front, and makes one read into all the room after them.
+/// Moves the bytes from `start` to `end` to the front, and makes one read into all the room behind them.
 fn refill<R: Source>(
     bytes: &mut [u8],
     start: usize,
@@ -295,7 +299,7 @@ fn refill<R: Source>(
     source.read_some(&mut bytes[end - start..])
 }
 
-/// Where the bytes have their first end of line.
+/// The place of the first end of line in the bytes.
 fn first_end(bytes: &[u8]) -> Option<usize>
     ensures { result ≡ position (λ byte. byte == 10) bytes.now }
 {
@@ -315,7 +319,7 @@ fn length_without_return(piece: &[u8]) -> usize
     }
 }
 
-/// What a line of this length is, where so many bytes are the most.
+/// What a line of this length is, if it may have at most `most` bytes.
 fn kind_of(len: usize, most: usize) -> Line
     ensures { result ≡ kind_of_length most len }
 {

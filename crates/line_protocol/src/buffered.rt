@@ -1,4 +1,4 @@
-//! A sink that gathers what it takes.
+//! Buffered sinks.
 ghost use Rattle.std.specs.Prelude.{◌≡◌, ◌+◌, ◌≤◌, [], ◌++◌, length, IfOk, IsTrue, OnOk, drop, vec_capacity, vec_len};
 ghost use Rattle.std.specs.Io.KnownBytes.{Keeps};
 ghost use Rattle.line_protocol.specs.Buffered.{held_back};
@@ -11,11 +11,11 @@ use crate::{Sink, Stop};
 use std::alloc::Global;
 use trace_types::Memory;
 
-/// How many bytes are gathered at most.
+/// The most bytes that are gathered.
 const ROOM: usize = 65536;
 
-/// A sink that gathers up to 65536 bytes, and hands them on where there is no more room and at a flush. What it holds
-/// when it is dropped is lost.
+/// A sink that gathers up to 65536 bytes. It hands them on at a flush, and if there is no more room. What it holds is
+/// lost if it is dropped.
 #[derive(Drop)]
 pub struct Buffered<W: Sink + Drop> {
     sink: W,
@@ -29,7 +29,7 @@ pub struct Buffered<W: Sink + Drop> {
 }
 
 impl<W: Sink + Drop> Buffered<W> {
-    /// The sink, with nothing held.
+    /// The sink, with nothing held. Returns `Memory` if it runs out of memory for the 65536 bytes.
     pub fn new(alloc: Global, sink: W) -> Result<Buffered<W>, Memory>
         ensures { IfOk result (λ buffered. ⟦<Buffered<W> as Sink>⟧.seen buffered ≡ held_back [] [] (W.seen sink)) }
     {
@@ -64,7 +64,7 @@ impl<W: Sink + Drop> Buffered<W> {
         Ok(())
     }
 
-    /// Takes bytes from the front; hands on what is held, where they have no room.
+    /// Takes bytes from the front. It hands on what it holds first, if they have no room.
     #[inline(always)]
     fn gather(&mut self, bytes: &[u8]) -> Result<usize, Stop>
         ensures bound { IfOk result (λ n. n ≤ length bytes.now) }

@@ -1,4 +1,4 @@
-//! Any reader, as a source.
+//! Readers, as sources.
 ghost use Rattle.std.specs.Prelude.{◌≡◌, ◌≤◌, [], false, length, IfOk};
 ghost use Rattle.std.specs.Io.KnownBytes.{ReadConsumes};
 ghost use Rattle.line_protocol.specs.Calls.{given_by};
@@ -9,7 +9,7 @@ use crate::stop::stopped_count;
 use crate::{Source, Stop};
 use std::io::Read;
 
-/// A reader whose calls are counted.
+/// A reader as a source. Its calls are counted for contracts alone.
 #[derive(Drop)]
 pub struct FromReader<R: Read + Drop> {
     reader: R,
@@ -17,7 +17,7 @@ pub struct FromReader<R: Read + Drop> {
 }
 
 impl<R: Read + Drop> FromReader<R> {
-    /// The reader, of which no call was made yet.
+    /// The reader, of which no call is counted yet.
     pub fn new(reader: R) -> FromReader<R>
         ensures seen { ⟦<FromReader<R> as Source>⟧.seen result
             ≡ record { bytes = []; whole = R.remaining reader; has_ended = false; ends = 0; reads = 0; failures = 0; interruptions = 0 } }

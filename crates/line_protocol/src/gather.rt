@@ -1,4 +1,4 @@
-//! Numbers and texts, gathered on the stack and written in chunks.
+//! Numbers and texts that are gathered on the stack and written in chunks.
 ghost use Rattle.std.specs.Prelude.{◌≡◌, ◌<◌, ◌≤◌, [], ◌++◌, IsTrue, OnErr, OnOk, decimal, codes, length};
 ghost use Rattle.trace_types.specs.text.Text.{numbers_text};
 ghost use Rattle.line_protocol.specs.Writing.{GathersText, TriesToWrite};
@@ -46,7 +46,7 @@ fn gather_number<W: Sink>(
     Ok(())
 }
 
-/// Gathers bytes, or writes them where they have no room.
+/// Gathers bytes, or writes them if they have no room.
 pub(crate) fn gather_bytes<W: Sink>(
     writer: &mut W,
     patience: &mut u64,

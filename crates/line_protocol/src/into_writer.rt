@@ -1,4 +1,4 @@
-//! Any writer, as a sink.
+//! Writers, as sinks.
 ghost use Rattle.std.specs.Prelude.{◌≡◌, ◌≤◌, [], ◌++◌, false, length, IfOk, IfSome, Some};
 ghost use Rattle.std.specs.Io.KnownBytes.{Keeps, WriteAppends};
 ghost use Rattle.line_protocol.specs.Calls.{taken_by};
@@ -9,7 +9,7 @@ use crate::stop::{stopped, stopped_count};
 use crate::{Sink, Stop};
 use std::io::Write;
 
-/// A writer whose calls are counted.
+/// A writer as a sink. Its calls are counted for contracts alone.
 #[derive(Drop)]
 pub struct IntoWriter<W: Write + Drop> {
     writer: W,
@@ -17,7 +17,7 @@ pub struct IntoWriter<W: Write + Drop> {
 }
 
 impl<W: Write + Drop> IntoWriter<W> {
-    /// The writer, of which no call was made yet.
+    /// The writer, of which no call is counted yet.
     pub fn new(writer: W) -> IntoWriter<W>
         ensures seen { ⟦<IntoWriter<W> as Sink>⟧.seen result
             ≡ record { bytes = []; began = W.contents writer; is_flushed = false; failures = 0; interruptions = 0; calls = [] } }
@@ -29,7 +29,7 @@ impl<W: Write + Drop> IntoWriter<W> {
         }
     }
 
-    /// The writer, which holds what it held at first and all that was taken since.
+    /// Gives the writer back. It has what it had at first and all that was taken since.
     pub fn into_inner(self) -> W
         ensures holds { IfSome (⟦<IntoWriter<W> as Sink>⟧.seen self).began
             (λ first. W.contents result ≡ Some (first ++ (⟦<IntoWriter<W> as Sink>⟧.seen self).bytes)) }

@@ -1,8 +1,27 @@
 //! Lines in, requests read from them, and replies out.
 //!
-//! The one contract: the lines that a `LineReader` gives are the `lines` of what its source gives, a line spells
-//! the request that `read_request` finds in it, and `write_reply` writes the reply's text and an end of line. The words are defined in
-//! `Lines`, `Reading` and `Text` of trace_types; those on sources, sinks and line readers in this crate's specs/.
+//! Use it to read lines from any reader and to write replies to any writer, so that no failed call is passed over.
+//!
+//! The contract that carries it: the lines that a [`LineReader`] gives are the `lines` of what its source gave. A line
+//! spells exactly the request that [`read_request`] finds in it. [`write_reply`] writes the reply's text and an end of
+//! line, or a prefix of them at a fault. A [`Source`] and a [`Sink`] also say which of their calls failed. `specs/text`
+//! of `trace_types` defines lines, requests and the texts of replies. The `specs/` of this crate define sources, sinks
+//! and line readers.
+//!
+//! ```
+//! use line_protocol::{FromReader, IntoWriter, Line, LineReader, read_addressed, write_answer};
+//! use trace_types::{Name, Reply, Request};
+//!
+//! let mut source = FromReader::new(b"x local root\n".as_slice());
+//! let mut sink = IntoWriter::new(Vec::new(alloc));
+//! let mut lines = LineReader::new(alloc, &mut source)?;
+//! assert_eq!(rt; lines.next()?, Line::Whole);
+//! let (tenant, request) = read_addressed(lines.line());
+//! assert_eq!(rt; request, Some(Request::Local(Name::root())));
+//! write_answer(&mut sink, tenant, &Reply::Accepted(1))?;
+//! assert_eq!(rt; lines.next()?, Line::End);
+//! assert!(rt; sink.into_inner().as_slice() == b"x 201 1\n".as_slice());
+//! ```
 #![tactic(auto)]
 
 mod buffer;

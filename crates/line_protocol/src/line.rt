@@ -1,12 +1,12 @@
-//! What a line reader finds.
+//! What looking for a line finds.
 
 /// What a line reader finds.
 #[derive(Clone, Copy, Debug, PartialEq, Eq)]
 pub enum Line {
-    /// A line, which the line reader holds until it looks for the next.
+    /// A line. The line reader holds it until the next line is looked for.
     Whole,
-    /// A line of more bytes than the line reader takes, which was read to its end and is not held.
+    /// A line of more bytes than the line reader takes. It was read to its end, and is not held.
     TooLong,
-    /// No line: the input has ended.
+    /// No line, since the input has ended.
     End,
 }

@@ -1,4 +1,4 @@
-//! Bytes, cut into lines.
+//! Line readers, which remember their fault.
 ghost use Rattle.std.specs.Prelude.{◌≡◌, ◌≤◌, ◌^◌, ◌↔◌, IsTrue, [], false, None, Err, IfOk, IfSome, IfNone};
 ghost use Rattle.std.specs.Result.{result_err};
 ghost use Rattle.line_protocol.specs.Held.{fresh_held, fresh_within};
@@ -9,9 +9,9 @@ use crate::{Line, ReadFault, Source};
 use std::alloc::Global;
 use trace_types::Memory;
 
-/// Reads lines from a source that it is lent. After a fault it answers that fault again, with no read.
+/// Reads lines from a source that it borrows. After a fault it returns that fault again, and reads no more.
 ///
-/// What it reads into is a parameter, so that a caller's proof knows the source once the line reader is dropped.
+/// The buffer is a parameter so that a caller's proof knows the source once the line reader is dropped.
 pub struct LineReader<'a, R: Source, B: Drop = Buffer> {
     source: &'a mut R,
     buffer: B,
@@ -31,7 +31,8 @@ impl<'a, R: Source, B: Drop> Drop for LineReader<'a, R, B> {
 }
 
 impl<'a, R: Source> LineReader<'a, R> {
-    /// A line reader that has read nothing yet, for requests: lines of at most 200 bytes, and at most 2^30 reads.
+    /// A line reader that has read nothing, for requests: lines of at most 200 bytes, and at most 2^30 reads. Returns
+    /// `Memory` if it runs out of memory.
     pub fn new(alloc: Global, source: &'a mut R) -> Result<LineReader<'a, R>, Memory>
         ensures same_source { IfOk result (λ reader. reader.source.ghost_name ≡ source.entry.ghost_name) }
         ensures source { IfOk result (λ reader. reader.source.now ≡ source.old) }
@@ -41,7 +42,8 @@ impl<'a, R: Source> LineReader<'a, R> {
         LineReader::with_bounds(alloc, source, Buffer::MOST_BYTES, Buffer::MOST_READS)
     }
 
-    /// A line reader that has read nothing yet, for lines of at most `bytes` bytes and at most `reads` reads.
+    /// A line reader that has read nothing, for lines of at most `bytes` bytes and at most `reads` reads. Returns
+    /// `Memory` if it runs out of memory.
     pub fn with_bounds(
         alloc: Global,
         source: &'a mut R,
@@ -59,7 +61,7 @@ impl<'a, R: Source> LineReader<'a, R> {
         Ok(LineReader::over(source, buffer))
     }
 
-    /// A line reader that goes on with what the buffer holds, and then reads the source.
+    /// A line reader that takes its lines from the buffer first, and then from the source. It takes no memory.
     pub fn over(source: &'a mut R, buffer: Buffer) -> LineReader<'a, R>
         ensures same_source { result.source.ghost_name ≡ source.entry.ghost_name }
         ensures source { result.source.now ≡ source.old }
@@ -73,7 +75,9 @@ impl<'a, R: Source> LineReader<'a, R> {
         }
     }
 
-    /// The next line.
+    /// Finds the next line, which [`LineReader::line`] then lends. It takes no memory.
+    ///
+    /// Returns `Read` if a read failed, and `TooLong` if all the reads that may be made were made.
     pub fn next(&mut self) -> Result<Line, ReadFault>
         ensures same_source { self.new.source.ghost_name ≡ self.old.source.ghost_name }
         // What is found is the first line of what was left and came. A fault loses no line that has its end.
@@ -97,21 +101,21 @@ impl<'a, R: Source> LineReader<'a, R> {
         found
     }
 
-    /// Whether the source is read before the next line is answered.
+    /// Whether the next line cannot be given without a read.
     pub fn needs_read(&self) -> bool
         ensures { IsTrue result ↔ NeedsRead self.now.buffer }
     {
         self.buffer.needs_read()
     }
 
-    /// The fault that is answered from now on, where there was one.
+    /// The fault that is returned from now on, if there was one.
     pub fn fault(&self) -> Option<ReadFault>
         ensures { result ≡ self.now.fault }
     {
         self.fault
     }
 
-    /// The line that was found last.
+    /// The line that was found last, without its end.
     pub fn line(&self) -> &[u8]
         ensures { result.now ≡ self.now.buffer.line }
     {

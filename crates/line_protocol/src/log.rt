@@ -1,4 +1,4 @@
-//! The calls that were made, which only clauses read.
+//! Logs of calls, which only clauses read.
 ghost use Rattle.std.specs.Prelude.{◌≡◌, List, [], ◌∷◌};
 ghost use Rattle.std.specs.Borrow.{ftrue};
 ghost use Rattle.line_protocol.specs.Calls.{EdgeCall, edge_call_of};
@@ -7,7 +7,7 @@ ghost use Rattle.line_protocol.specs.Endings.{count_ending, flush_ending};
 use crate::Stop;
 use std::marker::{Model, PhantomData};
 
-/// The calls of a reader or a writer, the last first. It has no bytes.
+/// The calls of a reader or a writer, the last one first. It has no bytes.
 #[derive(Drop)]
 pub struct Log {
     marker: PhantomData<u8>,

@@ -1,4 +1,4 @@
-//! Texts, written piece by piece.
+//! Texts that are written piece by piece.
 ghost use Rattle.std.specs.Prelude.{◌≡◌, ◌+◌, ◌<◌, ◌≤◌, ◌++◌, IfOk, IsTrue, OnErr, OnOk, length, take};
 ghost use Rattle.line_protocol.specs.Patience.{waits_since_bytes};
 ghost use Rattle.line_protocol.specs.Writing.{TriesToWrite, WritesText};
@@ -22,7 +22,7 @@ pub(crate) fn write_pieces<W: Sink>(
     write_piece(writer, patience, second)
 }
 
-/// Writes a text; an interrupted write is tried again as long as there is patience.
+/// Writes a text. An interrupted write is made again as long as there is patience.
 #[inline(always)]
 pub(crate) fn write_piece<W: Sink>(
     writer: &mut W,
@@ -61,7 +61,7 @@ fn write_rest<W: Sink>(writer: &mut W, patience: &mut u64, piece: &[u8]) -> Resu
     Ok(())
 }
 
-/// Writes once, and gives how many bytes were taken; none of some where the write was interrupted.
+/// Writes once, and gives how many bytes were taken, or 0 if the write was interrupted.
 #[inline(always)]
 fn write_once<W: Sink>(
     writer: &mut W,

@@ -1,4 +1,4 @@
-//! Why no line is given.
+//! The faults of reading lines.
 
 use thiserror::Error;
 
@@ -8,7 +8,7 @@ pub enum ReadFault {
     /// A read failed.
     #[error("read")]
     Read,
-    /// All the reads that one line reader may make were made.
+    /// All the reads that the line reader may make were made, 2^30 for requests.
     #[error("input too long")]
     TooLong,
 }

@@ -1,4 +1,4 @@
-//! Replies, written without memory.
+//! Replies, which are written without memory.
 ghost use Rattle.std.specs.Prelude.{◌≡◌, ◌+◌, ◌<◌, ◌≤◌, [], ◌++◌, IsTrue, OnErr, OnOk, decimal, codes, drop, false, length, take};
 ghost use Rattle.trace_types.specs.text.Text.{reply_text, order_text, state_text, kind_text, name_text};
 ghost use Rattle.trace_types.specs.tenant.Code.{code_text};
@@ -12,10 +12,10 @@ use crate::reply_text::ReplyText;
 use crate::{Sink, Stop, WriteFault};
 use trace_types::{Code, Kind, Name, Order, Reply, Row, TaskState};
 
-/// How many interruptions end one call.
+/// How many interruptions end a call.
 const MOST_INTERRUPTIONS: u64 = 1048576;
 
-/// Writes these bytes.
+/// Writes these bytes. Returns `WriteFault` at the first failure, or at the 1048576th interruption.
 #[inline(always)]
 pub fn write_bytes<W: Sink>(writer: &mut W, bytes: &[u8]) -> Result<(), WriteFault>
     ensures { Writes (W.seen writer.old) (W.seen writer.new) result bytes.now }
@@ -24,7 +24,8 @@ pub fn write_bytes<W: Sink>(writer: &mut W, bytes: &[u8]) -> Result<(), WriteFau
     write_piece(writer, &mut patience, bytes)
 }
 
-/// Writes whom a line names, and the blank after it.
+/// Writes the addressee of a reply and a blank. Returns `WriteFault` at the first failure, or at the 1048576th
+/// interruption.
 pub fn write_prefix<W: Sink>(writer: &mut W, addressee: &[u8]) -> Result<(), WriteFault>
     ensures { Writes (W.seen writer.old) (W.seen writer.new) result (addressee.now ++ codes " ") }
 {
@@ -32,7 +33,7 @@ pub fn write_prefix<W: Sink>(writer: &mut W, addressee: &[u8]) -> Result<(), Wri
     write_pieces(writer, &mut patience, addressee, b" ")
 }
 
-/// Writes the reply, with its end of line.
+/// Writes the reply and an end of line. Returns `WriteFault` at the first failure, or at the 1048576th interruption.
 #[inline(never)]
 pub fn write_reply<W: Sink>(writer: &mut W, reply: &Reply) -> Result<(), WriteFault>
     ensures { Writes (W.seen writer.old) (W.seen writer.new) result (reply_text reply.now ++ codes "\n") }
@@ -40,7 +41,8 @@ pub fn write_reply<W: Sink>(writer: &mut W, reply: &Reply) -> Result<(), WriteFa
     write_reply_in(writer, &mut ReplyText::new(), reply)
 }
 
-/// Writes the answer to a line: whom it names and a blank, and then the reply and the end of line.
+/// Writes the answer to a line: the addressee and a blank, and then the reply and an end of line. Returns `WriteFault` at
+/// the first failure, or at the 1048576th interruption of one of these two parts.
 #[inline(always)]
 pub fn write_answer<W: Sink>(
     writer: &mut W,
@@ -61,7 +63,7 @@ pub fn write_answer<W: Sink>(
     write_both(writer, text.as_bytes(), to_len)
 }
 
-/// Writes whom an answer names, and then the reply.
+/// Writes the addressee of an answer, and then the reply.
 #[inline(never)]
 fn write_apart<W: Sink>(writer: &mut W, addressee: &[u8], reply: &Reply) -> Result<(), WriteFault>
     ensures { WritesBoth (W.seen writer.old) (W.seen writer.new) result (addressee.now ++ codes " ") (reply_text reply.now ++ codes "\n") }
@@ -70,7 +72,7 @@ fn write_apart<W: Sink>(writer: &mut W, addressee: &[u8], reply: &Reply) -> Resu
     write_reply(writer, reply)
 }
 
-/// Writes two texts, of which the first ends at this place: at once where the sink takes them, else one after the other.
+/// Writes two texts, at once if the sink takes both, else one after the other. The first ends at `first_len`.
 #[inline(always)]
 fn write_both<W: Sink>(writer: &mut W, text: &[u8], first_len: usize) -> Result<(), WriteFault>
     requires { first_len ≤ length text.now }
@@ -141,7 +143,7 @@ fn write_behind<W: Sink>(
     write_piece(writer, patience, text.as_bytes())
 }
 
-/// Gathers the numbers of a reply or its stamp, where it has any.
+/// Gathers the numbers of a reply or its stamp, if it has any.
 fn gather_tail<W: Sink>(
     writer: &mut W,
     patience: &mut u64,
@@ -167,7 +169,7 @@ fn gather_tail<W: Sink>(
     }
 }
 
-/// Flushes what was written.
+/// Hands on what was written. Returns `WriteFault` at the first failure, or at the 1048576th interruption.
 pub fn flush<W: Sink>(writer: &mut W) -> Result<(), WriteFault>
     ensures { Flushes (W.seen writer.old) (W.seen writer.new) result }
 {
@@ -312,7 +314,7 @@ fn kind_text(kind: Kind) -> &'static [u8]
     }
 }
 
-/// The name, or `-` where there is none.
+/// The name, or `-` if there is none.
 fn name_text(name: &Option<Name>) -> &[u8]
     ensures text { result.now ≡ name_text name.now }
     ensures short { length result.now ≤ 24 }

@@ -1,10 +1,10 @@
-//! A short text on the stack.
+//! Short texts on the stack.
 ghost use Rattle.std.specs.Prelude.{◌≡◌, ◌+◌, ◌≤◌, [], ◌++◌, length, decimal};
 
 use itoa::Buffer;
 use std::marker::Model;
 
-/// A text of at most 128 bytes, which a reply is gathered in.
+/// A text of at most 128 bytes, in which a reply is gathered.
 #[derive(Drop)]
 pub(crate) struct ReplyText {
     bytes: [u8; ReplyText::ROOM],
@@ -45,7 +45,7 @@ impl ReplyText {
         self.len
     }
 
-    /// The text.
+    /// The bytes of the text.
     #[inline(always)]
     pub(crate) fn as_bytes(&self) -> &[u8]
         ensures text { result.now ≡ self.now }
@@ -85,7 +85,7 @@ impl ReplyText {
         self.push_number(number);
     }
 
-    /// Adds a number.
+    /// Adds a number in decimal digits.
     #[inline(always)]
     pub(crate) fn push_number(&mut self, number: u64)
         requires { length self.old ≤ 108 }

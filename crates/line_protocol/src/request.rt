@@ -1,4 +1,4 @@
-//! Requests, read in place.
+//! Requests, which are read in place.
 ghost use Rattle.std.specs.Prelude.{◌≡◌, ◌≤◌, ◌∷◌, IfSome, is_some, length, position, ◌==◌};
 ghost use Rattle.std.specs.Option.{option_copied};
 ghost use Rattle.std.specs.List.{list_all};
@@ -8,7 +8,7 @@ ghost use Rattle.line_protocol.specs.Words.{Addresses, may_be_number, words_afte
 
 use trace_types::{Name, Request};
 
-/// The request that the line spells, if it spells one.
+/// The request that the line spells, or `None` if it spells none. The line is without its end. It takes no memory.
 pub fn read_request(line: &[u8]) -> Option<Request>
     ensures { result ≡ request_of line.now }
 {
@@ -100,7 +100,8 @@ fn read_join(arguments: &[u8]) -> Option<Request>
     two_names(arguments).map(|(task, child)| Request::Join(task, child))
 }
 
-/// The word that the line begins with, and the request that the rest of it spells.
+/// The word that the line begins with, and the request that the rest spells, or `None` if it spells none. The word may be
+/// no name. It takes no memory.
 #[inline(always)]
 pub fn read_addressed(line: &[u8]) -> (&[u8], Option<Request>)
     ensures { Addresses line.now result.0.now result.1 }
@@ -113,7 +114,7 @@ pub fn read_addressed(line: &[u8]) -> (&[u8], Option<Request>)
     (name, request)
 }
 
-/// The name, where there is one argument and no more.
+/// The name, if there is one argument and no more.
 fn only_name(arguments: &[u8]) -> Option<Name>
     ensures { result ≡ only name_of (words arguments.now) }
 {
@@ -123,7 +124,7 @@ fn only_name(arguments: &[u8]) -> Option<Name>
     }
 }
 
-/// The two names, where there are two arguments and no more.
+/// The two names, if there are two arguments and no more.
 fn two_names(arguments: &[u8]) -> Option<(Name, Name)>
     ensures { result ≡ only_two name_of (words arguments.now) }
 {
@@ -134,7 +135,7 @@ fn two_names(arguments: &[u8]) -> Option<(Name, Name)>
     }
 }
 
-/// The number, where there is one argument and no more.
+/// The number, if there is one argument and no more.
 fn only_number(arguments: &[u8]) -> Option<u64>
     ensures { result ≡ only number_of (words arguments.now) }
 {
@@ -144,7 +145,7 @@ fn only_number(arguments: &[u8]) -> Option<u64>
     }
 }
 
-/// The two numbers, where there are two arguments and no more.
+/// The two numbers, if there are two arguments and no more.
 fn two_numbers(arguments: &[u8]) -> Option<(u64, u64)>
     ensures { result ≡ only_two number_of (words arguments.now) }
 {
@@ -165,7 +166,7 @@ fn split_first(bytes: &[u8]) -> (&[u8], Option<&[u8]>)
     }
 }
 
-/// Where the bytes have their first blank.
+/// The place of the first blank in the bytes.
 #[inline(never)]
 fn first_blank(bytes: &[u8]) -> Option<usize>
     ensures { result ≡ position (λ byte. byte == 32) bytes.now }

@@ -1,4 +1,4 @@
-//! Why a call of a source or a sink did nothing.
+//! Why calls of sources and sinks stop.
 ghost use Rattle.line_protocol.specs.Stopped.{StopsAs, StopsFor};
 
 use std::io;
@@ -7,7 +7,7 @@ use std::io::ErrorKind;
 /// Why a call moved no byte.
 #[derive(Clone, Copy, Debug, PartialEq, Eq)]
 pub enum Stop {
-    /// A signal came in between. The call may be made again.
+    /// A signal interrupted the call, which may be made again.
     Interrupted,
     /// The call failed.
     Failed,

@@ -1,4 +1,4 @@
-//! Why something is not written.
+//! The fault of writing.
 
 use thiserror::Error;
 

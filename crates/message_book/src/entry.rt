@@ -1,4 +1,4 @@
-//! What the book has of one message.
+//! Entries of the book, one for each message.
 ghost use Rattle.std.specs.Prelude.{◌≡◌, [], map, false, if◌then◌else◌, Some, IsOk, IfErr, OnOk, OnErr};
 ghost use Rattle.message_book.specs.Book.{has_receipt, has_receipt_by, entry_with_receipt, entry_without_last_receipt};
 
@@ -9,7 +9,7 @@ use trace_types::{Code, Name, Receipts};
 
 /// What the book has of one message.
 ///
-/// A contract sees the event that sent it, and its receipts in the order in which they were taken, each a task and an event.
+/// A contract sees the event that sent the message, and the receipts in their order, each a task and an event.
 #[derive(Drop)]
 pub struct Entry {
     sent: u64,
@@ -42,7 +42,7 @@ impl Entry {
         }
     }
 
-    /// The number of the event that sent the message.
+    /// The number of the event that sent the message, from 1.
     pub fn sent(&self) -> u64
         ensures { result ≡ self.now.sent }
     {
@@ -56,7 +56,7 @@ impl Entry {
         &self.receipts
     }
 
-    /// Whether the task received the message. It takes no memory, and at most one look-up by hash.
+    /// Whether the task received the message. It takes no memory, and at most one lookup by hash.
     pub fn has_receiver(&self, task: &Name) -> bool
         ensures { result ≡ has_receipt_by task.now (Some self.now) }
     {
@@ -65,8 +65,8 @@ impl Entry {
 
     /// Adds a receipt by this task and event.
     ///
-    /// `AlreadyReceived` (407) where the task received the message, and last `NoMemory` (507) where a request for memory was
-    /// refused; then the receipts are those of before. The first receipt takes no memory.
+    /// Returns `AlreadyReceived` (407) if the task received the message before, else `NoMemory` (507) if it runs out of
+    /// memory. The receipts then stay as they are. The first receipt takes no memory.
     pub(crate) fn receive(&mut self, alloc: Global, task: Name, event: u64) -> Result<(), Code>
         ensures allowed { OnOk result (has_receipt_by task (Some self.old) ≡ false) }
         ensures ok { OnOk result (self.new ≡ entry_with_receipt task event self.old) }
@@ -84,7 +84,7 @@ impl Entry {
         Ok(())
     }
 
-    /// Takes the last receipt back, where there is one. It takes no memory.
+    /// Takes the last receipt back, if there is one. It takes no memory.
     pub(crate) fn remove_last_receipt(&mut self)
         ensures { self.new ≡ entry_without_last_receipt self.old }
     {

@@ -1,4 +1,4 @@
-//! The book of one tenant's messages.
+//! The book, with its sends and receipts, and how the last of them are taken back.
 ghost use Rattle.std.specs.Prelude.{◌≡◌, ◌≤◌, [], true, length, None, Some, false, IfOk, IfErr, OnErr, OnOk, IsOkAnd, unwrap_or};
 ghost use Rattle.std.specs.Option.{option_copied, option_map};
 ghost use Rattle.std.specs.Result.{result_err};
@@ -12,7 +12,7 @@ use trace_types::{Code, Memory, Name};
 
 /// The messages of one tenant, each found by its name.
 ///
-/// A contract sees the limit, and the messages in the order in which they were sent. A refused call changes nothing.
+/// A contract sees the limit, and the messages in the order of their sends. A refused call changes nothing.
 #[derive(Drop)]
 pub struct MessageBook {
     limit: u64,
@@ -31,7 +31,8 @@ impl Model for MessageBook {
 }
 
 impl MessageBook {
-    /// The book of a tenant that has sent nothing and may send so many messages. It takes no memory yet.
+    /// The book of a tenant that has sent nothing and may send at most `limit` messages. It takes no memory yet, and
+    /// always succeeds.
     pub fn new(alloc: Global, limit: u64) -> Result<MessageBook, Memory>
         ensures { IsOkAnd result (λ book. book ≡ record { limit = limit; messages = [] }) }
     {
@@ -57,8 +58,9 @@ impl MessageBook {
         self.messages.get(name)
     }
 
-    /// The code with which [`MessageBook::send`] would refuse the message, want of memory aside: `MessageExists` (406)
-    /// where there is a message of this name, then `MessagesFull` (415) at the limit. It takes no memory.
+    /// The code with which [`MessageBook::send`] would refuse the message, running out of memory aside. It is
+    /// `MessageExists` (406) if there is a message of this name, else `MessagesFull` (415) at the limit. It takes no
+    /// memory.
     pub fn check_send(&self, name: &Name) -> Result<(), Code>
         ensures { result_err result ≡ refusal_of_send self.now name.now }
     {
@@ -73,8 +75,7 @@ impl MessageBook {
 
     /// Adds a message that this event sends.
     ///
-    /// It is refused as [`MessageBook::check_send`] says, and last with `NoMemory` (507), where a request for memory was
-    /// refused.
+    /// It is refused as [`MessageBook::check_send`] says, else with `NoMemory` (507) if it runs out of memory.
     pub fn send(&mut self, name: Name, event: u64) -> Result<(), Code>
         ensures allowed { OnOk result (refusal_of_send self.old name ≡ None) }
         ensures ok { OnOk result (self.new ≡ record self.old { messages = with_message name event self.old.messages }) }
@@ -85,8 +86,8 @@ impl MessageBook {
         Ok(self.add(name, event)?)
     }
 
-    /// The event that sent the message of this name, where the task can receive it: else `NoMessage` (405) where there is no
-    /// such message, and `AlreadyReceived` (407) where the task received it. It takes no memory.
+    /// The event that sent the message of this name, if the task can receive it. Else it is `NoMessage` (405) if there is
+    /// no such message, and `AlreadyReceived` (407) if the task received it before. It takes no memory.
     pub fn check_receive(&self, name: &Name, task: &Name) -> Result<u64, Code>
         ensures code { result_err result ≡ refusal_of_receive self.now name.now task.now }
         ensures sent { IfOk result (λ event. option_map (λ entry. entry.sent) (entry_of self.now.messages name.now) ≡ Some event) }
@@ -100,8 +101,8 @@ impl MessageBook {
 
     /// Adds the receipt of a message by this task and event.
     ///
-    /// It is refused as [`MessageBook::check_receive`] says, and last with `NoMemory` (507), where a request for memory was
-    /// refused. The first receipt of a message takes no memory.
+    /// It is refused as [`MessageBook::check_receive`] says, else with `NoMemory` (507) if it runs out of memory. The
+    /// first receipt of a message takes no memory.
     pub fn receive(&mut self, name: &Name, task: Name, event: u64) -> Result<(), Code>
         ensures allowed { OnOk result (refusal_of_receive self.old name.now task ≡ None) }
         ensures ok { OnOk result (self.new ≡ record self.old { messages = with_receipt name.now task event self.old.messages }) }
@@ -116,7 +117,7 @@ impl MessageBook {
         }
     }
 
-    /// Takes the last send back: the message is not there any more. It takes no memory.
+    /// Takes the last send back, so the message is there no more. It takes no memory.
     pub fn undo_send(&mut self)
         requires { LastIsUnreceived self.old.messages }
         ensures { self.new ≡ record self.old { messages = without_last self.old.messages } }
@@ -124,7 +125,7 @@ impl MessageBook {
         self.messages.pop();
     }
 
-    /// Takes the last receipt of a message back: its task can receive the message again. It takes no memory.
+    /// Takes the last receipt of a message back, so its task can receive the message again. It takes no memory.
     pub fn undo_receive(&mut self, name: &Name)
         requires { has_receipt (entry_of self.old.messages name.now) ≡ true }
         ensures { self.new ≡ record self.old { messages = without_last_receipt name.now self.old.messages } }

@@ -1,4 +1,4 @@
-//! The tasks that received a message after the first one.
+//! The tasks that received one message after the first one, found by hash.
 ghost use Rattle.std.specs.Prelude.{◌≡◌, ◌++◌, [], ◌∷◌, not, false, if◌then◌else◌, option_to_list, IfOk, IfNone, OnErr};
 ghost use Rattle.std.specs.List.{list_any};
 ghost use Rattle.trace_types.specs.text.Name.{is_same};
@@ -8,7 +8,8 @@ use std::alloc::Global;
 use std::marker::Model;
 use trace_types::{Memory, Name};
 
-/// The tasks that received a message after the first one, in the order of their receipts, each once and found by its hash.
+/// The tasks that received a message after the first one, in the order of their receipts. Each is there once, and is
+/// found by its hash.
 ///
 /// It is one pointer, and takes no memory while there are none. A contract sees the list of the names.
 #[derive(Drop)]
@@ -34,7 +35,7 @@ impl Others {
         Others { names: None }
     }
 
-    /// Whether the task is one of them. It takes no memory.
+    /// Whether the task is there. It takes no memory.
     pub(crate) fn contains(&self, task: &Name) -> bool
         ensures { result ≡ list_any (is_same task.now) self.now }
     {
@@ -44,9 +45,9 @@ impl Others {
         }
     }
 
-    /// Adds the task, unless it is one of them, and says whether it was added.
+    /// Adds the task, unless it is there, and says whether it was added.
     ///
-    /// `Memory` where a request for memory is refused, and then they are those of before.
+    /// Returns `Memory`, with the tasks as before, if it runs out of memory.
     pub(crate) fn add(&mut self, alloc: Global, task: Name) -> Result<bool, Memory>
         ensures added { IfOk result (λ added. added ≡ not (list_any (is_same task) self.old)) }
         ensures ok { IfOk result (λ added. self.new ≡ (if added then self.old ++ task ∷ [] else self.old)) }
@@ -64,7 +65,7 @@ impl Others {
         }
     }
 
-    /// Takes the last one out, where there is one. It takes no memory.
+    /// Takes the last one out, if there is one. It takes no memory.
     pub(crate) fn pop(&mut self) -> Option<Name>
         ensures names { self.old ≡ self.new ++ option_to_list result }
         ensures none { IfNone result (self.old ≡ []) }

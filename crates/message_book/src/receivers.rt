@@ -1,4 +1,4 @@
-//! The tasks that received a message.
+//! The tasks that received one message, with no memory taken for the first.
 ghost use Rattle.std.specs.Prelude.{◌≡◌, ◌-◌, [], ◌∷◌, ◌++◌, length, take, not, false, if◌then◌else◌, IsOk, IfOk, OnErr};
 ghost use Rattle.std.specs.List.{list_any};
 ghost use Rattle.trace_types.specs.text.Name.{is_same};
@@ -10,8 +10,8 @@ use trace_types::{Memory, Name};
 
 /// The tasks that received a message, in the order of their receipts, each once.
 ///
-/// The first one lies in the value itself, so a message with one receiver takes no memory for it. A contract sees the list
-/// of the names.
+/// The first one is stored inline, so a message with one receiver takes no memory for it. A contract sees the list of the
+/// names.
 #[derive(Drop)]
 pub(crate) struct Receivers {
     first: Option<Name>,
@@ -40,7 +40,7 @@ impl Receivers {
         }
     }
 
-    /// Whether the task is one of them. It takes no memory, and at most one look-up by hash.
+    /// Whether the task is there. It takes no memory, and at most one lookup by hash.
     pub(crate) fn contains(&self, task: &Name) -> bool
         ensures { result ≡ list_any (is_same task.now) self.now }
     {
@@ -50,9 +50,9 @@ impl Receivers {
         }
     }
 
-    /// Adds the task, unless it is one of them, and says whether it was added.
+    /// Adds the task, unless it is there, and says whether it was added.
     ///
-    /// `Memory` where a request for memory is refused, and then they are those of before; the first one takes none.
+    /// Returns `Memory`, with the tasks as before, if it runs out of memory. The first task takes none.
     pub(crate) fn add(&mut self, alloc: Global, task: Name) -> Result<bool, Memory>
         ensures added { IfOk result (λ added. added ≡ not (list_any (is_same task) self.old)) }
         ensures ok { IfOk result (λ added. self.new ≡ (if added then self.old ++ task ∷ [] else self.old)) }
@@ -75,7 +75,7 @@ impl Receivers {
         }
     }
 
-    /// Takes the last one out, where there is one. It takes no memory.
+    /// Takes the last one out, if there is one. It takes no memory.
     pub(crate) fn remove_last(&mut self)
         ensures { self.new ≡ take (length self.old - 1) self.old }
     {

@@ -1,4 +1,4 @@
-//! The cache, and what it asks of its caller.
+//! The cache, and when it looks a pair up.
 ghost use Rattle.std.specs.Prelude.{◌≡◌, ◌<◌, ◌≤◌, ◌↔◌, IfOk, IfSome, IsErrOf, IsTrue, MatchOption};
 ghost use Rattle.event_tree.specs.Comparison.{StandsAs};
 ghost use Rattle.tree_forest.specs.Kept.{IsOf};
@@ -18,16 +18,17 @@ use tree_forest::{Forest, Home, Tree};
 
 /// Remembers how pairs of trees of one forest stand to each other. A clause sees the forest's home.
 ///
-/// The slot lends what is remembered to one thread at a time, for a step of the map, never while trees are compared.
-/// Nobody waits: a thread that finds it lent compares the trees.
+/// One thread at a time is lent what is remembered, for one step of the map. It never compares trees in that time.
+/// Another thread does not wait, and compares the trees itself.
 #[derive(Drop)]
 pub struct OrderCache {
     slot: Counted<Option<Remembered>>,
-    /// How often a comparison was remembered. It is counted by the thread that the slot is lent to.
+    /// How often a remembered comparison was the answer. The thread that has the slot counts it.
     hits: AtomicU64,
-    /// How many asks more are not taken for short ones, if none of them is long: above `FEW_ASKS` while few have asked.
+    /// How many asks are left until walks are taken for short, if no walk is long. It is above `FEW_ASKS` for the first
+    /// asks.
     watch: AtomicU64,
-    /// How many looks in a row found nothing that was remembered.
+    /// How many lookups in a row found nothing.
     misses: AtomicU64,
 }
 
@@ -45,23 +46,23 @@ const LENT: u64 = PRESENT;
 /// The greatest capacity.
 const MOST: u64 = 65536;
 
-/// So many asks are looked up first, whatever their walks. After so many that a short walk decides, walks are taken for
-/// short.
+/// How many first asks are looked up, whatever their walks. Walks are taken for short after as many more that a short
+/// walk decides.
 const FEW_ASKS: u64 = 256;
 
-/// So many inner nodes are walked over in less time than a pair is found in.
+/// A walk over this many inner nodes takes less time than a lookup.
 const SHORT_WALK: u64 = 24;
 
-/// So many looks in a row that find nothing show that pairs are not asked again.
+/// After this many lookups in a row that find nothing, few pairs are expected to come again.
 const MANY_MISSES: u64 = 256;
 
-/// Then one ask in so many is looked up and remembered, until one is found again.
+/// From then on one ask in this many is looked up and remembered, until a lookup finds one.
 const SELDOM: u64 = 16;
 
-/// Where walks are taken for short, one pair of so many is watched.
+/// One pair in this many is watched while walks are taken for short.
 const SAMPLE: u64 = 64;
 
-/// A capacity that can be had, as the map takes it.
+/// The capacity as the map takes it, or `None` if it is out of range.
 fn capacity_of(capacity: u64) -> Option<NonZeroUsize>
     ensures { MatchOption result (¬ IsCapacity capacity) (λ _. IsCapacity capacity) }
 {
@@ -71,23 +72,23 @@ fn capacity_of(capacity: u64) -> Option<NonZeroUsize>
     NonZeroUsize::new(capacity as usize)
 }
 
-/// Whether the least and the greatest values decide how the two stand, so that comparing them walks nowhere.
+/// Whether the least and the greatest values decide how the two trees stand. A comparison then walks nowhere.
 #[inline(always)]
 fn ranges_decide(first: &EvTree, second: &EvTree) -> bool {
     first.max() <= second.min() || second.max() <= first.min()
 }
 
 impl OrderCache {
-    /// Whether a cache can be asked to remember so many comparisons: 1 to 65536.
+    /// Whether a cache can have this capacity: 1 to 65536 comparisons.
     pub fn takes(capacity: u64) -> bool
         ensures { IsTrue result ↔ IsCapacity capacity }
     {
         0 < capacity && capacity <= MOST
     }
 
-    /// A cache for trees of this forest, which remembers so many comparisons at most.
+    /// A cache for trees of this forest, which remembers at most `capacity` comparisons.
     ///
-    /// `Capacity` exactly where the capacity is 0 or above 65536, `Memory` where a request for memory was refused.
+    /// Returns `Capacity` exactly if the capacity is 0 or above 65536, and `Memory` if it runs out of memory.
     pub fn new(
         alloc: Global,
         capacity: u64,
@@ -109,8 +110,8 @@ impl OrderCache {
 
     /// How the first tree stands to the second.
     ///
-    /// It never refuses and never waits: where memory is refused, or another thread has what is remembered, the comparison
-    /// is answered and not remembered. Of two threads that ask for one pair at once both may compare it.
+    /// If it runs out of memory, or another thread has what is remembered, it answers and does not remember the
+    /// comparison. Two threads that ask for one pair at once may both compare it.
     #[inline(always)]
     pub fn order(
         &self,
@@ -129,21 +130,21 @@ impl OrderCache {
         self.order_watched(forest, first, second)
     }
 
-    /// How often a comparison was answered by what was remembered, for the operator. From 2^64 - 1 on it stays.
+    /// How often a remembered comparison was the answer, for the operator. It stays at 2^64 - 1.
     pub fn hits(&self) -> u64 {
         self.hits.load(Ordering::Relaxed)
     }
 
-    /// Whether walks are taken for short, so that the pair is walked to its end; but one pair of so many shows whether they
-    /// are.
+    /// Whether the pair is walked to its end at once, since walks are taken for short. One pair in `SAMPLE` is watched
+    /// instead.
     #[inline(always)]
     fn takes_for_short(&self, first: &Tree<EvTree>, second: &Tree<EvTree>) -> bool {
         self.watch.load(Ordering::Relaxed) == 0 && (first.number() ^ second.number()) % SAMPLE != 0
     }
 
-    /// How two trees stand to each other: looked up while few have asked, so that what is asked again is counted from the
-    /// first; then walked over a few inner nodes, and looked up where that does not decide. Of two threads one may not be
-    /// counted.
+    /// How two trees stand to each other. The first asks are looked up, so a pair that comes again is found from the
+    /// start. Later ones are walked over a few inner nodes, and looked up only if that does not decide. Two threads at
+    /// once may count as one ask.
     #[inline(never)]
     fn order_watched(
         &self,
@@ -173,7 +174,7 @@ impl OrderCache {
         }
     }
 
-    /// How two trees stand to each other that a short walk does not decide.
+    /// How two trees stand to each other if a short walk does not decide it.
     fn looked_up(
         &self,
         forest: &Forest<EvTree>,
@@ -194,14 +195,15 @@ impl OrderCache {
         }
     }
 
-    /// Whether this ask is looked up, and counts it as one that finds nothing. Of two threads one may not be counted.
+    /// Whether this ask is looked up. It counts as a lookup that finds nothing, until it finds something. Two threads at
+    /// once may count as one.
     fn is_looked_up(&self) -> bool {
         let misses = self.misses.load(Ordering::Relaxed);
         self.misses.store(misses.wrapping_add(1), Ordering::Relaxed);
         misses < MANY_MISSES || misses % SELDOM == 0
     }
 
-    /// Looks the two trees up. What is found is counted.
+    /// Looks the two trees up, and counts what is found.
     #[inline(never)]
     fn recall(
         &self,
@@ -223,7 +225,7 @@ impl OrderCache {
         order
     }
 
-    /// Compares the two, and remembers that if there is memory.
+    /// Compares the two trees, and remembers the result if there is memory and the slot is free.
     #[inline(never)]
     fn compared(&self, first: &Tree<EvTree>, second: &Tree<EvTree>) -> Order
         requires first { IsOf self.now first.now }
@@ -238,14 +240,14 @@ impl OrderCache {
         order
     }
 
-    /// Counts an ask that found something. Only the thread does that to which the slot is lent.
+    /// Counts an ask that found something. Only the thread that has the slot calls it.
     fn count_hit(&self) {
         let hits = self.hits.load(Ordering::Relaxed);
         self.hits.store(hits.saturating_add(1), Ordering::Relaxed);
         self.misses.store(0, Ordering::Relaxed);
     }
 
-    /// Lends what is remembered, which has to be given back; `None` where another thread has it.
+    /// Lends what is remembered, which has to be given back, or returns `None` if another thread has it.
     fn lend(&self) -> Option<Remembered>
         ensures { IfSome result (λ remembered. remembered ≡ self.now) }
     {

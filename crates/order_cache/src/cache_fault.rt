@@ -1,4 +1,4 @@
-//! Why a cache is not made.
+//! The faults of making a cache.
 ghost use Rattle.std.specs.Prelude.{◌≡◌};
 ghost use Rattle.order_cache.specs.declared.cache_fault.CacheFault.TheVariants.{Memory as OutOfMemory};
 
@@ -12,7 +12,7 @@ pub enum CacheFault {
     /// The capacity is 0, or above 65536.
     #[error("bad capacity")]
     Capacity,
-    /// A request for memory was refused.
+    /// The call ran out of memory.
     #[error("no memory")]
     Memory,
 }

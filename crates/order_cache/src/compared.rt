@@ -1,4 +1,4 @@
-//! Two trees that were compared.
+//! Comparisons of two trees.
 ghost use Rattle.std.specs.Prelude.{◌≡◌, IfSome};
 ghost use Rattle.event_tree.specs.Comparison.{StandsAs};
 ghost use Rattle.tree_forest.specs.Kept.{IsOf};
@@ -46,7 +46,8 @@ impl Compared {
         (self.first.number(), self.second.number())
     }
 
-    /// How the two trees stand to each other, where they are those that were compared. Their numbers decide that.
+    /// How the two trees stand to each other, or `None` if others were compared. The numbers of the trees decide which
+    /// they are.
     pub(crate) fn order_of(
         &self,
         forest: &Forest<EvTree>,

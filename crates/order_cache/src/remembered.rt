@@ -1,4 +1,4 @@
-//! The comparisons that are remembered.
+//! Remembered comparisons.
 ghost use Rattle.std.specs.Prelude.{◌≡◌, IfOk, IfSome};
 ghost use Rattle.event_tree.specs.Comparison.{StandsAs};
 ghost use Rattle.tree_forest.specs.Kept.{IsOf};
@@ -15,7 +15,7 @@ use tree_forest::{Forest, Home, Tree};
 
 /// The comparisons that were used last, by the numbers of their trees. A clause sees the home of their forest.
 ///
-/// The map is behind a pointer, so that lending it out and taking it back moves two words.
+/// The map is behind a pointer, so lending it moves two words.
 #[derive(Drop)]
 pub(crate) struct Remembered {
     rows: Box<LruCache<(u64, u64), Compared>>,
@@ -42,7 +42,7 @@ impl Fits for Remembered {
 }
 
 impl Remembered {
-    /// Nothing yet, with room for so many. `AllocError` where a request for memory was refused.
+    /// Nothing yet, with room for this many comparisons. Returns `AllocError` if it runs out of memory.
     pub(crate) fn new(
         alloc: Global,
         capacity: NonZeroUsize,
@@ -56,7 +56,7 @@ impl Remembered {
         })
     }
 
-    /// How the two trees stand to each other, where that is remembered. It then was used last.
+    /// How the two trees stand to each other, if that is remembered. The comparison then counts as used last.
     pub(crate) fn recall(
         &mut self,
         forest: &Forest<EvTree>,
@@ -73,8 +73,8 @@ impl Remembered {
         self.rows.get(&key)?.order_of(forest, first, second)
     }
 
-    /// From now on this comparison is remembered; the one that was used least lately goes where there is no room. Where
-    /// memory is refused, everything stays as it was.
+    /// Remembers this comparison, in place of the one used longest ago if there is no room. All stays as it was if it
+    /// runs out of memory.
     pub(crate) fn remember(&mut self, compared: Compared)
         requires { compared ≡ self.old }
         ensures { self.new ≡ self.old }

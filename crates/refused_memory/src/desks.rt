@@ -1,4 +1,4 @@
-//! The run asked of a desk, and of a view that is told of each report.
+//! The run, asked of a desk and of a view that is told of each report.
 ghost use Rattle.std.specs.Prelude.{◌≡◌, IfOk};
 
 use crate::run::RUN;
@@ -23,7 +23,7 @@ pub(crate) fn answer_the_run<R: Wait>(rt: &R, alloc: Global) -> bool {
     holds
 }
 
-/// The desk of a tenant that has reported nothing and its views, which are made again where they find no memory.
+/// The desk of a tenant that has reported nothing, and its views. They are made again if they run out of memory.
 fn opened<R: Wait>(rt: &R, alloc: Global) -> Result<(Desk, Views), Memory>
     ensures { IfOk result (λ made. made.1.book ≡ made.0.book) }
 {
@@ -52,7 +52,7 @@ fn answer_all<R: Wait>(rt: &R, desk: &mut Desk, mut view: View) -> bool
     true
 }
 
-/// Whether the line gets its reply, a query from both.
+/// Whether the line gets its reply. A query has to get it from both.
 fn answer<R: Wait>(rt: &R, desk: &mut Desk, view: &mut View, line: &str) -> bool
     requires { view.old.book ≡ desk.old.book }
     ensures desk { desk.new.book ≡ desk.old.book }
@@ -67,7 +67,7 @@ fn answer<R: Wait>(rt: &R, desk: &mut Desk, view: &mut View, line: &str) -> bool
     is_written(&reply, due) && (request.is_report() || is_written(&asked(view, &request), due))
 }
 
-/// What the desk answers, which is asked again where it finds no memory.
+/// What the desk answers. It is asked again if it runs out of memory.
 fn called<R: Wait>(rt: &R, desk: &mut Desk, request: &Request) -> Reply
     ensures { desk.new.book ≡ desk.old.book }
 {
@@ -77,7 +77,7 @@ fn called<R: Wait>(rt: &R, desk: &mut Desk, request: &Request) -> Reply
     }
 }
 
-/// What the view answers, likewise.
+/// What the view answers. It is asked again if it runs out of memory.
 fn asked(view: &mut View, request: &Request) -> Reply
     ensures { view.new.book ≡ view.old.book }
 {

@@ -1,8 +1,9 @@
-//! Asks a ledger all that a run asks, and again what finds no memory: each reply has to be the one that is due. Then it asks
-//! a desk and its view the same.
+//! Asks a ledger all that a run asks, and asks again what ran out of memory. Each reply has to be the one that is due.
+//! Then it asks a desk and its view the same.
 //!
-//! Before each line of the run all its reports are prepared and abandoned at the ledger, which is to leave no trace either.
-//! The program prints `ok` where that holds. It is run once for each block of memory that it asks for, with that block refused.
+//! Before each line of the run, all its reports are prepared and abandoned at the ledger, which has to leave no trace
+//! either. The program prints `ok` if all that holds, else `wrong`. It is run once for each block of memory that it asks
+//! for, with that block refused.
 #![tactic(auto)]
 
 ghost use Rattle.std.specs.Prelude.{◌≡◌};
@@ -27,7 +28,7 @@ fn main(rt: HostRuntime) -> io::Result<()> {
     println!(rt; "{}", if holds { "ok" } else { "wrong" })
 }
 
-/// The ledger of a tenant that has reported nothing, which is made again where it finds no memory.
+/// The ledger of a tenant that has reported nothing. It is made again if it runs out of memory.
 fn new_ledger(alloc: Global) -> Result<Ledger, Memory> {
     match Ledger::new(alloc, Limits::default()) {
         Err(Memory) => Ledger::new(alloc, Limits::default()),
@@ -105,7 +106,7 @@ fn answered_once<R>(rt: &R, ledger: Ledger, request: &Request) -> (Ledger, Reply
     }
 }
 
-/// A writer that looks whether it is given this text.
+/// A writer that checks whether it is given this text.
 #[derive(Drop)]
 struct Wanted<'a> {
     rest: &'a [u8],

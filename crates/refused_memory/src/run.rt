@@ -1,4 +1,4 @@
-//! A run, a line of each of which is `REQUEST => REPLY`.
+//! A run. Each of its lines is `REQUEST => REPLY`.
 
 /// Reports of every kind, and between them what each query is to answer.
 pub(crate) const RUN: &str = "count => 200 0 1 0

@@ -1,7 +1,7 @@
-//! Does what each line of its input asks with the stamps that it spells, and writes what comes of it.
+//! Does what each line of its input asks with stamps, and writes a line with the result.
 //!
-//! A line is `again`, `fork`, `peek` or `event` and the text of a stamp, or `join` or `order` and two. So cases are lines: the
-//! file `stdin` has those from outside, and `stdout` what they come to.
+//! A line is `again`, `fork`, `peek` or `event` and the text of one stamp, or `join` or `order` and the texts of two. So
+//! cases are lines. The file `stdin` has those from outside, and `stdout` what they come to.
 #![tactic(auto)]
 
 use stamp_codec::{Stamp, StampFault, read_stamp, write_stamp};
@@ -17,7 +17,7 @@ fn main(rt: HostRuntime) -> io::Result<()> {
     Ok(())
 }
 
-/// The outcome of a line, were it a fault, as text.
+/// The outcome of a line as text, also if it is a fault.
 fn told(alloc: Global, line: &str) -> Result<String, AllocError> {
     match outcome(alloc, line) {
         Ok(text) => Ok(String::from_utf8_lossy(alloc, &text)?),
@@ -25,7 +25,7 @@ fn told(alloc: Global, line: &str) -> Result<String, AllocError> {
     }
 }
 
-/// What a line comes to: a word, and one or two texts of stamps.
+/// The outcome of a line, which is a word and one or two texts of stamps.
 fn outcome(alloc: Global, line: &str) -> Result<Vec<u8>, StampFault> {
     let (word, texts) = line.split_once(' ').unwrap_or((line, ""));
     match texts.split_once(' ') {
@@ -40,7 +40,7 @@ fn outcome(alloc: Global, line: &str) -> Result<Vec<u8>, StampFault> {
     }
 }
 
-/// What is asked of one stamp; else its text.
+/// The outcome for one stamp. It is the stamp's text for any other word.
 fn of_one(alloc: Global, word: &str, stamp: &Stamp) -> Result<Vec<u8>, StampFault> {
     match word {
         "fork" => text_of_fork(alloc, stamp),
@@ -50,7 +50,7 @@ fn of_one(alloc: Global, word: &str, stamp: &Stamp) -> Result<Vec<u8>, StampFaul
     }
 }
 
-/// What is asked of two stamps, the second of this text.
+/// The outcome for two stamps. The second has this text.
 fn of_two(alloc: Global, word: &str, first: &Stamp, second: &str) -> Result<Vec<u8>, StampFault> {
     let second = read_stamp(alloc, second.as_bytes())?;
     if word == "join" {
@@ -82,7 +82,7 @@ fn text_of_peek(alloc: Global, stamp: &Stamp) -> Result<Vec<u8>, StampFault> {
     text_of_both(alloc, &peek, stamp)
 }
 
-/// The text of the stamp after an event, or nothing where there can be none.
+/// The text of the stamp after an event, or nothing if there can be none.
 fn text_of_event(alloc: Global, stamp: &Stamp) -> Result<Vec<u8>, StampFault> {
     if stamp.id.is_zero() || stamp.tree.max() >= u64::MAX - 1 {
         return Ok(Vec::new(alloc));
@@ -91,7 +91,7 @@ fn text_of_event(alloc: Global, stamp: &Stamp) -> Result<Vec<u8>, StampFault> {
     Ok(write_stamp(alloc, &after)?)
 }
 
-/// The text of the join, or nothing where the ids overlap.
+/// The text of the join, or nothing if the ids overlap.
 fn text_of_join(alloc: Global, stamp: &Stamp, other: &Stamp) -> Result<Vec<u8>, StampFault> {
     if !stamp.id.disjoint(&other.id) {
         return Ok(Vec::new(alloc));

@@ -1,4 +1,4 @@
-//! The place in a text where a walk over it is.
+//! Cursors over the text of a stamp.
 ghost use Rattle.std.specs.Prelude.{◌≡◌, ℕ, ◌+◌, ◌^◌, ◌<◌, min, List, ◌∷◌, ◌++◌, length, drop, slice_index_or, None, IsTrue};
 ghost use Rattle.stamp_codec.specs.StampText.{IsWrittenNumber, number_written};
 ghost use Rattle.stamp_codec.specs.Walks.{leading, greatest_number, IsFirstWith};
@@ -9,11 +9,12 @@ pub struct Cursor<'a> {
     rest: &'a [u8],
     /// How many bytes of the text come before the rest.
     pub place: usize,
-    /// The first node so far that is not normal.
+    /// The place of the first node so far that is not normal.
     pub uneven: Option<usize>,
 }
 
 impl<'a> Cursor<'a> {
+    /// A cursor at the start of the text.
     pub fn new(text: &'a [u8]) -> Cursor<'a>
         ensures rest { result.rest.now ≡ text.now }
         ensures place { result.place ≡ 0 }
@@ -26,7 +27,7 @@ impl<'a> Cursor<'a> {
         }
     }
 
-    /// The next byte, or 0 at the end.
+    /// The next byte, or 0 at the end of the text.
     pub fn first(&self) -> u8
         ensures { result ≡ slice_index_or self.now.rest.now 0 0 }
     {
@@ -36,6 +37,7 @@ impl<'a> Cursor<'a> {
         }
     }
 
+    /// Goes behind the next byte, if there is one.
     pub fn skip(&mut self)
         requires { self.old.place + length self.old.rest.now < 2 ^ 64 }
         ensures rest { self.new.rest.now ≡ drop 1 self.old.rest.now }
@@ -48,7 +50,7 @@ impl<'a> Cursor<'a> {
         }
     }
 
-    /// Goes behind the number that stands next, and gives it, or `u64::MAX` for a greater one.
+    /// Goes behind the number that comes next, and gives the number, or `u64::MAX` if it is greater.
     pub fn number(&mut self) -> u64
         requires { self.old.place + length self.old.rest.now < 2 ^ 64 }
         ensures exact { (result, self.new.rest.now) ≡ leading 0 self.old.rest.now }
@@ -70,8 +72,8 @@ impl<'a> Cursor<'a> {
         number
     }
 
-    /// Goes behind the parenthesis, the number and the comma of the node that stands next, and gives the number, or
-    /// `u64::MAX` for a greater one.
+    /// Goes behind the parenthesis, the number and the comma of the node that comes next. It gives the number, or
+    /// `u64::MAX` if it is greater.
     pub fn head(&mut self) -> u64
         requires { self.old.place + length self.old.rest.now < 2 ^ 64 }
         ensures exact { (digits behind : List ℕ) → self.old.rest.now ≡ 40 ∷ (digits ++ (44 ∷ behind)) → IsWrittenNumber digits
@@ -85,7 +87,7 @@ impl<'a> Cursor<'a> {
         number
     }
 
-    /// Keeps in mind that the node at `start` is not normal, where that is so.
+    /// Notes that the node at `start` is not normal, if that is so.
     pub fn note(&mut self, start: usize, is_uneven: bool)
         ensures rest { self.new.rest.now ≡ self.old.rest.now }
         ensures place { self.new.place ≡ self.old.place }

@@ -1,25 +1,28 @@
-//! Why a text is no stamp.
+//! The faults of reading a stamp.
 ghost use Rattle.std.specs.Prelude.{◌≡◌};
 ghost use Rattle.stamp_codec.specs.declared.fault.StampFault.TheVariants as faults;
 
 use thiserror::Error;
 use trace_types::Memory as NoMemory;
 
-/// Why a text was refused. Each place is a count of bytes from the start of the text.
+/// Why a text is refused as a stamp. Each place is a count of bytes from the start of the text.
+///
+/// Shape comes before size, and size before normal form. The first place is told of the fault that comes first.
 #[derive(Clone, Copy, Debug, PartialEq, Eq, Error)]
 pub enum StampFault {
-    /// The text has not the shape of a stamp. So many of its bytes, and no more, begin some text that has.
+    /// The text does not have the shape of a stamp. Its longest prefix that begins some text of that shape has this many
+    /// bytes.
     #[error("no stamp from byte {0} on")]
     Shape(usize),
-    /// Here a parenthesis is nested deeper than 2048, or a number begins with which the sum from the root is above
-    /// 2^63 - 1.
+    /// At this byte a parenthesis is nested deeper than 2048, or a number begins that is too great. The numbers on the
+    /// way from the root to a node may have a sum of 2^63 - 1.
     #[error("stamp too large at byte {0}")]
     TooLarge(usize),
-    /// Here a node begins that could be written shorter: the halves of an id are both 0 or both 1, or the children of
-    /// an inner node are equal numbers, or neither of them has the least value 0.
+    /// At this byte a node begins that could be written shorter. The halves of an id are both 0 or both 1. Or the
+    /// children of a tree are equal numbers, or neither of them has the least value 0.
     #[error("node not normal at byte {0}")]
     NotNormal(usize),
-    /// A request for memory was refused.
+    /// The call ran out of memory.
     #[error("no memory")]
     Memory,
 }

@@ -1,4 +1,4 @@
-//! The stamp that a text spells.
+//! Reading of stamps.
 ghost use Rattle.std.specs.Prelude.{◌≡◌, ◌+◌, ◌^◌, ◌<◌, IfOk, IfErr};
 ghost use Rattle.trace_types.specs.clock.Id.{Id};
 ghost use Rattle.trace_types.specs.clock.EventTree.{maximum};
@@ -15,15 +15,15 @@ use crate::walk::{read_id, read_tree};
 use crate::{Stamp, StampFault};
 use std::alloc::Global;
 
-/// The stamp that the text spells, in the form that Almeida, Baquero and Fonte published (2008), where each node is normal.
+/// The stamp that the text spells, in the form that Almeida, Baquero and Fonte published (2008), with each node normal.
 ///
-/// Of the whole text first the shape is looked at, then its size, and then whether each node is normal, and the first
-/// fault of the first kind is told. The id and the tree may each be nested 2048 deep, and the numbers on the way from
-/// the root to a node may have a sum of 2^63 - 1. The shape is known from one pass without recursion before anything is
-/// built, and nothing is built below a place that is too large.
+/// It looks first at the shape of the whole text, then at its size, and then at whether each node is normal. It tells the
+/// first fault of the first kind that it finds. The id and the tree may each be nested 2048 deep. The numbers on the way
+/// from the root to a node may have a sum of 2^63 - 1. One pass without recursion tells the shape before anything is
+/// built. Nothing is built below a place that is too large.
 ///
-/// `Memory`: there was none for a mark of each open parenthesis, or for the stamp. It may be told before any other fault.
-/// A text without parentheses takes no memory.
+/// Returns `Memory` if it runs out of memory, for a mark of each open parenthesis or for the stamp. `Memory` may come
+/// before any other fault.
 pub fn read_stamp(alloc: Global, text: &[u8]) -> Result<Stamp, StampFault>
     // The stamp that the text spells, or the fault and its place.
     ensures exact { ReadsStamp text.now result }

@@ -1,4 +1,4 @@
-//! Whether a text has the shape of a stamp.
+//! The shape of a stamp.
 ghost use Rattle.std.specs.Prelude.{◌≡◌, ◌≢◌, ◌↔◌, [], ◌∷◌, IfOk, IsOk, IsTrue, MatchOption};
 ghost use Rattle.stamp_codec.specs.Flat.{OpensNowhere};
 ghost use Rattle.stamp_codec.specs.StampText.{IsShaped};
@@ -60,7 +60,7 @@ impl Scan {
         }
     }
 
-    /// What is awaited after the byte, or nothing where no stamp goes on with it.
+    /// What is awaited after the byte, or `None` if no stamp goes on with it.
     fn step(self, byte: u8) -> Result<Option<Scan>, Memory>
         ensures exact { IfOk result (λ next. next ≡ stepped self.awaited self.inside byte) }
         ensures flat { IsFlat self → byte ≢ 40 → IsOk result }
@@ -123,7 +123,7 @@ impl Scan {
         }
     }
 
-    /// Awaits `alone` behind a 0, which no digit follows, and else `with_digits`.
+    /// Awaits `alone` behind a 0, which no digit follows, and `with_digits` behind another digit.
     fn begin_number(self, alone: Awaited, with_digits: Awaited, byte: u8) -> Option<Scan>
         ensures { result ≡ number_begun alone with_digits self.inside byte }
     {
@@ -171,9 +171,10 @@ impl Scan {
     }
 }
 
-/// The place from which on the text has not the shape of a stamp, or nothing where it has it.
+/// The place from which on the text does not have the shape of a stamp, or `None` if it has that shape.
 ///
-/// Goes over the bytes once, with one mark in memory for each parenthesis that is open.
+/// It goes over the bytes once, with one mark in memory for each open parenthesis. Returns `Memory` if it runs out of
+/// memory.
 pub fn shape_fault(alloc: Global, text: &[u8]) -> Result<Option<usize>, Memory>
     ensures exact { IfOk result (λ fault. MatchOption fault (IsShaped text.now) (λ place. IsShapeFault text.now place)) }
     ensures flat { OpensNowhere text.now → IsOk result }

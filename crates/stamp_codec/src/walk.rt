@@ -1,5 +1,5 @@
-//! The walk over a text with the shape of a stamp. It looks at the size of the text, builds what the text says, and
-//! finds the first node that is not normal.
+//! The walk over a text with the shape of a stamp. It looks at the size of the text, builds the stamp, and finds the
+//! first node that is not normal.
 ghost use Rattle.std.specs.Prelude.{◌≡◌, ◌≢◌, ℕ, ◌+◌, ◌^◌, ◌<◌, ◌≤◌, ◌⊎◌, min, List, ◌++◌, length, slice_index, IfOk, IfErr, IsOk, IsTrue, ◌↔◌};
 ghost use Rattle.trace_types.specs.clock.Id.{Id};
 ghost use Rattle.trace_types.specs.clock.EventTree.{minimum};
@@ -14,13 +14,13 @@ use event_tree::EvTree;
 use id_tree::IdTree;
 use std::alloc::Global;
 
-/// No parentheses are nested deeper.
+/// The most parentheses inside one another.
 const MOST_NESTED: usize = 2048;
 
-/// No numbers on the way from the root have a greater sum.
+/// The greatest sum of the numbers on the way from the root to a node.
 const GREATEST_SUM: u64 = 9_223_372_036_854_775_807;
 
-/// The id that stands next, inside `nested` parentheses. Once a node is not normal, nothing more is built.
+/// The id that comes next, inside `nested` parentheses. It builds nothing more once a node is not normal.
 pub fn read_id(alloc: Global, cursor: &mut Cursor, nested: usize) -> Result<IdTree, StampFault>
     requires fits { cursor.old.place + length cursor.old.rest.now < 2 ^ 64 }
     requires within { nested ≤ most_nested }
@@ -61,8 +61,8 @@ fn is_same_leaf(left_first: u8, right_first: u8) -> bool
     left_first == right_first && left_first != b'('
 }
 
-/// The tree that stands next, inside `nested` parentheses and below numbers of this sum. Once a node is not normal,
-/// nothing more is built than the least value of the tree.
+/// The tree that comes next, inside `nested` parentheses and below numbers of this sum. It builds nothing but the least
+/// value of the tree once a node is not normal.
 pub fn read_tree(
     alloc: Global,
     cursor: &mut Cursor,
@@ -108,8 +108,8 @@ pub fn read_tree(
     Ok(EvTree::fork(alloc, number, left, right)?)
 }
 
-/// Whether a node is not normal over these two, of which the text begins with these bytes: neither reaches 0, or both
-/// are one number.
+/// Whether a node over these two is not normal: neither reaches 0, or both are one number. The texts of the two begin
+/// with these bytes.
 fn is_uneven(left: &EvTree, left_first: u8, right: &EvTree, right_first: u8) -> bool
     ensures { IsTrue result ↔ ((min (minimum left.now) (minimum right.now) ≢ 0)
         ⊎ ((left_first ≢ 40) × (right_first ≢ 40) × (minimum left.now ≡ minimum right.now))) }

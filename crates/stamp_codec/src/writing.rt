@@ -1,4 +1,4 @@
-//! The text of a stamp.
+//! Writing of stamps.
 ghost use Rattle.std.specs.Prelude.{◌≡◌, ◌++◌, decimal, IfOk};
 ghost use Rattle.trace_types.specs.text.StampText.{stamp_text as text_of_parts};
 ghost use Rattle.stamp_codec.specs.StampText.{id_text, tree_text, stamp_as_text};
@@ -10,19 +10,19 @@ use itoa::Buffer;
 use std::alloc::Global;
 use trace_types::Memory;
 
-/// The text of the stamp, also where it is too large to be read again. The stamp is as Almeida, Baquero and Fonte
-/// published it (2008), the text is this crate's.
+/// The text of the stamp, also if it is too large to be read again. The form of the stamp is that of Almeida, Baquero and
+/// Fonte (2008). Its spelling is this crate's.
 ///
-/// `Memory`: there was none for the text.
+/// Returns `Memory` if it runs out of memory for the text.
 pub fn write_stamp(alloc: Global, stamp: &Stamp) -> Result<Vec<u8>, Memory>
     ensures { IfOk result (λ text. text.items ≡ stamp_as_text stamp.now) }
 {
     write_parts(alloc, &stamp.id, &stamp.tree)
 }
 
-/// The text of the stamp that has this id and this tree, as `write_stamp` gives it.
+/// The text of the stamp that has this id and this tree, as [`write_stamp`] gives it.
 ///
-/// `Memory`: there was none for the text.
+/// Returns `Memory` if it runs out of memory for the text.
 pub fn write_parts(alloc: Global, id: &IdTree, tree: &EvTree) -> Result<Vec<u8>, Memory>
     ensures { IfOk result (λ text. text.items ≡ text_of_parts id.now tree.now) }
 {

@@ -1,4 +1,4 @@
-//! The two halves of a connection.
+//! Halves of connections.
 
 use crate::place::Place;
 use std::alloc::Global;
@@ -15,16 +15,15 @@ struct Connection {
     place: Place,
 }
 
-/// One half of a connection: what is read from it, or what is written to it. Once both are dropped the connection is
-/// closed.
+/// One half of a connection: what is read from it, or what is written to it. It is closed once both are dropped.
 #[derive(Drop)]
 pub struct Half {
     connection: Arc<Connection>,
 }
 
 impl Half {
-    /// Both halves of the connection with this stream, which keeps the place until they are dropped. Where a request for
-    /// memory is refused the connection is closed.
+    /// Both halves of the connection with this stream, which keeps the place until both are dropped. Returns `Memory`,
+    /// and closes the connection, if it runs out of memory.
     pub(crate) fn both(
         alloc: Global,
         stream: TcpStream,

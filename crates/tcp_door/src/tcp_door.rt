@@ -1,4 +1,4 @@
-//! A door over a listener.
+//! Doors over TCP listeners.
 ghost use Rattle.std.specs.Prelude.{◌≡◌, ◌+◌, ◌≤◌, IfOk, IfNone, MatchResult, MatchOption, IsTrue, false, if◌then◌else◌};
 
 use crate::Half;
@@ -12,10 +12,10 @@ use std::sync::{Arc, Wait};
 use trace_session::{Door, DoorFault};
 use trace_types::Memory;
 
-/// How many connections are open at once at most, so that there are files left for them.
+/// The most connections that are open at once, so that files are left for others.
 const MOST_OPEN: u64 = 256;
 
-/// What is read of a connection, and what is written to it.
+/// What is read from a connection, and what is written to it.
 type Ends = (FromReader<Half>, Buffered<IntoWriter<Half>>);
 
 /// Why there is no door.
@@ -23,14 +23,14 @@ type Ends = (FromReader<Half>, Buffered<IntoWriter<Half>>);
 pub enum DoorRefusal {
     /// The port could not be bound.
     Port,
-    /// A request for memory was refused.
+    /// It ran out of memory.
     Memory,
 }
 
-/// Gives the connections that are made to one port of 127.0.0.1, and closes after so many.
+/// Gives the connections that are made to one port of 127.0.0.1, and closes after as many as it was opened for.
 ///
-/// Of these 256 are open at once at most; the next one waits until one is closed. A connection that was broken off before it
-/// could be given, or for which there is no memory, is passed over.
+/// At most 256 connections are open at once, and the next one waits until one is closed. A connection is passed over if
+/// it was broken off before it could be given, or if it runs out of memory.
 #[derive(Drop)]
 pub struct TcpDoor {
     listener: TcpListener,
@@ -43,7 +43,9 @@ pub struct TcpDoor {
 }
 
 impl TcpDoor {
-    /// Listens at this port of 127.0.0.1, for so many connections at most. Want of memory comes first.
+    /// Listens at this port of 127.0.0.1, for at most `most` connections.
+    ///
+    /// Returns `Memory` if it runs out of memory, else `Port` if the port cannot be bound.
     pub fn open<R: Net<Listener = TcpListener, Stream = TcpStream>>(
         rt: &R,
         alloc: Global,
@@ -114,8 +116,8 @@ impl Door for TcpDoor {
     }
 }
 
-/// The ends of the connection with this stream, which has this place. Replies are small and are waited for, so none is held
-/// back by the system.
+/// The ends of the connection with this stream, which has this place. Replies are short and are waited for, so the system
+/// is told to hold none back.
 fn ends_of(alloc: Global, stream: TcpStream, place: Place) -> Result<Ends, Memory> {
     let _ = stream.set_nodelay(true);
     let (reader, writer) = Half::both(alloc, stream, place)?;

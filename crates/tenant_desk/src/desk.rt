@@ -1,4 +1,4 @@
-//! The desk of a tenant, which alone takes its reports.
+//! Desks, which alone take the reports of their tenants.
 ghost use Rattle.std.specs.Prelude.{◌≡◌, ◌∷◌, ◌++◌, [], true, false, IfOk};
 ghost use Rattle.trace_types.specs.tenant.Tenant.{AreLegal, Steps, fresh, is_report};
 ghost use Rattle.trace_types.specs.text.Text.{CanBeWritten};
@@ -14,7 +14,7 @@ use std::sync::{Arc, Wait};
 use tenant_ledger::{Keep, Ledger, Prepared, Share, Shared};
 use trace_types::{Code, Limits, Memory, Reply, Request};
 
-/// What a desk works with: the tenant's ledger, what its trees are kept with, and what its views see.
+/// What a desk works with: the tenant's ledger, what keeps its trees, and what its views see.
 struct Work {
     ledger: Ledger<Arc<Shared>>,
     shared: Arc<Shared>,
@@ -33,7 +33,7 @@ impl Model for Work {
     ghost invariant = { λ w. AllArePublished (⟦<Shared as Keep>⟧.home (arc_value w.shared)) w.ledger w.publisher };
 }
 
-/// What is to be published of a report. `Memory` where its tree or its id cannot be kept once more.
+/// What is to be published of a report. Returns `Memory` if its tree or its id cannot be kept once more.
 fn event_of<R: Wait>(
     rt: &R,
     alloc: Global,
@@ -52,7 +52,7 @@ fn event_of<R: Wait>(
     })
 }
 
-/// Publishes the report and commits it; abandons it, with `NoMemory`, where it cannot be published.
+/// Publishes the report and commits it. If it cannot be published, it is abandoned with `NoMemory`.
 fn accept<R: Wait>(
     rt: &R,
     alloc: Global,
@@ -86,7 +86,7 @@ fn accept<R: Wait>(
 }
 
 impl Work {
-    /// Takes one request. A report is written, so that its row is legal.
+    /// Takes one request. A report can be written, so its row is legal.
     fn call<R: Wait>(self, rt: &R, request: &Request) -> (Work, Reply)
         ensures steps { Steps self.tenant request.now result.1 result.0.tenant }
         ensures legal { AreLegal result.0.tenant.limits result.0.tenant.rows }
@@ -114,7 +114,7 @@ impl Work {
         }
     }
 
-    /// Takes a report: what is accepted was published before it was committed.
+    /// Takes a report. An accepted one is published before it is committed.
     fn report<R: Wait>(self, rt: &R, request: &Request) -> (Work, Reply)
         requires report { is_report request.now ≡ true }
         requires written { CanBeWritten request.now }
@@ -150,7 +150,7 @@ impl Work {
         }
     }
 
-    /// Ends what it has.
+    /// Ends the publisher, and drops the rest.
     fn close<R: Wait>(self, rt: &R) {
         let Work {
             ledger: _,
@@ -162,12 +162,12 @@ impl Work {
     }
 }
 
-/// The desk of a tenant: it alone takes the tenant's reports, and shows the accepted ones to its [`Views`].
+/// The desk of a tenant. It alone takes the tenant's reports, and shows the accepted ones to its [`Views`].
 ///
-/// Contracts see the tenant, the rows that are shown, and the log in which they stand. It is no value that may be dropped:
-/// end it by [`Desk::close`].
+/// Contracts see the tenant, the rows that are shown, and the log that has them. A desk cannot be dropped: end it by
+/// [`Desk::close`].
 pub struct Desk {
-    /// It is there but for the time of a report, which moves it.
+    /// It is there except during a report, which moves it.
     work: Option<Work>,
 }
 
@@ -183,12 +183,12 @@ impl Model for Desk {
 }
 
 impl Desk {
-    /// Takes one request as the tenant's ledger does. A report that is accepted was published before the call returns; it
+    /// Takes one request as the tenant's ledger does. An accepted report is published before the call returns. The call
     /// waits for views that still read what was published before the last report.
     ///
-    /// A request is refused with the first code that applies of those that `refusals` of `trace_types` has for it, and
-    /// last with `NoMemory` (507), where a request for memory was refused: a report, `past`, `concurrent`, `cut`, `stamp` or
-    /// `message`. A refused request changes nothing, and may be asked again.
+    /// A request is refused with the first code that applies of those that `refusals` of `trace_types` has for it. Else a
+    /// report, `past`, `concurrent`, `cut`, `stamp` or `message` is refused with `NoMemory` (507) if it runs out of
+    /// memory. A refused request changes nothing, and may be made again.
     pub fn call<R: Wait>(&mut self, rt: &R, request: &Request) -> Reply
         ensures steps { Steps self.old.tenant request.now result self.new.tenant }
         ensures legal { AreLegal self.new.tenant.limits self.new.tenant.rows }
@@ -206,7 +206,7 @@ impl Desk {
         reply
     }
 
-    /// Tells of all rows that were accepted. It takes no memory, and constant time.
+    /// Tells of all accepted rows. It takes constant time and no memory.
     pub fn tell(&self) -> Told
         ensures { result ≡ record { rows = self.now.tenant.rows; book = self.now.book } }
     {
@@ -216,7 +216,7 @@ impl Desk {
         work.tell()
     }
 
-    /// Ends the desk. Its views see nothing any more; it waits for those that still read.
+    /// Ends the desk. It waits for views that still read. From then on its views answer every query with `NoPlace` (422).
     pub fn close<R: Wait>(self, rt: &R) {
         let Desk { work } = self;
         if let Some(work) = work {
@@ -225,7 +225,9 @@ impl Desk {
     }
 }
 
-/// A desk of a tenant without rows, and its views. `Memory` where a request for memory was refused.
+/// A desk of a tenant without rows, and its eight views. Returns `Memory` if it runs out of memory.
+///
+/// It takes room for as many events, tasks and messages as the limits allow.
 pub fn desk_and_views<R: Wait>(
     rt: &R,
     alloc: Global,

@@ -1,4 +1,4 @@
-//! What is published of one event.
+//! Published events.
 ghost use Rattle.std.specs.Prelude.{◌≡◌, IfOk};
 
 use event_tree::EvTree;
@@ -7,25 +7,24 @@ use trace_query::Deciding;
 use trace_types::{Memory, Row};
 use tree_forest::Tree;
 
-/// What is published of one event: its row, what it knows, a point that it raised, which event started its task, and the id
-/// of its task after it.
+/// What is published of one event.
 #[derive(Drop)]
 pub struct Event {
     /// The row of the event.
     pub row: Row,
-    /// What the event knows, with itself.
+    /// What the event knows, itself included.
     pub tree: Tree<EvTree>,
-    /// A point that the event raised, where one was found.
+    /// A point that the event raised, if one was found.
     pub point: Option<Deciding>,
-    /// The event that started its task, or 0.
+    /// The event that started the event's task, or 0.
     pub start: u64,
-    /// The id that its task has after it.
+    /// The id that the event's task has after it.
     pub id: Tree<IdTree>,
 }
 
 impl Event {
-    /// The same event once more. It takes no memory; `Memory` where one of its trees would stand in more places than can
-    /// be counted.
+    /// An equal event. It takes no block of memory. Returns `Memory` if one of its trees would stand in more places than
+    /// can be counted.
     pub fn share(&self) -> Result<Event, Memory>
         ensures { IfOk result (λ event. event ≡ self.now) }
     {

@@ -1,4 +1,4 @@
-//! What is published of a tenant's events, and the answers at it.
+//! What is published of a tenant's events, and the answers from it.
 ghost use Rattle.std.specs.Prelude.{◌≡◌, ◌↔◌, ◌<◌, ◌∷◌, suc, length, map, slice_get, Some, is_some, IfSome, IfOk, IfErr, IsOk, MatchResult};
 ghost use Rattle.trace_types.specs.tenant.Rows.{History, history_of, is_event, task_count, message_count};
 ghost use Rattle.trace_types.specs.tenant.Tenant.{Answers, reply_to_view};
@@ -27,15 +27,14 @@ use trace_types::{
 };
 use tree_forest::{Home, Tree};
 
-/// The events of one tenant that are published: of each its row, what it knows, a point that it raised, which event started
-/// its task, and the id of its task after it.
+/// The published events of one tenant, each with all that an [`Event`] has.
 ///
-/// Room for as many events as the tenant may have, and for the names of its tasks and messages, is taken when it is made, so
-/// that a change takes no memory.
+/// Room for as many events as the tenant may have is taken when this is made, and so is room for names. So a change takes
+/// no memory.
 #[derive(Drop)]
 pub struct Events {
     limits: Limits,
-    /// Where the trees are to lie.
+    /// The home in which the trees are to lie.
     home: Home,
     rows: Vec<Row>,
     trees: Vec<Tree<EvTree>>,
@@ -43,7 +42,7 @@ pub struct Events {
     /// The event that started each event's task, or 0.
     starts: Vec<u64>,
     ids: Vec<Tree<IdTree>>,
-    /// Tasks and messages by name. There is none after events were taken away, until the next one is added.
+    /// Tasks and messages by name. It is missing after events were taken away, until the next one is added.
     index: Option<Index>,
     alloc: Global,
     /// How many tasks there ever were, root included.
@@ -78,7 +77,7 @@ impl Model for Events {
 }
 
 impl Events {
-    /// No events, with room for as many as the limits allow. `Memory` where a request for memory was refused.
+    /// No events, with room for as many as the limits allow. Returns `Memory` if it runs out of memory.
     pub fn new(alloc: Global, limits: Limits, home: Home) -> Result<Events, Memory>
         ensures { IfOk result (λ events. events ≡ no_events home limits) }
     {
@@ -119,7 +118,7 @@ impl Events {
         self.rows.len()
     }
 
-    /// Keeps the first so many events. It takes no memory.
+    /// Keeps the first `count` events. It takes no memory.
     pub fn truncate(&mut self, count: usize)
         ensures { self.new ≡ first_events count self.old }
     {
@@ -135,8 +134,8 @@ impl Events {
         }
     }
 
-    /// Keeps the first so many events, and adds this one behind them. It needs no memory; `Memory` where there is no room
-    /// for it, since it is above the limit.
+    /// Keeps the first `before` events, and adds this one behind them. It needs no memory. Returns `Memory` if the event
+    /// is above the limit.
     pub fn put(&mut self, before: usize, event: Event) -> Result<(), Memory>
         ensures room { IsOk result ↔ (before < self.old.limits.events) }
         ensures events { MatchResult result
@@ -154,7 +153,7 @@ impl Events {
         Ok(())
     }
 
-    /// Makes the index anew where there is none, if there is memory for it.
+    /// Makes the index anew if there is none, and if there is memory for it.
     fn restore_index(&mut self)
         ensures { self.new ≡ self.old }
     {
@@ -186,8 +185,10 @@ impl Events {
         self.ids.push_reserved(event.id);
     }
 
-    /// Answers a query as the tenant is due of whom these are the events, and refuses every report with `ViewOnly` (410).
-    /// Only `past`, `concurrent`, `cut`, `stamp` and `message` take memory, and may be refused with `NoMemory` (507).
+    /// Answers a query as is due to a tenant with these events, and refuses every report with `ViewOnly` (410).
+    ///
+    /// `past`, `concurrent`, `cut`, `stamp` and `message` are refused with `NoMemory` (507) if they run out of memory.
+    /// The others take none.
     pub fn answer<C: Compare<Kept = Tree<EvTree>>>(
         &self,
         compare: &C,
@@ -216,7 +217,7 @@ impl Events {
         }
     }
 
-    /// The same, where orders are looked up in the cache of what all tenants share.
+    /// Answers as [`Events::answer`] does, and looks orders up in the cache that all tenants share.
     pub fn answer_cached<R: Wait>(
         &self,
         rt: &R,
@@ -246,7 +247,7 @@ impl Events {
         }
     }
 
-    /// The same, by the trees and the cache.
+    /// How the first event stands to the second, by the trees and the cache.
     #[inline(always)]
     fn order_kept<R: Wait>(&self, rt: &R, shared: &Shared, first: u64, second: u64) -> Reply
         requires sound { AreSound self.now }
@@ -303,7 +304,7 @@ impl Events {
         &self.trees
     }
 
-    /// A point that each event raised, with the value there, where one was found, in the order of the events.
+    /// A point that each event raised with the value there, in the order of the events. Some events have none.
     fn points(&self) -> &[Option<Deciding>]
         ensures { result.now ≡ self.now.points }
     {
@@ -317,7 +318,7 @@ impl Events {
         &self.starts
     }
 
-    /// What the event in this place knows.
+    /// What the event at this place knows.
     fn tree(&self, place: usize) -> &EvTree
         requires { place < length self.now.trees }
         ensures { slice_get self.now.trees place ≡ Some result.now }
@@ -325,7 +326,7 @@ impl Events {
         self.trees[place].value()
     }
 
-    /// The id of its task after the event in this place.
+    /// The id that the task of the event at this place has after it.
     fn id(&self, place: usize) -> &IdTree
         requires { place < length self.now.ids }
         ensures { slice_get self.now.ids place ≡ Some result.now }
@@ -333,7 +334,7 @@ impl Events {
         self.ids[place].value()
     }
 
-    /// The place of the event in the lists, where there is such an event.
+    /// The place of the event in the lists, if there is such an event.
     fn place_of(&self, event: u64) -> Option<usize>
         ensures there { is_some result ≡ is_event (history_of self.now.rows) event }
         ensures place { IfSome result (λ place. (event ≡ suc place) × (place < length self.now.rows)) }
@@ -395,8 +396,8 @@ impl Events {
         }
     }
 
-    /// How far the task has come, and its last event, else the event that started it, else 0; `None` where there is no such
-    /// task.
+    /// How far the task has come, and its last event, else the event that started it, else 0. It is `None` if there is no
+    /// such task.
     #[inline(always)]
     fn found_task(&self, name: &Name) -> Option<(TaskState, u64)>
         requires { AreSound self.now }
@@ -408,7 +409,8 @@ impl Events {
         }
     }
 
-    /// The event that sent the message, and the first and the last that received it; `None` where there is no such message.
+    /// The event that sent the message, and the first and the last that received it. It is `None` if there is no such
+    /// message.
     #[inline(always)]
     fn found_message(&self, name: &Name) -> Option<(u64, Option<Span>)>
         requires { AreSound self.now }
@@ -429,7 +431,7 @@ impl Events {
     }
 }
 
-/// The index with the row of this event, if there is room in it.
+/// Adds the row of this event to the index. The index goes if there is no room in it.
 fn note(index: &mut Option<Index>, row: &Row, event: u64)
     ensures { (history : History) → IfSome index.old (IsIndexOf history) → event ≡ suc (length history) → IfSome index.new (IsIndexOf (row.now ∷ history)) }
 {

@@ -1,4 +1,4 @@
-//! A desk's rows as a log that only grows, and how far it is known.
+//! The rows of a desk as a log that only grows, and how far a log is known.
 ghost use Rattle.std.specs.Prelude.{◌≡◌, ◌<◌, [], length, IfSome, MatchBool};
 ghost use mathlib.Core.List.{IsPrefix};
 ghost use Rattle.tenant_desk.specs.Histories.{head_of, longer_by};
@@ -54,12 +54,12 @@ impl Plain<Row, Row, u64> for Adding {
     ghost state = { λ row. None };
 }
 
-/// The length of a log, which alone is stored of it.
+/// The length of a log. Nothing else is stored of a log.
 pub(crate) type Head = Word<Row, u64, Counted>;
 
-/// The rows of a log up to some point, which the log has reached. A clause sees the rows and which log it is.
+/// The rows of a log up to some point, which the log has reached. A clause sees the rows, and which log it is.
 ///
-/// It is their number, and takes no memory.
+/// It is the number of the rows, and takes no memory.
 #[derive(Drop)]
 pub(crate) struct Front {
     count: u64,
@@ -90,7 +90,7 @@ pub(crate) fn new_log() -> (Head, Front)
 }
 
 impl Front {
-    /// The same once more.
+    /// An equal value. It takes no memory.
     pub(crate) fn again(&self) -> Front
         ensures { result ≡ self.now }
     {
@@ -100,7 +100,8 @@ impl Front {
         }
     }
 
-    /// Whether the other, of the same log, is no longer than this one, which then begins with it. Else it begins with this.
+    /// Whether the other, of the same log, is no longer than this one. Then this one begins with the other, else the
+    /// other begins with this one.
     pub(crate) fn covers(&self, other: &Front) -> bool
         requires { other.now.book ≡ self.now.book }
         ensures { MatchBool result (IsPrefix other.now.rows self.now.rows)
@@ -111,7 +112,7 @@ impl Front {
         other.count <= self.count
     }
 
-    /// Adds a row to the log; `None` where there is a row behind these already, or no room for a number.
+    /// Adds a row to the log. Returns `None` if there is a row behind these already, or no number is left.
     pub(crate) fn grown(&self, head: &Head, row: &Row) -> Option<Front>
         requires { head.now ≡ head_of self.now.book }
         ensures { IfSome result (λ front. front ≡ longer_by row.now self.now) }

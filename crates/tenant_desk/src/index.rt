@@ -12,17 +12,17 @@ use trace_types::{Kind, Limits, Memory, Name, Row, TaskState};
 
 /// What the rows say of each task and of each message, by its name.
 ///
-/// Room for as many as the tenant may have is taken when it is made.
+/// Room for as many as the tenant may have is taken when this is made.
 #[derive(Drop)]
 pub(crate) struct Index {
-    /// How far each task has come, and its last event, else the one that started it, else 0.
+    /// How far each task has come, and its last event, else the event that started it, else 0.
     tasks: IndexMap<Name, (TaskState, u64)>,
     /// The event that sent each message, and the first and the last that received it, if one did.
     messages: IndexMap<Name, (u64, Option<Span>)>,
 }
 
 impl Index {
-    /// The index of no rows. `Memory` where a request for memory was refused.
+    /// The index of no rows. Returns `Memory` if it runs out of memory.
     pub(crate) fn new(alloc: Global, limits: Limits) -> Result<Index, Memory>
         ensures { IfOk result (IsIndexOf []) }
     {
@@ -36,8 +36,8 @@ impl Index {
         })
     }
 
-    /// Notes the row of this event, and says whether there was room for what it names. Where there was not the index is of no
-    /// use any more.
+    /// Notes the row of this event, and says whether there was room for what the row names. If there was none, the index
+    /// is of no more use.
     pub(crate) fn add(&mut self, row: &Row, event: u64) -> bool
         ensures { IsTrue result → NotesRow task_after row.now event self.old self.new }
     {
@@ -49,7 +49,7 @@ impl Index {
             )
     }
 
-    /// Notes what the row says of the task or the message that it names, likewise.
+    /// Notes what the row says of the task or the message that it names, and says whether there was room.
     fn add_named(&mut self, row: &Row, event: u64) -> bool
         ensures { IsTrue result → NotesRow naming_after row.now event self.old self.new }
     {

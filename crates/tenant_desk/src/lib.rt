@@ -1,9 +1,26 @@
-//! One tenant over threads: a desk takes its reports, and up to eight views answer beside it, each at a published list, and
-//! wait for nobody.
+//! One tenant over threads: a desk takes its reports, and up to eight views answer beside the desk.
 //!
-//! The one contract: [`Desk::call`] is one step of the tenant alone, or want of memory where that may be, and at its return
-//! the views see all accepted rows; [`View::ask`] answers as the tenant is due at a legal list that begins with each list
-//! that the view saw or was told of. `specs/Views.antt` and `specs/Desks.antt` define what contracts see of both.
+//! Use it if other threads are to ask about events while reports come in. A view waits for nobody.
+//!
+//! The contract that carries it: [`Desk::call`] is one step of the tenant alone, or it runs out of memory and changes
+//! nothing. When it returns, the views see all accepted rows. [`View::ask`] answers as the tenant is due at a legal list
+//! of rows. A view never goes back: that list begins with every list that the view saw or was told of. `specs/Views.antt`
+//! and `specs/Desks.antt` define what contracts see of both.
+//!
+//! ```
+//! use std::sync::Arc;
+//! use tenant_desk::desk_and_views;
+//! use tenant_ledger::Shared;
+//! use trace_types::{Limits, Name, Reply, Request};
+//!
+//! let shared = Arc::new(alloc, Shared::new(alloc, 1024)?)?;
+//! let (mut desk, mut views) = desk_and_views(&rt, alloc, Limits::default(), shared)?;
+//! let reply = desk.call(&rt, &Request::Local(Name::root()));
+//! let seen = views.view().map(|mut view| view.ask(&Request::Count));
+//! desk.close(&rt);
+//! assert_eq!(rt; reply, Reply::Accepted(1));
+//! assert!(rt; seen == Some(Reply::Count(1, 1, 0)));
+//! ```
 #![tactic(auto)]
 
 mod desk;

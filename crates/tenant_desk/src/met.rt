@@ -50,7 +50,7 @@ impl Met {
         Met { lists: None }
     }
 
-    /// Both lists are put together.
+    /// Puts the two lists together.
     pub(crate) fn put(&mut self, told: &Front, seen: &Front)
         ensures { self.new ≡ told.now.rows ∷ seen.now.rows ∷ self.old }
     {
@@ -62,7 +62,7 @@ impl Met {
         self.lists = Some(Snapshot::of(&together));
     }
 
-    /// A list was entered.
+    /// Forgets the lists, as a list was entered.
     pub(crate) fn clear(&mut self)
         ensures { self.new ≡ [] }
     {

@@ -1,4 +1,4 @@
-//! What a desk publishes, and what it does to it.
+//! What a desk publishes, and what changes it.
 ghost use Rattle.std.specs.Prelude.{◌≡◌, IfOk};
 ghost use Rattle.tenant_desk.specs.Publications.{left_by};
 
@@ -8,14 +8,14 @@ use crate::front::Front;
 use left_right::Absorb;
 use std::alloc::AllocError;
 
-/// The events of a tenant, and how far they are in its log.
+/// The events of a tenant, and how far they go in its log.
 #[derive(Drop)]
 pub(crate) struct Published {
     pub(crate) events: Events,
     pub(crate) front: Front,
 }
 
-/// Keeps the first `before` events, and puts its own behind them, where it has one. `front` is how far the log is then.
+/// Keeps the first `before` events, and puts its own behind them, if it has one. `front` is how far the log is then.
 #[derive(Drop)]
 pub(crate) struct Operation {
     pub(crate) before: usize,

@@ -28,7 +28,7 @@ pub(crate) type DeskReading = Reading<Published, Knows, Publishing>;
 
 /// Shows the events of one tenant to its views. Contracts see what is shown.
 ///
-/// It is no value that may be dropped: end it by [`Publisher::close`].
+/// It cannot be dropped: end it by [`Publisher::close`].
 pub(crate) struct Publisher {
     writer: DeskWriter,
     head: Head,
@@ -71,7 +71,7 @@ fn leave(writer: &mut DeskWriter, operation: Operation) -> bool
     true
 }
 
-/// Shows what the operation makes, and says whether it did: not where there is no memory.
+/// Shows what the operation makes, and says whether it did. It does not if it runs out of memory.
 fn show<R: Wait>(rt: &R, writer: DeskWriter, operation: Operation) -> (DeskWriter, bool)
     requires ready { MayPublish writer.desk.shown.value (known_at writer.desk.place) (drop writer.behind writer.log.items) }
     requires operation { IsFor writer.desk.shown.value operation }
@@ -88,7 +88,7 @@ fn show<R: Wait>(rt: &R, writer: DeskWriter, operation: Operation) -> (DeskWrite
     }
 }
 
-/// An operation that changes nothing of what has no events.
+/// An operation that changes nothing if there are no events.
 fn still(front: &Front) -> Operation
     ensures { result ≡ record { before = 0; event = None; front = front.now } }
 {
@@ -99,7 +99,7 @@ fn still(front: &Front) -> Operation
     }
 }
 
-/// Has the writer know of what it shows, and says whether it does.
+/// Has the writer know what it shows, and says whether it does.
 fn look<R: Wait>(rt: &R, writer: DeskWriter) -> (DeskWriter, bool)
     requires sound { IsPublished writer.desk.shown.value }
     requires waiting { drop writer.behind writer.log.items ≡ [] }
@@ -112,8 +112,8 @@ fn look<R: Wait>(rt: &R, writer: DeskWriter) -> (DeskWriter, bool)
     }
 }
 
-/// Shows thrice what is shown, at the end with one operation more waiting than later reports ever leave, so that there is
-/// room for those; says whether it did.
+/// Shows three times what is shown, and says whether it did. At the end one operation more waits than later reports ever
+/// leave, so there is room for those.
 #[tactic(auto, using(crate::proofs::Publishing::is_for_none))]
 fn warm_up<R: Wait>(rt: &R, writer: DeskWriter, front: &Front) -> (DeskWriter, bool)
     requires sound { IsPublished writer.desk.shown.value }
@@ -157,7 +157,7 @@ fn new_writer(
 }
 
 impl Publisher {
-    /// Shows no events. `Memory` where a request for memory was refused: all that reports take later is taken here.
+    /// Shows no events. Returns `Memory` if it runs out of memory. All memory that publishing takes later is taken here.
     pub(crate) fn new<R: Wait>(
         rt: &R,
         alloc: Global,
@@ -188,7 +188,7 @@ impl Publisher {
         &self.front
     }
 
-    /// A place to read from, which knows of what is shown. `Memory` where there is none, or it cannot be had.
+    /// A place to read from, which knows what is shown. Returns `Memory` if there is none, or no memory for it.
     pub(crate) fn reader(&mut self) -> Result<DeskReader, Memory>
         ensures same { self.new ≡ self.old }
         ensures knows { IfOk result (λ reader. known_at reader.place ≡ Some (sight_of self.old)) }
@@ -199,7 +199,7 @@ impl Publisher {
         Ok(reader)
     }
 
-    /// Shows the next event too, and says whether it did. It takes no memory that was not taken when this was made.
+    /// Shows the next event too, and says whether it did. It takes no memory beyond what was taken when this was made.
     pub(crate) fn publish<R: Wait>(self, rt: &R, event: Event) -> (Publisher, bool)
         requires { IsNext self.events event }
         ensures { MatchBool result.1 (result.0 ≡ with_next event self) (result.0 ≡ self) }
@@ -233,7 +233,7 @@ impl Publisher {
         (publisher, shown)
     }
 
-    /// Waits for the views that read, and shows nothing any more.
+    /// Waits for the views that read. From then on it shows nothing.
     pub(crate) fn close<R: Wait>(self, rt: &R) {
         let Publisher {
             writer,

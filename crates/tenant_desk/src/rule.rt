@@ -7,7 +7,7 @@ use crossbeam_utils::rule::{Outcome, Protocol};
 use trace_types::Limits;
 use tree_forest::Home;
 
-/// What a place saw of what is published: how far the rows went, and of which desk they were. It exists in proofs alone.
+/// What a place saw of what is published: how far the rows went, and of which desk. It exists in proofs alone.
 #[derive(Drop)]
 pub(crate) struct Sight {
     pub(crate) front: Front,

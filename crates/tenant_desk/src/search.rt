@@ -1,4 +1,4 @@
-//! What the rows say of a task or of a message, by one search from the newest row to the oldest, where there is no index.
+//! What the rows say of a task or of a message, if there is no index. It is one search from the newest row to the oldest.
 ghost use Rattle.std.specs.Prelude.{◌≡◌, IfOk};
 ghost use Rattle.trace_types.specs.tenant.Rows.{history_of, names, receipts};
 ghost use Rattle.tenant_ledger.specs.Legal.{IsLegal};
@@ -8,8 +8,8 @@ use crate::span::Span;
 use std::alloc::Global;
 use trace_types::{Kind, Memory, Name, Receipts, Row, TaskState};
 
-/// How far the task has come, and its last event, else the event that started it, else 0; `None` where there is no such
-/// task. The search ends at the newest row that is of the task or started it.
+/// How far the task has come, and its last event, else the event that started it, else 0. It is `None` if there is no
+/// such task. The search ends at the newest row that is of the task or started it.
 pub(crate) fn task_in(rows: &[Row], task: &Name) -> Option<(TaskState, u64)>
     requires { IsLegal (history_of rows.now) }
     ensures { result ≡ task_due (history_of rows.now) task.now }
@@ -33,8 +33,8 @@ pub(crate) fn task_in(rows: &[Row], task: &Name) -> Option<(TaskState, u64)>
     }
 }
 
-/// The event that sent the message, and the first and the last that received it; `None` where there is no such message.
-/// The search ends at the row that sent it.
+/// The event that sent the message, and the first and the last that received it. It is `None` if there is no such
+/// message. The search ends at the row that sent it.
 pub(crate) fn message_in(rows: &[Row], message: &Name) -> Option<(u64, Option<Span>)>
     requires { IsLegal (history_of rows.now) }
     ensures { result ≡ message_due (history_of rows.now) message.now }
@@ -53,8 +53,8 @@ pub(crate) fn message_in(rows: &[Row], message: &Name) -> Option<(u64, Option<Sp
     None
 }
 
-/// The events that received the message, where their span is given: no row outside it is looked at. `Memory` where a
-/// request for memory was refused; one receipt takes none.
+/// The events that received the message, if this is their span. It looks at no row outside the span. Returns `Memory` if
+/// it runs out of memory. One receipt takes none.
 pub(crate) fn receipts_in(
     alloc: Global,
     rows: &[Row],
@@ -76,7 +76,7 @@ pub(crate) fn receipts_in(
     Ok(found)
 }
 
-/// How far a task has come whose last report is of this kind.
+/// How far a task has come if its last report is of this kind.
 pub(crate) fn state_at(joined: bool, last: Kind) -> TaskState
     ensures { result ≡ state_at joined last }
 {

@@ -1,4 +1,4 @@
-//! Where the receipts of a message lie.
+//! Spans of receipts.
 ghost use Rattle.std.specs.Prelude.{◌≡◌};
 ghost use Rattle.tenant_desk.specs.Searches.{with_earlier, with_later};
 
@@ -10,7 +10,7 @@ pub(crate) struct Span {
 }
 
 impl Span {
-    /// The span of an event and of those before it, where there are any.
+    /// The span of an event and of the earlier ones, if there are any.
     #[inline(always)]
     pub(crate) fn with_later(earlier: Option<Span>, event: u64) -> Span
         ensures { result ≡ with_later earlier event }
@@ -27,7 +27,7 @@ impl Span {
         }
     }
 
-    /// The span of an event and of those behind it, where there are any.
+    /// The span of an event and of the later ones, if there are any.
     #[inline(always)]
     pub(crate) fn with_earlier(later: Option<Span>, event: u64) -> Span
         ensures { result ≡ with_earlier later event }

@@ -1,11 +1,11 @@
-//! What a desk tells.
+//! What desks tell.
 
 use crate::front::Front;
 use std::marker::Model;
 
-/// The rows of a desk when it told of them. A clause sees them, and in which log they stand.
+/// The rows that a desk had when it told of them. A clause sees the rows, and which log has them.
 ///
-/// It is their number, and takes no memory.
+/// It is the number of the rows, and takes no memory.
 #[derive(Drop)]
 pub struct Told {
     pub(crate) front: Front,

@@ -1,4 +1,4 @@
-//! A view of a tenant, which answers beside its desk.
+//! Views, which answer beside a desk.
 ghost use Rattle.std.specs.Prelude.{◌≡◌, [], IfOk, MatchResult};
 ghost use Rattle.std.specs.Arc.{arc_value};
 ghost use Rattle.left_right.specs.Sides.{view as known_at};
@@ -17,14 +17,14 @@ use std::sync::{Arc, Wait};
 use tenant_ledger::{Keep, Shared};
 use trace_types::{Code, Limits, Memory, Reply, Request};
 
-/// A view of a tenant: it answers at a list that its desk published, and never goes back behind one that it saw or was
-/// told of.
+/// A view of a tenant. It answers at a list of rows that the desk published. It never goes back behind a list that it saw
+/// or was told of.
 ///
-/// Contracts see the rows that it knows of, the lists that were put together since it last entered, the limits of the
-/// tenant, and the log in which the rows stand.
+/// Contracts see the rows that it knows of, and the lists that were put together since it last entered. They also see the
+/// limits of the tenant, and the log that has the rows.
 #[derive(Drop)]
 pub struct View {
-    /// It is there but for the time of an answer, which moves it.
+    /// It is there except during an answer, which moves it.
     reader: Option<DeskReader>,
     seen: Front,
     met: Met,
@@ -48,7 +48,7 @@ impl Model for View {
         × elim v.reader [ None ↦ ⊥ | Some reader ↦ IsOfDesk v.seen.book v.limits (⟦<Shared as Keep>⟧.home (arc_value v.shared)) (known_at reader.place) ] };
 }
 
-/// Enters what is published. The reader comes back where the desk is gone, or where less is published than was seen.
+/// Enters what is published. The reader comes back if the desk is gone, or if less is published than was seen.
 #[tactic(auto, using(crate::proofs::Viewing::entered_log, crate::proofs::Viewing::stays_of))]
 fn enter(reader: DeskReader, seen: &Front) -> Result<DeskReading, DeskReader>
     requires { IsOfLog seen.now.book (known_at reader.place) }
@@ -74,7 +74,7 @@ fn leave(reading: DeskReading) -> (DeskReader, Front)
 }
 
 impl View {
-    /// A view of what is shown, which has seen all of it. `Memory` where there is no place to read from, or none can be had.
+    /// A view that has seen all that is shown. Returns `Memory` if there is no place to read from, or no memory for it.
     pub(crate) fn new(
         alloc: Global,
         limits: Limits,
@@ -111,11 +111,11 @@ impl View {
         }
     }
 
-    /// Answers a query at the list that is published then. It waits for nobody, and passes the cache by.
+    /// Answers a query at the list that is published then. It waits for nobody, and does not use the cache.
     ///
-    /// A report is refused with `ViewOnly` (410), and a query where its desk is gone with `NoPlace` (422); then the view is
-    /// as before. Only `past`, `concurrent`, `cut`, `stamp` and `message` take memory, and may be refused with `NoMemory`
-    /// (507).
+    /// A report is refused with `ViewOnly` (410), and a query with `NoPlace` (422) if the desk is gone. The view is then
+    /// as before. `past`, `concurrent`, `cut`, `stamp` and `message` are refused with `NoMemory` (507) if they run out of
+    /// memory. The others take none.
     #[tactic(auto, using(crate::proofs::Viewing::short_response))]
     pub fn ask(&mut self, request: &Request) -> Reply
         ensures answer { Responds self.old request.now result self.new }
@@ -156,7 +156,7 @@ impl View {
         }
     }
 
-    /// Answers as [`View::ask`] does, and looks orders up in the cache of what all tenants share.
+    /// Answers as [`View::ask`] does, and looks orders up in the cache that all tenants share.
     #[tactic(auto, using(crate::proofs::Viewing::short_response))]
     pub fn ask_cached<R: Wait>(&mut self, rt: &R, request: &Request) -> Reply
         ensures answer { Responds self.old request.now result self.new }

@@ -1,4 +1,4 @@
-//! The views of a tenant.
+//! The views that are still to be handed out.
 ghost use Rattle.std.specs.Prelude.{◌≡◌, ◌+◌, [], IfOk, MatchOption};
 ghost use Rattle.std.specs.Arc.{arc_value};
 ghost use Rattle.tenant_desk.specs.Views.{new_view};
@@ -37,7 +37,7 @@ impl Model for Views {
 }
 
 impl Views {
-    /// The views of what is shown, which has no rows.
+    /// Eight views of what is shown, which has no rows. Returns `Memory` if it runs out of memory.
     pub(crate) fn new(
         alloc: Global,
         limits: Limits,
@@ -61,7 +61,7 @@ impl Views {
         })
     }
 
-    /// Hands out a view: each of eight once, and `None` from then on.
+    /// Hands out a view: each of eight once, and then `None`. A view that is dropped does not come back.
     pub fn view(&mut self) -> Option<View>
         ensures limits { self.new.limits ≡ self.old.limits }
         ensures book { self.new.book ≡ self.old.book }

@@ -40,13 +40,13 @@ pub(crate) struct Book<S: Keep> {
     alloc: Global,
     /// What each event knows, in the order of the events.
     trees: Vec<S::Kept>,
-    /// A point that each event raised, where one was found, in the order of the events.
+    /// A point that each event raised, in the order of the events. Some events have none.
     points: Vec<Option<Deciding>>,
     /// The event that started each event's task, or 0, in the order of the events.
     starts: Vec<u64>,
     /// The place of the id of each event's task after it, in the order of the events.
     places: Vec<usize>,
-    /// Each id that some task has or had. That of `root` is kept with the first accepted report.
+    /// Each id that some task has or had. The id of `root` is kept with the first accepted report.
     ids: Vec<S::Id>,
     tasks: IndexMap<Name, Task>,
     messages: MessageBook,
@@ -91,8 +91,8 @@ impl<S: Keep> Model for Book<S> {
 }
 
 impl<S: Keep> Book<S> {
-    /// The book of a tenant that has reported nothing: it has the task `root`. The share is dropped where memory is
-    /// refused.
+    /// The book of a tenant that has reported nothing: it has the task `root`. Returns `Memory`, and drops the share, if
+    /// it runs out of memory.
     pub(crate) fn new(alloc: Global, limits: Limits, share: S) -> Result<Book<S>, Memory>
         ensures book { IfOk result IsKept }
         ensures fresh { IfOk result (λ book. tenant_of book ≡ fresh limits) }
@@ -136,7 +136,7 @@ impl<S: Keep> Book<S> {
         &self.rows
     }
 
-    /// The row of the event, where there is one.
+    /// The row of the event, if there is such an event.
     pub(crate) fn row(&self, event: u64) -> Option<&Row>
         ensures some { IfSome result (λ row. row_of (history_in self.now) event ≡ Some row.now) }
         ensures there { is_some result ≡ is_event (history_in self.now) event }
@@ -190,7 +190,7 @@ impl<S: Keep> Book<S> {
         &self.trees
     }
 
-    /// A point that each event raised, with its value there, where one was found, in the order of the events.
+    /// A point that each event raised, with the value there, in the order of the events. Some events have none.
     pub(crate) fn points(&self) -> &[Option<Deciding>]
         ensures { result.now ≡ self.now.points }
     {
@@ -243,7 +243,8 @@ impl<S: Keep> Book<S> {
         self.ids.len()
     }
 
-    /// The text of the event's stamp; `NoEvent` where there is no such event, and `NoMemory` where memory was refused.
+    /// The text of the event's stamp. Returns `NoEvent` if there is no such event, else `NoMemory` if it runs out of
+    /// memory.
     pub(crate) fn stamp_text(&self, event: u64) -> Result<Text, Code>
         requires { IsKept self.now }
         ensures there { OnOk result (is_event (history_in self.now) event ≡ true) }
@@ -258,7 +259,7 @@ impl<S: Keep> Book<S> {
         Ok(Text::from(text))
     }
 
-    /// The task of this name; `NoTask` where there is none.
+    /// The task of this name, or `NoTask` if there is none.
     pub(crate) fn task(&self, name: &Name) -> Result<Task, Code>
         ensures ok { IfOk result (λ task. task_in self.now name.now ≡ Some task) }
         ensures err { IfErr result (λ code. (code ≡ Code.NoTask) × (task_in self.now name.now ≡ None)) }
@@ -269,7 +270,7 @@ impl<S: Keep> Book<S> {
         }
     }
 
-    /// What is kept of the message of this name; `NoMessage` where none was sent.
+    /// What is kept of the message of this name, or `NoMessage` if none was sent.
     pub(crate) fn message(&self, name: &Name) -> Result<&Entry, Code>
         ensures ok { IfOk result (λ entry. entry_of self.now.messages.messages name.now ≡ Some entry.now) }
         ensures err { IfErr result (λ code. (code ≡ Code.NoMessage) × (entry_of self.now.messages.messages name.now ≡ None)) }

@@ -1,4 +1,4 @@
-//! The ledger of one tenant.
+//! Ledgers, which take and answer requests by their books.
 ghost use Rattle.std.specs.Prelude.{◌≡◌, suc, true, Some, IfOk, IfErr, IfSome, is_some, length};
 ghost use Rattle.trace_types.specs.tenant.Rows.{history_of, is_event};
 ghost use Rattle.trace_types.specs.tenant.Reachability.{order_of};
@@ -20,7 +20,7 @@ use trace_query::{
 };
 use trace_types::{Code, Limits, Memory, Name, Numbers, Reply, Request, Row};
 
-/// What one tenant has reported. Its ids and trees are kept by a share, which it owns.
+/// What one tenant has reported. The ledger owns a share, which keeps its ids and trees.
 #[derive(Drop)]
 pub struct Ledger<S: Keep = PlainShare> {
     pub(crate) book: Book<S>,
@@ -38,7 +38,8 @@ impl<S: Keep> Model for Ledger<S> {
 }
 
 impl Ledger {
-    /// The ledger of a tenant that has reported nothing, which keeps its ids and trees as they are.
+    /// The ledger of a tenant that has reported nothing, which keeps its ids and trees as they are. Returns `Memory` if
+    /// it runs out of memory.
     pub fn new(alloc: Global, limits: Limits) -> Result<Ledger, Memory>
         ensures ledger { IfOk result (λ ledger. ledger ≡ fresh limits) }
     {
@@ -47,8 +48,8 @@ impl Ledger {
 }
 
 impl<S: Keep> Ledger<S> {
-    /// The ledger of a tenant that has reported nothing, whose ids and trees this share is to keep. It is dropped where
-    /// memory is refused.
+    /// The ledger of a tenant that has reported nothing, whose ids and trees this share keeps. Returns `Memory`, and
+    /// drops the share, if it runs out of memory.
     pub fn with_share(alloc: Global, limits: Limits, share: S) -> Result<Ledger<S>, Memory>
         ensures ledger { IfOk result (λ ledger. ledger ≡ fresh limits) }
     {
@@ -57,7 +58,7 @@ impl<S: Keep> Ledger<S> {
         })
     }
 
-    /// The accepted rows, the oldest first.
+    /// The accepted rows, the oldest first. Event k is at k - 1.
     pub fn rows(&self) -> &[Row]
         ensures rows { result.now ≡ self.now.rows }
         ensures legal { AreLegal self.now.limits self.now.rows }
@@ -100,9 +101,9 @@ impl<S: Keep> Ledger<S> {
 
     /// Takes one request: an accepted report is the tenant's next event, and a query is answered.
     ///
-    /// A request is refused with the first code that applies of those that `refusals` of `trace_types` has for it, and
-    /// last with `NoMemory` (507), where a request for memory was refused: a report, `past`, `concurrent`, `cut`, `stamp` or
-    /// `message`. A refused request changes nothing.
+    /// A request is refused with the first code that applies of those that `refusals` of `trace_types` has for it. Else a
+    /// report, `past`, `concurrent`, `cut`, `stamp` or `message` is refused with `NoMemory` (507) if it runs out of
+    /// memory. A refused request changes nothing.
     #[tactic(auto, using(crate::proofs::size::Replies::short_reply))]
     pub fn report<R>(&mut self, rt: &R, request: &Request) -> Reply
     where
@@ -136,8 +137,8 @@ impl<S: Keep> Ledger<S> {
         }
     }
 
-    /// Answers `order` and `count`, whose answers are short, as [`Ledger::report`] does; `None` for any other request.
-    /// It takes no memory.
+    /// Answers `order` and `count`, whose answers are short, as [`Ledger::report`] does. Returns `None` for any other
+    /// request. It takes no memory.
     #[inline(always)]
     pub fn ask_briefly<R>(&self, rt: &R, request: &Request) -> Option<Reply>
     where
@@ -152,9 +153,10 @@ impl<S: Keep> Ledger<S> {
         }
     }
 
-    /// Does all of a report that may be refused, and leaves the rows: what it gives is to be committed or abandoned.
+    /// Does all of a report that may be refused, and leaves the rows as they are. What it returns is to be committed or
+    /// abandoned.
     ///
-    /// Where [`Ledger::report`] would refuse the report it gives that refusal, with the ledger as it was.
+    /// If [`Ledger::report`] would refuse the report, it returns the ledger as it was and that refusal.
     pub fn prepare<R>(self, rt: &R, request: &Request) -> Result<Prepared<S>, (Ledger<S>, Reply)>
     where
         S: Share<R>,
@@ -171,8 +173,10 @@ impl<S: Keep> Ledger<S> {
         }
     }
 
-    /// Answers a query as [`Ledger::report`] does, and refuses every report with `ViewOnly` (410). Only `past`,
-    /// `concurrent`, `cut`, `stamp` and `message` take memory, and may be refused with `NoMemory` (507).
+    /// Answers a query as [`Ledger::report`] does, and refuses every report with `ViewOnly` (410).
+    ///
+    /// `past`, `concurrent`, `cut`, `stamp` and `message` are refused with `NoMemory` (507) if they run out of memory.
+    /// The others take none.
     #[tactic(auto, using(crate::proofs::size::Replies::short_answer))]
     pub fn ask<C: Compare<Kept = S::Kept>>(&self, compare: &C, request: &Request) -> Reply
         ensures answer { Answers self.now request.now result }
@@ -242,7 +246,7 @@ impl<S: Keep> Ledger<S> {
         }
     }
 
-    /// The same, by the ledger's own share.
+    /// How the first event stands to the second, by the ledger's own share.
     #[inline(always)]
     fn order_kept<R>(&self, rt: &R, first: u64, second: u64) -> Reply
     where

@@ -1,7 +1,25 @@
-//! One tenant by itself: it takes reports, keeps their rows, and answers.
+//! One tenant by itself: it takes reports, keeps their rows, and answers queries.
 //!
-//! Contracts see a [`Ledger`] as the tenant's limits and accepted rows. Its one contract: the reply and the rows
-//! afterwards are one step of the tenant alone (`Steps` of `trace_types`), or want of memory where that may be.
+//! Use it in a program that orders its own events, with no lines and no other tenants. It needs no runtime unless its
+//! share takes a lock.
+//!
+//! The law that carries it is the clock theorem ([`laws::clock`]): comparing what two events know gives exactly their
+//! order in the graph of events. The contract of [`Ledger::report`] speaks of the reply and of the rows afterwards. They
+//! are one step of the tenant alone (`Steps` of `trace_types`), or the request ran out of memory and changed nothing.
+//! Contracts see a [`Ledger`] as the tenant's limits and accepted rows.
+//!
+//! ```
+//! use tenant_ledger::Ledger;
+//! use trace_types::{Limits, Name, Order, Reply, Request};
+//!
+//! let mut ledger = Ledger::new(alloc, Limits::default())?;
+//! let (root, task) = (Name::root(), Name::read(b"a").ok_or("no name")?);
+//! assert_eq!(rt; ledger.report(&rt, &Request::Spawn(root, task)), Reply::Accepted(1));
+//! assert_eq!(rt; ledger.report(&rt, &Request::Local(task)), Reply::Accepted(2));
+//! assert_eq!(rt; ledger.report(&rt, &Request::Local(root)), Reply::Accepted(3));
+//! let order = ledger.report(&rt, &Request::Order(2, 3));
+//! assert_eq!(rt; order, Reply::Ordering(Order::Concurrent));
+//! ```
 #![tactic(auto)]
 
 mod book;

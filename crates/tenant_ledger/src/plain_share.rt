@@ -1,4 +1,4 @@
-//! Ids and trees that are kept as they are.
+//! A share that keeps ids and trees as they are.
 ghost use Rattle.std.specs.Prelude.{◌↔◌, ◌≤◌, [], IsTrue};
 ghost use Rattle.trace_types.specs.clock.EventTree.{value};
 
@@ -72,7 +72,7 @@ impl<R> Share<R> for PlainShare {
     }
 }
 
-/// Whether the tree has at the point no less than this value.
+/// Whether the tree has at the point no less than the value.
 fn knows(tree: &EvTree, deciding: &Deciding) -> bool
     ensures { IsTrue result ↔ (deciding.now.value ≤ value tree.now deciding.now.point) }
 {

@@ -1,4 +1,4 @@
-//! A report that will be accepted.
+//! Prepared reports.
 ghost use Rattle.std.specs.Prelude.{◌≡◌, suc, ◌∷◌, Some, length};
 ghost use Rattle.trace_types.specs.clock.Clock.{tree_clock};
 ghost use Rattle.trace_types.specs.tenant.Rows.{history_of};
@@ -14,7 +14,7 @@ use std::marker::Model;
 use trace_query::{Deciding, Meant};
 use trace_types::{Reply, Row};
 
-/// A ledger with a report that will be accepted: it has to be committed or abandoned, and neither takes memory.
+/// A ledger with a report that will be accepted. It has to be committed or abandoned, and neither takes memory.
 ///
 /// Contracts see the tenant as it is before the report, and the row of the report.
 pub struct Prepared<S: Keep = PlainShare> {
@@ -41,35 +41,35 @@ impl<S: Keep> Prepared<S> {
         self.draft.row()
     }
 
-    /// What its event knows, as it is kept.
+    /// What the report's event knows, as it is kept.
     pub fn tree(&self) -> &S::Kept
         ensures { S.Kept.tree result.now ≡ tree_of tree_clock (self.now.row ∷ history_of self.now.tenant.rows) (suc (length self.now.tenant.rows)) }
     {
         self.draft.tree()
     }
 
-    /// A point that its event raised, with the value there, where one was found.
+    /// A point that the report's event raised, with the value there, if one was found.
     pub fn point(&self) -> Option<Deciding>
         ensures { MayHavePoint (self.now.row ∷ history_of self.now.tenant.rows) (suc (length self.now.tenant.rows)) result }
     {
         self.draft.point()
     }
 
-    /// The event that started its task, or 0.
+    /// The event that started the report's task, or 0.
     pub fn start(&self) -> u64
         ensures { result ≡ start_of (self.now.row ∷ history_of self.now.tenant.rows) (suc (length self.now.tenant.rows)) }
     {
         self.draft.start()
     }
 
-    /// The id that its task has after its event, as it is kept.
+    /// The id that the report's task has after the event, as it is kept.
     pub fn id(&self) -> &S::Id
         ensures { S.Id.id result.now ≡ id_of tree_clock (self.now.row ∷ history_of self.now.tenant.rows) self.now.row.task }
     {
         self.book.id_after(&self.draft)
     }
 
-    /// Adds the report as the tenant's next event.
+    /// Adds the report as the tenant's next event. Returns the ledger, and the reply 201 with the event's number.
     pub fn commit(self) -> (Ledger<S>, Reply)
         ensures ledger { result.0 ≡ with_row self.tenant (Some self.row) }
         ensures reply { result.1 ≡ reply.Accepted (suc (length self.tenant.rows)) }
@@ -79,7 +79,7 @@ impl<S: Keep> Prepared<S> {
         (Ledger { book }, Reply::Accepted(event))
     }
 
-    /// Drops the report: the ledger is as it was before it was prepared.
+    /// Drops the report. The ledger is as it was before.
     pub fn abandon(self) -> Ledger<S>
         ensures { result ≡ self.tenant }
     {

@@ -1,4 +1,4 @@
-//! What the tenants' ledgers share.
+//! What ledgers keep their ids and trees by.
 ghost use Rattle.std.specs.Prelude.{◌≡◌, ◌↔◌, ℕ, List, IfOk, IsTrue};
 ghost use Rattle.event_tree.specs.Comparison.{IsBelow, StandsAs};
 ghost use Rattle.trace_query.specs.Deciding.{IsDeciding};
@@ -10,7 +10,7 @@ use std::sync::Arc;
 use trace_query::{Compare, Deciding, Meant};
 use trace_types::{Memory, Order};
 
-/// Values that stand for ids, in whatever form they are kept.
+/// A value that stands for an id, in whatever form it is kept.
 pub trait MeantId {
     // the id for which it stands
     ghost id: { Self → Id };
@@ -22,8 +22,8 @@ impl MeantId for IdTree {
 
 /// What a ledger keeps of ids and event trees, and how it is read.
 ///
-/// A share may know its trees by more than what they mean, as where it holds them. That is their home, which contracts
-/// alone see; a share that needs no such knowledge gives every tree the empty one.
+/// A share may know more of its trees than what they mean, such as where it holds them. This is their home, which only
+/// contracts see. A share without such knowledge gives every tree the empty home.
 pub trait Keep: Compare + Drop {
     /// What is kept of an id.
     type Id: MeantId + Drop;
@@ -45,19 +45,19 @@ pub trait Keep: Compare + Drop {
 
 /// Keeps the ids and event trees of ledgers, and compares kept trees.
 ///
-/// What is kept means what was handed in, whatever else is held. A share that takes a lock asks of `R` that it may wait;
-/// one that waits for nobody takes any `R`, as `()`.
+/// What is kept means what was handed in, whatever else the share holds. A share that takes a lock asks of `R` that it
+/// may wait. One that waits for nobody takes any `R`, as `()`.
 pub trait Share<R>: Keep {
-    /// Keeps an id.
+    /// Keeps an id. Returns `Memory` if it runs out of memory.
     fn keep_id(&self, rt: &R, id: IdTree) -> Result<Self::Id, Memory>
         ensures { IfOk result (λ kept. Self.Id.id kept ≡ id) };
 
-    /// Keeps an event tree, where the share's trees are.
+    /// Keeps an event tree in the home of the share's trees. Returns `Memory` if it runs out of memory.
     fn keep_tree(&self, rt: &R, tree: EvTree) -> Result<Self::Kept, Memory>
         ensures tree { IfOk result (λ kept. Self.Kept.tree kept ≡ tree) }
         ensures home { IfOk result (λ kept. Self.home_of kept ≡ Self.home self.now) };
 
-    /// How the tree of `first` stands to that of `second`, both of which the share keeps. It takes no memory.
+    /// How the tree of `first` stands to that of `second`. The share keeps both. It takes no memory.
     fn order_kept(&self, rt: &R, first: &Self::Kept, second: &Self::Kept) -> Order
         requires first { Self.home_of first.now ≡ Self.home self.now }
         requires second { Self.home_of second.now ≡ Self.home self.now }
@@ -67,7 +67,7 @@ pub trait Share<R>: Keep {
     fn below_kept(&self, rt: &R, first: &Self::Kept, second: &Self::Kept) -> bool
         ensures { IsTrue result ↔ IsBelow (Self.Kept.tree first.now) (Self.Kept.tree second.now) };
 
-    /// The same, where a point of `first` decides it. It takes no memory.
+    /// Answers as [`Share::below_kept`] does, if a point of `first` decides. It takes no memory.
     fn below_kept_at(
         &self,
         rt: &R,
@@ -82,8 +82,8 @@ pub trait Share<R>: Keep {
     }
 }
 
-/// Compares kept trees in one direction as a share does that may wait. Their order is what the share answers without
-/// waiting, since of a kept tree that is handed in nothing tells where it is.
+/// Compares kept trees in one direction as a share does that may wait. It compares in both directions as the share does
+/// without waiting, since nothing tells where a tree is that is handed in.
 #[derive(Drop)]
 pub(crate) struct Through<'a, R, S> {
     pub(crate) rt: &'a R,

@@ -1,4 +1,4 @@
-//! Ids and trees that all tenants keep together.
+//! A share that keeps the ids and trees of all tenants together.
 ghost use Rattle.std.specs.Prelude.{◌≡◌, ◌↔◌, IsErrOf};
 ghost use Rattle.order_cache.specs.Capacity.{IsCapacity};
 
@@ -13,10 +13,10 @@ use trace_query::{Compare, Deciding};
 use trace_types::{Memory, Order};
 use tree_forest::{Forest, Home, Tree};
 
-/// Keeps the ids and trees of all tenants, each once, and how trees stood to each other that were asked last.
+/// Keeps the ids and trees of all tenants, each once, and remembers how the last pairs of trees stood to each other.
 ///
-/// To keep one it waits for other threads where they use the same map, for a step of it. To compare two it waits for
-/// nobody; compared by itself, and not as a share, it passes the cache by.
+/// A thread that keeps a tree waits for threads in the same map, for one step of the map. A thread that compares two
+/// trees waits for nobody. The comparisons of [`Compare`] do not use the cache. Those of [`Share`] do.
 #[derive(Drop)]
 pub struct Shared {
     ids: Forest<IdTree>,
@@ -26,8 +26,9 @@ pub struct Shared {
 }
 
 impl Shared {
-    /// Without ids and trees. The cache remembers at most this many pairs of trees. It answers `Capacity` outside 1 to
-    /// 65536; want of memory comes last.
+    /// A share without ids and trees, whose cache remembers at most `capacity` pairs of trees.
+    ///
+    /// Returns `Capacity` if the capacity is outside 1 to 65536, else `Memory` if it runs out of memory.
     pub fn new(alloc: Global, capacity: u64) -> Result<Shared, CacheFault>
         ensures { IsErrOf result CacheFault.Capacity ↔ (¬ IsCapacity capacity) }
     {
@@ -43,14 +44,14 @@ impl Shared {
         })
     }
 
-    /// Where its event trees lie. It has no bytes.
+    /// The home of the event trees. It has no bytes.
     pub fn home(&self) -> Home
         ensures { result ≡ ⟦<Shared as Keep>⟧.home self.now }
     {
         Home::of(&self.trees)
     }
 
-    /// How often a comparison was answered by the cache, for the operator alone.
+    /// How often the cache answered a comparison, for the operator alone.
     pub fn hits(&self) -> u64 {
         self.orders.hits()
     }

@@ -1,4 +1,4 @@
-//! One line of an export is judged.
+//! The judging of one line of an export.
 ghost use Rattle.std.specs.Prelude.{◌≡◌, ◌<◌, ◌≤◌, ◌++◌, ◌∷◌, ◌↔◌, [], IfOk, IfSome, IfNone, IsTrue, length};
 ghost use Rattle.trace_types.specs.clock.EventTree.{EventTree};
 ghost use Rattle.trace_export.specs.declared.placed.Placed.{Placed};
@@ -16,7 +16,7 @@ use stamp_codec::{StampFault, read_stamp};
 use std::alloc::Global;
 use trace_types::{Memory, Preds};
 
-/// Adds the event that the line lists, where it is right; else tells why it is faulty.
+/// Adds the event that the line lists if the line is right, else tells why it is faulty.
 pub(crate) fn add_line(
     graph: &mut Graph,
     alloc: Global,
@@ -42,7 +42,7 @@ pub(crate) fn add_line(
     }
 }
 
-/// Adds the listed event, where it may come next; else tells why it is refused.
+/// Adds the listed event if it may come next, else tells why it is refused.
 fn add_listed(
     graph: &mut Graph,
     alloc: Global,
@@ -89,7 +89,7 @@ fn are_increasing_before(preds: &Preds, event: u64) -> bool
     }
 }
 
-/// The tree of the stamp that the text spells; none where it is refused.
+/// The tree of the stamp that the text spells, or `None` if the text is refused.
 fn read_tree(alloc: Global, stamp: &str) -> Result<Option<EvTree>, Memory>
     ensures tree { IfOk result (λ tree. IfSome tree (IsStampTree stamp.now)) }
     ensures none { IfOk result (λ tree. IfNone tree ((other : EventTree) → ¬ IsStampTree stamp.now other)) }

@@ -4,7 +4,7 @@ ghost use Rattle.trace_export.specs.Bits.{HasBit};
 
 use std::alloc::{AllocError, Global};
 
-/// The empty set, with room for the numbers up to the greatest.
+/// The empty set, with room for the numbers up to `greatest`.
 pub(crate) fn no_bits(alloc: Global, greatest: usize) -> Result<Vec<u64>, AllocError>
     ensures none { IfOk result (λ words. (n : ℕ) → ¬ HasBit words.items n) }
     ensures room { IfOk result (λ words. (greatest < 64 * vec_len words) × (64 * vec_len words ≤ greatest + 64)) }

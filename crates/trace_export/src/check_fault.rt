@@ -1,4 +1,4 @@
-//! Why a check does not answer.
+//! The faults of a check.
 ghost use Rattle.std.specs.Prelude.{◌≡◌};
 ghost use Rattle.line_protocol.specs.declared.read_fault.ReadFault.{ReadFault};
 ghost use Rattle.trace_export.specs.declared.check_fault.CheckFault.{CheckFault};
@@ -16,10 +16,10 @@ pub enum CheckFault {
     /// A read failed.
     #[error("read fault")]
     Read,
-    /// All the reads that one check may make were made.
+    /// All the 2^30 reads that one check may make were made.
     #[error("input too long")]
     TooLong,
-    /// A request for memory was refused.
+    /// The check ran out of memory.
     #[error("no memory")]
     Memory,
 }

@@ -1,4 +1,4 @@
-//! The check of an export.
+//! Checks of exports.
 ghost use Rattle.std.specs.Prelude.{◌≡◌, ◌+◌, ◌<◌, ◌≤◌, ◌↔◌, ◌^◌, IfOk, IsErrOf, length};
 ghost use Rattle.line_protocol.specs.Source.{StopsAtEnd};
 ghost use Rattle.trace_export.specs.Checked.{Judges, IsJudged};
@@ -16,11 +16,13 @@ const MOST_BYTES: usize = 65536;
 /// The most reads of one check.
 const MOST_READS: u64 = 1 << 30;
 
-/// Whether the lines that a reader gives are an export, in which the trees of every two events compare as the listed edges
+/// Whether the lines that a reader gives are an export in which the trees of every two events compare as the listed edges
 /// say. It reads to the end, or to the end of the first faulty line.
 ///
-/// A first line that is a header counts as no event. A line of more than 65536 bytes is faulty. `Read` comes where a read failed, `TooLong` where 2^30 reads were made, and
-/// `Memory` where a request for memory was refused.
+/// A first line that is a header counts as no event. A line of more than 65536 bytes is faulty. An export has at most
+/// 16384 events.
+///
+/// Returns `Read` if a read failed, `TooLong` if 2^30 reads were made, and `Memory` if it runs out of memory.
 pub fn check<R: Source>(alloc: Global, reader: &mut R) -> Result<Verdict, CheckFault>
     ensures verdict { IfOk result (Judges (R.seen reader.old) (R.seen reader.new)) }
 
@@ -42,7 +44,8 @@ pub fn check<R: Source>(alloc: Global, reader: &mut R) -> Result<Verdict, CheckF
     }
 }
 
-/// Keeps what a line lists, where it is right; else gives the verdict, as at the end. A line that is too long has no text.
+/// Keeps what a line lists if the line is right, else gives the verdict. It gives the verdict at the end too. A line that
+/// is too long has no text.
 fn judge(
     collected: &mut Collected,
     alloc: Global,

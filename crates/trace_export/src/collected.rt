@@ -14,14 +14,14 @@ use trace_types::Memory;
 /// What is kept of the lines so far, which are right.
 #[derive(Drop)]
 pub(crate) struct Collected {
-    /// The first of them, if it is a header.
+    /// The header, if the first line is one.
     pub(crate) header: Option<Header>,
-    /// What the others list.
+    /// What the other lines list.
     pub(crate) graph: Graph,
 }
 
 impl Collected {
-    /// Of no line.
+    /// Nothing yet.
     pub(crate) fn new(alloc: Global) -> Result<Collected, AllocError>
         ensures graph { IfOk result (λ collected. IsKeptGraph collected.graph) }
         ensures none { IfOk result (λ collected. (collected.header ≡ None) × (collected.graph.placed.items ≡ [])) }
@@ -43,8 +43,8 @@ impl Collected {
         }
     }
 
-    /// Keeps what the line lists, where it is right: a header, where it is the first line, or the next event. Else it tells
-    /// why the line is faulty.
+    /// Keeps what the line lists if the line is right: a header, if it is the first line, or the next event. Else it
+    /// tells why the line is faulty.
     pub(crate) fn add(&mut self, alloc: Global, line: &[u8]) -> Result<Option<Reason>, Memory>
         requires graph { IsKeptGraph self.old.graph }
         requires short { length line.now ≤ 65536 }
@@ -60,7 +60,7 @@ impl Collected {
         }
     }
 
-    /// The header that the line is, where it is the first one.
+    /// The header that the line is, if it is the first line.
     fn first_header(&self, alloc: Global, line: &[u8]) -> Result<Option<Header>, Memory>
         requires short { length line.now ≤ 65536 }
         ensures header { IfOk result (λ header. IfSome header (λ header. (self.now.header ≡ None) × (self.now.graph.placed.items ≡ [])

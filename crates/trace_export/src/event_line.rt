@@ -10,14 +10,20 @@ use serde_json::Value;
 use std::alloc::Global;
 use trace_types::{Kind, Name, Preds};
 
-/// An event as it is listed.
+/// An event as a line lists it.
 #[derive(Drop)]
 pub struct EventLine<'a> {
+    /// The number of the event, from 1 if the line is right.
     pub event: u64,
+    /// What was reported.
     pub kind: Kind,
+    /// The task or message that the report names beside the acting task.
     pub name: Option<Name>,
+    /// The predecessors as they are listed.
     pub preds: Preds,
+    /// The text of the stamp, which may spell none.
     pub stamp: &'a str,
+    /// The acting task.
     pub task: Name,
 }
 
@@ -36,7 +42,7 @@ fn read_kind(word: &str) -> Option<Kind>
     }
 }
 
-/// The name that a report of this kind has, of the text that is written for it.
+/// The name that a report of this kind has, if this text is written for it.
 fn read_named(kind: Kind, text: &str) -> Option<Option<Name>>
     ensures { MatchOption result ((name : Option Text) → FitsKind kind name → name_text name ≢ text.now)
         (λ name. FitsKind kind name × (name_text name ≡ text.now)) }
@@ -63,7 +69,7 @@ fn read_preds(alloc: Global, items: &[Value]) -> Option<Preds>
     }
 }
 
-/// What the JSON lists; `None` exactly where it lists nothing.
+/// What the JSON lists, or `None` exactly if it lists nothing.
 pub(crate) fn read_listed(alloc: Global, json: &Value) -> Option<EventLine<'_>>
     ensures { MatchOption result ((listed : Listed) → ¬ IsJsonOf (view json.now) listed)
         (λ line. IsJsonOf (view json.now) (listed_of line)) }

@@ -1,4 +1,4 @@
-//! Why an export is not written whole.
+//! The faults of writing an export.
 ghost use Rattle.std.specs.Prelude.{◌≡◌};
 ghost use Rattle.trace_export.specs.declared.export_fault.ExportFault.{ExportFault};
 ghost use Rattle.trace_export.specs.declared.export_fault.ExportFault.TheVariants as variants;
@@ -14,7 +14,7 @@ pub enum ExportFault {
     /// A write failed, or 1048576 writes of a line were interrupted.
     #[error("write fault")]
     Write,
-    /// A request for memory was refused.
+    /// The export ran out of memory.
     #[error("no memory")]
     Memory,
 }

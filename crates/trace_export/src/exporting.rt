@@ -1,4 +1,4 @@
-//! The writing of an export.
+//! Writing of exports.
 ghost use Rattle.std.specs.Prelude.{◌≡◌, ◌<◌, ◌≤◌, ◌++◌, codes, false, IfOk, IfErr, IsErrOf, length, string_bytes};
 ghost use Rattle.std.specs.Str.{IsUtf8};
 ghost use Rattle.line_protocol.specs.Writing.{EndsInFault, WritesPart, WritesWhole};
@@ -19,8 +19,8 @@ use trace_types::{Kind, Memory, Name, Preds, Row};
 /// Writes the export of these rows, whose stamps have these texts: the header and a line for each row, each with its end.
 /// It gives the number of rows, and flushes nothing.
 ///
-/// `Write` comes where a write failed or 1048576 writes of one line were interrupted, and `Memory` where a request for
-/// memory was refused.
+/// Returns `Write` if a write failed or 1048576 writes of one line were interrupted, and `Memory` if it runs out of
+/// memory.
 pub fn export_rows<T: StampTexts, W: Sink>(
     alloc: Global,
     header: &Header,
@@ -112,7 +112,7 @@ fn line_of(alloc: Global, event: u64, row: &Row, stamp: Vec<u8>) -> Result<Vec<u
     Ok(line)
 }
 
-/// The text of the JSON, with the end of a line.
+/// The text of the JSON, with an end of line.
 fn with_end(alloc: Global, json: &Value) -> Result<Vec<u8>, Memory>
     ensures { IfOk result (λ line. has_float (view json.now) ≡ false → line.items ≡ compact_text (view json.now) ++ codes "\n") }
 {
@@ -180,7 +180,7 @@ fn kind_word(kind: Kind) -> &'static str
     }
 }
 
-/// The name, or `-` where there is none.
+/// The name, or `-` if there is none.
 fn name_word(name: &Option<Name>) -> &str
     ensures { result.now ≡ name_text name.now }
 {

@@ -1,4 +1,4 @@
-//! What is kept of right lines, to compare the next one with.
+//! What is kept of right lines, with which the next one is compared.
 ghost use Rattle.std.specs.Prelude.{◌≡◌, ℕ, suc, ◌+◌, ◌*◌, ◌<◌, ◌≤◌, ◌++◌, ◌∷◌, ◌↔◌, ◌⊎◌, ◌-◌, [], IfOk, IsTrue, length, vec_len, vec_capacity, All, Contains, false};
 ghost use Rattle.event_tree.specs.Comparison.{IsBelow};
 ghost use Rattle.trace_export.specs.Bits.{HasBit};
@@ -17,9 +17,9 @@ use trace_types::Preds;
 /// What is kept of right lines.
 #[derive(Drop)]
 pub(crate) struct Graph {
-    /// Event k stands at k - 1.
+    /// What is listed of each event. Event k is at k - 1.
     placed: Vec<Placed>,
-    /// The events that reach each, but for itself.
+    /// The events that reach each event, without itself.
     reaching: Vec<Vec<u64>>,
     /// The events that some event follows.
     followed: Vec<u64>,
@@ -28,10 +28,10 @@ pub(crate) struct Graph {
 }
 
 impl Graph {
-    /// How many events there may be.
+    /// The most events of an export.
     pub(crate) const MOST: usize = 16384;
 
-    /// Of no line.
+    /// Nothing yet.
     pub(crate) fn new(alloc: Global) -> Result<Graph, AllocError>
         ensures graph { IfOk result IsKeptGraph }
         ensures none { IfOk result (λ graph. graph.placed.items ≡ []) }
@@ -51,7 +51,7 @@ impl Graph {
         self.placed.len()
     }
 
-    /// Adds the event that comes next, where its tree and the earlier ones compare as the edges say.
+    /// Adds the event that comes next if its tree and the earlier ones compare as the edges say, and says whether it did.
     pub(crate) fn add(&mut self, alloc: Global, placed: Placed) -> Result<bool, AllocError>
         requires graph { IsKeptGraph self.old }
         requires preds { AreEarlier placed.preds (suc (length self.old.placed.items)) }
@@ -158,8 +158,8 @@ impl Graph {
         add_bit(bits, place);
     }
 
-    /// What is known of the next event's tree before it is compared: where it is above all that its event follows. An event
-    /// raises its tree there, and of a tenant's events nothing is above that place but what follows this one.
+    /// What is known of the next event's tree before it is compared: where it is above all that its event follows. An
+    /// event raises its tree there. In a tenant's trace, nothing is above that place but what follows the event.
     fn first_sides(&self, alloc: Global, placed: &Placed) -> Result<Sides, AllocError>
         requires { AreEarlier placed.now.preds (suc (length self.now.placed.items)) }
     {
@@ -182,7 +182,8 @@ impl Graph {
         Ok(sides)
     }
 
-    /// Whether the event that these reach may come next: its tree and the earlier ones compare as the edges say.
+    /// Whether the event that these reach may come next, so whether its tree and the earlier ones compare as the edges
+    /// say.
     fn is_ordered(
         &self,
         reaching: &[u64],
@@ -261,8 +262,8 @@ impl Graph {
         Ok(true)
     }
 
-    /// Whether the tree is not below that of the event, where none follows it; nor above, where the event is one of the
-    /// first that do not reach its own.
+    /// Whether the tree is not below that of an event which none follows. It may not be above that of the event either,
+    /// if the event is one of the first that do not reach its own.
     #[inline(always)]
     fn is_apart_from(
         &self,
@@ -284,7 +285,7 @@ impl Graph {
         Ok(!above)
     }
 
-    /// Whether the tree is below that of the event, and none follows it.
+    /// Whether the tree is below that of the event, and none follows the event.
     #[inline(always)]
     fn is_below_last(
         &self,
@@ -305,7 +306,7 @@ impl Graph {
         Ok(below)
     }
 
-    /// Whether the tree is above that of the event, which is one of the first that do not reach its own.
+    /// Whether the tree is above that of the event, and the event is one of the first that do not reach its own.
     #[inline(always)]
     fn is_above_first(
         &self,

@@ -1,4 +1,4 @@
-//! The header of an export.
+//! Headers of exports.
 ghost use Rattle.std.specs.Prelude.{◌≡◌, ◌≤◌, IfOk, IsTrue, MatchOption, length};
 ghost use Rattle.serde_json.specs.View.{view};
 ghost use Rattle.trace_export.specs.Heading.{IsHeader, IsHeaderJson, IsNoHeader};
@@ -9,17 +9,19 @@ use serde_json::{Category, Value};
 use std::alloc::Global;
 use trace_types::{Limits, Memory, Name};
 
-/// Whose export it is, and under which limits the tenant was.
+/// The first line of an export of version 2: whose export it is, and under which limits the tenant was.
 #[derive(Clone, Copy, Debug)]
 pub struct Header {
+    /// The tenant whose events are listed.
     pub tenant: Name,
+    /// The limits of the tenant when its events were exported.
     pub limits: Limits,
 }
 
 /// The version of exports that have a header.
 pub(crate) const VERSION: u64 = 2;
 
-/// The header that the line is; `None` exactly where it is none.
+/// The header that the line is, or `None` exactly if it is none. Returns `Memory` if it runs out of memory.
 pub(crate) fn read_header(alloc: Global, line: &[u8]) -> Result<Option<Header>, Memory>
     requires short { length line.now ≤ 65536 }
     ensures { IfOk result (λ header. MatchOption header (IsNoHeader line.now) (IsHeader line.now)) }
@@ -34,7 +36,7 @@ pub(crate) fn read_header(alloc: Global, line: &[u8]) -> Result<Option<Header>, 
     }
 }
 
-/// The header that the JSON is; `None` exactly where it is none.
+/// The header that the JSON is, or `None` exactly if it is none.
 fn header_of(json: &Value) -> Option<Header>
     ensures { MatchOption result ((header : Listed) → ¬ IsHeaderJson (view json.now) header)
         (λ header. IsHeaderJson (view json.now) header) }

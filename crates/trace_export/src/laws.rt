@@ -9,23 +9,23 @@ ghost use Rattle.trace_export.specs.declared.reason.Reason.TheVariants.{NoEvent}
 ghost use Rattle.trace_export.specs.declared.verdict.Verdict.{Verdict};
 ghost use Rattle.trace_export.specs.declared.verdict.Verdict.TheVariants.{Yes, No};
 
-/// Where every line is right, each but a header lists its event, and for every two events the one's tree is nowhere above
-/// the other's exactly where the one reaches the other along the listed edges.
+/// At a yes every line is right: each but a header lists its event. For every two events, the one's tree is nowhere above
+/// the other's exactly if the one reaches the other along the listed edges.
 pub fn yes()
     ensures { (bytes : List ℕ) (count : ℕ) → IsVerdict bytes (Yes count)
         → (placing : Placing) × IsGoodExport (lines bytes) placing × (count ≡ length placing) }
 {}
 
-/// An export of version 1, which has no header, has the verdict that its lines of events have. Where they are all right
-/// the first of them is no header.
+/// An export of version 1, which has no header, has the verdict of its lines of events. If they are all right, the first
+/// of them is no header.
 pub fn version_1()
     ensures same { (bytes : List ℕ) (verdict : Verdict) → BeginsWithNoHeader (lines bytes)
         → IsVerdict bytes verdict ↔ IsVerdictOnEvents 0 (lines bytes) verdict }
     ensures right { (bytes : List ℕ) (count : ℕ) → IsVerdictOnEvents 0 (lines bytes) (Yes count) → IsVerdict bytes (Yes count) }
 {}
 
-/// A first line that is an object with the key `version`, and yet no header, is a faulty line for the reason that it lists
-/// no event, if it is not too long.
+/// A first line that is an object with the key `version`, and yet no header, is faulty because it lists no event. This
+/// holds if the line is not too long.
 pub fn spoilt_header()
     ensures { (bytes : List ℕ) → TellsVersion (lines bytes) → BeginsWithNoHeader (lines bytes) → IsVerdict bytes (No 1 NoEvent) }
 {}

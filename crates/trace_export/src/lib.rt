@@ -1,9 +1,24 @@
-//! Exports: a trace as lines of JSON, written and checked.
+//! Exports: the trace of one tenant as lines of JSON, written and checked.
 //!
-//! The contracts: [`export_rows`] writes exactly the lines of its rows, or at a fault a front of them (`specs/Export.antt`).
-//! [`check`] answers the verdict on the bytes that its reader gives, as `specs/Verdict.antt` defines it by what each line
-//! lists (`specs/Listing.antt`), the edges between events and their trees (`specs/Edges.antt`); [`laws`] says what a yes
-//! means. `specs/Graph.antt` has what is kept of the lines so far.
+//! Use it to hand a trace to another program, and to check a trace that comes from one.
+//!
+//! The contracts that carry it: [`export_rows`] writes exactly the lines of its rows, or a prefix of them at a fault.
+//! [`check`] says yes only if every line is right. By [`laws::yes`] the stamps then agree with the listed edges: one
+//! event's tree is nowhere above another's exactly if it reaches the other. `specs/Export.antt` defines what is written.
+//! `specs/Verdict.antt` defines the verdict, by what each line lists (`specs/Listing.antt`) and by edges and trees
+//! (`specs/Edges.antt`). `specs/Graph.antt` has what is kept of the lines so far.
+//!
+//! ```
+//! use line_protocol::FromReader;
+//! use trace_export::{Reason, Verdict, check};
+//!
+//! let right = r#"{"event":1,"kind":"local","name":"-","preds":[],"stamp":"[1;1]","task":"root"}"#;
+//! let verdict = check(alloc, &mut FromReader::new(right.as_bytes()))?;
+//! assert_eq!(rt; verdict, Verdict::Yes(1));
+//! let spoilt = r#"{"event":1,"kind":"local","name":"-","preds":[],"stamp":"[1;1","task":"root"}"#;
+//! let verdict = check(alloc, &mut FromReader::new(spoilt.as_bytes()))?;
+//! assert_eq!(rt; verdict, Verdict::No(1, Reason::Stamp));
+//! ```
 #![tactic(auto)]
 
 mod add_line;

@@ -1,15 +1,16 @@
-//! Why a line of an export is faulty.
+//! The reasons for which a line is faulty, in the order in which they are looked for.
 ghost use Rattle.std.specs.Prelude.{◌≡◌};
 ghost use Rattle.trace_export.specs.Reasons.{reason_number};
 
-/// Why a line of an export is faulty. Of several the first here is told.
+/// Why a line of an export is faulty. The first of several reasons is told.
 #[derive(Clone, Copy, Debug, PartialEq, Eq)]
 pub enum Reason {
-    /// It is no JSON, nests it deeper than 127 levels, or has more than 65536 bytes.
+    /// The line is no JSON, nests it deeper than 127 levels, or has more than 65536 bytes.
     NoJson,
-    /// It is no object of exactly the six keys with their kinds of values.
+    /// The line is no object of exactly the six keys with their kinds of values. As the first line it is no header
+    /// either.
     NoEvent,
-    /// The event is not the number of the line, or is above 16384.
+    /// The event is not the number of the line, with a header not counted, or is above 16384.
     Number,
     /// The predecessors do not increase, or are no earlier events.
     Preds,
@@ -20,7 +21,7 @@ pub enum Reason {
 }
 
 impl Reason {
-    /// From 1 to 6.
+    /// The number of the reason in a verdict, from 1 to 6.
     pub fn number(self) -> u64
         ensures { result ≡ reason_number self }
     {

@@ -1,12 +1,12 @@
-//! The sides of an event's tree.
+//! Places at which trees were above one another.
 ghost use Rattle.std.specs.Prelude.{◌↔◌, IfOk, IsTrue};
 ghost use Rattle.event_tree.specs.Comparison.{IsBelow};
 
 use event_tree::{EvTree, Path};
 use std::alloc::{AllocError, Global};
 
-/// Where the tree of an event was above another one last, and where another one was above it last. They are where to look
-/// first, and nothing more: each place is looked at again.
+/// The place at which an event's tree was above another one last, and the place at which another one was above it last.
+/// They only say where to look first: each place is looked at again.
 #[derive(Drop)]
 pub(crate) struct Sides {
     pub(crate) above: Path,
@@ -14,7 +14,7 @@ pub(crate) struct Sides {
 }
 
 impl Sides {
-    /// Of a tree that was compared with none. It takes no memory.
+    /// The sides of a tree that was compared with none. It takes no memory.
     pub(crate) fn new(alloc: Global) -> Sides {
         Sides {
             above: Path::new(alloc),
@@ -23,8 +23,8 @@ impl Sides {
     }
 }
 
-/// Whether the tree of one is below the other's. It looks at the places of both first, and walks only where none of them
-/// tells; both then keep the place that the walk found.
+/// Whether the tree of one is below the other's. It looks at the places of both first, and walks only if none of them
+/// tells. Both then keep the place that the walk found.
 pub(crate) fn is_below(
     one: &EvTree,
     sides: &mut Sides,

@@ -1,12 +1,12 @@
-//! What a check answers.
+//! The verdict of a check.
 
 use crate::Reason;
 
 /// What a check answers.
 #[derive(Clone, Copy, Debug, PartialEq, Eq)]
 pub enum Verdict {
-    /// Every line is right, and there are so many.
+    /// Every line is right. The number counts the events, and so no header.
     Yes(u64),
-    /// The first faulty line, from 1, and why it is.
+    /// The first faulty line, from 1 with a header counted, and why it is faulty.
     No(u64, Reason),
 }

@@ -1,4 +1,4 @@
-//! The comparison of kept trees.
+//! Comparisons of kept trees.
 ghost use Rattle.std.specs.Prelude.{◌↔◌, IsTrue};
 ghost use Rattle.event_tree.specs.Comparison.{IsBelow, StandsAs};
 ghost use Rattle.trace_query.specs.Deciding.{IsDeciding};
@@ -9,7 +9,7 @@ use trace_types::Order;
 
 /// A way to compare kept trees. It may hold what it needs for that, as a cache.
 ///
-/// A question about one direction is asked by [`Compare::is_below`], which has less to look at than [`Compare::order`].
+/// A question about one direction goes to [`Compare::is_below`], which has less to look at than [`Compare::order`].
 pub trait Compare {
     /// What is kept for an event.
     type Kept: Meant + Drop;
@@ -22,7 +22,7 @@ pub trait Compare {
     fn is_below(&self, first: &Self::Kept, second: &Self::Kept) -> bool
         ensures { IsTrue result ↔ IsBelow (Self.Kept.tree first.now) (Self.Kept.tree second.now) };
 
-    /// The same, where a point of `first` decides it. It takes no memory.
+    /// Answers as [`Compare::is_below`] does, if a point of `first` decides. It takes no memory.
     fn is_below_at(&self, first: &Self::Kept, deciding: &Deciding, second: &Self::Kept) -> bool
         requires { IsDeciding deciding.now (Self.Kept.tree first.now) (Self.Kept.tree second.now) }
         ensures { IsTrue result ↔ IsBelow (Self.Kept.tree first.now) (Self.Kept.tree second.now) }

@@ -1,4 +1,4 @@
-//! The cut of an event: the last event of each task whose tree is below that of the event.
+//! Cuts: the last event of each task whose tree is below that of an event.
 ghost use Rattle.std.specs.Prelude.{◌≡◌, IfOk, length, map, vec_len, false, replicate};
 ghost use Rattle.trace_query.specs.Deciding.{DecideInOrder};
 ghost use Rattle.trace_query.specs.Queries.{ComeBefore, StandInOrder, ListsExactly, cut_by_trees};
@@ -8,10 +8,11 @@ use crate::{Compare, Deciding, QueryFault};
 use std::alloc::Global;
 use trace_types::Memory;
 
-/// The events whose trees are below the tree of this one, its own among them, each the last of its task that is,
-/// increasing. Event k has the k-th of the tasks, a number less than k, and the same number for the same task.
+/// The events whose trees are below the tree of this one, each the last such event of its task. They increase, and the
+/// event itself is one of them. Event k has the k-th of the tasks, a number less than k, and events of one task have one
+/// number.
 ///
-/// `Unknown` where it is no event, else `Memory` where a request for memory is refused.
+/// Returns `Unknown` if there is no such event, else `Memory` if it runs out of memory.
 pub fn cut<C: Compare>(
     compare: &C,
     alloc: Global,
@@ -36,11 +37,11 @@ pub fn cut<C: Compare>(
     Ok(events)
 }
 
-/// As [`cut`], of events whose trees stand in their order, where event k has the k-th of the points: where an event has
-/// one, it is compared there alone. Events behind the last point have none.
+/// Answers as [`cut`] does, for events whose trees stand in their order. Event k has the k-th of the points, and is
+/// compared there alone if it has one. Events behind the last point have none.
 ///
-/// For each task the search goes backwards from the event, and stops at the first event that is below it. No later
-/// event is looked at.
+/// For each task the search goes backwards from the event, and stops at the first event that is below it. It looks at no
+/// later event.
 pub fn cut_by_points<C: Compare>(
     compare: &C,
     alloc: Global,
@@ -72,7 +73,7 @@ pub fn cut_by_points<C: Compare>(
     Ok(events)
 }
 
-/// One mark for each of so many numbers, from 0. None is set.
+/// One mark for each number below `many`. None is set.
 fn no_marks(alloc: Global, many: usize) -> Result<Vec<bool>, Memory>
     ensures none { IfOk result (λ marks. marks.items ≡ replicate many false) }
     ensures len { IfOk result (λ marks. vec_len marks ≡ many) }

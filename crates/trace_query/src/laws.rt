@@ -8,7 +8,7 @@ pub fn comparison()
     ensures { ComparesAsStands }
 {}
 
-/// The lists have exactly the other events whose trees stand so, each once, the least first.
+/// The lists have exactly the other events whose trees stand so. Each is there once, and they increase.
 pub fn lists()
     ensures past { HasExactly Before trees_before }
     ensures concurrent { HasExactly Concurrent concurrent_of }
@@ -16,21 +16,20 @@ pub fn lists()
     ensures concurrent_increasing { IsIncreasing concurrent_of }
 {}
 
-/// Where events have an order of their own and their trees stand to each other as they do, the lists are those of
-/// that order.
+/// The lists are those of an order that events have by themselves, if the trees stand to each other as the events do.
 pub fn told_by_orders()
     ensures past { IsToldByOrders Before trees_before }
     ensures concurrent { IsToldByOrders Concurrent concurrent_of }
 {}
 
-/// The cut has exactly the events that are below the event while no later one of their task is, the least first.
+/// The cut has exactly the events that are below the event while no later one of their task is. The events increase.
 pub fn cut()
     ensures last { HasLastOfTasks }
     ensures increasing { IsIncreasingCut }
 {}
 
-/// Where events reach each other exactly as their trees are below each other, and the numbers tell which tasks are the
-/// same, the cut is that of the events themselves.
+/// The cut is that of the events themselves, if they reach each other exactly as their trees are below each other. The
+/// numbers have to tell which tasks are the same.
 pub fn told_by_reach()
     ensures { IsToldByReach }
 {}

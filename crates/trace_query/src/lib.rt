@@ -1,12 +1,29 @@
 //! Queries about the order of events, answered by comparing the event trees that are kept for them.
 //!
-//! The one contract: [`order`], [`past`], [`concurrent_with`] and [`cut`] give exactly what `specs/Queries.antt` defines
-//! over the list of the kept trees, of which event k has the k-th. A cut also wants the number of each event's task.
-//! Nothing else of the events is known here. Where no later event's tree is below an earlier one's, [`order_in_order`],
-//! [`past_in_order`] and [`concurrent_in_order`] give the same with one look at each pair. Where events have points that
-//! decide whether they are below later ones, as `specs/Deciding.antt` defines, [`order_by_points`], [`past_by_points`],
-//! [`concurrent_by_points`] and [`cut_by_points`] do. How two kept trees are compared is left to a [`Compare`];
-//! `specs/Compared.antt` defines what it has to answer, and [`laws`] says what the definitions mean.
+//! Use it over any list of trees in which event k has the k-th, from 1. Nothing else of the events is known here, but
+//! that [`cut`] takes the number of each event's task.
+//!
+//! The contract that carries it: [`order`], [`past`], [`concurrent_with`] and [`cut`] give exactly what
+//! `specs/Queries.antt` defines over the list of trees. Two faster ways give the same. [`order_in_order`],
+//! [`past_in_order`] and [`concurrent_in_order`] look once at each pair, if no later event's tree is below an earlier
+//! one's. [`order_by_points`], [`past_by_points`], [`concurrent_by_points`] and [`cut_by_points`] look at one value for
+//! each pair, if events have points that decide (`specs/Deciding.antt`). A [`Compare`] compares kept trees, as
+//! `specs/Compared.antt` defines. [`laws`] says what the definitions mean.
+//!
+//! ```
+//! use event_tree::EvTree;
+//! use trace_query::{Plain, concurrent_with, cut, order, past};
+//! use trace_types::Order;
+//!
+//! // Event 1 of one task, and then event 2 of this task and event 3 of another.
+//! let left = EvTree::fork(alloc, 1, EvTree::leaf(1), EvTree::leaf(0))?;
+//! let right = EvTree::fork(alloc, 1, EvTree::leaf(0), EvTree::leaf(1))?;
+//! let trees = [EvTree::leaf(1), left, right];
+//! assert_eq!(rt; order(&Plain, &trees, 2, 3)?, Order::Concurrent);
+//! assert_eq!(rt; past(&Plain, alloc, &trees, 2)?.as_slice(), [1].as_slice());
+//! assert_eq!(rt; concurrent_with(&Plain, alloc, &trees, 2)?.as_slice(), [3].as_slice());
+//! assert_eq!(rt; cut(&Plain, alloc, &trees, &[0, 0, 1], 3)?.as_slice(), [1, 3].as_slice());
+//! ```
 #![tactic(auto)]
 
 mod compare;

@@ -1,10 +1,10 @@
-//! The comparison of trees that are kept as they are.
+//! Comparisons of trees that are kept as they are.
 
 use crate::{Compare, Deciding};
 use event_tree::EvTree;
 use trace_types::Order;
 
-/// Compares the trees themselves.
+/// Compares the trees themselves. It holds nothing and never waits.
 #[derive(Clone, Copy, Debug)]
 pub struct Plain;
 

@@ -9,9 +9,9 @@ use std::alloc::Global;
 use std::cmp::Ordering;
 use trace_types::{Memory, Order};
 
-/// How the first event stands to the second, as their trees do; `Unknown` where either is no event.
+/// How the first event stands to the second, as their trees do. Returns `Unknown` if either is no event.
 ///
-/// It takes no memory, and never answers `Memory`.
+/// It takes no memory, and never returns `Memory`.
 pub fn order<C: Compare>(
     compare: &C,
     kept: &[C::Kept],
@@ -24,7 +24,7 @@ pub fn order<C: Compare>(
     Ok(compare.order(first, second))
 }
 
-/// As [`order`], of events whose trees stand in their order: they are compared in one direction.
+/// Answers as [`order`] does, for events whose trees stand in their order. It compares them in one direction.
 pub fn order_in_order<C: Compare>(
     compare: &C,
     kept: &[C::Kept],
@@ -37,8 +37,8 @@ pub fn order_in_order<C: Compare>(
     order_by_points(compare, kept, &[], first, second)
 }
 
-/// As [`order_in_order`], where event k has the k-th of the points: the earlier event's point, where it has one, is where
-/// they are compared. Events behind the last point have none.
+/// Answers as [`order_in_order`] does. Event k has the k-th of the points, and events behind the last point have none.
+/// The two are compared at the earlier event's point, if it has one.
 #[inline(always)]
 pub fn order_by_points<C: Compare>(
     compare: &C,
@@ -64,10 +64,10 @@ pub fn order_by_points<C: Compare>(
     })
 }
 
-/// What is kept for the two events, as whoever compares kept trees by other means than a [`Compare`] wants it; `Unknown`
-/// where either is no event.
+/// What is kept for the two events, for a caller that compares without a [`Compare`]. Returns `Unknown` if either is no
+/// event.
 ///
-/// It takes no memory, and never answers `Memory`.
+/// It takes no memory, and never returns `Memory`.
 pub fn pair_of<K: Meant>(kept: &[K], first: u64, second: u64) -> Result<(&K, &K), QueryFault>
     ensures first { IfOk result (λ pair. kept_at kept.now first ≡ Some pair.0.now) }
     ensures second { IfOk result (λ pair. kept_at kept.now second ≡ Some pair.1.now) }
@@ -79,7 +79,7 @@ pub fn pair_of<K: Meant>(kept: &[K], first: u64, second: u64) -> Result<(&K, &K)
 
 /// The other events whose trees are before the tree of this one, increasing.
 ///
-/// `Unknown` where it is no event, else `Memory` where a request for memory is refused.
+/// Returns `Unknown` if there is no such event, else `Memory` if it runs out of memory. An empty list takes none.
 pub fn past<C: Compare>(
     compare: &C,
     alloc: Global,
@@ -99,8 +99,8 @@ pub fn past<C: Compare>(
     Ok(events)
 }
 
-/// As [`past`], of events whose trees stand in their order: each earlier event is compared once, in one direction, and
-/// no later one is looked at.
+/// Answers as [`past`] does, for events whose trees stand in their order. It compares each earlier event once, in one
+/// direction, and looks at no later one.
 pub fn past_in_order<C: Compare>(
     compare: &C,
     alloc: Global,
@@ -113,7 +113,7 @@ pub fn past_in_order<C: Compare>(
     past_by_points(compare, alloc, kept, &[], event)
 }
 
-/// As [`past_in_order`], where event k has the k-th of the points: where an event has one, it is compared there alone.
+/// Answers as [`past_in_order`] does. Event k has the k-th of the points, and is compared there alone if it has one.
 /// Events behind the last point have none.
 pub fn past_by_points<C: Compare>(
     compare: &C,
@@ -139,7 +139,7 @@ pub fn past_by_points<C: Compare>(
 
 /// The other events whose trees are concurrent with the tree of this one, increasing.
 ///
-/// `Unknown` where it is no event, else `Memory` where a request for memory is refused.
+/// Returns `Unknown` if there is no such event, else `Memory` if it runs out of memory. An empty list takes none.
 pub fn concurrent_with<C: Compare>(
     compare: &C,
     alloc: Global,
@@ -159,8 +159,8 @@ pub fn concurrent_with<C: Compare>(
     Ok(events)
 }
 
-/// As [`concurrent_with`], of events whose trees stand in their order: each other event is compared once, in one
-/// direction.
+/// Answers as [`concurrent_with`] does, for events whose trees stand in their order. It compares each other event once,
+/// in one direction.
 pub fn concurrent_in_order<C: Compare>(
     compare: &C,
     alloc: Global,
@@ -173,8 +173,8 @@ pub fn concurrent_in_order<C: Compare>(
     concurrent_by_points(compare, alloc, kept, &[], event)
 }
 
-/// As [`concurrent_in_order`], where event k has the k-th of the points: of two events the earlier one's point, where it
-/// has one, is where they are compared. Events behind the last point have none.
+/// Answers as [`concurrent_in_order`] does. Event k has the k-th of the points, and events behind the last point have
+/// none. Two events are compared at the earlier one's point, if it has one.
 pub fn concurrent_by_points<C: Compare>(
     compare: &C,
     alloc: Global,
@@ -203,7 +203,7 @@ pub fn concurrent_by_points<C: Compare>(
     Ok(events)
 }
 
-/// Whether the tree of an event is below that of a later one. `place` is where the points have that of the earlier one.
+/// Whether the tree of an event is below that of a later one. `place` is the index of the earlier event's point.
 #[inline(always)]
 pub(crate) fn is_below_later<C: Compare>(
     compare: &C,
@@ -221,7 +221,7 @@ pub(crate) fn is_below_later<C: Compare>(
     }
 }
 
-/// What is kept for the event.
+/// What is kept for the event, or `Unknown` if there is no such event.
 pub(crate) fn kept_of<K: Meant>(kept: &[K], event: u64) -> Result<&K, QueryFault>
     ensures at { IfOk result (λ one. kept_at kept.now event ≡ Some one.now) }
     ensures known { IfOk result (λ _. has_tree (map K.tree kept.now) event ≡ true) }

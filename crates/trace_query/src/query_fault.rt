@@ -1,4 +1,4 @@
-//! Why a query about events is not answered.
+//! The faults of queries.
 ghost use Rattle.std.specs.Prelude.{◌≡◌};
 ghost use Rattle.trace_query.specs.declared.query_fault.QueryFault.TheVariants.{Memory as OutOfMemory};
 
@@ -11,7 +11,7 @@ pub enum QueryFault {
     /// There is no event of this number.
     #[error("no event")]
     Unknown,
-    /// A request for memory was refused.
+    /// The query ran out of memory.
     #[error("no memory")]
     Memory,
 }

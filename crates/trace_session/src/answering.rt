@@ -78,7 +78,7 @@ fn next_asked<R: Source, W: Sink>(
     Ok(asked_by_line(found, lines.line()))
 }
 
-/// Flushes what was written, where the next line wants a read.
+/// Flushes what was written, if the next line needs a read.
 fn hand_on<R: Source, W: Sink>(lines: &LineReader<'_, R>, writer: &mut W) -> Result<(), WriteFault>
     ensures flushed { IfOk result (λ _. NeedsRead lines.now.buffer → IsTrue (W.seen writer.new).is_flushed) }
     ensures handed_on { MatchResult result (λ _. KeepsAll (W.seen writer.old) (W.seen writer.new)) (λ _. StopsHandingOn (W.seen writer.old) (W.seen writer.new)) }
@@ -107,7 +107,7 @@ fn next_line<R: Source, W: Sink>(
     lines.next()
 }
 
-/// Answers what is asked after so many requests, and gives the end that it brings.
+/// Answers what is asked after `requests` requests, and gives the end that it brings.
 fn answer_asked<T: Wait, L: Lent, W: Sink, G: Gate>(
     rt: &T,
     lent: &mut L,
@@ -162,7 +162,7 @@ fn reply_to<T: Wait, L: Lent>(rt: &T, lent: &mut L, request: &Option<Request>) -
     }
 }
 
-/// Writes the reply where the gate lets it out. Where it does not, what was written before is handed on.
+/// Writes the reply if the gate lets it out. Else it hands on what was written before.
 pub(crate) fn put_out<T: Wait, W: Sink, G: Gate>(
     rt: &T,
     writer: &mut W,

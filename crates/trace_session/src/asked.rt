@@ -1,4 +1,4 @@
-//! What a line of a session asks.
+//! What lines of a session ask.
 ghost use Rattle.std.specs.Prelude.{◌≡◌};
 ghost use Rattle.trace_session.specs.Asking.{asked_by_line};
 
@@ -7,15 +7,15 @@ use trace_types::Request;
 
 /// What a line of a session asks.
 pub(crate) enum Asked {
-    /// This request; `None` where the line spells none.
+    /// This request, or `None` if the line spells none.
     Request(Option<Request>),
     /// The end of the session.
     Quit,
-    /// Nothing: the input has ended.
+    /// Nothing, since the input has ended.
     End,
 }
 
-/// What is asked where this was found, and this is the line where it is a whole one.
+/// What is asked if this was found. `line` is the line if it is a whole one.
 pub(crate) fn asked_by_line(found: Line, line: &[u8]) -> Asked
     ensures { result ≡ asked_by_line found line.now }
 {
@@ -26,7 +26,7 @@ pub(crate) fn asked_by_line(found: Line, line: &[u8]) -> Asked
     }
 }
 
-/// What a line asks that is not too long.
+/// What a line that is not too long asks.
 fn asked_by(line: &[u8]) -> Asked
     ensures { result ≡ asked_by_line Line.Whole line.now }
 {

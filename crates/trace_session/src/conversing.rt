@@ -1,4 +1,4 @@
-//! One session on a hub.
+//! Sessions on a hub.
 ghost use Rattle.std.specs.Prelude.{◌≡◌, ◌⊎◌, IsTrue, None, IsErrOf};
 ghost use Rattle.line_protocol.specs.Held.{Held, fresh_held};
 ghost use Rattle.line_protocol.specs.LineReading.{Reads};
@@ -18,10 +18,10 @@ use trace_types::{Code, Reply};
 
 /// Holds the session of this number on the hub.
 ///
-/// Its first line is `report NAME` or `view NAME`, and is not answered where the tenant's desk or a view can be lent. Else
-/// the session writes one line, that says why (400, 420, 421 or 422), and ends with `Refused`. From the second line on it
-/// is [`report_lines`] or [`view_lines`]. Whatever its end, what was lent rests in the hub again. `Memory` comes before
-/// anything is read.
+/// Its first line is `report NAME` or `view NAME`, and gets no reply if the tenant's desk or a view can be lent. Else the
+/// session writes one line that says why, and ends with `Refused`: 400 for the line, 420 for the tenant, 421 for the
+/// desk, or 422 for the views. From the second line on it is [`report_lines`] or [`view_lines`]. What was lent rests in
+/// the hub again afterwards, whatever the end. Returns `Memory` if it runs out of memory before anything is read.
 pub fn session<T: Wait, R: Source, W: Sink, G: Gate>(
     rt: &T,
     alloc: Global,
@@ -70,7 +70,7 @@ fn converse<T: Wait, R: Source, W: Sink, G: Gate>(
     open(rt, hub, opening, lines, writer, gate, number)
 }
 
-/// Holds the session that was opened so.
+/// Holds the session that was opened in this way.
 fn open<T: Wait, R: Source, W: Sink, G: Gate>(
     rt: &T,
     hub: &Hub,

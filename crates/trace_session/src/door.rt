@@ -1,11 +1,11 @@
-//! Where connections come from.
+//! Doors, from which connections come.
 ghost use Rattle.std.specs.Prelude.{◌≡◌, ◌+◌, ◌≤◌, ℕ, IfOk, IfNone, MatchResult, MatchOption};
 
 use line_protocol::{Sink, Source};
 use std::sync::Wait;
 use thiserror::Error;
 
-/// No connection could be accepted.
+/// The fault of a door: no connection could be accepted.
 #[derive(Clone, Copy, Debug, PartialEq, Eq, Error)]
 #[error("accept fault")]
 pub struct DoorFault;
@@ -27,7 +27,7 @@ pub trait Door {
     // how many connections it is to give before it closes, where that is known
     ghost most: { Self → ℕ } = { λ _. 0 };
 
-    /// The next connection; `None` where no more will come. It may wait for one.
+    /// The next connection, or `None` if no more will come. It may wait for one.
     fn accept<R: Wait>(&mut self, rt: &R) -> Result<Option<(Self::Reader, Self::Writer)>, DoorFault>
         ensures given { MatchResult result
             (λ came. MatchOption came (given self.new ≡ given self.old) (λ _. given self.new ≡ given self.old + 1))

@@ -1,4 +1,4 @@
-//! What lets the lines of sessions out.
+//! Gates, which let the lines of sessions out.
 ghost use Rattle.std.specs.Prelude.{ℕ, MatchBool};
 
 use std::sync::Wait;
@@ -11,8 +11,8 @@ pub trait Gate {
     // it may hold back a line of the session of this number
     ghost holds_back: { Self → ℕ → Type 0 } = { λ _ _. Unit {0} };
 
-    /// Asked before each line that the session of this number writes, and may wait. `false` ends the session with
-    /// `Gate`, and the line is not written.
+    /// Says whether a line of the session of this number may be written. It is asked before each line, and may wait. At
+    /// `false` the line is not written, and the session ends with `Gate`.
     fn before_reply<R: Wait>(&self, rt: &R, number: u64) -> bool
         ensures { MatchBool result (lets_out self.now number) (holds_back self.now number) };
 }

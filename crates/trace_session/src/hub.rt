@@ -1,4 +1,4 @@
-//! The desks and views of all tenants, which sessions borrow.
+//! Hubs, from which sessions borrow desks and views.
 ghost use Rattle.std.specs.Prelude.{◌≡◌, ◌≢◌, ◌↔◌, ◌++◌, ◌∷◌, [], true, false, IfErr, IfOk, IfSome, IsErrOf, is_some};
 ghost use Rattle.std.specs.List.{list_any};
 ghost use Rattle.trace_types.specs.text.Name.{is_same};
@@ -16,7 +16,7 @@ use tenant_desk::{Desk, View};
 use tenant_ledger::Shared;
 use trace_types::{Limits, Memory, Name, WorldFault};
 
-/// One tenant, with what rests of it under a lock.
+/// One tenant, with a lock over what no session has of it.
 pub(crate) struct Tenant {
     name: Name,
     resting: Mutex<Resting>,
@@ -33,7 +33,7 @@ impl Tenant {
         desk
     }
 
-    /// Takes the desk back that it lent.
+    /// Takes the desk back that was lent.
     pub(crate) fn put_desk<R: Wait>(&self, rt: &R, desk: Desk)
         requires { IsSoundDesk desk }
     {
@@ -55,7 +55,7 @@ impl Tenant {
         view
     }
 
-    /// Takes a view back that it lent.
+    /// Takes a view back that was lent.
     pub(crate) fn put_view<R: Wait>(&self, rt: &R, view: View)
         requires { IsSoundView view }
     {
@@ -71,10 +71,10 @@ impl Tenant {
     }
 }
 
-/// The desks and views of all tenants. A session borrows what it needs, and each that is not borrowed rests under its
-/// tenant's lock.
+/// The desks and views of all tenants. A session borrows what it needs. What is not borrowed rests under the tenant's
+/// lock.
 ///
-/// Contracts see the tenants' names. It is no value that may be dropped: end it by [`Hub::close`].
+/// Contracts see the tenants' names. A hub cannot be dropped: end it by [`Hub::close`].
 pub struct Hub {
     tenants: Vec<Tenant>,
 }
@@ -92,9 +92,14 @@ impl Hub {
     /// The most tenants.
     pub const MOST_TENANTS: usize = 16;
 
-    /// Tenants of these names that have reported nothing, each with these limits by itself, a desk and eight views. It
-    /// takes 1 to 16 names, and answers `Names` for none, for more, and where a name stands twice. Their cache remembers
-    /// at most this many comparisons of two trees: 1 to 65536, else it answers `Capacity`. Want of memory comes last.
+    /// Tenants of these names that have reported nothing, each with these limits by itself, a desk and eight views. Their
+    /// cache remembers at most `cache` comparisons of two trees.
+    ///
+    /// | Fault | When it comes |
+    /// |---|---|
+    /// | `Names` | There are not 1 to 16 names, or one stands twice |
+    /// | `Capacity` | The names are right, and `cache` is outside 1 to 65536 |
+    /// | `Memory` | Else, if it runs out of memory |
     pub fn new<R: Wait>(
         rt: &R,
         alloc: Global,
@@ -132,7 +137,7 @@ impl Hub {
         Ok(hub)
     }
 
-    /// The same tenants and one more. Where a request for memory is refused, all are ended.
+    /// The same tenants and one more. It ends all of them if it runs out of memory.
     fn with_tenant<R: Wait>(
         self,
         rt: &R,
@@ -152,7 +157,7 @@ impl Hub {
         }
     }
 
-    /// The same tenants and this one. Where there is no room, all are ended.
+    /// The same tenants and this one. It ends all of them if there is no room.
     fn with<R: Wait>(self, rt: &R, tenant: Tenant) -> Result<Hub, Memory>
         ensures { IfOk result (λ hub. hub ≡ self ++ tenant.name ∷ []) }
     {

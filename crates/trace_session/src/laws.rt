@@ -7,8 +7,8 @@ ghost use Rattle.trace_session.specs.Answers.{AnswersEach};
 ghost use Rattle.trace_session.specs.Lent.{TakesRequest};
 ghost use Rattle.trace_session.specs.RunsThrough.{RunsThrough};
 
-/// What a desk that is lent to a session answers to its lines, one after another, are the replies of a run from the
-/// desk's rows, and the desk then has the rows that the run leaves. A request that found no memory changes nothing.
+/// The answers of a desk to the lines of a session, one after another, are the replies of a run from the desk's rows. The
+/// desk then has the rows that the run leaves. A request that ran out of memory changes nothing.
 pub fn reports_run()
     ensures { (old new : Desk) (requests : List (Option Request)) (replies : List Reply)
         → AnswersEach TakesRequest old requests replies new → RunsThrough old.tenant requests replies new.tenant }

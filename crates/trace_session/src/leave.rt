@@ -8,7 +8,7 @@ use line_protocol::{Sink, WriteFault, write_reply};
 use std::sync::Wait;
 use trace_types::Reply;
 
-/// The leave to write one line. It is got by asking a gate alone, and is spent by the line.
+/// The leave to write one line. Only asking a gate gives one, and the line spends it.
 #[derive(Drop)]
 pub(crate) struct Leave(());
 

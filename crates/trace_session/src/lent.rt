@@ -1,4 +1,4 @@
-//! What is lent to a session.
+//! What sessions borrow.
 
 use std::sync::Wait;
 use tenant_desk::{Desk, View};

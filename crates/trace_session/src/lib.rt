@@ -1,4 +1,27 @@
 //! Sessions: each reports to the desk of one tenant or asks one of its views, line by line.
+//!
+//! Use it to serve clients over connections of any kind. A [`Door`] gives the connections, a [`Hub`] has the desks and
+//! views of all tenants, and [`serve`] holds sessions at once.
+//!
+//! The contract that carries it: [`report_lines`] and [`view_lines`] answer the first lines that were read in turn, each
+//! as the desk takes its request or as the view answers it. Exactly these replies are written, a line each, or a prefix
+//! of them at a fault. [`laws::reports_run`] says that a session that reports gives the replies of a run from the rows of
+//! its desk.
+//!
+//! ```
+//! use line_protocol::{FromReader, IntoWriter};
+//! use trace_session::{Hub, OpenGate, SessionEnd, session};
+//! use trace_types::{Limits, Name};
+//!
+//! let names = [Name::read(b"x").ok_or("no name")?];
+//! let mut reader = FromReader::new(b"report x\nlocal root\ncount\nquit\n".as_slice());
+//! let mut writer = IntoWriter::new(Vec::new(alloc));
+//! let hub = Hub::new(&rt, alloc, &names, Limits::default(), 1024)?;
+//! let end = session(&rt, alloc, &hub, &mut reader, &mut writer, &OpenGate, 1);
+//! hub.close(&rt);
+//! assert!(rt; end == Ok(SessionEnd::Quit));
+//! assert!(rt; writer.into_inner().as_slice() == b"201 1\n200 1 1 0\n".as_slice());
+//! ```
 #![tactic(auto)]
 
 mod answering;

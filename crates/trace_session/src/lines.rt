@@ -1,4 +1,4 @@
-//! The lines of a session, over a desk or a view that it is lent.
+//! Lines of sessions, over a desk or a view.
 ghost use Rattle.std.specs.Prelude.{◌≡◌, ◌⊎◌, IsTrue, IfNone, IfSome, IsErrOf, Err};
 ghost use Rattle.line_protocol.specs.LineReading.{Reads};
 ghost use Rattle.trace_session.specs.Faults.{failed_reads_in, read_fault_in, session_fault_of};
@@ -11,13 +11,15 @@ use line_protocol::{LineReader, Sink, Source};
 use std::sync::Wait;
 use tenant_desk::{Desk, View};
 
-/// Answers lines by the desk, until the session of this number ends: each line is a request, and a line that spells none
-/// is answered 400. `quit` ends the session, the end of its input ends it, and so does any other line after 1048576
-/// requests, which is answered 423.
+/// Answers lines by the desk until the session of this number ends. Each line is a request, and a line that spells none
+/// is answered 400. The session ends at `quit`, at the end of its input, and at any other line after 1048576 requests,
+/// which is answered 423.
 ///
-/// Each reply is flushed before the next line is waited for. The gate is asked before each line that is written; where it
-/// says no, the request before it has been carried out, its reply is not written, and the session ends with `Gate`.
-/// `Read`, `TooLong` and `Write` come where a read failed, all the reads were made, or a write or a flush failed.
+/// Each reply is flushed before the next line is waited for. The gate is asked before each line that is written. If it
+/// says no, the session ends with `Gate`: the last request was carried out, and its reply is not written.
+///
+/// Returns `Read` if a read failed, and `TooLong` if all the reads were made. Returns `Write` if a write or a flush
+/// failed or was interrupted 1048576 times.
 pub fn report_lines<T: Wait, R: Source, W: Sink, G: Gate>(
     rt: &T,
     desk: &mut Desk,
@@ -48,8 +50,8 @@ pub fn report_lines<T: Wait, R: Source, W: Sink, G: Gate>(
     answer_lines(rt, desk, lines, writer, gate, number)
 }
 
-/// Answers lines by the view, as [`report_lines`] does by a desk. A report is refused with 410, and a query that finds no
-/// published list with 422.
+/// Answers lines by the view, as [`report_lines`] does by a desk. A report is refused with 410, and a query with 422 if
+/// no list is published any more.
 pub fn view_lines<T: Wait, R: Source, W: Sink, G: Gate>(
     rt: &T,
     view: &mut View,

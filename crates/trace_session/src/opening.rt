@@ -1,4 +1,4 @@
-//! The first line of a session.
+//! First lines of sessions.
 ghost use Rattle.std.specs.Prelude.{◌≡◌};
 ghost use Rattle.trace_session.specs.Openings.{opening_at, opening_for, opening_of};
 
@@ -21,7 +21,7 @@ pub(crate) struct Opening {
     pub(crate) tenant: Name,
 }
 
-/// What is opened where this was found, and this is the line where it is a whole one; `None` at the end of the input.
+/// What is opened if this was found, or `None` at the end of the input. `line` is the line if it is a whole one.
 pub(crate) fn opening_at(found: Line, line: &[u8]) -> Option<Option<Opening>>
     ensures { result ≡ opening_at found line.now }
 {
@@ -43,7 +43,7 @@ fn read_opening(line: &[u8]) -> Option<Opening>
     opening_for(Lending::View, name)
 }
 
-/// What is opened where this is asked for, of the tenant with the name that the bytes spell.
+/// What is opened if this is asked for. The bytes spell the tenant's name.
 fn opening_for(lending: Lending, name: &[u8]) -> Option<Opening>
     ensures { result ≡ opening_for lending name.now }
 {

@@ -1,4 +1,4 @@
-//! What no session uses of one tenant.
+//! What rests of a tenant, since no session has it.
 ghost use Rattle.std.specs.Prelude.{◌≡◌, ◌<◌, ◌≤◌, ◌++◌, ◌∷◌, [], Some, None, IfNone, IfOk, IfSome, IsSomeAnd, length, vec_capacity, All};
 ghost use Rattle.std.specs.Option.{option_to_list};
 ghost use Rattle.trace_types.specs.tenant.Tenant.{fresh};
@@ -11,9 +11,9 @@ use tenant_desk::{Desk, View, Views, desk_and_views};
 use tenant_ledger::Shared;
 use trace_types::{Limits, Memory};
 
-/// The desk and the views of one tenant, as far as no session uses them. All of them are sound.
+/// The desk and the views of one tenant, as far as no session has them. All of them are sound.
 ///
-/// It is no value that may be dropped: end it by [`Resting::close`].
+/// It cannot be dropped: end it by [`Resting::close`].
 pub(crate) struct Resting {
     desk: Option<Desk>,
     views: Vec<View>,
@@ -32,7 +32,7 @@ impl Model for Resting {
 }
 
 impl Resting {
-    /// The desk of a new tenant and its views. `Memory` where a request for memory was refused.
+    /// The desk of a new tenant and its views. Returns `Memory` if it runs out of memory.
     pub(crate) fn new<R: Wait>(
         rt: &R,
         alloc: Global,
@@ -64,7 +64,7 @@ impl Resting {
         self.desk.take()
     }
 
-    /// Takes the desk back. One that was there comes out.
+    /// Takes the desk back. It gives out a desk that was there.
     pub(crate) fn put_desk(&mut self, desk: Desk) -> Option<Desk>
         requires { IsSoundDesk desk }
         ensures other { result ≡ self.old.desk }
@@ -101,7 +101,7 @@ impl Resting {
     }
 }
 
-/// All the views that are left. `Memory` where a request for memory was refused.
+/// All the views that are left. Returns `Memory` if it runs out of memory.
 fn all_views(alloc: Global, mut views: Views) -> Result<Vec<View>, Memory>
     ensures count { IfOk result (λ all. length all.items ≡ views.left) }
     ensures sound { IfOk result (λ all. All IsSoundView all.items) }

@@ -1,4 +1,4 @@
-//! Sessions at once, by workers that connections are handed to.
+//! Sessions at once, by workers that are handed connections.
 ghost use Rattle.std.specs.Prelude.{◌≡◌, ◌↔◌, ◌+◌, ◌<◌, ◌≤◌, ◌^◌, ◌⊎◌, IfOk, IsErrOf};
 ghost use Rattle.trace_session.specs.Serving.{IsWorkers};
 
@@ -11,10 +11,10 @@ use std::thread;
 use std::thread::{Threads, join_mut};
 use thiserror::Error;
 
-/// How many workers there are at most.
+/// The most workers.
 const MOST_WORKERS: usize = 32;
 
-/// How many connections are accepted at most.
+/// The most connections that are accepted.
 const MOST_CONNECTIONS: u64 = 1 << 32;
 
 /// What was served.
@@ -26,7 +26,7 @@ pub struct ServeCounts {
     pub faults: u64,
 }
 
-/// Why no more is served.
+/// The faults of serving.
 #[derive(Clone, Copy, Debug, PartialEq, Eq, Error)]
 pub enum ServeFault {
     /// There are to be no workers, or more than 32.
@@ -35,7 +35,7 @@ pub enum ServeFault {
     /// The door failed.
     #[error("accept fault")]
     Door,
-    /// A request for memory was refused.
+    /// The server ran out of memory.
     #[error("no memory")]
     Memory,
 }
@@ -70,9 +70,9 @@ struct Connection<A, B> {
     number: u64,
 }
 
-/// Where workers hold sessions.
+/// A place in which workers hold sessions.
 trait Hall<T> {
-    /// Holds the session of this number, and tells whether it came to its end.
+    /// Holds the session of this number, and says whether it came to its end.
     fn hold<R: Source, W: Sink, G: Gate>(
         &self,
         rt: &T,
@@ -134,7 +134,7 @@ fn hold_all<T: Wait, H: Hall<T>, G: Gate, A: Source + Drop, B: Sink + Drop>(
     faults
 }
 
-/// Holds the session of this connection, and tells whether it came to its end.
+/// Holds the session of this connection, and says whether it came to its end.
 fn hold_one<T: Wait, H: Hall<T>, G: Gate, A: Source + Drop, B: Sink + Drop>(
     rt: &T,
     alloc: Global,
@@ -150,7 +150,7 @@ fn hold_one<T: Wait, H: Hall<T>, G: Gate, A: Source + Drop, B: Sink + Drop>(
     hall.hold(rt, alloc, &mut reader, &mut writer, gate, number)
 }
 
-/// Has so many workers hold sessions, of which the thread that calls is one.
+/// Has this many workers hold sessions. The thread that calls is one of them.
 fn work_all<'x, T, H, G, A, B>(rt: &T, shop: &Shop<'x, T, H, G, A, B>, workers: usize)
 where
     T: Threads + Wait + Sync,
@@ -197,7 +197,7 @@ fn accept_all<T: Wait, D: Door>(
     Ok(count)
 }
 
-/// The same, once.
+/// Does as [`accept_all`], but only once.
 fn accept_once<T: Wait, D: Door>(
     rt: &T,
     door: &mut D,
@@ -247,10 +247,10 @@ fn run<'x, T: Threads + Wait + Sync, H: Hall<T> + Sync, D: Door, G: Gate + Sync>
 }
 
 /// Accepts connections until the door closes, at most 2^32 of them, and has this many workers hold a session on the hub
-/// for each; it returns once all workers have ended. Sessions are numbered from 1, in the order of their connections.
+/// for each. Sessions are numbered from 1, in the order of their connections. It returns once all workers have ended.
 ///
-/// It answers `Workers` outside 1 to 32, `Door` where the door fails, and `Memory` where a request for memory is refused;
-/// sessions that were begun come to their end first.
+/// Returns `Workers` outside 1 to 32, `Door` if the door fails, and `Memory` if it runs out of memory. Sessions that were
+/// begun come to their end first.
 pub fn serve<T: Threads + Wait + Sync, D: Door, G: Gate + Sync>(
     rt: &T,
     alloc: Global,

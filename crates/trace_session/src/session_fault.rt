@@ -1,4 +1,4 @@
-//! Why a session stops.
+//! The faults of a session.
 ghost use Rattle.std.specs.Prelude.{◌≡◌};
 ghost use Rattle.trace_session.specs.Faults.{session_fault_of};
 ghost use Rattle.trace_session.specs.declared.session_fault.SessionFault.TheVariants as variants;
@@ -13,13 +13,13 @@ pub enum SessionFault {
     /// A read failed.
     #[error("read fault")]
     Read,
-    /// A write or a flush failed.
+    /// A write or a flush failed, or was interrupted 1048576 times.
     #[error("write fault")]
     Write,
-    /// All the reads that one session may make were made.
+    /// All the 2^30 reads that one session may make were made.
     #[error("input too long")]
     TooLong,
-    /// A request for memory was refused, before anything was read.
+    /// The session ran out of memory before anything was read.
     #[error("no memory")]
     Memory,
     /// The gate did not let a line out.

@@ -1,4 +1,4 @@
-//! Why a request is refused.
+//! The codes with which requests are refused.
 ghost use Rattle.std.specs.Prelude.{◌≡◌};
 ghost use Rattle.trace_types.specs.tenant.Code.{code_number, code_text};
 
@@ -9,46 +9,46 @@ use crate::Memory;
 pub enum Code {
     /// 400: the line is no request.
     Line,
-    /// 401: no such task.
+    /// 401: there is no such task.
     NoTask,
     /// 402: the task to be started exists.
     TaskExists,
     /// 403: the acting task has ended.
     TaskEnded,
-    /// 404: no such event.
+    /// 404: there is no such event.
     NoEvent,
-    /// 405: no such message.
+    /// 405: there is no such message.
     NoMessage,
     /// 406: the message to be sent exists.
     MessageExists,
-    /// 407: the message was received.
+    /// 407: the task received the message before.
     AlreadyReceived,
     /// 408: the task to be joined has not ended.
     NotEnded,
-    /// 409: the task to be joined was joined.
+    /// 409: the task to be joined was joined before.
     AlreadyJoined,
     /// 410: a view takes no report.
     ViewOnly,
-    /// 413: the tenant has all the events that it may have.
+    /// 413: the tenant has as many events as it may.
     EventsFull,
-    /// 414: the tenant has all the tasks that it may have.
+    /// 414: the tenant has had as many tasks as it may, joined ones included.
     TasksFull,
-    /// 415: the tenant has all the messages that it may have.
+    /// 415: the tenant has as many messages as it may.
     MessagesFull,
-    /// 420: no such tenant.
+    /// 420: there is no such tenant.
     NoTenant,
     /// 421: another session reports for the tenant.
     DeskTaken,
-    /// 422: no place to read from.
+    /// 422: all views of the tenant are in use, or its desk is gone.
     NoPlace,
-    /// 423: the session had all the requests that it may have.
+    /// 423: the session has made all the 1048576 requests that it may.
     SessionOver,
-    /// 507: a request for memory was refused.
+    /// 507: the request ran out of memory.
     NoMemory,
 }
 
 impl Code {
-    /// The number that stands in a reply.
+    /// The number in a reply, of three digits.
     pub fn number(self) -> u64
         ensures { result ≡ code_number self }
     {
@@ -75,7 +75,7 @@ impl Code {
         }
     }
 
-    /// The words that stand in a reply after the number.
+    /// The words that follow the number in a reply, as `no task`.
     pub fn text(self) -> &'static str
         ensures { result.now ≡ code_text self }
     {

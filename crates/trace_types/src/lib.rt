@@ -1,8 +1,23 @@
-//! The words of the trace collector: names, requests, rows and replies of a tenant.
+//! The words of the trace collector: names, limits, requests, rows and replies of one tenant. Its `specs/` define what
+//! all contracts of the other crates say.
 //!
-//! Its one contract is a set of definitions, in specs/: ids, event trees and the clock that they make (`clock`), what a
-//! tenant alone is due (`tenant`), how lines are read and written (`text`), and what many tenants together are due
-//! (`world`). The laws in [`laws`] say that they mean what they should.
+//! Use it in a crate that takes a tenant's requests or gives replies. Read its `specs/` to check what a contract means.
+//!
+//! Its contract is a set of definitions in four folders of `specs/`. `clock` has ids, event trees and the clock that they
+//! make. `tenant` has what a tenant alone is due, `text` how lines are read and written, and `world` what many tenants
+//! are due. The laws in [`laws`] say that the definitions mean what they should. For example, an event is found by
+//! walking back from another exactly if a path of predecessors leads there.
+//!
+//! ```
+//! use trace_types::{Code, Limits, Name, Request};
+//!
+//! let message = Name::read(b"m_1").ok_or("no name")?;
+//! assert!(rt; Name::read(b"two words").is_none());
+//! assert!(rt; Request::Send(Name::root(), message).is_report());
+//! assert!(rt; !Request::Cut(7).is_report());
+//! assert!(rt; Limits::read(16385, 1, 1).is_none());
+//! assert_eq!(rt; Code::AlreadyReceived.number(), 407);
+//! ```
 #![tactic(auto)]
 
 mod code;

@@ -1,11 +1,11 @@
-//! What a tenant may use.
+//! The limits of a tenant.
 ghost use Rattle.std.specs.Prelude.{◌≡◌, ◌↔◌, IsTrue, IsSome, IfSome};
 ghost use Rattle.trace_types.specs.tenant.Limits.{are_limits};
 ghost use Rattle.trace_types.specs.text.Name.{is_between};
 
 use std::marker::Model;
 
-/// How many events, tasks and messages one tenant may have, each at least 1. No limit is shared between tenants.
+/// How many events, tasks and messages one tenant may have, each at least 1. Tenants share no limit.
 #[derive(Clone, Copy, Debug, PartialEq, Eq)]
 pub struct Limits {
     events: u64,
@@ -30,22 +30,22 @@ impl Limits {
     /// The greatest limit on events.
     pub const MOST_EVENTS: u64 = 16384;
 
-    /// The limit on events where none is asked for.
+    /// The limit on events if none is asked for.
     pub const DEFAULT_EVENTS: u64 = 4096;
 
-    /// The greatest limit on the tasks that a tenant ever has, root included.
+    /// The greatest limit on tasks.
     pub const MOST_TASKS: u64 = 2048;
 
-    /// The limit on tasks where none is asked for.
+    /// The limit on tasks if none is asked for.
     pub const DEFAULT_TASKS: u64 = 512;
 
     /// The greatest limit on messages.
     pub const MOST_MESSAGES: u64 = 16384;
 
-    /// The limit on messages where none is asked for.
+    /// The limit on messages if none is asked for.
     pub const DEFAULT_MESSAGES: u64 = 2048;
 
-    /// These limits; `None` exactly where one is 0 or above its greatest. It takes no memory.
+    /// Returns these limits, or `None` exactly if one is 0 or above the greatest. It takes no memory.
     pub fn read(events: u64, tasks: u64, messages: u64) -> Option<Limits>
         ensures ranges { IsSome result ↔ IsTrue (are_limits events tasks messages) }
         ensures limits { IfSome result (λ limits. limits ≡ record { events = events; tasks = tasks; messages = messages }) }
@@ -64,7 +64,7 @@ impl Limits {
         }
     }
 
-    /// The most events.
+    /// The most events that the tenant may have.
     pub fn events(self) -> u64
         ensures value { result ≡ self.events }
         ensures ranges { IsTrue (are_limits self.events self.tasks self.messages) }
@@ -72,14 +72,14 @@ impl Limits {
         self.events
     }
 
-    /// The most tasks that there may ever be, root included; joined tasks count.
+    /// The most tasks that the tenant may ever have. The task `root` counts, and so do joined tasks.
     pub fn tasks(self) -> u64
         ensures { result ≡ self.tasks }
     {
         self.tasks
     }
 
-    /// The most messages.
+    /// The most messages that the tenant may send.
     pub fn messages(self) -> u64
         ensures { result ≡ self.messages }
     {

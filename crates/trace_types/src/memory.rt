@@ -1,9 +1,9 @@
-//! Want of memory.
+//! The fault of running out of memory.
 
 use std::alloc::{AllocError, AllocFailed};
 use thiserror::Error;
 
-/// A request for memory was refused.
+/// A call ran out of memory: a block was refused, or a count of shared parts was full.
 #[derive(Clone, Copy, Debug, PartialEq, Eq, Error)]
 #[error("no memory")]
 pub struct Memory;

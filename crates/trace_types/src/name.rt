@@ -12,9 +12,9 @@ ghost use Rattle.trace_types.specs.text.NamePadding.{padded};
 use std::hash::{Hash, Hasher};
 use std::marker::Model;
 
-/// A name of a tenant, a task or a message: 1 to 24 letters, digits or `_`.
+/// A name of a tenant, a task or a message: 1 to 24 letters, digits or `_`, all of ASCII.
 ///
-/// It lies in the value itself and is copied without memory. A contract sees it as its text.
+/// The text is stored inline, and a name is copied without memory. A contract sees the text.
 #[derive(Clone, Copy, Debug)]
 pub struct Name {
     /// The text, and then zeros.
@@ -40,10 +40,10 @@ impl Model for Name {
 }
 
 impl Name {
-    /// The most bytes that a name has.
+    /// The most bytes of a name.
     pub const MOST: usize = 24;
 
-    /// The name that the bytes spell; `None` exactly where they are no name. It takes no memory.
+    /// Returns the name that the bytes spell, or `None` exactly if they are no name. It takes no memory.
     pub fn read(text: &[u8]) -> Option<Name>
         ensures read { IsSome result ↔ IsTrue (is_name text.now) }
         ensures name { IfSome result (λ name. name ≡ text.now) }
@@ -58,7 +58,7 @@ impl Name {
         }
     }
 
-    /// The task with which each tenant starts.
+    /// The name `root`, of the task with which each tenant starts.
     pub fn root() -> Name
         ensures { result ≡ root }
     {
@@ -68,7 +68,7 @@ impl Name {
         }
     }
 
-    /// The text.
+    /// The text of the name, 1 to 24 bytes.
     pub fn as_bytes(&self) -> &[u8]
         ensures text { result.now ≡ self.now }
         ensures name { IsTrue (is_name self.now) }
@@ -110,7 +110,7 @@ impl PartialEq for Name {
 
     ghost laws = { partial_equiv_from_equiv nat_list_eq_equiv };
 
-    /// All bytes are compared, which takes a few words at once: the zeros behind the text are the same in both.
+    /// Compares all bytes, some words at a time: behind the text both names have zeros.
     #[inline(always)]
     fn eq(&self, other: &Name) -> bool {
         self.len == other.len && self.bytes == other.bytes

@@ -1,11 +1,11 @@
-//! A list of numbers.
+//! Lists of event numbers.
 ghost use Rattle.std.specs.Prelude.{◌≡◌, nat_eq};
 ghost use Rattle.std.specs.Cmp.{partial_equiv_from_equiv};
 ghost use Rattle.std.specs.Cmp.Lexicographic.{pointwise, nat_list_eq_equiv};
 
 use std::marker::Model;
 
-/// A list of event numbers. A contract sees the list.
+/// A list of event numbers, each from 1. A contract sees the list.
 #[derive(Debug, Drop)]
 pub struct Numbers {
     items: Vec<u64>,
@@ -20,14 +20,14 @@ impl Model for Numbers {
 }
 
 impl Numbers {
-    /// The numbers, lent without memory.
+    /// Lends the numbers. It takes no memory.
     pub fn as_slice(&self) -> &[u64]
         ensures { result.now ≡ self.now }
     {
         &self.items
     }
 
-    /// The numbers, given back without memory.
+    /// Gives the numbers back. It takes no memory.
     pub fn into_vec(self) -> Vec<u64>
         ensures { result.items ≡ self }
     {

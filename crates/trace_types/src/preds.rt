@@ -1,4 +1,4 @@
-//! The predecessors of an event.
+//! Predecessors of events, stored inline.
 ghost use Rattle.std.specs.Prelude.{◌≡◌, ◌≤◌, length, nat_eq};
 ghost use Rattle.std.specs.Cmp.{partial_equiv_from_equiv};
 ghost use Rattle.std.specs.Cmp.Lexicographic.{pointwise, nat_list_eq_equiv};
@@ -7,9 +7,9 @@ use smallvec::SmallVec;
 use std::alloc::Global;
 use std::marker::Model;
 
-/// The predecessors of an event: at most two event numbers, which lie in the value itself.
+/// The predecessors of an event: at most two event numbers, which are stored inline.
 ///
-/// A contract sees the list of them.
+/// A contract sees the list.
 #[derive(Debug, Drop)]
 pub struct Preds {
     events: SmallVec<u64, 2>,
@@ -26,7 +26,7 @@ impl Model for Preds {
 }
 
 impl Preds {
-    /// These events. It takes no memory.
+    /// The predecessors that are these events, in this order. It takes no memory.
     pub fn of(alloc: Global, events: &[u64]) -> Preds
         requires { length events.now ≤ 2 }
         ensures { result ≡ events.now }
@@ -35,7 +35,7 @@ impl Preds {
         Preds { events }
     }
 
-    /// The events, as a slice.
+    /// The events, in the order in which they were given.
     pub fn as_slice(&self) -> &[u64]
         ensures events { result.now ≡ self.now }
         ensures few { length result.now ≤ 2 }

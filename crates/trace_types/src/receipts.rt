@@ -1,4 +1,4 @@
-//! The receipts of a message.
+//! Receipts of messages, the first of them stored inline.
 ghost use Rattle.std.specs.Prelude.{◌≡◌, ◌≤◌, ◌<◌, ◌-◌, [], ◌∷◌, ◌++◌, length, take, nat_eq, IsOk, IfOk, OnOk, OnErr};
 ghost use Rattle.std.specs.Cmp.{partial_equiv_from_equiv};
 ghost use Rattle.std.specs.Cmp.Lexicographic.{pointwise, nat_list_eq_equiv};
@@ -8,10 +8,10 @@ use smallvec::SmallVec;
 use std::alloc::Global;
 use std::marker::Model;
 
-/// The receipts of a message: the number of each event that received it, in their order. The first one lies in the value
-/// itself, so a message with one receiver takes no memory for it.
+/// The receipts of a message: the number of each event that received the message, in the order of the receipts.
 ///
-/// A contract sees the list of them.
+/// The first number is stored inline, so a message with one receiver takes no memory for its receipts. A contract sees
+/// the list.
 #[derive(Debug, Drop)]
 pub struct Receipts {
     events: SmallVec<u64, 1>,
@@ -36,15 +36,15 @@ impl Receipts {
         Receipts { events }
     }
 
-    /// The events, as a slice.
+    /// The events that received the message, the first one first.
     pub fn as_slice(&self) -> &[u64]
         ensures { result.now ≡ self.now }
     {
         self.events.as_slice()
     }
 
-    /// Adds a receipt. `Memory` where a request for memory is refused, and then there are the receipts of before; the first
-    /// receipt takes none.
+    /// Adds a receipt. Returns `Memory`, with the receipts as before, if it runs out of memory. The first receipt takes
+    /// none.
     pub fn add(&mut self, event: u64) -> Result<(), Memory>
         ensures ok { OnOk result (self.new ≡ self.old ++ event ∷ []) }
         ensures err { OnErr result (self.new ≡ self.old) }
@@ -54,14 +54,14 @@ impl Receipts {
         Ok(())
     }
 
-    /// Takes the last receipt back, where there is one. It takes no memory.
+    /// Takes the last receipt back, if there is one. It takes no memory.
     pub fn remove_last(&mut self)
         ensures { self.new ≡ take (length self.old - 1) self.old }
     {
         self.events.pop();
     }
 
-    /// Equal receipts. `Memory` where a request for memory is refused; one receipt takes none.
+    /// Equal receipts. Returns `Memory` if it runs out of memory. Up to one receipt takes none.
     pub fn share(&self) -> Result<Receipts, Memory>
         ensures equal { IfOk result (λ receipts. receipts ≡ self.now) }
         ensures few { length self.now ≤ 1 → IsOk result }

@@ -1,4 +1,4 @@
-//! What a tenant may ask.
+//! Requests, and what reports say.
 ghost use Rattle.std.specs.Prelude.{◌≡◌, IsTrue, IfSome, None, Some};
 ghost use Rattle.trace_types.specs.tenant.Reported.{reported};
 ghost use Rattle.trace_types.specs.tenant.Tenant.{is_report};
@@ -7,7 +7,7 @@ ghost use Rattle.trace_types.specs.text.Text.{CanBeWritten};
 
 use crate::{Kind, Name};
 
-/// A request of one tenant. A line can spell event numbers below 1 000 000 000 alone.
+/// A request of one tenant. A line spells event numbers of at most nine digits.
 #[derive(Clone, Copy, Debug, PartialEq, Eq)]
 pub enum Request {
     /// Reports that the task did something by itself.
@@ -20,7 +20,7 @@ pub enum Request {
     Recv(Name, Name),
     /// Reports that the task ends.
     End(Name),
-    /// Reports that the first task takes in the second, which has ended.
+    /// Reports that the first task joins the second, which has ended.
     Join(Name, Name),
     /// Asks how the first event stands to the second.
     Order(u64, u64),
@@ -28,7 +28,7 @@ pub enum Request {
     Past(u64),
     /// Asks for the events that neither reach the event nor are reached from it.
     Concurrent(u64),
-    /// Asks for the last event of each task that reaches the event, itself among them.
+    /// Asks for the last event of each task that reaches the event. The event itself is one of these.
     Cut(u64),
     /// Asks for the row of the event.
     Event(u64),
@@ -38,11 +38,11 @@ pub enum Request {
     Task(Name),
     /// Asks for the send and the receipts of the message.
     Message(Name),
-    /// Asks for the numbers of events, of tasks ever and of messages.
+    /// Asks how many events, tasks ever and messages there are.
     Count,
 }
 
-/// What a request reports.
+/// What a report says.
 #[derive(Clone, Copy, Debug, PartialEq, Eq)]
 pub struct Reported {
     /// What the task did.
@@ -54,7 +54,7 @@ pub struct Reported {
 }
 
 impl Request {
-    /// Whether it reports something.
+    /// Whether the request is a report. Every other one is a query.
     pub fn is_report(&self) -> bool
         ensures { result ≡ is_report self.now }
     {
@@ -69,7 +69,7 @@ impl Request {
         )
     }
 
-    /// What it reports; `None` where it is a query. It takes no memory.
+    /// Returns what the request reports, or `None` if it is a query. It takes no memory.
     pub fn reported(&self) -> Option<Reported>
         ensures reported { result ≡ reported self.now }
         ensures written { IfSome result (λ _. CanBeWritten self.now) }
@@ -94,7 +94,7 @@ impl Request {
     }
 }
 
-/// What a task reports that names nothing.
+/// The report of this kind by this task, which names nothing besides.
 fn alone(kind: Kind, task: Name) -> Reported
     ensures reported { result ≡ record { kind = kind; task = task; name = None } }
     ensures written { IsTrue (is_name task) }
@@ -107,7 +107,7 @@ fn alone(kind: Kind, task: Name) -> Reported
     }
 }
 
-/// What a task reports that names this task or message.
+/// The report of this kind by this task, which names this task or message.
 fn naming(kind: Kind, task: Name, name: Name) -> Reported
     ensures reported { result ≡ record { kind = kind; task = task; name = Some name } }
     ensures task { IsTrue (is_name task) }

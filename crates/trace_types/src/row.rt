@@ -1,4 +1,4 @@
-//! The accepted reports of a tenant.
+//! Rows, which are accepted reports.
 ghost use Rattle.std.specs.Prelude.{◌≡◌};
 
 use crate::{Name, Preds};
@@ -16,7 +16,7 @@ pub enum Kind {
     Recv,
     /// The task ended.
     End,
-    /// The task took in an ended one, which is named.
+    /// The task joined an ended one, which is named.
     Join,
 }
 
@@ -29,7 +29,7 @@ pub struct Row {
     pub task: Name,
     /// The task or message that the report names beside the acting task.
     pub name: Option<Name>,
-    /// The predecessors, increasing and each once.
+    /// The predecessors, which increase.
     pub preds: Preds,
 }
 

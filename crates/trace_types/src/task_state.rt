@@ -1,12 +1,12 @@
-//! How far a task has come.
+//! The state of a task.
 
 /// How far a task has come.
 #[derive(Clone, Copy, Debug, PartialEq, Eq)]
 pub enum TaskState {
-    /// It may report.
+    /// The task may report.
     Live,
-    /// It has ended, and no task has joined it yet.
+    /// The task has ended, and no task has joined it yet.
     Ended,
-    /// It has ended, and a task has joined it.
+    /// The task has ended, and another one has joined it.
     Joined,
 }

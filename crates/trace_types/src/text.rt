@@ -1,11 +1,11 @@
-//! A text.
+//! Texts of bytes.
 ghost use Rattle.std.specs.Prelude.{◌≡◌, nat_eq};
 ghost use Rattle.std.specs.Cmp.{partial_equiv_from_equiv};
 ghost use Rattle.std.specs.Cmp.Lexicographic.{pointwise, nat_list_eq_equiv};
 
 use std::marker::Model;
 
-/// A text of bytes. A contract sees the list.
+/// A text of bytes, as that of a stamp. A contract sees the list.
 #[derive(Debug, Drop)]
 pub struct Text {
     bytes: Vec<u8>,
@@ -20,7 +20,7 @@ impl Model for Text {
 }
 
 impl Text {
-    /// The bytes, lent without memory.
+    /// Lends the bytes. It takes no memory.
     pub fn as_bytes(&self) -> &[u8]
         ensures { result.now ≡ self.now }
     {

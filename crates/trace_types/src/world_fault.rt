@@ -1,20 +1,20 @@
-//! Why a world is not made.
+//! The faults of making a world.
 ghost use Rattle.std.specs.Prelude.{◌≡◌};
 ghost use Rattle.trace_types.specs.declared.world_fault.WorldFault.TheVariants.{Memory as OutOfMemory};
 
 use crate::Memory;
 use thiserror::Error;
 
-/// Why a world of tenants is not made.
+/// Why a world or a hub of tenants is not made.
 #[derive(Clone, Copy, Debug, PartialEq, Eq, Error)]
 pub enum WorldFault {
-    /// There is no name, there are more than 16, or one stands twice.
+    /// No name is given, more than 16 are, or one stands twice.
     #[error("bad tenants")]
     Names,
-    /// The comparison cache is to remember no pair, or more than 65536.
+    /// The cache of comparisons is to remember no pair, or more than 65536.
     #[error("bad capacity")]
     Capacity,
-    /// A request for memory was refused.
+    /// The call ran out of memory.
     #[error("no memory")]
     Memory,
 }

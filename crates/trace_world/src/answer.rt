@@ -1,4 +1,4 @@
-//! The answers to lines.
+//! Answers to lines.
 ghost use Rattle.std.specs.Prelude.{◌≡◌, false};
 ghost use Rattle.std.specs.Option.{option_copied};
 ghost use Rattle.trace_types.specs.text.Lines.{is_too_long};
@@ -10,8 +10,8 @@ use line_protocol::{Sink, WriteFault, read_addressed, write_answer};
 use std::sync::Wait;
 use trace_types::{Code, Name, Reply};
 
-/// Does what a line asks of the tenants, and writes and counts the answer; of a line that is too long (`None`) nothing is
-/// asked.
+/// Does what a line asks of the tenants, and writes and counts the answer. A line that is too long is `None`, and asks
+/// nothing.
 #[inline(never)]
 pub(crate) fn answer_line<R: Wait, W: Sink>(
     rt: &R,
@@ -40,7 +40,7 @@ pub(crate) fn answer_line<R: Wait, W: Sink>(
     tell_apart(writer, counts, name, reply)
 }
 
-/// Does what a line asks of the tenants, and answers nobody.
+/// Does what a line asks of the tenants, and writes no reply.
 pub(crate) fn do_line<R: Wait>(rt: &R, world: &mut World, line: &[u8])
     requires { is_too_long line.now ≡ false }
     ensures { CarriesOut world.old line.now world.new }
@@ -54,7 +54,7 @@ pub(crate) fn do_line<R: Wait>(rt: &R, world: &mut World, line: &[u8])
     }
 }
 
-/// Counts a reply, and writes it with whom it names.
+/// Counts a reply, and writes it behind its addressee.
 #[inline(always)]
 fn tell<W: Sink>(
     writer: &mut W,
@@ -69,7 +69,7 @@ fn tell<W: Sink>(
     write_answer(writer, to, reply)
 }
 
-/// TellsReply a refusal.
+/// Counts and writes a refusal.
 #[inline(never)]
 fn refuse<W: Sink>(
     writer: &mut W,
@@ -83,7 +83,7 @@ fn refuse<W: Sink>(
     tell(writer, counts, to, &Reply::Refused(code))
 }
 
-/// As [`tell`], in a function of its own, whose places are then not set to zero for the short replies.
+/// Does as [`tell`]. The compiler zeroes all locals on entry, so longer replies have a function of their own.
 #[inline(never)]
 fn tell_apart<W: Sink>(
     writer: &mut W,
@@ -97,7 +97,7 @@ fn tell_apart<W: Sink>(
     tell(writer, counts, to, &reply)
 }
 
-/// Why a line is refused whose first word names no tenant.
+/// Why a line is refused if its first word names no tenant.
 fn code_to_nobody(word: &[u8]) -> Code
     ensures { result ≡ code_to_nobody word.now }
 {

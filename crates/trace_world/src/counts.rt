@@ -1,17 +1,18 @@
-//! What a replay counts.
+//! Counts of a replay.
 ghost use Rattle.std.specs.Prelude.{◌≡◌};
 
 use trace_types::Reply;
 
-/// How many lines were replayed, and how they were answered.
+/// How many lines were replayed, and how they were answered. The three other counts add up to the lines.
 #[derive(Clone, Copy, Debug, PartialEq, Eq)]
 pub struct Counts {
+    /// All lines, those that are too long included.
     pub lines: u64,
     /// Replies with 201.
     pub accepted: u64,
     /// Replies with 200.
     pub answered: u64,
-    /// All other replies.
+    /// Replies with 400 to 507.
     pub refused: u64,
 }
 

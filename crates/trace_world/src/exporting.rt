@@ -1,4 +1,4 @@
-//! The replay that ends in the export of one tenant.
+//! Replays that end in the export of one tenant.
 ghost use Rattle.std.specs.Prelude.{◌≡◌, ◌≢◌, ◌↔◌, ◌+◌, ◌<◌, ◌≤◌, ◌^◌, IfOk, IfErr, IsErrOf, OnOk, OnErr, length};
 ghost use Rattle.line_protocol.specs.Source.{StopsAtEnd};
 ghost use Rattle.line_protocol.specs.Writing.{EndsInFault};
@@ -12,11 +12,14 @@ use std::alloc::Global;
 use std::sync::Wait;
 use trace_export::export_rows;
 
-/// Reads lines of all tenants and does what they ask, as [`crate::replay`] does, but writes no reply; at the end of the
-/// input it writes the export of the tenant at this place, with a header. It gives the number of its rows.
+/// Reads lines of all tenants and does what they ask, as [`crate::replay`] does, but writes no reply. At the end of the
+/// input it writes the export of the tenant at this place, with a header, and flushes it. It gives the number of rows.
 ///
-/// `Read` and `TooLong` come before anything is written. `Memory` comes before anything is read or written, or while the
-/// export is written; `Write` comes while it is written.
+/// | Fault | When it comes |
+/// |---|---|
+/// | `Read`, `TooLong` | Before anything is written, if a read failed or 2^30 reads were made |
+/// | `Write` | While the export is written, if a write or a flush failed or was interrupted 1048576 times |
+/// | `Memory` | If it runs out of memory, before anything is read or while the export is written |
 pub fn replay_export<T: Wait, R: Source, W: Sink>(
     rt: &T,
     alloc: Global,

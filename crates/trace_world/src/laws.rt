@@ -1,4 +1,4 @@
-//! What tenant isolation means, and the places of names. Each law is the contract of a function that does nothing.
+//! What tenant isolation means, and places of names. Each law is the contract of a function that does nothing.
 ghost use Rattle.std.specs.Prelude.{◌≡◌, ◌↔◌, ℕ, List, [], Some, slice_get};
 ghost use Rattle.trace_types.specs.text.Name.{Text};
 ghost use Rattle.trace_types.specs.tenant.Limits.{Limits};
@@ -8,12 +8,12 @@ ghost use Rattle.trace_world.specs.Isolation.{due_replies, replies_to_tenant, li
 
 use crate::World;
 
-/// Isolation of the calls that `World::step` does.
+/// Isolation of the calls that [`World::step`] does.
 ///
 /// However the calls of all tenants are mixed, the replies that are due to one tenant are those that its own requests
-/// give where there is no other tenant. A call that was answered with want of memory is left out: it changed nothing,
-/// and nothing is said of when memory lacks. But for that, a tenant cannot tell from its replies what the others ask,
-/// how much they report, or whether they are there.
+/// alone give. Calls that ran out of memory are left out: they changed nothing, and nothing is said of when memory lacks.
+/// But for these, a tenant cannot tell from its replies what the others ask, how much they report, or whether they are
+/// there.
 pub fn isolation()
     ensures alone { (limits : Limits) (tenant : ℕ) (calls : List Call)
         → due_replies limits tenant [] calls ≡ alone limits (kept (calls_of tenant calls)) }
@@ -23,11 +23,11 @@ pub fn isolation()
         → due_replies limits tenant [] first ≡ due_replies limits tenant [] second }
 {}
 
-/// Isolation of the lines that `replay` answers.
+/// Isolation of the lines that [`crate::replay`] answers.
 ///
-/// What is written for the lines that name one tenant is, byte for byte, what these lines give without all others,
-/// where the same of them find no memory. So lines that name the others, or nobody, change none of its bytes. Where
-/// memory lacked for some of its requests, the replies to the rest are still those that the rest alone gives.
+/// What is written for the lines that name one tenant is, byte for byte, what these lines give without all others. The
+/// same of them have to run out of memory. So lines that name the others, or nobody, change none of its bytes. If some of
+/// its requests run out of memory, the replies to the rest are still those that the rest alone gives.
 pub fn isolation_in_bytes()
     ensures lines_alone { (names : List Text) (limits : Limits) (tenant : ℕ) (entries : List Entry)
         → output_to names limits tenant [] entries ≡ output names limits [] (lines_of tenant entries) }
@@ -43,7 +43,7 @@ pub fn isolation_in_bytes()
         → replies_to_tenant limits tenant [] first ≡ replies_to_tenant limits tenant [] second }
 {}
 
-/// In any world a name is found exactly at the place where it stands.
+/// In any world, a name is found exactly at its place.
 pub fn places(world: &World)
     ensures { (name : Text) (place : ℕ)
         → (place_of world.now.names name ≡ Some place) ↔ (slice_get world.now.names place ≡ Some name) }

@@ -1,4 +1,4 @@
-//! The stamps of a ledger's events.
+//! Stamps of a ledger's events.
 ghost use Rattle.std.specs.Prelude.{◌≡◌};
 
 use crate::world::SharedLedger;
@@ -7,7 +7,7 @@ use tenant_ledger::{Shared, laws};
 use trace_export::StampTexts;
 use trace_types::{Code, Memory, Reply, Request};
 
-/// The texts of the stamps of a ledger's events, which it is asked for.
+/// The texts of the stamps of a ledger's events, for which the ledger is asked one by one.
 #[derive(Drop)]
 pub(crate) struct LedgerStamps<'a> {
     pub(crate) alloc: Global,

@@ -1,9 +1,24 @@
 //! All tenants on one thread, and the replay of their lines.
 //!
-//! Its one contract is tenant isolation: whatever the tenants ask in whatever interleaving, each reply is the one that
-//! the tenant's own requests alone give, on steps (`World::step`) and on bytes (`replay`). The words are defined in
-//! `Interleaving`, `Replay` and `World` of `trace_types`, and in `Replayed` here; `laws` says what they come to.
-//! `replay_export` writes the export of what one tenant's own requests leave, in place of replies (`Exported`).
+//! Use it to answer a stream of lines of many tenants, or to write the export of one of them.
+//!
+//! The law that carries it is tenant isolation. A tenant gets the replies that its own requests alone give, whatever the
+//! other tenants ask and however all are mixed. It holds of steps ([`World::step`]) and of bytes ([`replay`]).
+//! [`laws::isolation`] and [`laws::isolation_in_bytes`] say what it comes to. [`replay_export`] writes the export of what
+//! one tenant's own requests leave, in place of replies. The words are defined in `Interleaving`, `Replay` and `World` of
+//! `trace_types`, and in `Replayed` and `Exported` of this crate's `specs/`.
+//!
+//! ```
+//! use trace_types::{Limits, Name};
+//! use trace_world::{World, replay_bytes};
+//!
+//! let names = [Name::read(b"x").ok_or("no name")?, Name::read(b"y").ok_or("no name")?];
+//! let mut world = World::new(alloc, &names, Limits::default(), 1024)?;
+//! let lines = b"x local root\ny local root\nx local root\nx order 1 2\nz count\n".as_slice();
+//! let written = replay_bytes(&rt, alloc, &mut world, lines)?;
+//! let due = b"x 201 1\ny 201 1\nx 201 2\nx 200 before\n? 420 no tenant\n".as_slice();
+//! assert!(rt; written.as_slice() == due);
+//! ```
 #![tactic(auto)]
 
 mod answer;

@@ -1,4 +1,4 @@
-//! Why a replay stops.
+//! The faults of a replay.
 ghost use Rattle.std.specs.Prelude.{◌≡◌};
 ghost use Rattle.trace_world.specs.declared.replay_fault.ReplayFault.{ReplayFault};
 ghost use Rattle.trace_world.specs.declared.replay_fault.ReplayFault.TheVariants as variants;
@@ -15,13 +15,13 @@ pub enum ReplayFault {
     /// A read failed.
     #[error("read fault")]
     Read,
-    /// A write or a flush failed.
+    /// A write or a flush failed, or was interrupted 1048576 times.
     #[error("write fault")]
     Write,
-    /// All the reads that one replay may make were made.
+    /// All the 2^30 reads that one replay may make were made.
     #[error("input too long")]
     TooLong,
-    /// A request for memory was refused, before anything was read.
+    /// The replay ran out of memory before anything was read, or while an export was written.
     #[error("no memory")]
     Memory,
 }

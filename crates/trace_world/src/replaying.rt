@@ -1,4 +1,4 @@
-//! The replay of lines of many tenants.
+//! Replays of lines of many tenants.
 ghost use Rattle.std.specs.Prelude.{◌≡◌, ◌↔◌, ◌+◌, ◌<◌, ◌≤◌, ◌^◌, IfOk, IfErr, IsErrOf, IsTrue, OnOk, OnErr};
 ghost use Rattle.line_protocol.specs.LineReading.{FindsNext, NeedsRead};
 ghost use Rattle.line_protocol.specs.Patience.{FlushesPatiently, GivesUpFlushing};
@@ -12,12 +12,17 @@ use line_protocol::{Buffer, Line, ReadFault, Sink, Source, WriteFault, flush};
 use std::alloc::Global;
 use std::sync::Wait;
 
-/// Reads lines of all tenants, `TENANT REQUEST`, does what they ask and writes a line for each, `TENANT REPLY`.
+/// Reads lines of all tenants, `TENANT REQUEST`, does what they ask and writes a line for each, `TENANT REPLY`. The name
+/// is `?` if no tenant is named. It reads to the end of the input.
 ///
-/// Before it asks for more bytes it flushes what it answered, so each line that came whole is answered before it waits.
-/// It reads to the end of the input. A fault ends it: where no more can be read (`Read`, `TooLong`), each line whose end
-/// came is answered, and only an unfinished one is lost; after a write fault, lines that were read and not answered are
-/// lost. Nothing waits on `rt` while the tenants share nothing.
+/// It flushes what it answered before it asks for more bytes, so each line that came whole is answered before it waits.
+/// It waits on `rt` only if another thread uses what the tenants share.
+///
+/// | Fault | When it comes | What was answered |
+/// |---|---|---|
+/// | `Read`, `TooLong` | A read failed, or 2^30 reads were made | Each line whose end came |
+/// | `Write` | A write or a flush failed, or was interrupted 1048576 times | A prefix of the lines that were read |
+/// | `Memory` | It ran out of memory | Nothing, and nothing was read |
 pub fn replay<T: Wait, R: Source, W: Sink>(
     rt: &T,
     alloc: Global,
@@ -59,7 +64,7 @@ pub fn replay<T: Wait, R: Source, W: Sink>(
     Ok(counts)
 }
 
-/// Flushes what was answered, where the next line wants a read.
+/// Flushes what was answered, if the next line needs a read.
 fn hand_on<W: Sink>(lines: &Buffer, writer: &mut W) -> Result<(), WriteFault>
     ensures flushed { OnOk result (NeedsRead lines.now → IsTrue (W.seen writer.new).is_flushed) }
     ensures taken { (W.seen writer.new).bytes ≡ (W.seen writer.old).bytes }

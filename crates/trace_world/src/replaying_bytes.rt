@@ -1,4 +1,4 @@
-//! The replay of bytes in memory.
+//! Replays of bytes in memory.
 ghost use Rattle.std.specs.Prelude.{IfOk};
 ghost use Rattle.trace_world.specs.Replayed.{AnswersAll};
 
@@ -7,7 +7,8 @@ use line_protocol::{FromReader, IntoWriter};
 use std::alloc::Global;
 use std::sync::Wait;
 
-/// Replays the lines of these bytes, and gives what is written for them. A vector that finds no memory is a write fault.
+/// Replays the lines of these bytes, and gives what is written for them. Returns `Write` if it runs out of memory for
+/// that, and `Memory` if it does so before.
 pub fn replay_bytes<T: Wait>(
     rt: &T,
     alloc: Global,

@@ -1,4 +1,4 @@
-//! The tenants.
+//! Worlds of tenants.
 ghost use Rattle.std.specs.Prelude.{◌≡◌, ◌≢◌, ◌↔◌, ◌<◌, ℕ, true, false, [], length, map, Some, slice_get, IfOk, IfErr, IfSome, IsErrOf, IsTrue};
 ghost use Rattle.trace_types.specs.text.Name.{is_name};
 ghost use Rattle.order_cache.specs.Capacity.{IsCapacity};
@@ -16,12 +16,12 @@ use tenant_ledger::{Ledger, Shared};
 use trace_export::Header;
 use trace_types::{Limits, Memory, Name, Reply, Request, WorldFault};
 
-/// The ledger of a tenant that keeps its ids and trees with all others.
+/// The ledger of a tenant that keeps its ids and trees together with all others.
 pub(crate) type SharedLedger = Ledger<Arc<Shared>>;
 
 /// All tenants: their names, the limits that each of them has by itself, and what each has reported.
 ///
-/// They keep their ids and trees in one place, and have them compared there. No reply shows it.
+/// They keep their ids and trees in one place, and compare them there. No reply shows it.
 #[derive(Drop)]
 pub struct World {
     names: Vec<Name>,
@@ -46,9 +46,13 @@ impl World {
     /// The most tenants.
     pub const MOST_TENANTS: usize = 16;
 
-    /// Tenants of these names that have reported nothing. It takes 1 to 16 names, and answers `Names` for none, for
-    /// more, and where a name stands twice. Their cache remembers at most this many comparisons of two trees: 1 to 65536,
-    /// else it answers `Capacity`. Want of memory comes last.
+    /// Tenants of these names that have reported nothing. Their cache remembers at most `cache` comparisons of two trees.
+    ///
+    /// | Fault | When it comes |
+    /// |---|---|
+    /// | `Names` | There are not 1 to 16 names, or one stands twice |
+    /// | `Capacity` | The names are right, and `cache` is outside 1 to 65536 |
+    /// | `Memory` | Else, if it runs out of memory |
     pub fn new(
         alloc: Global,
         names: &[Name],
@@ -77,9 +81,9 @@ impl World {
         &self.shared
     }
 
-    /// What holds of every world; and some calls of its tenants led to it.
+    /// What holds of every world, and that some calls of its tenants led to it.
     ///
-    /// It does nothing.
+    /// It does nothing: it is a law.
     pub fn law(&self)
         ensures world { IsWorld self.now }
         ensures led { IsLedTo self.now }
@@ -95,7 +99,7 @@ impl World {
         self.ledgers.len()
     }
 
-    /// The place of the tenant of this name.
+    /// The place of the tenant of this name, from 0.
     pub fn find(&self, name: &Name) -> Option<usize>
         ensures place { result ≡ place_of self.now.names name.now }
         ensures stands { (place : ℕ) → (result ≡ Some place) ↔ (slice_get self.now.names place ≡ Some name.now) }
@@ -134,8 +138,8 @@ impl World {
         }
     }
 
-    /// Does one request of the tenant at this place. It answers 507 only where memory was refused. It may wait where what
-    /// the tenants share is used by another thread too.
+    /// Does one request of the tenant at this place. It answers `NoMemory` (507) only if it runs out of memory. It may
+    /// wait for another thread that uses what the tenants share.
     pub fn step<R: Wait>(&mut self, rt: &R, tenant: usize, request: &Request) -> Reply
         requires { tenant < length self.old.tenants }
         ensures step { StepsOne self.old tenant request.now result self.new }
@@ -147,7 +151,7 @@ impl World {
         report(rt, &mut self.ledgers, tenant, request)
     }
 
-    /// As [`World::step`], of a request that [`Ledger::ask_briefly`] answers; `None` for any other.
+    /// Does as [`World::step`] a request that [`Ledger::ask_briefly`] answers. It is `None` for any other.
     #[inline(always)]
     pub(crate) fn step_briefly<R: Wait>(
         &self,
@@ -162,7 +166,7 @@ impl World {
         self.ledgers[tenant].ask_briefly(rt, request)
     }
 
-    /// As [`World::step`], in a function of its own, whose places are then not set to zero for the short ones.
+    /// Does as [`World::step`]. The compiler zeroes all locals on entry, so longer requests have a function of their own.
     #[inline(never)]
     pub(crate) fn step_apart<R: Wait>(&mut self, rt: &R, tenant: usize, request: Request) -> Reply
         requires { tenant < length self.old.tenants }
@@ -173,7 +177,7 @@ impl World {
     }
 }
 
-/// The names once more.
+/// Copies of the names.
 fn copied(alloc: Global, names: &[Name]) -> Result<Vec<Name>, Memory>
     ensures { IfOk result (λ copies. copies.items ≡ names.now) }
 {

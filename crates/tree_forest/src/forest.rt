@@ -1,4 +1,4 @@
-//! The table that keeps the values, and how a value is found in it.
+//! The table that keeps the values, and how a value is found there.
 ghost use Rattle.std.specs.Prelude.{◌≡◌, IfOk, IfSome, length};
 ghost use Rattle.tree_forest.specs.Homes.{LiesIn};
 ghost use Rattle.tree_forest.specs.Kept.{IsOf};
@@ -17,10 +17,10 @@ const SHARDS: usize = 16;
 /// For each digest the row that was last added under it.
 type Shard = HashMap<u64, usize>;
 
-/// Keeps values for all threads, each in a row that stays.
+/// Keeps values for all threads, each in a row that stays as long as the forest.
 ///
-/// A value is found by its digest, in the map of one of 16 shards. A lock is held for a step of a map only, never while
-/// values are compared, shared or added to the table.
+/// A value is found by its digest, in the map of one of 16 shards. A thread holds a shard's lock for one step of its map.
+/// It never holds one while it compares, shares or adds values.
 #[derive(Drop)]
 pub struct Forest<T> {
     table: boxcar::Vec<T>,
@@ -39,7 +39,7 @@ impl<T> Model for Forest<T> {
     ghost invariant = { λ f. length f.shards.items ≡ 16 };
 }
 
-/// The maps of all digests, without rows. `Memory` where a request for memory was refused.
+/// The maps of all digests, without rows. Returns `Memory` if it runs out of memory.
 fn empty_shards(alloc: Global) -> Result<Vec<Mutex<Shard>>, Memory>
     ensures { IfOk result (λ shards. length shards.items ≡ 16) }
 {
@@ -63,7 +63,7 @@ impl<T> Forest<T> {
 }
 
 impl<T: Shape + Drop> Forest<T> {
-    /// A forest without rows. `Memory` where a request for memory was refused.
+    /// A forest without rows. Returns `Memory` if it runs out of memory.
     pub fn new(alloc: Global) -> Result<Forest<T>, Memory> {
         Ok(Forest {
             table: boxcar::Vec::new(alloc)?,
@@ -72,11 +72,10 @@ impl<T: Shape + Drop> Forest<T> {
         })
     }
 
-    /// The tree that keeps the value: that of the last row under its digest where it has this value, else of a new row.
+    /// The tree that keeps the value, in the last row under its digest if that row has this value, else in a new row.
     ///
-    /// Two threads that intern equal values at once may add a row each, and so may a value whose digest another has too;
-    /// then the values are equal and the numbers are not. `Memory` where a request for memory was refused, or there is no
-    /// number left; all earlier rows stand, and one row may have been added.
+    /// Equal values may get two numbers, if two threads intern them at once or if another value has their digest. Returns
+    /// `Memory` if it runs out of memory or of numbers. Then all earlier rows stand, and one row may have been added.
     pub fn intern<R: Wait>(&self, rt: &R, value: &T) -> Result<Tree<T>, Memory>
         ensures value { IfOk result (λ tree. tree.value ≡ value.now) }
         ensures home { IfOk result (λ tree. IsOf self.now tree) }
@@ -103,7 +102,7 @@ impl<T: Shape + Drop> Forest<T> {
         self.shard(digest).lock(rt).get(&digest).copied()
     }
 
-    /// The tree of the row where it has this value, found without a lock.
+    /// The tree of the row, if the row has this value. It takes no lock.
     fn found(&self, index: usize, value: &T) -> Result<Option<Tree<T>>, Memory>
         ensures value { IfOk result (λ found. IfSome found (λ tree. tree.value ≡ value.now)) }
         ensures home { IfOk result (λ found. IfSome found (λ tree. IsOf self.now tree)) }
@@ -119,7 +118,7 @@ impl<T: Shape + Drop> Forest<T> {
         Ok(Some(Tree::of(self, self.alloc, kept, row)))
     }
 
-    /// Adds a row with the value, without a lock.
+    /// Adds a row with the value. It takes no lock of a shard.
     fn added<R: Wait>(&self, rt: &R, value: &T) -> Result<Pushed<T>, Memory>
         ensures value { IfOk result (λ row. row.value ≡ value.now) }
         ensures lies { IfOk result (λ row. LiesIn self.now row) }
@@ -128,7 +127,7 @@ impl<T: Shape + Drop> Forest<T> {
         self.table.push_shown(rt, kept).map_err(|_| Memory)
     }
 
-    /// From now on the digest leads to this row.
+    /// Has the digest lead to this row from now on.
     fn remember<R: Wait>(&self, rt: &R, digest: u64, index: usize) -> Result<(), Memory> {
         self.shard(digest).lock(rt).insert(digest, index)?;
         Ok(())

@@ -1,11 +1,11 @@
-//! Which forest it is, for clauses alone.
+//! Which forest a value is of, for clauses alone.
 ghost use Rattle.std.specs.Prelude.{◌≡◌};
 
 use crate::Forest;
 use boxcar::tag::{Names, Tag};
 use std::marker::Model;
 
-/// The home of a forest, by which clauses know what is of it. It has no bytes.
+/// The home of a forest: clauses know by it which values are of that forest. It has no bytes.
 #[derive(Drop)]
 pub struct Home {
     tag: Tag,
@@ -19,7 +19,7 @@ impl Model for Home {
     ghost view = { λ h. h.tag.numbers };
 }
 
-/// How a home is read off what has one.
+/// How a home is read off a forest or another home.
 struct OfHome;
 
 impl<T> Names<Forest<T>> for OfHome {
@@ -40,7 +40,7 @@ impl Home {
         }
     }
 
-    /// The same home once more.
+    /// An equal home.
     pub fn again(&self) -> Home
         ensures { result ≡ self.now }
     {

@@ -1,4 +1,4 @@
-//! The row of a tree, without its value at hand.
+//! Rows of trees, without their values at hand.
 ghost use Rattle.std.specs.Prelude.{◌≡◌};
 ghost use Rattle.tree_forest.specs.Homes.{LiesIn};
 ghost use Rattle.tree_forest.specs.Kept.{IsOf};
@@ -7,7 +7,7 @@ use crate::{Forest, Home};
 use boxcar::Pushed;
 use std::marker::Model;
 
-/// Which row of a [`Forest`] a tree is of. It keeps nothing alive, and contracts see it as they see the tree.
+/// Which row of a [`Forest`] a tree is of. A mark keeps nothing alive. Contracts see a mark as they see the tree.
 #[derive(Drop)]
 pub struct Mark<T> {
     row: Pushed<T>,
@@ -40,14 +40,14 @@ impl<T> Mark<T> {
         }
     }
 
-    /// The number of the row.
+    /// The number of the row, from 0. It stays the same as long as the forest.
     pub fn number(&self) -> u64
         ensures { result ≡ self.now.number }
     {
         self.row.index() as u64
     }
 
-    /// The same mark once more.
+    /// An equal mark.
     pub fn again(&self) -> Mark<T>
         ensures { result ≡ self.now }
     {
@@ -57,7 +57,7 @@ impl<T> Mark<T> {
         }
     }
 
-    /// Of two marks of one forest that have one number the values are the same. It does nothing.
+    /// Two marks of one forest that have one number have one value. It does nothing: it is a law.
     pub fn same_number(&self, forest: &Forest<T>, other: &Mark<T>)
         requires this { IsOf forest.now self.now }
         requires that { IsOf forest.now other.now }

@@ -4,19 +4,19 @@ ghost use Rattle.std.specs.Prelude.{◌≡◌, ℕ, ◌↔◌, IsTrue, IfOk};
 use std::alloc::Global;
 use trace_types::Memory;
 
-/// A value that is kept once for all that have it.
+/// A value that a forest can keep once for all that have it.
 pub trait Shape {
     ghost digest_of: { Self → ℕ };
 
-    /// Whether both have one value. It takes no memory.
+    /// Whether both are one value. It takes no memory.
     fn same(&self, other: &Self) -> bool
         ensures { IsTrue result ↔ (self.now ≡ other.now) };
 
-    /// A number by which a forest looks for the value. Other values may have the same. It takes no memory.
+    /// A number by which a forest finds the value. Other values may share it. It takes no memory.
     fn digest(&self) -> u64
         ensures { result ≡ digest_of self.now };
 
-    /// The same value once more. `Memory` where a request for memory was refused.
+    /// An equal value. Returns `Memory` if it runs out of memory.
     fn share(&self, alloc: Global) -> Result<Self, Memory>
         ensures { IfOk result (λ shared. shared ≡ self.now) };
 }

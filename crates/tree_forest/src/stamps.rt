@@ -1,4 +1,4 @@
-//! The ids and the event trees of stamps, which forests keep.
+//! The parts of stamps, ids and event trees, as values that forests keep.
 
 use crate::Shape;
 use event_tree::EvTree;

@@ -1,4 +1,4 @@
-//! A value that a forest keeps.
+//! Kept values, with their numbers.
 ghost use Rattle.std.specs.Prelude.{◌≡◌, IfOk};
 ghost use Rattle.tree_forest.specs.Homes.{LiesIn};
 ghost use Rattle.tree_forest.specs.Kept.{IsOf};
@@ -52,21 +52,21 @@ impl<T> Tree<T> {
         &self.value
     }
 
-    /// The number of the row that keeps the value. It stays the same for as long as the forest lasts.
+    /// The number of the row that keeps the value, from 0. It stays the same as long as the forest.
     pub fn number(&self) -> u64
         ensures { result ≡ self.now.number }
     {
         self.mark.number()
     }
 
-    /// Which row it is of.
+    /// The row that keeps the value.
     pub fn mark(&self) -> &Mark<T>
         ensures { result.now ≡ self.now }
     {
         &self.mark
     }
 
-    /// Of two trees of one forest that have one number the values are the same. It does nothing.
+    /// Two trees of one forest that have one number have one value. It does nothing: it is a law.
     pub fn same_number(&self, forest: &Forest<T>, other: &Tree<T>)
         requires this { IsOf forest.now self.now }
         requires that { IsOf forest.now other.now }
@@ -77,7 +77,7 @@ impl<T> Tree<T> {
 }
 
 impl<T: Shape> Tree<T> {
-    /// The same tree once more, over the same value. `Memory` where the value refuses to be shared.
+    /// An equal tree, over the same value. Returns `Memory` if the value cannot be shared.
     pub fn share(&self) -> Result<Tree<T>, Memory>
         ensures { IfOk result (λ tree. tree ≡ self.now) }
     {

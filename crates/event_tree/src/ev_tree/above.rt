@@ -1,4 +1,4 @@
-//! A place at which a tree is above another one.
+//! Places at which a tree is above another one.
 ghost use Rattle.std.specs.Prelude.{◌≡◌, ◌+◌, ◌^◌, ◌<◌, ◌≤◌, ◌↔◌, ◌∷◌, [], IfOk, IsTrue};
 ghost use Rattle.trace_types.specs.clock.Points.{Point as Halves};
 ghost use Rattle.trace_types.specs.clock.EventTree.{value, minimum, maximum};
@@ -12,8 +12,8 @@ use crate::path::parted;
 use std::alloc::AllocError;
 
 impl EvTree {
-    /// Whether the value of this tree at the path is above that of `other`, by one walk down both along it. It takes no
-    /// memory, and ends where the ranges of what is left decide.
+    /// Whether the value of this tree at the path is above that of `other`. It walks both trees along the path until the
+    /// ranges of values decide, and takes no memory.
     pub fn is_above_at(&self, other: &EvTree, path: &Path) -> bool
         ensures { IsTrue result ↔ (value other.now path.now < value self.now path.now) }
     {
@@ -40,7 +40,7 @@ impl EvTree {
         }
     }
 
-    /// The half of the tree, and what lifts it.
+    /// The half of the tree, and what is to be added to its values.
     fn part(&self, lift: u64, right: bool) -> (&EvTree, u64)
         requires { lift + maximum self.now < 2 ^ 64 }
         ensures value { (point : Halves) → result.1 + value result.0.now point ≡ lift + value self.now (half_on right ∷ point) }
@@ -96,8 +96,8 @@ impl EvTree {
     }
 }
 
-/// Whether no value of the first tree is above that of the other at the same point, each lifted by the number beside it;
-/// where some is, the path leads there.
+/// Whether no value of the first tree is above that of the other at the same point, each lifted by the number beside it.
+/// If some value is, the path leads there.
 pub(super) fn is_below_or_path(
     one: &EvTree,
     one_lift: u64,

@@ -95,7 +95,8 @@ pub(super) fn is_below(one: &EvTree, one_lift: u64, other: &EvTree, other_lift: 
     }
 }
 
-/// The same, if a walk over so many inner nodes shows it; `steps` is then how many of them are left.
+/// Answers as [`is_below`] does, or `None` if a walk over `steps` inner nodes does not show it. Else `steps` is how many
+/// of them are left.
 pub(super) fn is_below_within(
     one: &EvTree,
     one_lift: u64,
@@ -141,7 +142,7 @@ pub(super) fn is_below_within(
 
 /// Which directions hold between the two trees, each lifted by the number beside it.
 ///
-/// Where the ranges differ they refute one direction at least at once, so that one is left to walk.
+/// If the ranges differ, they refute one direction at least at once, so at most one is left to walk.
 pub(super) fn compare(one: &EvTree, one_lift: u64, other: &EvTree, other_lift: u64) -> Directions
     requires one_fits { one_lift + maximum one.now < 2 ^ 64 }
     requires other_fits { other_lift + maximum other.now < 2 ^ 64 }

@@ -1,4 +1,4 @@
-//! Filling a tree below an id.
+//! Filling of a tree below an id.
 ghost use Rattle.std.specs.Prelude.{◌≡◌, ◌+◌, ◌^◌, ◌<◌, max, IfOk, IsOk};
 ghost use Rattle.trace_types.specs.clock.Id.{One, Pair};
 ghost use Rattle.trace_types.specs.clock.EventTree.{Leaf, Node as plain_Node, minimum, maximum, IsNormal};
@@ -11,7 +11,7 @@ use id_tree::{IdTree, Parts as IdParts};
 use std::alloc::Global;
 use trace_types::Memory;
 
-/// A part of a tree, and what filling makes of it where that is another tree.
+/// A part of a tree, and the tree after filling if that is another one.
 #[derive(Drop)]
 struct Filling<'a> {
     before: &'a EvTree,
@@ -79,7 +79,7 @@ impl<'a> Filling<'a> {
 }
 
 impl EvTree {
-    /// The filled tree, if it is another.
+    /// The filled tree, if that is another one.
     #[cycle(filled)]
     #[inline(always)]
     pub(super) fn filled(&self, alloc: Global, id: &IdTree) -> Result<Option<EvTree>, Memory>
@@ -95,8 +95,8 @@ impl EvTree {
         }
     }
 
-    /// The number that takes the place of this tree where the id owns it whole, unless it is that number: its greatest
-    /// value, but at least `least`.
+    /// The leaf that takes the place of this tree if the id owns it whole: its greatest value, but at least `least`. It
+    /// is none if the tree is that leaf.
     fn flattened(&self, least: u64) -> Option<EvTree>
         ensures { GivesFilled result self.now (Leaf (max (maximum self.now) least)) }
     {
@@ -109,7 +109,7 @@ impl EvTree {
 }
 
 impl Children {
-    /// The node over these two with this number, filled, if it is another.
+    /// The node over these two with this number, filled, if that is another one.
     #[cycle(filled)]
     #[inline(never)]
     fn filled_under(

@@ -1,4 +1,4 @@
-//! Growing a tree below an id at the least cost.
+//! Growth of a tree below an id at the least cost.
 ghost use Rattle.std.specs.Prelude.{◌≡◌, ◌≢◌, ◌+◌, ◌*◌, ◌%◌, ◌^◌, ◌<◌, ◌≤◌, ◌↔◌, ◌⊎◌, max, false, Some, IfOk, IfSome, IfNone, IsOk, IsTrue};
 ghost use Rattle.trace_types.specs.clock.Id.{Zero, One, Pair};
 ghost use Rattle.trace_types.specs.clock.EventTree.{Leaf, value, maximum, IsNormal};
@@ -53,7 +53,7 @@ impl Cost {
             || self.expansions == other.expansions && self.steps < other.steps
     }
 
-    /// The cheaper of the two, of equals the second.
+    /// The cheaper of the two, or the second if they are equal.
     fn cheaper(one: Option<Cost>, other: Option<Cost>) -> Option<Cost>
         ensures { result ≡ cheaper one other }
     {
@@ -64,7 +64,7 @@ impl Cost {
         }
     }
 
-    /// The cost with one step more. A path too long to be counted fits in no memory.
+    /// The cost with one step more. A path that is too long to be counted fits in no memory.
     fn further(self, expansions: u64) -> Result<Cost, Memory>
         ensures { IfOk result (λ more. Some more ≡ dearer expansions 1 (Some self)) }
     {
@@ -74,7 +74,7 @@ impl Cost {
         })
     }
 
-    /// What is left of the price after a step.
+    /// What is left of the price after a step, if the price allows the step.
     fn after_step(self, expansions: u64) -> Option<Cost>
         ensures left { IfSome result (λ left.
             (self.expansions ≡ left.expansions + expansions) × (self.steps ≡ left.steps + 1)) }
@@ -91,11 +91,11 @@ impl Cost {
     }
 }
 
-/// Where a tree grew, and the value there.
+/// The place where a tree grew, and the value there.
 #[derive(Clone, Copy)]
 struct Place {
-    /// The halves on the way down, as the bits of a number, the uppermost the lowest. Those below the uppermost 128 are left
-    /// out.
+    /// The halves on the way down, as the bits of a number with the uppermost as the lowest. Halves below the first 128
+    /// are left out.
     halves: u128,
     value: u64,
 }
@@ -104,7 +104,7 @@ struct Place {
 const WITH_ROOM: u128 = 1 << 127;
 
 impl Place {
-    /// This place of one half, 0 the left one and 1 the right one, as a place of the node with the number `root`.
+    /// This place of one half, 0 for left and 1 for right, as a place of the node with the number `root`.
     fn in_half(self, half: u128, root: u64) -> Place
         requires half { half ≤ 1 }
         requires fits { root + self.value < 2 ^ 64 }
@@ -125,7 +125,7 @@ struct Grown {
     place: Place,
 }
 
-/// A tree as a node: a number counts as a node over 0 and 0, and takes an expansion.
+/// A tree as a node. A number counts as a node over 0 and 0, and takes an expansion.
 #[derive(Clone, Copy)]
 pub(super) struct Opened<'a> {
     pub(super) root: u64,
@@ -159,7 +159,7 @@ impl EvTree {
         }
     }
 
-    /// The least cost of growing the tree. Below a number stands `zero`.
+    /// The least cost of growing the tree. `zero` stands below a number.
     #[cycle(growth_cost)]
     #[inline(always)]
     pub(super) fn growth_cost(&self, id: &IdTree, zero: &EvTree) -> Result<Option<Cost>, Memory>
@@ -174,7 +174,7 @@ impl EvTree {
         }
     }
 
-    /// That of growing it below an id of these two halves.
+    /// The least cost of growing the tree below an id of these two halves.
     #[cycle(growth_cost)]
     #[inline(never)]
     fn growth_cost_below(
@@ -195,8 +195,8 @@ impl EvTree {
         }
     }
 
-    /// The tree grown at the least cost, in normal form, and a point of the id that was raised. There is none only where what
-    /// grew lies below the levels of a point.
+    /// The tree grown at the least cost, in normal form, and a point of the id that was raised. There is no point only if
+    /// what grew lies below the levels of a point.
     pub(super) fn grown(
         &self,
         alloc: Global,
@@ -242,8 +242,7 @@ impl EvTree {
         }
     }
 
-    /// The grown tree in normal form, if it costs exactly `price`; it is to be had for no less.
-    /// Below a number stands `zero`.
+    /// The grown tree in normal form, if it costs exactly `price`. There is none for less. `zero` stands below a number.
     fn grown_for(
         &self,
         alloc: Global,

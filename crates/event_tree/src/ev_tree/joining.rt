@@ -1,4 +1,4 @@
-//! Joining two lifted trees.
+//! Joins of two lifted trees.
 ghost use Rattle.std.specs.Prelude.{◌≡◌, ◌+◌, ◌^◌, ◌<◌, max, IfOk, IfSome};
 ghost use Rattle.trace_types.specs.clock.EventTree.{maximum, Node as plain_Node};
 ghost use Rattle.trace_types.specs.clock.Norm.{norm};
@@ -13,9 +13,9 @@ use trace_types::Memory;
 /// The join of two lifted trees.
 #[derive(Drop)]
 pub(super) enum Join {
-    /// It is one of the two: the second where the first is below it, the first where it is above.
+    /// It is one of the two: the first if it is above the other, else the second.
     Given(Directions),
-    /// It is neither.
+    /// It is neither of the two.
     Made(EvTree),
 }
 
@@ -55,9 +55,7 @@ impl Join {
     }
 }
 
-/// The join of two trees, each lifted by the number beside it.
-///
-/// A part that one of the two has is not made again.
+/// The join of two trees, each lifted by the number beside it. It makes no part again that one of the two has.
 #[cycle(joined)]
 #[inline(always)]
 pub(super) fn joined(
@@ -122,8 +120,7 @@ fn joined_below(
     node_over(alloc, low, left, right, one, lift, other, other_lift)
 }
 
-/// The node over the joins of both sides, in normal form. It is a function of its own, as making a tree with a number
-/// is, so that the walk has small frames.
+/// The node over the joins of both sides, in normal form. It is a function of its own so that the walk has small frames.
 #[inline(never)]
 fn node_over(
     alloc: Global,
@@ -149,7 +146,8 @@ fn node_over(
 }
 
 impl EvTree {
-    /// What [`EvTree::raised_to`] gives, as a join that is neither of the two.
+    /// What [`EvTree::raised_to`] gives, as a join that is neither of the two. It is a function of its own for small
+    /// frames too.
     #[inline(never)]
     fn made_with(&self, alloc: Global, lift: u64, number: u64) -> Result<Join, Memory>
         requires { lift + maximum self.now < 2 ^ 64 }

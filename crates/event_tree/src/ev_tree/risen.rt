@@ -1,4 +1,4 @@
-//! A point that an event raised.
+//! Points that events raised.
 ghost use Rattle.std.specs.Prelude.{◌≡◌, ◌+◌, ◌^◌, ◌<◌, ◌≤◌, ◌↔◌, IfSome, IfNone, IsTrue};
 ghost use Rattle.trace_types.specs.clock.Id.{Zero};
 ghost use Rattle.trace_types.specs.clock.EventTree.{Leaf, value, minimum, maximum};
@@ -11,8 +11,8 @@ use crate::{Point, RaisedPoint};
 use id_tree::{IdTree, Parts as IdParts};
 
 impl EvTree {
-    /// A point at which `after` is above this tree, and the value there. Parts of the trees that the id does not own are not
-    /// looked at.
+    /// A point at which `after` is above this tree, and the value there. It does not look at parts of the trees that the
+    /// id does not own.
     pub(super) fn risen_point(&self, id: &IdTree, after: &EvTree) -> Option<RaisedPoint>
         ensures risen { IfSome result (λ raised. value self.now raised.point < value after.now raised.point) }
         ensures value { IfSome result (λ raised. raised.value ≡ value after.now raised.point) }
@@ -36,8 +36,8 @@ impl EvTree {
     }
 }
 
-/// The halves of so many levels to a point at which `after`, lifted, is above `before`, lifted, as the bits of a number,
-/// the uppermost the lowest. Below a number stands `zero`.
+/// The halves to a point at which `after`, lifted, is above `before`, lifted, within this many levels. They are the bits
+/// of a number with the uppermost as the lowest. `zero` stands below a number.
 #[cycle(risen_halves)]
 #[inline(always)]
 fn risen_halves(
@@ -63,8 +63,8 @@ fn risen_halves(
     risen_below(id, before, before_lift, after, after_lift, zero, levels)
 }
 
-/// Those halves, where the ranges of the two trees allow such a point. The right half is looked at first, since of equal
-/// sides it grows.
+/// Those halves, if the ranges of the two trees allow such a point. The right half comes first, since growth prefers it
+/// if both cost the same.
 #[cycle(risen_halves)]
 #[inline(never)]
 fn risen_below(

@@ -1,18 +1,18 @@
-//! The parentheses that are open.
+//! Open parentheses.
 ghost use Rattle.std.specs.Prelude.{◌≡◌, [], ◌∷◌, IfOk, MatchOption};
 
 use std::alloc::Global;
 use std::marker::Model;
 use trace_types::Memory;
 
-/// Which of its two children is being read.
+/// Which of the two children of a parenthesis is being read.
 #[derive(Clone, Copy)]
 pub enum Side {
     Left,
     Right,
 }
 
-/// For each open parenthesis which child is being read, the innermost first.
+/// For each open parenthesis which child is being read, the innermost first. A contract sees the list.
 #[derive(Drop)]
 pub struct Nesting {
     sides: Vec<Side>,
@@ -28,6 +28,7 @@ impl Model for Nesting {
 }
 
 impl Nesting {
+    /// No parenthesis is open. It takes no memory.
     pub fn new(alloc: Global) -> Nesting
         ensures { result ≡ [] }
     {
@@ -36,6 +37,7 @@ impl Nesting {
         }
     }
 
+    /// Opens a parenthesis whose child on this side is read next.
     pub fn push(&mut self, side: Side) -> Result<(), Memory>
         ensures { IfOk result (λ _. self.new ≡ side ∷ self.old) }
     {
@@ -43,6 +45,7 @@ impl Nesting {
         Ok(())
     }
 
+    /// Closes the innermost parenthesis, and gives the child that was read, or `None` if none was open.
     pub fn pop(&mut self) -> Option<Side>
         ensures { MatchOption result ((self.old ≡ []) × (self.new ≡ [])) (λ side. self.old ≡ side ∷ self.new) }
     {

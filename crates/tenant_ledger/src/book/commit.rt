@@ -1,4 +1,4 @@
-//! A draft is committed, or taken back.
+//! Drafts are committed, or taken back.
 ghost use Rattle.std.specs.Prelude.{◌≡◌, ℕ, suc, ◌+◌, ◌<◌, ◌≤◌, ◌∷◌, Some, length, option_to_list, vec_len, vec_capacity, ◌++◌};
 ghost use Rattle.indexmap.specs.IndexMap.{get, index_map_len, spare};
 ghost use Rattle.trace_types.specs.text.Name.{Text as Characters, is_same};
@@ -15,7 +15,7 @@ use message_book::MessageBook;
 use trace_types::{Kind, Name, Row};
 
 impl<S: Keep> Book<S> {
-    /// The id that the draft's task has after its event: the first that the event makes, else the one that it had.
+    /// The id that the draft's task has after its event: the first that the event makes, else the one from before.
     pub(crate) fn id_after<'a>(&'a self, draft: &'a Draft<S>) -> &'a S::Id
         requires { IsReady self.now draft.now }
         ensures { S.Id.id result.now ≡ id_of tree_clock (draft.now.row ∷ history_in self.now) draft.now.row.task }
@@ -64,7 +64,7 @@ impl<S: Keep> Book<S> {
     }
 }
 
-/// Adds an item, for which there is room, where one is given.
+/// Adds an item for which there is room, if one is given.
 fn add_some<T>(items: &mut Vec<T>, item: Option<T>)
     requires { vec_len items.old < vec_capacity items.old }
     ensures items { items.new.items ≡ items.old.items ++ option_to_list item }
@@ -75,7 +75,7 @@ fn add_some<T>(items: &mut Vec<T>, item: Option<T>)
     }
 }
 
-/// Keeps the task that a report names, where it names one, for which there is room.
+/// Keeps the task that a report names, if it names one. There is room for it.
 fn put_some(tasks: &mut IndexMap<Name, Task>, name: Option<Name>, task: Option<Task>)
     requires { 0 < spare tasks.old }
     ensures tasks { (other : Characters) → get is_same tasks.new other ≡ task_with_some task name (get is_same tasks.old) other }
@@ -87,7 +87,7 @@ fn put_some(tasks: &mut IndexMap<Name, Task>, name: Option<Name>, task: Option<T
     }
 }
 
-/// Keeps the task under its name, for which there is room.
+/// Keeps the task under its name. There is room for it.
 fn put(tasks: &mut IndexMap<Name, Task>, name: Name, task: Task)
     requires { 0 < spare tasks.old }
     ensures tasks { (other : Characters) → get is_same tasks.new other ≡ task_with name task (get is_same tasks.old) other }

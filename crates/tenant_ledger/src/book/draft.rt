@@ -1,4 +1,4 @@
-//! What is to be kept of an event.
+//! Drafts of events.
 ghost use Rattle.std.specs.Prelude.{◌≡◌, ◌≢◌, suc, ◌+◌, ◌^◌, ◌<◌, ◌≤◌, [], true, IfOk, OnOk, OnErr, IfSome, IfNone, Some, length, slice_get};
 ghost use Rattle.trace_types.specs.tenant.Reachability.{increasing};
 ghost use Rattle.trace_types.specs.clock.Clock.{tree_clock};
@@ -24,14 +24,14 @@ use trace_types::{Code, Kind, Memory, Name, Preds, Request, Row};
 pub(crate) struct Draft<S: Keep> {
     pub(super) row: Row,
     pub(super) tree: S::Kept,
-    /// A point that it raised, where one was found.
+    /// A point that the event raised, if one was found.
     pub(super) point: Option<Deciding>,
-    /// The ids that it makes, which are to stand after those that the book has.
+    /// The ids that the event makes, which come behind those that the book has.
     pub(super) first: Option<S::Id>,
     pub(super) second: Option<S::Id>,
     /// What is to be kept of the acting task.
     pub(super) acting: Task,
-    /// What is to be kept of the task that it names.
+    /// What is to be kept of the task that the event names.
     pub(super) named: Option<Task>,
 }
 
@@ -64,28 +64,28 @@ impl<S: Keep> Draft<S> {
         &self.row
     }
 
-    /// What its event knows, as it is kept.
+    /// What the event knows, as it is kept.
     pub(crate) fn tree(&self) -> &S::Kept
         ensures { S.Kept.tree result.now ≡ self.now.tree }
     {
         &self.tree
     }
 
-    /// A point that its event raised, where one was found.
+    /// A point that the event raised, if one was found.
     pub(crate) fn point(&self) -> Option<Deciding>
         ensures { result ≡ self.now.point }
     {
         self.point.as_ref().map(|point| point.share())
     }
 
-    /// The event that started its task, or 0.
+    /// The event that started the acting task, or 0.
     pub(crate) fn start(&self) -> u64
         ensures { result ≡ self.now.acting.start }
     {
         self.acting.start
     }
 
-    /// The first of the ids that its event makes, where it makes one.
+    /// The first of the ids that the event makes, if it makes one.
     pub(super) fn first_id(&self) -> Option<&S::Id>
         ensures some { IfSome result (λ id. slice_get self.now.ids 0 ≡ Some (S.Id.id id.now)) }
         ensures none { IfNone result (self.now.ids ≡ []) }
@@ -95,7 +95,7 @@ impl<S: Keep> Draft<S> {
 }
 
 impl<S: Keep> Book<S> {
-    /// Prepares a report: its draft is to be committed or abandoned.
+    /// Prepares a report. Its draft is to be committed or abandoned.
     pub(crate) fn prepare<R>(&mut self, rt: &R, request: &Request) -> Result<Draft<S>, Code>
     where
         S: Share<R>,
@@ -138,7 +138,7 @@ impl<S: Keep> Book<S> {
         })
     }
 
-    /// The row of the report, which follows its task's last event and the second one.
+    /// The row of the report, which follows the last event of its task and the second event.
     fn row_after(&self, report: &Report) -> Row
         requires book { IsKept self.now }
         requires report { IsReport self.now report.now }
@@ -152,7 +152,7 @@ impl<S: Keep> Book<S> {
         }
     }
 
-    /// What the report's event knows, which is made with this id, and a point that it raised.
+    /// What the report's event knows, which is made with this id, and a point that the event raised.
     fn tree_after(&self, report: &Report, id: &IdTree) -> Result<(EvTree, Option<Deciding>), Memory>
         requires book { IsKept self.now }
         requires report { IsReport self.now report.now }
@@ -170,7 +170,7 @@ impl<S: Keep> Book<S> {
         }
     }
 
-    /// What the event knows; before any event that is `start`.
+    /// What the event knows, or `start` if the number is 0.
     fn known<'a>(&'a self, event: u64, start: &'a EvTree) -> &'a EvTree
         requires book { IsKept self.now }
         requires event { event ≤ length self.now.rows }
@@ -201,7 +201,7 @@ impl<S: Keep> Book<S> {
         }
     }
 
-    /// Keeps the id of `root`, unless that was done, and makes room for one event, its ids and its tasks.
+    /// Keeps the id of `root`, unless that was done. It makes room for one event, its ids and its tasks.
     fn make_room<R>(&mut self, rt: &R) -> Result<(), Memory>
     where
         S: Share<R>,
@@ -224,7 +224,7 @@ impl<S: Keep> Book<S> {
     }
 }
 
-/// The tree after an event of the id, and a point that the event raised, where one was found, with the value there.
+/// The tree after an event of the id, and a point that the event raised with the value there, if one was found.
 fn event_with_point(
     alloc: Global,
     id: &IdTree,
@@ -251,7 +251,7 @@ fn takes_in(kind: Kind) -> bool
     matches!(kind, Kind::Recv | Kind::Join)
 }
 
-/// The events among two numbers, increasing and each once; 0 is no event.
+/// The events among two numbers, increasing and each once. 0 is no event.
 fn increasing(alloc: Global, first: u64, second: u64) -> Preds
     ensures { result ≡ increasing first second }
 {

@@ -1,4 +1,4 @@
-//! The ids that an event makes.
+//! Ids that events make.
 ghost use Rattle.std.specs.Prelude.{◌≡◌, ◌+◌, ◌<◌, IfOk, option_to_list, ◌++◌, map};
 ghost use Rattle.trace_types.specs.clock.Id.{Zero};
 ghost use Rattle.trace_types.specs.clock.Clock.{tree_clock};
@@ -14,13 +14,13 @@ use trace_types::{Kind, Memory};
 #[derive(Drop)]
 pub(super) enum Ids {
     Same,
-    /// The part that the task keeps, and the one that it gives the task that it starts.
+    /// The part that the task keeps, and the part of the task that it starts.
     Split(IdTree, IdTree),
     Sum(IdTree),
 }
 
 impl Ids {
-    /// The id with which the event is made, of a task that has this one.
+    /// The id with which the event is made, if its task has this one.
     pub(super) fn acting<'a>(&'a self, own: &'a IdTree) -> &'a IdTree
         ensures { result.now ≡ id_for self.now own.now }
     {
@@ -30,7 +30,7 @@ impl Ids {
         }
     }
 
-    /// Keeps them.
+    /// Keeps the ids by the share.
     pub(super) fn keep<R, S: Share<R>>(
         self,
         rt: &R,

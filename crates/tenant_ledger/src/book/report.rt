@@ -1,4 +1,4 @@
-//! A report that is not refused.
+//! Reports that are not refused.
 ghost use Rattle.std.specs.Prelude.{◌≡◌, ◌<◌, true, IfOk, OnOk, Some, None, length};
 ghost use Rattle.std.specs.Result.{result_err};
 ghost use Rattle.trace_types.specs.tenant.Rows.{send_event};
@@ -12,21 +12,22 @@ use super::{Book, Task};
 use crate::share::Keep;
 use trace_types::{Code, Kind, Name, Request, TaskState};
 
-/// A report that is not refused, and what the book has of those that it speaks of.
+/// A report that is not refused, and what the book has of the task and the name in it.
 #[derive(Clone, Copy)]
 pub(super) struct Report {
     pub(super) task: Name,
     pub(super) kind: Kind,
     pub(super) name: Option<Name>,
     pub(super) acting: Task,
-    /// The event beside the acting task's last one that it follows, or 0.
+    /// The event that it follows beside the acting task's last one, or 0.
     pub(super) second: u64,
-    /// The task that it takes in.
+    /// The task that it joins.
     pub(super) joined: Option<Task>,
 }
 
 impl Report {
-    /// What is to be kept of the acting task, as this event, with the first of the ids that are made at this place.
+    /// What is to be kept of the acting task. This event is its last, and the first of the ids that are made is at this
+    /// place.
     pub(super) fn acting_after(&self, event: u64, place: usize) -> Task
         ensures { result ≡ acting_after self.now.kind event place self.now.acting }
     {
@@ -44,7 +45,7 @@ impl Report {
         }
     }
 
-    /// What is to be kept of the task that it starts or takes in.
+    /// What is to be kept of the task that the report starts or joins.
     pub(super) fn named_after(&self, event: u64, place: usize) -> Option<Task>
         requires { place < 18446744073709551615 }
         ensures { result ≡ named_after self.now.kind event place self.now.joined }
@@ -69,7 +70,7 @@ impl Report {
 }
 
 impl<S: Keep> Book<S> {
-    /// The task, where it may report; else `NoTask` or `TaskEnded`.
+    /// The task, if it may report, else `NoTask` or `TaskEnded`.
     fn live_task(&self, name: &Name) -> Result<Task, Code>
         requires { IsKept self.now }
         ensures task { IfOk result (λ task. task_in self.now name.now ≡ Some task) }
@@ -82,7 +83,7 @@ impl<S: Keep> Book<S> {
         }
     }
 
-    /// The task, where it may be joined; else `NoTask`, `NotEnded` or `AlreadyJoined`.
+    /// The task, if it may be joined, else `NoTask`, `NotEnded` or `AlreadyJoined`.
     fn ended_task(&self, name: &Name) -> Result<Task, Code>
         requires { IsKept self.now }
         ensures task { IfOk result (λ task. task_in self.now name.now ≡ Some task) }
@@ -117,7 +118,7 @@ impl<S: Keep> Book<S> {
         self.messages.check_send(name)
     }
 
-    /// The event that sent the message, where the task may receive it; else `NoMessage` or `AlreadyReceived`.
+    /// The event that sent the message, if the task may receive it, else `NoMessage` or `AlreadyReceived`.
     fn sent_message(&self, task: &Name, name: &Name) -> Result<u64, Code>
         requires { IsKept self.now }
         ensures may { OnOk result (refusal_of_receive self.now.messages name.now task.now ≡ None) }
@@ -139,8 +140,8 @@ impl<S: Keep> Book<S> {
         }
     }
 
-    /// What the book has of the task or message that a report of the task and of this kind names, where it is not refused for
-    /// it.
+    /// What the book has of the task or message that such a report names: its second event, and the task that it joins.
+    /// Else it is why the report is refused for that name.
     fn named(
         &self,
         task: &Name,
@@ -174,7 +175,7 @@ impl<S: Keep> Book<S> {
         }
     }
 
-    /// What is reported, where it is not refused.
+    /// What the request reports, or why it is refused.
     pub(super) fn report(&self, request: &Request) -> Result<Report, Code>
         requires book { IsKept self.now }
         requires report { is_report request.now ≡ true }

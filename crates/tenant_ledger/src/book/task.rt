@@ -1,4 +1,4 @@
-//! What is kept of a task.
+//! Tasks of a book.
 
 use trace_types::TaskState;
 
@@ -6,10 +6,10 @@ use trace_types::TaskState;
 #[derive(Clone, Copy)]
 pub(crate) struct Task {
     pub(crate) state: TaskState,
-    /// Its last event, else the event that started it, else 0.
+    /// The last event of the task, else the event that started it, else 0.
     pub(crate) last: u64,
-    /// The event that started it, or 0.
+    /// The event that started the task, or 0.
     pub(crate) start: u64,
-    /// The place of its id; of a joined task it is not asked.
+    /// The place of the task's id. Nothing asks for that of a joined task.
     pub(crate) id: usize,
 }
