@@ -21,6 +21,11 @@ from .tracing import OWN_TENANT
 RACES_FOUND = 66
 """The status of a run with races, as that of other race detectors."""
 
+UNTOUCHED = """\
+itc_trace: nothing was touched, so there was no race to find
+    Wrap what tasks share by itc_trace.shared(value, "name"), or call itc_trace.touch("name") where it is used.
+    A number, a text or a tuple needs touch."""
+
 
 @dataclass
 class Run:
@@ -59,6 +64,7 @@ def _run_with(asked: Run, port: int, work: str) -> int:
         return status
     if races or not asked.quiet:
         print(told(races, picture), file=sys.stderr)
+        tell_if_untouched(races)
     return RACES_FOUND if races else status
 
 
@@ -88,7 +94,10 @@ def _environment() -> dict[str, str]:
 
 def _races(asked: Run, port: int, journal: str) -> Races:
     with open(journal, encoding="utf-8") as rows:
-        return find_races(asked.tenant, port, rows, asked.host)
+        found = find_races(asked.tenant, port, rows, asked.host)
+    if not found.touches:
+        Session(asked.tenant, port, "view", asked.host).close()  # Where the collector is gone, touches may be missing.
+    return found
 
 
 def _keep(asked: Run, port: int, journal: str, work: str) -> str | None:
@@ -123,3 +132,9 @@ def told(races: Races, picture: str | None = None) -> str:
             lines.append(f"    {address}")
     lines.append(f"itc_trace: {races.summary()}")
     return "\n".join(lines)
+
+
+def tell_if_untouched(races: Races) -> None:
+    """Says on standard error what a program has to do for its races to be found, where nothing was touched."""
+    if not races.touches:
+        print(UNTOUCHED, file=sys.stderr)

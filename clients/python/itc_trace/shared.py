@@ -4,6 +4,7 @@ from __future__ import annotations
 
 import sys
 import types
+import warnings
 from collections import deque
 from collections.abc import Callable
 from typing import Any, TypeVar, cast
@@ -52,14 +53,27 @@ REFERENCES_OF_A_NEW_VALUE = _references({}) if sys.version_info < (3, 14) else 0
 def shared(value: T, name: str) -> T:
     """What behaves as the value, and makes an event of each read and each write of it.
 
-    Use what it returns in place of the value. Where tracing is off it is the value itself.
+    Use what it returns in place of the value. Where tracing is off it is the value itself. So is a number, a text or a tuple
+    while a program is traced: a warning says so.
     """
-    if state.note is None and not _patched() or isinstance(value, NEVER_WRAPPED):
+    if state.note is None and not _patched():
+        return value
+    if isinstance(value, NEVER_WRAPPED):
+        _warn_of_unwatched(value, name)
         return value
     kind: Any = type(value)
     if kind in (dict, list, set) and sys.getrefcount(value) <= REFERENCES_OF_A_NEW_VALUE:
         return cast(T, _copied(value, name))
     return cast(T, _wrapped(value, name))
+
+
+def _warn_of_unwatched(value: object, name: str) -> None:
+    """Says, at the line of the program that calls `shared`, that no use of the value is noted."""
+    warnings.warn(
+        f"shared({name!r}) gives back the {type(value).__name__} as it is, and notes no use of it: "
+        f"call touch({name!r}) where it is read, and touch({name!r}, write=True) where it is replaced",
+        stacklevel=3,
+    )
 
 
 def _patched() -> bool:

@@ -97,6 +97,16 @@ class TracedCase(unittest.TestCase):
         self.assertEqual(sorted({race.thing for race in found}), sorted(things.split()), found.text())
 
 
+class ProgramCase(unittest.TestCase):
+    """A test of programs that are run in processes of their own."""
+
+    def program(self, text: str) -> str:
+        folder = tempfile.TemporaryDirectory()
+        self.addCleanup(folder.cleanup)
+        path = Path(folder.name, "program.py")
+        path.write_text(text)
+        return str(path)
+
 
 def run_python(*words: str, **variables: str) -> subprocess.CompletedProcess[str]:
     """Runs `python3 WORDS..` with the package at hand."""

@@ -7,13 +7,12 @@ import subprocess
 import tempfile
 import threading
 import unittest
-from pathlib import Path
 
 from itc_trace import Collector, Session, touch, tracing
 from itc_trace.collector import find_program, free_port
 from itc_trace.journal import read_journal
 
-from .support import run_python, run_traced
+from .support import ProgramCase, run_python, run_traced
 
 COUNTING = """
 import threading, time, itc_trace
@@ -52,14 +51,7 @@ class Served:
         self.process.stdout.close()
 
 
-class Ends(unittest.TestCase):
-    def program(self, text: str) -> str:
-        folder = tempfile.TemporaryDirectory()
-        self.addCleanup(folder.cleanup)
-        path = Path(folder.name, "program.py")
-        path.write_text(text)
-        return str(path)
-
+class Ends(ProgramCase):
     def test_a_full_trace_stops_tracing_and_not_the_program(self) -> None:
         for limits, reply in ((["--events", "100"], "413 events full"), (["--tasks", "5"], "414 tasks full"),
                               (["--messages", "3"], "415 messages full")):
@@ -104,6 +96,7 @@ class Ends(unittest.TestCase):
             lines = ran.stderr.splitlines()
             self.assertEqual(lines[0], "itc_trace: tracing stops: the collector is gone")
             self.assertEqual(len(lines), 2, ran.stderr)
+            self.assertTrue(lines[1].startswith("itc_trace: races cannot be told: "), ran.stderr)
 
     def test_no_collector_is_told_before_the_program_runs(self) -> None:
         ran = run_traced("--port", str(free_port()), self.program(COUNTING))

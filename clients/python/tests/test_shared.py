@@ -89,10 +89,12 @@ class Shared(TracedCase):
 
         self.races(work)
 
-    def test_what_cannot_change_is_given_back(self) -> None:
+    def test_what_cannot_change_is_given_back_with_a_warning(self) -> None:
         def work() -> None:
             for value in (None, 1, "text", (1, 2), 1.5, len):
-                self.assertIs(shared(value, "t"), value)
+                with self.subTest(value=value), self.assertWarnsRegex(UserWarning, r"touch\('t', write=True\)") as warned:
+                    self.assertIs(shared(value, "t"), value)
+                self.assertEqual(warned.filename, __file__)
 
         self.races(work)
 

@@ -1,0 +1,68 @@
+"""A program that touches nothing is told so, and not only that it has no race."""
+
+from __future__ import annotations
+
+import tempfile
+import unittest
+
+from itc_trace import Collector
+from itc_trace.run import UNTOUCHED
+
+from .support import ProgramCase, run_python, run_traced
+
+RACY = """
+import threading, itc_trace
+count = itc_trace.shared(0, "count")
+def work():
+    global count
+    count += 1
+threads = [threading.Thread(target=work) for _ in range(2)]
+for thread in threads:
+    thread.start()
+for thread in threads:
+    thread.join()
+"""
+UNSHARED = RACY.replace('itc_trace.shared(0, "count")', "0")
+TOUCHED = RACY.replace('itc_trace.shared(0, "count")', "0").replace("count += 1", 'itc_trace.touch("count", write=True)')
+IN_TURNS = """
+import itc_trace
+for _ in range(3):
+    count = itc_trace.shared(0, "count")
+"""
+
+
+class Untouched(ProgramCase):
+    def test_a_run_without_a_touch_says_so(self) -> None:
+        ran = run_traced(self.program(UNSHARED))
+        first, *rest = ran.stderr.splitlines()
+        self.assertRegex(first, r"^itc_trace: no race in 0 touches of 0 things, \d+ events; asked 0 questions for 0 pairs$")
+        self.assertEqual((rest, ran.returncode), (UNTOUCHED.splitlines(), 0))
+
+    def test_a_quiet_run_without_a_touch_says_nothing(self) -> None:
+        self.assertEqual(run_traced("--quiet", self.program(UNSHARED)).stderr, "")
+
+    def test_a_run_with_a_touch_does_not_say_so(self) -> None:
+        ran = run_traced(self.program(TOUCHED))
+        self.assertEqual(ran.returncode, 66, ran.stderr)
+        self.assertNotIn("nothing was touched", ran.stderr)
+
+    def test_races_of_a_journal_without_a_touch_say_so(self) -> None:
+        with Collector("trace") as collector, tempfile.NamedTemporaryFile("r") as journal:
+            ran = run_python("-m", "itc_trace", "races", "--port", str(collector.port), "trace", journal.name)
+        self.assertEqual(ran.stdout, "itc_trace: no race in 0 touches of 0 things, 0 events; asked 0 questions for 0 pairs\n")
+        self.assertEqual((ran.stderr, ran.returncode), (f"{UNTOUCHED}\n", 0))
+
+    def test_a_number_that_is_shared_is_warned_of_and_touched_by_nobody(self) -> None:
+        ran = run_traced(self.program(RACY))
+        self.assertRegex(ran.stderr, r"program\.py:3: UserWarning: shared\('count'\) gives back the int as it is")
+        self.assertTrue(ran.stderr.endswith(f"{UNTOUCHED}\n"), ran.stderr)
+
+    def test_a_line_is_warned_of_once(self) -> None:
+        self.assertEqual(run_traced(self.program(IN_TURNS)).stderr.count("UserWarning"), 1)
+
+    def test_an_untraced_program_is_not_warned(self) -> None:
+        self.assertEqual(run_python("-W", "error", self.program(RACY)).stderr, "")
+
+
+if __name__ == "__main__":
+    unittest.main()
