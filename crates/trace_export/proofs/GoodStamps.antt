@@ -1,5 +1,5 @@
 -- The text of a small stamp: it is plain, short, and spells its tree.
-use Rattle.std.proofs.Common.{◌≡◌, ℕ, ◌+◌, ◌^◌, ◌<◌, ◌≤◌, ◌++◌, length, codes, refl, sym, arith}
+use Rattle.std.proofs.Common.{◌^◌, ◌<◌, ◌≤◌, ◌++◌, length, codes, refl, sym, arith}
 use Rattle.std.specs.Fmt.{decimal}
 use Rattle.trace_types.specs.clock.Id.{Id, Zero, One, Pair, IsNormalId}
 use Rattle.trace_types.specs.clock.EventTree.{EventTree, Leaf, Node, maximum, IsNormal}

@@ -142,7 +142,8 @@ pieces_numbers later (n ∷ numbers) small =
     (omega arith)
 
 piece_numbers : (numbers : List ℕ) → length numbers ≤ 2 → All (λ n. n < 10 ^ 5) numbers → IsPiece (compact_text (array (numbers_json numbers))) 14
-piece_numbers numbers few small = piece_within (piece_append (piece_byte 91 refl) (pieces_numbers false numbers small)) (omega (arith, few))
+piece_numbers numbers few small =
+    let all = piece_append (piece_byte 91 refl) (pieces_numbers false numbers small) in piece_within all (omega (arith, few))
 
 piece_kind : (kind : Kind) → IsPiece (quoted (kind_text kind)) 7
 piece_kind Local = piece_quoted (codes "local") 5 refl (omega arith)

@@ -5,9 +5,9 @@ use Rattle.serde_json.specs.Written.{compact_text}
 use Rattle.trace_types.specs.text.Name.{Text}
 use Rattle.trace_types.specs.text.Lines.{lines}
 use Rattle.trace_types.specs.declared.row.Row.{Row}
-use Rattle.trace_export.specs.Export.{listed_row, stamp_at, lines_after, export_lines, AreReadAgain}
+use Rattle.trace_export.specs.Export.{listed_row, stamp_at, lines_after, export_lines}
 use Rattle.trace_export.specs.Heading.{header_text}
-use Rattle.trace_export.specs.Listing.{Listed, IsReadAgain, listed_json}
+use Rattle.trace_export.specs.Listing.{Listed, listed_json}
 use Rattle.trace_export.specs.declared.header.Header.{Header}
 use Rattle.trace_export.proofs.OneLine.{IsLine, lines-line}
 

@@ -10,7 +10,8 @@ use Rattle.std.proofs.lemmas.List.Elements.{All-cons, All-nil, All-weaker}
 use Rattle.std.proofs.lemmas.Option.{get_or_from_slice_get, slice_get_within}
 use Rattle.trace_types.specs.clock.Id.{Id}
 use Rattle.trace_types.specs.clock.EventTree.{EventTree}
-use Rattle.trace_types.specs.clock.Stamps.{stamp_text_of}
+use Rattle.trace_types.specs.clock.Clock.{tree_clock}
+use Rattle.trace_types.specs.clock.Stamps.{stamp_of, stamp_text_of}
 use Rattle.trace_types.specs.text.StampText.{stamp_text}
 use Rattle.trace_types.specs.tenant.Limits.{Limits}
 use Rattle.trace_types.specs.tenant.Reachability.{event_or_none, increasing, second_event}
@@ -154,7 +155,7 @@ module _ (row : Row) (earlier : History) (legal : IsLegal (row ∷ earlier)) (so
 -- an older event has the stamp that it had before a row
 stamp_text-older : (row : Row) (earlier : History) (event : ℕ) → event ≤ length earlier → stamp_text_of (row ∷ earlier) event ≡ stamp_text_of earlier event
 stamp_text-older row earlier event old =
-    ap (λ (stamp : Id × EventTree). stamp_text stamp.0 stamp.1) (cond-false (eqb event (suc (length earlier))) _ _ (ne_eqb event (suc (length earlier)) (λ is. omega (arith, is, old))))
+    ap (λ (stamp : Id × EventTree). stamp_text stamp.0 stamp.1) (cond-false (eqb event (suc (length earlier))) _ (stamp_of tree_clock earlier event) (ne_eqb event (suc (length earlier)) (λ is. omega (arith, is, old))))
 
 -- The texts are lines, and each is right.
 record AreRight (texts : List Text) (placing : Placing) : Type 0 where

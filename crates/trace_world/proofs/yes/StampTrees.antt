@@ -66,8 +66,9 @@ module _ (row : Row) (earlier : History) (legal : IsLegal (row ∷ earlier)) (fe
 
   text_of : stamp_text_of history (suc (length earlier)) ≡ stamp_text id tree
   text_of =
+      let newest : Id × EventTree = (id, tree) in
       ap (λ (stamp : Id × EventTree). stamp_text stamp.0 stamp.1)
-      (cond-true (eqb (suc (length earlier)) (suc (length earlier))) (id, tree) (stamp_of tree_clock earlier (suc (length earlier))) (eq-eqb (suc (length earlier)) (suc (length earlier)) refl))
+      (cond-true (eqb (suc (length earlier)) (suc (length earlier))) newest (stamp_of tree_clock earlier (suc (length earlier))) (eq-eqb (suc (length earlier)) (suc (length earlier)) refl))
 
   pub newest_stamp : IsGoodStamp (stamp_text_of history (suc (length earlier))) tree
   newest_stamp = subst (λ text. IsGoodStamp text tree) (sym text_of) (good_stamp id tree small)
