@@ -192,8 +192,8 @@ line_member later key d others plain short value rest =
     all
 
 -- an object with some
-line_object : (members : Members) {n : ℕ} → IsLine (members_text false members) n → IsLine (compact_text (object members)) (1 + n)
-line_object members rest = let all = line_append (piece_byte 123 refl) rest in all
+line_object : (others : Members) {n : ℕ} → IsLine (members_text false others) n → IsLine (compact_text (object others)) (1 + n)
+line_object others rest = let all = line_append (piece_byte 123 refl) rest in all
 
 -- ---- the line of an event
 

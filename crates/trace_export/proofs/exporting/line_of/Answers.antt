@@ -1,4 +1,4 @@
-use Rattle.std.proofs.Common.{◌≡◌, ◌∙◌, ap}
+use Rattle.std.proofs.Common.{◌∙◌, ap}
 use Rattle.serde_json.specs.View.{view}
 use Rattle.trace_export.specs.Export.{listed_row}
 use Rattle.trace_export.specs.Listing.{listed_json}
