@@ -1,10 +1,15 @@
 -- What a view sees once it entered, and what it may put together.
-use Rattle.std.proofs.Common.{◌≡◌, ℕ, Bool, false, MatchBool, List, [], ◌∷◌, refl, sym, ◌∙◌, subst, inl}
+use Rattle.std.proofs.Common.{◌≡◌, ℕ, Bool, false, MatchBool, IsTrue, List, [], ◌∷◌, ◌+◌, ◌*◌, ◌≤◌, refl, sym, ◌∙◌, subst, inl, inr, arith}
 use Rattle.std.specs.Prelude.{Option, Some, None}
 use mathlib.Core.List.{IsPrefix}
 use Rattle.logbook.specs.Pages.{Book}
 use Rattle.tenant_ledger.proofs.Words.{Limits, Row, Tenant, Request, Reply, Refused, Answers, AreLegal, is_report}
+use Rattle.trace_types.specs.tenant.Limits.{are_limits}
 use Rattle.trace_types.specs.declared.code.Code.TheVariants.{ViewOnly}
+use Rattle.trace_types.specs.declared.request.Request.TheVariants.{Stamp}
+use Rattle.tenant_ledger.specs.Size.{IsShort, spawns_up_to, stamp_bytes}
+use Rattle.tenant_ledger.proofs.size.Replies.{short_answer}
+use Rattle.tenant_ledger.proofs.size.StampTexts.{stamp_text_within_spawns}
 use Rattle.tenant_desk.specs.Events.{published_tenant}
 use Rattle.tenant_desk.specs.Rules.{IsOfDesk, IsOfLog, StaysOf, HasEntered, Sees}
 use Rattle.tenant_desk.specs.Views.{Known, BeginWithEach, LooksUp, Responds}
@@ -81,3 +86,17 @@ pub responds : (old new : Known) (home : List ℕ) (known now : Option Sight) (p
 responds old new home known now published request reply query of begin entered answered is =
     subst (λ (report : Bool). MatchBool report ((reply ≡ Refused ViewOnly) × (new ≡ old)) (LooksUp old request reply new)) (sym query)
     (subst (λ (known : Known). LooksUp old request reply known) (sym is) (looks_up old home known now published request reply of begin entered answered))
+
+module _ (old : Known) (reply : Reply) (new : Known) (event : ℕ)
+    (are : IsTrue (are_limits old.limits.events old.limits.tasks old.limits.messages)) where
+  short_look : LooksUp old (Stamp event) reply new → stamp_bytes reply ≤ 18 * spawns_up_to new.seen event + 9
+  short_look (inl (answers, enters)) =
+      let ranges = subst (λ (limits : Limits). IsTrue (are_limits limits.events limits.tasks limits.messages)) (sym enters.limits) are in
+      short_answer (record { limits = new.limits; rows = new.seen }) (Stamp event) reply (stamp_text_within_spawns new.limits new.seen ranges enters.legal) answers event refl
+  short_look (inr (gone, same)) = subst (λ given. stamp_bytes given ≤ 18 * spawns_up_to new.seen event + 9) (sym gone) (omega arith)
+
+-- the reply to a request for a stamp is short
+pub short_response : (old : Known) (request : Request) (reply : Reply) (new : Known) → IsTrue (are_limits old.limits.events old.limits.tasks old.limits.messages)
+    → Responds old request reply new → IsShort new.seen request reply
+short_response old request reply new are responds event is =
+    short_look old reply new event are (subst (λ asked. Responds old asked reply new) is responds)

@@ -2,6 +2,7 @@
 ghost use Rattle.std.specs.Prelude.{◌≡◌, [], IfOk, MatchResult};
 ghost use Rattle.std.specs.Arc.{arc_value};
 ghost use Rattle.left_right.specs.Sides.{view as known_at};
+ghost use Rattle.tenant_ledger.specs.Size.{IsShort};
 ghost use Rattle.tenant_desk.specs.Rules.{HasEntered, IsOfLog, StaysOf};
 ghost use Rattle.tenant_desk.specs.Views.{Learns, Responds};
 
@@ -115,8 +116,20 @@ impl View {
     /// A report is refused with `ViewOnly` (410), and a query where its desk is gone with `NoPlace` (422); then the view is
     /// as before. Only `past`, `concurrent`, `cut`, `stamp` and `message` take memory, and may be refused with `NoMemory`
     /// (507).
-    #[tactic(auto, using(crate::proofs::Viewing::of_log, crate::proofs::Viewing::entered_desk))]
+    #[tactic(auto, using(crate::proofs::Viewing::short_response))]
     pub fn ask(&mut self, request: &Request) -> Reply
+        ensures answer { Responds self.old request.now result self.new }
+        ensures book { self.new.book ≡ self.old.book }
+        ensures short { IsShort self.new.seen request.now result }
+    {
+        let _ = self.limits.events();
+        self.respond(request)
+    }
+
+    /// The same, by itself.
+    #[inline(always)]
+    #[tactic(auto, using(crate::proofs::Viewing::of_log, crate::proofs::Viewing::entered_desk))]
+    fn respond(&mut self, request: &Request) -> Reply
         ensures answer { Responds self.old request.now result self.new }
         ensures book { self.new.book ≡ self.old.book }
     {
@@ -144,8 +157,20 @@ impl View {
     }
 
     /// Answers as [`View::ask`] does, and looks orders up in the cache of what all tenants share.
-    #[tactic(auto, using(crate::proofs::Viewing::of_log, crate::proofs::Viewing::entered_desk))]
+    #[tactic(auto, using(crate::proofs::Viewing::short_response))]
     pub fn ask_cached<R: Wait>(&mut self, rt: &R, request: &Request) -> Reply
+        ensures answer { Responds self.old request.now result self.new }
+        ensures book { self.new.book ≡ self.old.book }
+        ensures short { IsShort self.new.seen request.now result }
+    {
+        let _ = self.limits.events();
+        self.respond_cached(rt, request)
+    }
+
+    /// The same, by itself.
+    #[inline(always)]
+    #[tactic(auto, using(crate::proofs::Viewing::of_log, crate::proofs::Viewing::entered_desk))]
+    fn respond_cached<R: Wait>(&mut self, rt: &R, request: &Request) -> Reply
         ensures answer { Responds self.old request.now result self.new }
         ensures book { self.new.book ≡ self.old.book }
     {

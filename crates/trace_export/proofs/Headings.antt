@@ -3,11 +3,10 @@ use Rattle.std.proofs.Common.{◌≡◌, ℕ, ◌↔◌, IsTrue, true, false, Li
 use Rattle.std.proofs.lemmas.Option.{none-some, same_Some}
 use Rattle.serde_json.specs.Data.{Data}
 use Rattle.serde_json.specs.Find.{get}
-use Rattle.serde_json.specs.Read.{read}
 use Rattle.trace_types.specs.text.Name.{Text}
 use Rattle.trace_types.specs.text.Lines.{lines}
 use Rattle.trace_export.specs.Edges.{Placing}
-use Rattle.trace_export.specs.Heading.{AreParts, BeginsWithNoHeader, IsHeader, IsNoHeader, header_json, lines_ahead}
+use Rattle.trace_export.specs.Heading.{AreParts, BeginsWithNoHeader, IsNoHeader, header_json, lines_ahead}
 use Rattle.trace_export.specs.Laws.{TellsVersion}
 use Rattle.trace_export.specs.Listing.{Listed, IsReadAs, ListsAs, listed_json}
 use Rattle.trace_export.specs.Verdict.{AreRightAfter, IsVerdict, IsVerdictOnEvents}

@@ -1,6 +1,6 @@
 -- The tenants of a world.
 pub use Rattle.trace_types.specs.world.TenantNames.{are_distinct, can_be_tenants}
-use Rattle.std.specs.Prelude.{◌≡◌, ℕ, IsTrue, List, length, Some, slice_get, slice_set}
+use Rattle.std.specs.Prelude.{◌≡◌, ℕ, IsTrue, List, length, IfSome, Some, slice_get, slice_set}
 use Rattle.std.specs.List.{All, AllByRecursion}
 use Rattle.trace_types.specs.tenant.Limits.{Limits}
 use Rattle.trace_types.specs.text.Text.{CanBeWritten}
@@ -9,6 +9,7 @@ use Rattle.trace_types.specs.world.Interleaving.{Call}
 use Rattle.trace_types.specs.world.World.{World, IsAfter}
 use Rattle.trace_types.specs.declared.request.Request.{Request}
 use Rattle.trace_types.specs.declared.reply.Reply.{Reply}
+use Rattle.tenant_ledger.specs.Size.{IsShort}
 
 -- The tenant has these limits, and its rows are what some requests leave.
 pub record IsTenantWith (limits : Limits) (tenant : Tenant) : Type 0 where
@@ -35,3 +36,8 @@ pub record StepsAt (old : List Tenant) (place : ℕ) (request : Request) (reply 
   pub steps : Steps before request reply later
   pub legal : AreLegal later.limits later.rows
   pub is : new ≡ slice_set old place later
+
+-- If the request asks for a stamp, the answer has at most 18 bytes of it for each task that the tenant at the place had
+-- spawned up to the event, and 9 more.
+abbrev pub IsShortAt : List Tenant → ℕ → Request → Reply → Type 0
+IsShortAt tenants place request answer = IfSome (slice_get tenants place) (λ tenant. IsShort tenant.rows request answer)

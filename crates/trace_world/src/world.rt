@@ -6,7 +6,7 @@ ghost use Rattle.trace_types.specs.tenant.Tenant.{fresh};
 ghost use Rattle.trace_types.specs.world.Replay.{place_of};
 ghost use Rattle.trace_types.specs.world.World.{StepsOne, IsAfter, IsDue};
 ghost use Rattle.trace_world.specs.Exported.{IsHeaderOf};
-ghost use Rattle.trace_world.specs.Tenants.{IsLedTo, IsWorld, StepsAt, are_distinct, can_be_tenants};
+ghost use Rattle.trace_world.specs.Tenants.{IsLedTo, IsShortAt, IsWorld, StepsAt, are_distinct, can_be_tenants};
 
 use order_cache::CacheFault;
 use std::alloc::Global;
@@ -140,6 +140,7 @@ impl World {
         requires { tenant < length self.old.tenants }
         ensures step { StepsOne self.old tenant request.now result self.new }
         ensures due { IsDue self.old tenant request.now result self.new }
+        ensures short { IsShortAt self.old.tenants tenant request.now result }
         // There are such calls as `due` speaks of, whatever the world.
         ensures led { IsLedTo self.old }
     {
@@ -214,7 +215,8 @@ fn fresh_ledgers(
 /// Does one request of the tenant whose ledger stands at this place.
 fn report<R: Wait>(rt: &R, ledgers: &mut [SharedLedger], tenant: usize, request: &Request) -> Reply
     requires { tenant < length ledgers.old }
-    ensures { StepsAt ledgers.old tenant request.now result ledgers.new }
+    ensures step { StepsAt ledgers.old tenant request.now result ledgers.new }
+    ensures short { IsShortAt ledgers.old tenant request.now result }
 {
     let ledger = &mut ledgers[tenant];
     ledger.report(rt, request)

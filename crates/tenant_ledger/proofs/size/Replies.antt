@@ -1,5 +1,5 @@
 -- The reply to a request for a stamp is short, if the texts of the stamps are.
-use Rattle.std.proofs.Common.{◌≡◌, ℕ, ◌+◌, ◌*◌, ◌≤◌, Option, Some, None, sym, ap, subst, ◌∙◌, inl, inr, arith}
+use Rattle.std.proofs.Common.{ℕ, ◌+◌, ◌*◌, ◌≤◌, Option, Some, None, sym, ap, subst, inl, inr, arith}
 use Rattle.trace_types.specs.tenant.Rows.{history_of}
 use Rattle.trace_types.specs.tenant.Refusal.{refusal_of}
 use Rattle.trace_types.specs.tenant.Tenant.{Tenant, Answers, Steps, step, step_unless}

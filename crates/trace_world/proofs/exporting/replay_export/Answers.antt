@@ -24,8 +24,8 @@ left g c =
     rows_left c.in_ok-take_in.ensures.ok c.args.tenant c.ledger-ledger.result.now within c.ledger-ledger.ensures
 
 -- all of them were written
-wrote : (g : Over) (c : In_ok-count g) → WritesLines (g.W.Sink.seen c.args.writer.now) (g.W.Sink.seen c.export_rows.new.writer) (export_of c.header.result c.ledger-ledger.result.now.rows)
-wrote g c = of_ledger (WritesLines (g.W.Sink.seen c.args.writer.now) (g.W.Sink.seen c.export_rows.new.writer)) c.header.result c.rows.result.now c.ledger-ledger.result.now.rows c.rows.ensures.rows c.in_ok-count.ensures.whole
+wrote : (g : Over) (c : In_ok-count g) → WritesLines (g.W.Sink.seen c.args.writer.now) (g.W.Sink.seen c.export_rows.new.writer) (export_of c.header-header.result c.ledger-ledger.result.now.rows)
+wrote g c = of_ledger (WritesLines (g.W.Sink.seen c.args.writer.now) (g.W.Sink.seen c.export_rows.new.writer)) c.header-header.result c.rows.result.now c.ledger-ledger.result.now.rows c.rows.ensures.rows c.in_ok-count.ensures.whole
 
 pub returns-in_err-count-clause-fault : goal.returns-in_err-count-clause-fault
 returns-in_err-count-clause-fault g c =
@@ -33,12 +33,12 @@ returns-in_err-count-clause-fault g c =
     IfErr-equal _ _ _ c.from_residual-in_err-count.ensures.1
     (inr (record {
       takes = c.in_ok-take_in.ensures.ok;
-      header = c.header.result;
-      headed = c.header.ensures;
+      header = c.header-header.result;
+      headed = c.header-header.ensures;
       rows = c.ledger-ledger.result.now.rows;
       left = left g at.After-export_rows;
       stops = stops_export c.in_err-count.field-0.0
-          (of_ledger (BreaksLines c.in_err-count.field-0.0 (g.W.Sink.seen c.args.writer.now) (g.W.Sink.seen c.export_rows.new.writer)) c.header.result c.rows.result.now c.ledger-ledger.result.now.rows c.rows.ensures.rows c.in_err-count.ensures.fault);
+          (of_ledger (BreaksLines c.in_err-count.field-0.0 (g.W.Sink.seen c.args.writer.now) (g.W.Sink.seen c.export_rows.new.writer)) c.header-header.result c.rows.result.now c.ledger-ledger.result.now.rows c.rows.ensures.rows c.in_err-count.ensures.fault);
     }))
 
 pub returns-in_err-flush-clause-fault : goal.returns-in_err-flush-clause-fault
@@ -47,8 +47,8 @@ returns-in_err-flush-clause-fault g c =
     IfErr-equal _ _ _ c.from_residual-in_err-flush.ensures.1
     (inr (record {
       takes = c.in_ok-take_in.ensures.ok;
-      header = c.header.result;
-      headed = c.header.ensures;
+      header = c.header-header.result;
+      headed = c.header-header.ensures;
       rows = c.ledger-ledger.result.now.rows;
       left = left g at.After-export_rows;
       stops = inr (g.W.Sink.seen c.export_rows.new.writer, wrote g at.In_ok-count, c.in_err-flush.ensures);
@@ -64,8 +64,8 @@ returns-clause-ok g c =
     let at = goal.at.returns-clause-ok g c in
     record {
       takes = c.in_ok-take_in.ensures.ok;
-      header = c.header.result;
-      headed = c.header.ensures;
+      header = c.header-header.result;
+      headed = c.header-header.ensures;
       rows = c.ledger-ledger.result.now.rows;
       left = left g at.After-export_rows;
       counted = c.in_ok-count.ensures.count ∙ ap length c.rows.ensures.rows;

@@ -1,26 +1,31 @@
 use Rattle.std.proofs.Common.{◌<◌, length, sym, subst}
 use Rattle.trace_types.specs.world.World.{World, IsDue}
 use Rattle.trace_types.proofs.Interleaving.{IsDue-from_step}
-use Rattle.trace_world.specs.Tenants.{IsLedTo, StepsAt}
+use Rattle.trace_world.specs.Tenants.{IsLedTo, IsShortAt, StepsAt}
 use Rattle.trace_world.proofs.Leading.{IsLedTo-world}
 use Rattle.trace_world.proofs.Standing.{IsWorld-at, StepsOne-at, length-StepsAt, written_back}
 use Rattle.trace_world.proofs.world.World.step.Goals as goal
 
 pub invariant_of-self : goal.invariant_of-self
 invariant_of-self g c =
-    let step = subst (λ tenants. StepsAt tenants c.args.tenant c.args.request.now c.report.result c.report.new.ledgers) c.deref_mut.ensures.value c.report.ensures in
-    rw (written_back c.self.inside.ledgers.len c.deref_mut.result.now c.report.new.ledgers c.self.inside.ledgers.items c.deref_mut.ensures.len (length-StepsAt c.report.ensures))
+    let step = subst (λ tenants. StepsAt tenants c.args.tenant c.args.request.now c.report.result c.report.new.ledgers) c.deref_mut.ensures.value c.report.ensures.step in
+    rw (written_back c.self.inside.ledgers.len c.deref_mut.result.now c.report.new.ledgers c.self.inside.ledgers.items c.deref_mut.ensures.len (length-StepsAt c.report.ensures.step))
     (IsWorld-at _ c.args.tenant c.args.request.now c.report.result c.report.new.ledgers c.self.invariant step)
 
 pub returns-clause-due : goal.returns-clause-due
 returns-clause-due g c =
     let old : World = record { names = c.self.inside.names.items; limits = c.self.inside.limits; tenants = c.self.inside.ledgers.items } in
     let new : World = record old { tenants = c.report.new.ledgers } in
-    let step = subst (λ tenants. StepsAt tenants c.args.tenant c.args.request.now c.report.result c.report.new.ledgers) c.deref_mut.ensures.value c.report.ensures in
-    rw (written_back c.self.inside.ledgers.len c.deref_mut.result.now c.report.new.ledgers c.self.inside.ledgers.items c.deref_mut.ensures.len (length-StepsAt c.report.ensures))
+    let step = subst (λ tenants. StepsAt tenants c.args.tenant c.args.request.now c.report.result c.report.new.ledgers) c.deref_mut.ensures.value c.report.ensures.step in
+    rw (written_back c.self.inside.ledgers.len c.deref_mut.result.now c.report.new.ledgers c.self.inside.ledgers.items c.deref_mut.ensures.len (length-StepsAt c.report.ensures.step))
     (subst (λ (world : World). IsDue world c.args.tenant c.args.request.now c.report.result new) c.self.view_is
     (IsDue-from_step old c.args.tenant c.args.request.now c.report.result new (StepsOne-at old c.args.tenant c.args.request.now c.report.result c.report.new.ledgers step)
     (subst (λ (world : World). c.args.tenant < length world.tenants) (sym c.self.view_is) c.requires)))
 
 pub returns-clause-led : goal.returns-clause-led
 returns-clause-led g c = subst IsLedTo c.self.view_is (IsLedTo-world _ c.self.invariant)
+
+pub returns-clause-short : goal.returns-clause-short
+returns-clause-short g c =
+    subst (λ (world : World). IsShortAt world.tenants c.args.tenant c.args.request.now c.report.result) c.self.view_is
+    (subst (λ tenants. IsShortAt tenants c.args.tenant c.args.request.now c.report.result) c.deref_mut.ensures.value c.report.ensures.short)

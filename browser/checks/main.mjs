@@ -1,0 +1,49 @@
+// Checks the page in headless Chromium against what the program answers: see `browser/test`.
+import assert from "node:assert/strict";
+import { Browser } from "./browser.mjs";
+import { hostileText, names, opening, policyFits, spoilt, spoiltPictures, versions } from "./opening.mjs";
+import { cleanUp, exportOf, pictureOf } from "./program.mjs";
+import { screenshots } from "./screenshots.mjs";
+import { broadcasts, busyTrace, lanes, shapes, topic, workedExport } from "./showing.mjs";
+import { size } from "./size.mjs";
+import { BUSY, WORKED } from "./traces.mjs";
+import { address, keyboard, labels, listsAndSearch, moving } from "./using.mjs";
+
+const [folder, only = ""] = process.argv.slice(2);
+const CHECKS = { "worked export": workedExport, shapes, "500 events": busyTrace, topic, broadcasts, lanes, "spoilt exports": spoilt, opening,
+  versions, "spoilt pictures": spoiltPictures, names, "hostile text": hostileText, "lists and search": listsAndSearch, labels, keyboard,
+  address, moving, "16384 events": size };
+
+/** No page asked for anything but files, or complained. */
+function nothingElse(name, pages) {
+  for (const { complaints, requests } of pages) {
+    assert.deepEqual(complaints, [], name);
+    assert.deepEqual(requests.filter((address) => !address.startsWith("file://") && address !== "about:blank"), [], name);
+  }
+}
+
+async function check(browser) {
+  const tab = await browser.page(1280, 800), phone = await browser.page(390, 844, { ratio: 3, mobile: true });
+  const names = Object.keys(CHECKS).filter((name) => only === "" || only.split(",").includes(name));
+  for (const name of names) {
+    const told = await CHECKS[name](tab, phone);
+    console.log(`browser/test: ${name}: right${told ? `: ${told}` : ""}`);
+    nothingElse(name, [tab, phone]);
+  }
+  if (folder) console.log(`browser/test: screenshots: ${await screenshots(browser, folder)}`);
+}
+
+let browser;
+try {
+  policyFits();
+  pictureOf("worked.html", exportOf(WORKED));
+  pictureOf("busy.html", exportOf(BUSY));
+  browser = new Browser("chromium");
+  await check(browser);
+} catch (fault) {
+  console.error(`browser/test: ${fault.stack}`);
+  process.exitCode = 1;
+} finally {
+  await browser?.close();
+  cleanUp();
+}
