@@ -78,10 +78,10 @@ returns-clause-ok g c =
 pub returns-clause-right : goal.returns-clause-right
 returns-clause-right g c =
     let at = goal.at.returns-clause-right g c in
-    let header = c.header.result in
+    let header = c.header-header.result in
     let ledger = c.ledger-ledger.result.now in
     let same = c.rows.ensures.rows in
-    let limits : c.take_in.new.world.limits ≡ header.limits = c.in_ok-take_in.ensures.ok.leads.2.limits ∙ sym c.header.ensures.1 in
+    let limits : c.take_in.new.world.limits ≡ header.limits = c.in_ok-take_in.ensures.ok.leads.2.limits ∙ sym c.header-header.ensures.1 in
     let legal = legal_rows_of c.take_in.new.world c.args.tenant ledger c.ledger-ledger.ensures c.law.ensures.world header.limits limits in
     let read = subst (λ (these : List Row). AreReadAgain 0 these (stamp_texts ledger.rows)) same c.in_ok-count.ensures.read in
     let right = export_is_right header ledger.rows c.in_ok-count.ensures.headed legal read in (
