@@ -26,7 +26,7 @@ tree_is_plain (Leaf n) fits = decimal_is_plain n fits
 tree_is_plain (Node n left right) fits =
     let last = plain_append (tree_text right) (codes ")") (tree_is_plain right (omega (arith, fits))) refl in
     let behind = plain_append (tree_text left) (codes "," ++ (tree_text right ++ codes ")")) (tree_is_plain left (omega (arith, fits)))
-        (plain_append (codes ",") (tree_text right ++ codes ")") refl last) in
+    (plain_append (codes ",") (tree_text right ++ codes ")") refl last) in
     plain_append (codes "(") (decimal n ++ (codes "," ++ (tree_text left ++ (codes "," ++ (tree_text right ++ codes ")"))))) refl
     (plain_append (decimal n) (codes "," ++ (tree_text left ++ (codes "," ++ (tree_text right ++ codes ")")))) (decimal_is_plain n (omega (arith, fits)))
     (plain_append (codes ",") (tree_text left ++ (codes "," ++ (tree_text right ++ codes ")"))) refl behind))

@@ -59,7 +59,7 @@ read_next rows stamps count event row next is some read =
     let within = slice_get_within rows count row is in
     let len : 0 + length (take count rows) ≡ count = omega (arith, length-take-le count rows (omega (arith, within))) in
     let last : take (suc count) rows ≡ take count rows ++ row ∷ [] =
-        take-suc rows count row within ∙ ap (λ r. take count rows ++ r ∷ []) (get_or_from_slice_get rows count row row is) in
+    take-suc rows count row within ∙ ap (λ r. take count rows ++ r ∷ []) (get_or_from_slice_get rows count row row is) in
     let same : event ≡ suc (0 + length (take count rows)) = omega (arith, next, len) in
     subst (λ n. AreReadAgain 0 (take n rows) stamps) (sym next)
     (subst (λ these. AreReadAgain 0 these stamps) (sym last)

@@ -80,8 +80,13 @@ two_increase a b less zero within = less
 two_increase a b less (suc k) within = absurd (omega (arith, within))
 
 two_before : (a b most : ℕ) → 0 < a → a < b → b ≤ most → AreTwoAtMost most (a ∷ b ∷ [])
-two_before a b most some less few = ((two_increase a b less,
-    All-cons (λ earlier. (0 < earlier) × (earlier < suc most)) a (b ∷ []) (some, omega (arith, less, few)) (one_before b most (omega (arith, some, less)) few).0.1), omega arith)
+two_before a b most some less few = (
+  (
+    two_increase a b less,
+    All-cons (λ earlier. (0 < earlier) × (earlier < suc most)) a (b ∷ []) (some, omega (arith, less, few)) (one_before b most (omega (arith, some, less)) few).0.1,
+  ),
+  omega arith,
+)
 
 event_or_none_is : (a most : ℕ) → a ≤ most → AreTwoAtMost most (event_or_none a)
 event_or_none_is a most few =
@@ -172,11 +177,11 @@ all_right stamps (row ∷ earlier) legal sound few spawns stamps_are read =
     let len : 0 + length rows ≡ length earlier = omega (arith, length-reverse earlier) in
     let parts = read_parts 0 rows row stamps (subst (λ these. AreReadAgain 0 these stamps) new read) in
     let before = all_right stamps earlier legal.1 sound.1 (omega (arith, few)) (omega (arith, spawns, spawn_count-cons row earlier))
-        (λ event some old. stamps_are event some (omega (arith, old)) ∙ stamp_text-older row earlier event old) parts.0 in
+    (λ event some old. stamps_are event some (omega (arith, old)) ∙ stamp_text-older row earlier event old) parts.0 in
     let stamp_is = stamps_are (suc (length earlier)) (omega arith) (omega arith) in
     let read_this = subst (λ n. IsReadAgain (next_listed n row stamps)) len parts.1 in
     let texts : texts_after 0 rows stamps ++ next_text (length earlier) row stamps ∷ [] ≡ texts_after 0 (reverse (row ∷ earlier)) stamps =
-        sym (ap (λ these. texts_after 0 these stamps) new ∙ texts_push 0 rows row stamps ∙ ap (λ n. texts_after 0 rows stamps ++ next_text n row stamps ∷ []) len) in
+    sym (ap (λ these. texts_after 0 these stamps) new ∙ texts_push 0 rows row stamps ∙ ap (λ n. texts_after 0 rows stamps ++ next_text n row stamps ∷ []) len) in
     subst (λ these. AreRight these (placing_of (row ∷ earlier))) texts
     (record {
       are_lines = lines_push (texts_after 0 rows stamps) (next_text (length earlier) row stamps) before.are_lines (is_line row earlier legal sound few spawns stamps stamp_is);
@@ -193,9 +198,9 @@ module _ (header : Header) (rows : List Row) (headed : IsHeader (header_text hea
       let same = reverse-reverse rows in
       subst (λ (these : List Row). AreRight (texts_after 0 these (stamp_texts rows)) (placing_of (history_of rows))) same
       (all_right (stamp_texts rows) (history_of rows) (IsLegal_from_AreLegal header.limits rows legal) (legal_rows_are_sound header.limits rows legal)
-          (omega (arith, within.events, ranges.0)) (omega (arith, within.tasks, ranges.2))
-          (λ event some old. stamp_texts-at rows event (some, omega (arith, old, length-reverse rows, length-stamp_texts rows)))
-          (subst (λ (these : List Row). AreReadAgain 0 these (stamp_texts rows)) (sym same) read))
+      (omega (arith, within.events, ranges.0)) (omega (arith, within.tasks, ranges.2))
+      (λ event some old. stamp_texts-at rows event (some, omega (arith, old, length-reverse rows, length-stamp_texts rows)))
+      (subst (λ (these : List Row). AreReadAgain 0 these (stamp_texts rows)) (sym same) read))
 
   -- the verdict on the export of legal rows whose lines are read again is yes
   pub export_is_right : IsVerdict (concat (export_of header rows)) (Yes (length rows))
@@ -215,5 +220,5 @@ pub legal_rows_of : (world : World) (tenant : ℕ) (ledger : Tenant) → slice_g
     → (limits : Limits) → world.limits ≡ limits → AreLegal limits ledger.rows
 legal_rows_of world tenant ledger is world_is limits same =
     let known : IsTenantWith world.limits ledger =
-        subst (IsTenantWith world.limits) (get_or_from_slice_get world.tenants tenant ledger ledger is) (world_is.tenants tenant ledger (slice_get_within world.tenants tenant ledger is)) in
+    subst (IsTenantWith world.limits) (get_or_from_slice_get world.tenants tenant ledger ledger is) (world_is.tenants tenant ledger (slice_get_within world.tenants tenant ledger is)) in
     subst (λ limits. AreLegal limits ledger.rows) same known.legal

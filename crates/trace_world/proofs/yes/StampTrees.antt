@@ -32,7 +32,7 @@ tree_inner-le : (history : History) (event : ℕ) → inner_of_tree (tree_of tre
 tree_inner-le history event =
     let rows = reverse history in
     let known : inner_of_tree (tree_of tree_clock (reverse rows) event) ≤ spawn_count (reverse rows) =
-        omega (arith, ap inner_of_tree (stamp_knows (reverse rows) event), ((are_sized rows).stamps event).tree, spawns_up_to-le rows event) in
+    omega (arith, ap inner_of_tree (stamp_knows (reverse rows) event), ((are_sized rows).stamps event).tree, spawns_up_to-le rows event) in
     subst (λ found. inner_of_tree (tree_of tree_clock found event) ≤ spawn_count found) (reverse-reverse history) known
 
 module _ (row : Row) (earlier : History) (legal : IsLegal (row ∷ earlier)) (few : suc (length earlier) ≤ 16384) (spawns : spawn_count (row ∷ earlier) ≤ 2047) where

@@ -27,12 +27,11 @@ loop-row-init g c = (refl, wrote_header c.args.header.now c.args.rows.now (g.T.S
 
 pub loop-row-preserved : goal.loop-row-preserved
 loop-row-preserved g c =
-    let at = goal.at.loop-row-preserved g c in
-    (
+    let at = goal.at.loop-row-preserved g c in (
       omega (arith, c.loop-row.invariant.0),
       wrote_next (c.loop-row.count + 1) c.row-item.result (omega arith) c.loop-row.invariant.1 (this_row g at.After-write_row) c.in_ok-write_row.ensures.whole,
       read_next c.args.rows.now (g.T.StampTexts.texts c.args.stamps.now) c.loop-row.count (c.loop-row.count + 1) c.row-item.result (omega arith) (this_row g at.After-write_row)
-      c.loop-row.invariant.2 c.in_ok-write_row.ensures.read,
+          c.loop-row.invariant.2 c.in_ok-write_row.ensures.read,
     )
 
 pub returns-clause-read : goal.returns-clause-read
