@@ -7,7 +7,7 @@ use Rattle.trace_types.specs.declared.row.Row.{Row}
 use Rattle.line_protocol.specs.Sink.{Taken}
 use Rattle.line_protocol.specs.TextsInTurn.{WritesTexts, BeginsFirst, BreaksOffAt}
 use Rattle.trace_export.specs.Heading.{header_line}
-use Rattle.trace_export.specs.Listing.{Listed, listed_line}
+use Rattle.trace_export.specs.Listing.{Listed, IsReadAgain, listed_line}
 use Rattle.trace_export.specs.declared.export_fault.ExportFault.{ExportFault}
 use Rattle.trace_export.specs.declared.export_fault.ExportFault.TheVariants.{Write, Memory}
 use Rattle.trace_export.specs.declared.header.Header.{Header}
@@ -36,6 +36,12 @@ lines_after count (row ∷ rows) stamps =
 -- the lines of an export: its header and one for each row, each with its end
 abbrev pub export_lines : Header → List Row → List Text → List Text
 export_lines header rows stamps = header_line header ∷ lines_after 0 rows stamps
+
+-- of each of these rows, which come after so many events, the JSON is read again from its line
+abbrev pub AreReadAgain : ℕ → List Row → List Text → Type 0
+AreReadAgain count [] stamps = Unit {0}
+AreReadAgain count (row ∷ rows) stamps =
+    IsReadAgain (listed_row (suc count) row (stamp_at stamps (suc count))) × AreReadAgain (suc count) rows stamps
 
 -- the text of an export
 abbrev pub export_text : Header → List Row → List Text → Text

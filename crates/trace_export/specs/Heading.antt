@@ -45,6 +45,10 @@ abbrev pub lines_ahead : Option Header → ℕ
 lines_ahead None = 0
 lines_ahead (Some header) = 1
 
--- the line in which a header is written, with its end
+-- the text in which a header is written
+abbrev pub header_text : Header → Text
+header_text header = compact_text (header_json header)
+
+-- its line, with its end
 abbrev pub header_line : Header → Text
-header_line header = compact_text (header_json header) ++ codes "\n"
+header_line header = header_text header ++ codes "\n"

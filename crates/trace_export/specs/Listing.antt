@@ -62,6 +62,10 @@ IsReadAs line json = IsUtf8 line × (read line ≡ Some json)
 abbrev pub ListsAs : Text → Listed → Type 0
 ListsAs line listed = (json : Data) × IsReadAs line json × IsJsonOf json listed
 
+-- the event's JSON is read again from its text
+abbrev pub IsReadAgain : Listed → Type 0
+IsReadAgain listed = IsReadAs (compact_text (listed_json listed)) (listed_json listed)
+
 -- the line in which an event is written, with its end
 abbrev pub listed_line : Listed → Text
 listed_line listed = compact_text (listed_json listed) ++ codes "\n"

@@ -1,13 +1,16 @@
 //! Writing of exports.
-ghost use Rattle.std.specs.Prelude.{◌≡◌, ◌<◌, ◌≤◌, ◌++◌, codes, false, IfOk, IfErr, IsErrOf, length, string_bytes};
+ghost use Rattle.std.specs.Prelude.{◌≡◌, ◌<◌, ◌≤◌, ◌++◌, codes, false, IfOk, IfErr, IsErrOf, IsTrue, length, string_bytes};
 ghost use Rattle.std.specs.Str.{IsUtf8};
 ghost use Rattle.line_protocol.specs.Writing.{EndsInFault, WritesPart, WritesWhole};
+ghost use Rattle.serde_json.specs.Data.{depth};
+ghost use Rattle.serde_json.specs.Read.{max_depth};
 ghost use Rattle.serde_json.specs.View.{view, items_view};
 ghost use Rattle.serde_json.specs.Written.{compact_text, has_float};
+ghost use Rattle.trace_types.specs.text.Name.{is_name};
 ghost use Rattle.trace_types.specs.text.Text.{kind_text, name_text};
-ghost use Rattle.trace_export.specs.Export.{export_lines, listed_row, stamp_at, WritesLines, BreaksLines};
-ghost use Rattle.trace_export.specs.Heading.{header_json, header_line};
-ghost use Rattle.trace_export.specs.Listing.{listed_json, listed_line, numbers_json};
+ghost use Rattle.trace_export.specs.Export.{export_lines, listed_row, stamp_at, AreReadAgain, WritesLines, BreaksLines};
+ghost use Rattle.trace_export.specs.Heading.{header_line, header_text, IsHeader, IsHeaderJson};
+ghost use Rattle.trace_export.specs.Listing.{listed_json, listed_line, numbers_json, IsReadAgain, IsReadAs};
 
 use crate::header::VERSION;
 use crate::{ExportFault, Header, StampTexts};
@@ -17,7 +20,7 @@ use std::alloc::Global;
 use trace_types::{Kind, Memory, Name, Preds, Row};
 
 /// Writes the export of these rows, whose stamps have these texts: the header and a line for each row, each with its end.
-/// It gives the number of rows, and flushes nothing.
+/// It gives the number of rows, and flushes nothing. A check reads each line again as what it lists.
 ///
 /// Returns `Write` if a write failed or 1048576 writes of one line were interrupted, and `Memory` if it runs out of
 /// memory.
@@ -31,6 +34,8 @@ pub fn export_rows<T: StampTexts, W: Sink>(
     requires { length (T.texts stamps.now) ≡ length rows.now }
     ensures count { IfOk result (λ count. count ≡ length rows.now) }
     ensures whole { IfOk result (λ _. WritesLines (W.seen writer.old) (W.seen writer.new) (export_lines header.now rows.now (T.texts stamps.now))) }
+    ensures headed { IfOk result (λ _. IsHeader (header_text header.now) header.now) }
+    ensures read { IfOk result (λ _. AreReadAgain 0 rows.now (T.texts stamps.now)) }
     ensures fault { IfErr result (λ fault. BreaksLines fault (W.seen writer.old) (W.seen writer.new) (export_lines header.now rows.now (T.texts stamps.now))) }
     ensures write { IsErrOf result ExportFault.Write → EndsInFault (W.seen writer.old) (W.seen writer.new) }
     ensures write_failed { (W.seen writer.old).failures < (W.seen writer.new).failures → IsErrOf result ExportFault.Write }
@@ -47,6 +52,7 @@ pub fn export_rows<T: StampTexts, W: Sink>(
 /// Writes the line of the header.
 fn write_header<W: Sink>(alloc: Global, header: &Header, writer: &mut W) -> Result<(), ExportFault>
     ensures whole { IfOk result (λ _. WritesWhole (W.seen writer.old) (W.seen writer.new) (header_line header.now)) }
+    ensures headed { IfOk result (λ _. IsHeader (header_text header.now) header.now) }
     ensures part { IsErrOf result ExportFault.Write → WritesPart (W.seen writer.old) (W.seen writer.new) (header_line header.now) }
     ensures unchanged { IsErrOf result ExportFault.Memory → writer.new ≡ writer.old }
 {
@@ -58,7 +64,7 @@ fn write_header<W: Sink>(alloc: Global, header: &Header, writer: &mut W) -> Resu
 
 /// The header as JSON.
 fn header_json(alloc: Global, header: &Header) -> Result<Value, Memory>
-    ensures { IfOk result (λ json. view json ≡ header_json header.now) }
+    ensures { IfOk result (λ json. IsHeaderJson (view json) header.now) }
 {
     let limits = header.limits;
     let mut members = Map::new(alloc);
@@ -90,6 +96,7 @@ fn write_row<T: StampTexts, W: Sink>(
 ) -> Result<(), ExportFault>
     requires { (0 < event) × (event ≤ length (T.texts stamps.now)) }
     ensures whole { IfOk result (λ _. WritesWhole (W.seen writer.old) (W.seen writer.new) (listed_line (listed_row event row.now (stamp_at (T.texts stamps.now) event)))) }
+    ensures read { IfOk result (λ _. IsReadAgain (listed_row event row.now (stamp_at (T.texts stamps.now) event))) }
     ensures part { IsErrOf result ExportFault.Write → WritesPart (W.seen writer.old) (W.seen writer.new) (listed_line (listed_row event row.now (stamp_at (T.texts stamps.now) event))) }
     ensures unchanged { IsErrOf result ExportFault.Memory → writer.new ≡ writer.old }
 {
@@ -102,7 +109,8 @@ fn write_row<T: StampTexts, W: Sink>(
 /// The line of a row, with its end.
 fn line_of(alloc: Global, event: u64, row: &Row, stamp: Vec<u8>) -> Result<Vec<u8>, Memory>
     requires { IsUtf8 stamp.items }
-    ensures { IfOk result (λ line. line.items ≡ listed_line (listed_row event row.now stamp.items)) }
+    ensures exact { IfOk result (λ line. line.items ≡ listed_line (listed_row event row.now stamp.items)) }
+    ensures read { IfOk result (λ _. IsReadAgain (listed_row event row.now stamp.items)) }
 {
     let Ok(stamp) = String::from_utf8(stamp) else {
         unreachable!();
@@ -112,9 +120,10 @@ fn line_of(alloc: Global, event: u64, row: &Row, stamp: Vec<u8>) -> Result<Vec<u
     Ok(line)
 }
 
-/// The text of the JSON, with an end of line.
+/// The text of the JSON, with an end of line. It is read again if the JSON is no deeper than JSON may be.
 fn with_end(alloc: Global, json: &Value) -> Result<Vec<u8>, Memory>
-    ensures { IfOk result (λ line. has_float (view json.now) ≡ false → line.items ≡ compact_text (view json.now) ++ codes "\n") }
+    ensures line { IfOk result (λ line. has_float (view json.now) ≡ false → line.items ≡ compact_text (view json.now) ++ codes "\n") }
+    ensures read { IfOk result (λ _. has_float (view json.now) ≡ false → depth (view json.now) ≤ max_depth → IsReadAs (compact_text (view json.now)) (view json.now)) }
 {
     let mut line = json.to_vec(alloc)?;
     line.push(b'\n')?;
@@ -192,7 +201,8 @@ fn name_word(name: &Option<Name>) -> &str
 
 /// The name's text.
 fn as_str(name: &Name) -> &str
-    ensures { result.now ≡ name.now }
+    ensures text { result.now ≡ name.now }
+    ensures name { IsTrue (is_name name.now) }
 {
     let Ok(text) = str::from_utf8(name.as_bytes()) else {
         unreachable!();

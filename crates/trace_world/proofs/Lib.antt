@@ -10,3 +10,4 @@ mod Parts
 mod Standing
 mod StampTexts
 mod TakingIn
+mod yes

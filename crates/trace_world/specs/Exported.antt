@@ -15,6 +15,8 @@ use Rattle.line_protocol.specs.Sink.{Taken}
 use Rattle.line_protocol.specs.Writing.{GoesWell, GoesWrong}
 use Rattle.line_protocol.specs.Patience.{FlushesPatiently, GivesUpFlushing}
 use Rattle.trace_export.specs.Export.{BreaksLines, WritesLines, export_lines}
+use Rattle.trace_export.specs.Verdict.{IsVerdict}
+use Rattle.trace_export.specs.declared.verdict.Verdict.TheVariants.{Yes}
 use Rattle.trace_export.specs.declared.export_fault.ExportFault.TheVariants as export
 use Rattle.trace_export.specs.declared.header.Header.{Header}
 use Rattle.trace_world.specs.Replayed.{AreFirstLines, LeadsTo}
@@ -84,6 +86,10 @@ pub record Exports (before after : Given) (taken taken' : Taken) (old : World) (
   pub between : Taken
   pub writes : WritesLines taken between (export_of header rows)
   pub hands_on : HandsOnAll between taken'
+
+-- What was written is an export of so many events on which the verdict is yes.
+abbrev pub WritesRight : Taken → Taken → ℕ → Type 0
+WritesRight before after count = (export : List ℕ) × (after.bytes ≡ before.bytes ++ export) × IsVerdict export (Yes count)
 
 -- how the fault came while the lines were written
 abbrev pub StopsExport : ReplayFault → Taken → Taken → List Text → Type 0

@@ -2,7 +2,7 @@
 ghost use Rattle.std.specs.Prelude.{◌≡◌, ◌≢◌, ◌↔◌, ◌+◌, ◌<◌, ◌≤◌, ◌^◌, IfOk, IfErr, IsErrOf, OnOk, OnErr, length};
 ghost use Rattle.line_protocol.specs.Source.{StopsAtEnd};
 ghost use Rattle.line_protocol.specs.Writing.{EndsInFault};
-ghost use Rattle.trace_world.specs.Exported.{BreaksExport, Exports, TakesAll, TakesFirst};
+ghost use Rattle.trace_world.specs.Exported.{BreaksExport, Exports, TakesAll, TakesFirst, WritesRight};
 
 use crate::answer::do_line;
 use crate::ledger_stamps::LedgerStamps;
@@ -13,7 +13,8 @@ use std::sync::Wait;
 use trace_export::export_rows;
 
 /// Reads lines of all tenants and does what they ask, as [`crate::replay`] does, but writes no reply. At the end of the
-/// input it writes the export of the tenant at this place, with a header, and flushes it. It gives the number of rows.
+/// input it writes the export of the tenant at this place, with a header, and flushes it. It gives the number of rows. A
+/// check of what was written answers yes with that number, since no stamp is too large for a line.
 ///
 /// | Fault | When it comes |
 /// |---|---|
@@ -31,6 +32,7 @@ pub fn replay_export<T: Wait, R: Source, W: Sink>(
     requires { tenant < length world.old.tenants }
     ensures ok { IfOk result (λ count. Exports (R.seen reader.old) (R.seen reader.new)
         (W.seen writer.old) (W.seen writer.new) world.old tenant count world.new) }
+    ensures right { IfOk result (λ count. WritesRight (W.seen writer.old) (W.seen writer.new) count) }
     ensures fault { IfErr result (λ fault. BreaksExport fault (R.seen reader.old) (R.seen reader.new)
         (W.seen writer.old) (W.seen writer.new) world.old tenant world.new) }
 
@@ -46,6 +48,7 @@ pub fn replay_export<T: Wait, R: Source, W: Sink>(
 {
     let header = world.header(tenant);
     take_in(rt, alloc, world, reader)?;
+    world.law();
     let ledger = world.ledger(tenant);
     let stamps = LedgerStamps {
         alloc,

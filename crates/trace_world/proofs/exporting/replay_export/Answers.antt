@@ -1,10 +1,15 @@
-use Rattle.std.proofs.Common.{◌<◌, ◌∙◌, ap, sym, length, inr, rules}
+use Rattle.std.proofs.Common.{◌≡◌, ◌<◌, ◌∙◌, ap, sym, subst, List, length, inr, rules}
+use Rattle.std.specs.List.{concat}
+use Rattle.trace_types.specs.declared.row.Row.{Row}
 use Rattle.trace_types.specs.text.Lines.{lines}
-use Rattle.trace_export.specs.Export.{BreaksLines, WritesLines}
-use Rattle.trace_world.specs.Exported.{AreRowsLeft, export_of}
+use Rattle.trace_export.specs.Export.{AreReadAgain, BreaksLines, WritesLines}
+use Rattle.trace_export.specs.Verdict.{IsVerdict}
+use Rattle.trace_export.specs.declared.verdict.Verdict.TheVariants.{Yes}
+use Rattle.trace_world.specs.Exported.{AreRowsLeft, export_of, stamp_texts}
 use Rattle.trace_world.proofs.Fronts.{IfErr-equal}
 use Rattle.trace_world.proofs.StampTexts.{length-stamp_texts}
 use Rattle.trace_world.proofs.TakingIn.{ends_held_back, of_ledger, rows_left, stops_export}
+use Rattle.trace_world.proofs.yes.RightExports.{export_is_right, legal_rows_of}
 use Rattle.trace_world.proofs.exporting.replay_export.Goals as goal
 use Rattle.trace_world.proofs.exporting.replay_export.Given.{Over}
 use Rattle.trace_world.proofs.exporting.replay_export.Goals.{After-export_rows, In_ok-count}
@@ -68,3 +73,19 @@ returns-clause-ok g c =
       writes = wrote g at.In_ok-count;
       hands_on = c.in_ok-flush.ensures;
     }
+
+-- and the verdict on them is yes
+pub returns-clause-right : goal.returns-clause-right
+returns-clause-right g c =
+    let at = goal.at.returns-clause-right g c in
+    let header = c.header-header.result in
+    let ledger = c.ledger-ledger.result.now in
+    let same = c.rows.ensures.rows in
+    let limits : c.take_in.new.world.limits ≡ header.limits = c.in_ok-take_in.ensures.ok.leads.2.limits ∙ sym c.header-header.ensures.1 in
+    let legal = legal_rows_of c.take_in.new.world c.args.tenant ledger c.ledger-ledger.ensures c.law.ensures.world header.limits limits in
+    let read = subst (λ (these : List Row). AreReadAgain 0 these (stamp_texts ledger.rows)) same c.in_ok-count.ensures.read in
+    let right = export_is_right header ledger.rows c.in_ok-count.ensures.headed legal read in (
+      concat (export_of header ledger.rows),
+      c.in_ok-flush.ensures.0 ∙ (wrote g at.In_ok-count).grows,
+      subst (λ count. IsVerdict (concat (export_of header ledger.rows)) (Yes count)) (sym (c.in_ok-count.ensures.count ∙ ap length same)) right,
+    )

@@ -1,0 +1,4 @@
+pub mod LegalRows
+pub mod Placings
+pub mod RightExports
+pub mod StampTrees
