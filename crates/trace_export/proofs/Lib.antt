@@ -8,4 +8,5 @@ pub mod Numbers
 pub mod Ordering
 pub mod Reached
 pub mod WrittenRows
+pub mod WrittenTexts
 mod Vectors
