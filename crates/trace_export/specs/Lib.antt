@@ -8,5 +8,6 @@ pub mod Laws
 pub mod Listing
 pub mod Loading
 pub mod Loads
+pub mod Rebuilding
 pub mod Reasons
 pub mod Verdict

@@ -1,9 +1,9 @@
 -- What a load leaves, of what its reader and its writer had before and after.
-use Rattle.std.specs.Prelude.{◌≡◌, ◌≢◌, ℕ, suc, ◌⊎◌, IsTrue, List, [], ◌∷◌, ◌++◌, length, map, Option}
+use Rattle.std.specs.Prelude.{◌≡◌, ◌≢◌, ℕ, suc, ◌⊎◌, IsTrue, List, [], ◌∷◌, ◌++◌, length, map, Option, Some}
 use Rattle.std.specs.List.{range_with_len}
 use Rattle.trace_types.specs.clock.Stamps.{stamp_text_of}
 use Rattle.trace_types.specs.tenant.Limits.{Limits}
-use Rattle.trace_types.specs.tenant.Rows.{history_of}
+use Rattle.trace_types.specs.tenant.Rows.{history_of, row_of}
 use Rattle.trace_types.specs.tenant.Tenant.{after as tenant_after, fresh, replies}
 use Rattle.trace_types.specs.text.Lines.{lines}
 use Rattle.trace_types.specs.text.Name.{Text}
@@ -42,18 +42,19 @@ pub record RunsAnew (limits : Limits) (rows : List Row) : Type 0 where
   pub accepted : replies (fresh limits) (map row_request rows) ≡ map Accepted (range_with_len 1 (length rows))
   pub leaves : tenant_after (fresh limits) (map row_request rows) ≡ tenant_with limits rows
 
--- each line lists the row of its event, with the event's stamp
-abbrev pub AreLinesOf : List Text → List Row → Type 0
-AreLinesOf events rows = (before after : List Row) (row : Row) → rows ≡ before ++ row ∷ after
-    → ListsAs (event_line events (suc (length before))) (listed_row (suc (length before)) row (stamp_text_of (history_of rows) (suc (length before))))
+-- the line of each event lists its row and its stamp, as these rows have them
+abbrev pub ListEachEvent : List Text → List Row → Type 0
+ListEachEvent events rows = (event : ℕ) (row : Row) → row_of (history_of rows) event ≡ Some row
+    → ListsAs (event_line events event) (listed_row event row (stamp_text_of (history_of rows) event))
 
--- The bytes are the export of these rows, which requests make under the limits of its header: so a check of it says yes.
+-- The bytes are the export of these rows, and requests make these under the limits of its header, or without one under the
+-- greatest. So a check of the bytes says yes.
 pub record IsExportOfRun (bytes : List ℕ) (count : ℕ) (rows : List Row) : Type 0 where
   pub header : Option Header
   pub events : List Text
   pub parts : AreParts (lines bytes) header events
-  pub counted : (count ≡ length rows) × (count ≡ length events)
-  pub listed : AreLinesOf events rows
+  pub counted : (count ≡ length events) × (count ≡ length rows)
+  pub listed : ListEachEvent events rows
   pub runs : RunsAnew (limits_under header) rows
   pub verdict : IsVerdict bytes (Yes count)
 
@@ -62,30 +63,43 @@ abbrev pub SawAllOf : Given → Loaded → Type 0
 SawAllOf after (Done count) = HasToldEnd after
 SawAllOf after (No number reason) = Unit {0}
 
--- the bytes are the export of these rows, where all is done
-abbrev pub IsRunOf : List ℕ → Loaded → List Row → Type 0
-IsRunOf bytes (Done count) rows = IsExportOfRun bytes count rows
-IsRunOf bytes (No number reason) rows = rows ≡ []
-
--- What was read, and what may come behind it, is loaded so: all of it was seen where it is done, and is the export of the
--- rows whose requests are written. Else the faulty line was read to its end, and no request is written.
+-- What the reader gave is loaded so, and with all that it may give after it: a faulty line was read to its end. Where none
+-- is faulty these rows are left.
 pub record LoadsAs (before after : Given) (loaded : Loaded) (rows : List Row) : Type 0 where
   pub came : List ℕ
   pub grows : after.bytes ≡ before.bytes ++ came
   pub all : SawAllOf after loaded
   pub is_due : (rest : List ℕ) → (IsTrue after.has_ended → rest ≡ []) → IsLoaded (came ++ rest) loaded rows
-  pub is_run : IsRunOf came loaded rows
 
--- What the bytes give was answered, and the requests written.
+-- the bytes are the export of these rows, where all is done
+abbrev pub IsExportWhereDone : List ℕ → Loaded → List Row → Type 0
+IsExportWhereDone bytes (Done count) rows = IsExportOfRun bytes count rows
+IsExportWhereDone bytes (No number reason) rows = Unit {0}
+
+-- the requests of these rows were written, where all is done, and nothing else was called
+abbrev pub WritesWhereDone : Taken → Taken → Text → Loaded → List Row → Type 0
+WritesWhereDone taken taken' tenant (Done count) rows = WritesLines taken taken' (request_lines tenant rows)
+WritesWhereDone taken taken' tenant (No number reason) rows = taken' ≡ taken
+
+-- What the reader gave was loaded, and the requests of the rows that it is the export of were written to this tenant.
 pub record Loads (before after : Given) (taken taken' : Taken) (tenant : Text) (loaded : Loaded) : Type 0 where
   pub rows : List Row
   pub loads : LoadsAs before after loaded rows
-  pub writes : WritesLines taken taken' (request_lines tenant rows)
+  pub is_export : IsExportWhereDone loads.came loaded rows
+  pub writes : WritesWhereDone taken taken' tenant loaded rows
 
--- A fault came while the lines were read, and nothing was written; or while the requests were written: some whole lines were,
--- and of the next a front.
+-- All that the reader had was loaded, and of the requests to this tenant some whole lines were written, and of the next one
+-- a front. Then this fault came.
+pub record LoadsInPart (fault : LoadFault) (before after : Given) (taken taken' : Taken) (tenant : Text) : Type 0 where
+  pub cause : ExportFault
+  pub told : fault ≡ load_fault_of_export cause
+  pub count : ℕ
+  pub rows : List Row
+  pub loads : LoadsAs before after (Done count) rows
+  pub is_export : IsExportOfRun loads.came count rows
+  pub breaks : BreaksLines cause taken taken' (request_lines tenant rows)
+
+-- The fault came while the lines were read, and nothing was written; or while the requests were.
 abbrev pub BreaksLoading : LoadFault → (before after : Given) (taken taken' : Taken) → Text → Type 0
 BreaksLoading fault before after taken taken' tenant =
-    ((taken' ≡ taken) × (fault ≢ Write))
-    ⊎ ((cause : ExportFault) × (fault ≡ load_fault_of_export cause) × ((count : ℕ) × (rows : List Row)
-    × LoadsAs before after (Done count) rows × BreaksLines cause taken taken' (request_lines tenant rows)))
+    ((taken' ≡ taken) × (fault ≢ Write)) ⊎ LoadsInPart fault before after taken taken' tenant

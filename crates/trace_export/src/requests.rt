@@ -1,6 +1,7 @@
 //! The requests that make the rows of an export.
-ghost use Rattle.std.specs.Prelude.{◌≡◌, ◌<◌, All, IfErr, IfOk, IsErrOf, OnOk};
+ghost use Rattle.std.specs.Prelude.{◌≡◌, ◌<◌, ◌++◌, All, None, Some, IfErr, IfOk, IsErrOf, OnOk, codes};
 ghost use Rattle.line_protocol.specs.Writing.{EndsInFault, WritesPart, WritesWhole};
+ghost use Rattle.trace_types.specs.text.Text.{kind_text};
 ghost use Rattle.trace_export.specs.Export.{BreaksLines, WritesLines};
 ghost use Rattle.trace_export.specs.Listing.{FitsKind};
 ghost use Rattle.trace_export.specs.Loading.{request_for, request_line, request_lines};
@@ -10,6 +11,9 @@ use crate::exporting::kind_word;
 use line_protocol::{Sink, write_bytes};
 use std::alloc::Global;
 use trace_types::{Kind, Memory, Name, Request, Row};
+
+/// Room for the longest line of a request.
+const LINE_BYTES: usize = 128;
 
 /// The request for a report of this kind, by this task, with this name.
 pub(crate) fn request_for(kind: Kind, task: Name, name: Option<Name>) -> Request
@@ -66,16 +70,44 @@ fn line_of(alloc: Global, tenant: &Name, row: &Row) -> Result<Vec<u8>, Memory>
     requires { FitsKind row.now.kind row.now.name }
     ensures { IfOk result (λ line. line.items ≡ request_line tenant.now row.now) }
 {
-    let mut line = Vec::with_capacity(alloc, 128)?;
+    match &row.name {
+        None => line_alone(alloc, tenant, row.kind, &row.task),
+        Some(name) => line_naming(alloc, tenant, row.kind, &row.task, name),
+    }
+}
+
+/// The line of a request that names nothing beside its task.
+fn line_alone(alloc: Global, tenant: &Name, kind: Kind, task: &Name) -> Result<Vec<u8>, Memory>
+    ensures { IfOk result (λ line. line.items ≡ tenant.now ++ codes " " ++ kind_text kind ++ codes " " ++ task.now ++ codes "\n") }
+{
+    let mut line = Vec::with_capacity(alloc, LINE_BYTES)?;
     line.extend_from_slice(tenant.as_bytes())?;
     line.push(b' ')?;
-    line.extend_from_slice(kind_word(row.kind).as_bytes())?;
+    line.extend_from_slice(kind_word(kind).as_bytes())?;
     line.push(b' ')?;
-    line.extend_from_slice(row.task.as_bytes())?;
-    if let Some(name) = &row.name {
-        line.push(b' ')?;
-        line.extend_from_slice(name.as_bytes())?;
-    }
+    line.extend_from_slice(task.as_bytes())?;
+    line.push(b'\n')?;
+    Ok(line)
+}
+
+/// The line of a request that names another task or a message.
+fn line_naming(
+    alloc: Global,
+    tenant: &Name,
+    kind: Kind,
+    task: &Name,
+    name: &Name,
+) -> Result<Vec<u8>, Memory>
+    ensures { IfOk result (λ line. line.items ≡ tenant.now ++ codes " " ++ kind_text kind ++ codes " " ++ task.now ++ codes " " ++ name.now ++ codes "\n") }
+{
+    let mut line = Vec::with_capacity(alloc, LINE_BYTES)?;
+    line.extend_from_slice(tenant.as_bytes())?;
+    line.push(b' ')?;
+    line.extend_from_slice(kind_word(kind).as_bytes())?;
+    line.push(b' ')?;
+    line.extend_from_slice(task.as_bytes())?;
+    line.push(b' ')?;
+    line.extend_from_slice(name.as_bytes())?;
     line.push(b'\n')?;
     Ok(line)
 }
