@@ -4,9 +4,20 @@ pub mod Connecting
 mod GoodExports
 mod Headings
 pub mod Judging
+pub mod LegalRows
+pub mod LoadedEvents
+pub mod LoadedLines
+pub mod LoadedWhole
 pub mod Numbers
 pub mod Ordering
+pub mod Placings
 pub mod Reached
+pub mod Refusing
+pub mod Remaking
+pub mod Rerunning
+pub mod SpelledTrees
+pub mod StampReplies
+pub mod WrittenRequests
 pub mod WrittenRows
 pub mod WrittenTexts
 mod Vectors

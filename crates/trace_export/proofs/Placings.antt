@@ -1,0 +1,107 @@
+-- The graph that the export of a legal history lists: its trees compare as its edges say.
+use Rattle.std.proofs.Common.{◌≡◌, ◌↔◌, ℕ, suc, ◌<◌, ◌≤◌, IsTrue, true, List, [], ◌∷◌, length, refl, sym, ap, subst, ◌∙◌, inl, inr, eqb, arith}
+use Rattle.std.specs.List.{Contains}
+use Rattle.std.proofs.lemmas.Bool.{cases_eq, cond-true, cond-false, eq-eqb, ne_eqb}
+use Rattle.std.proofs.lemmas.Bool.Decides.{nat_tests}
+use Rattle.trace_types.specs.clock.Clock.{tree_clock}
+use Rattle.trace_types.specs.clock.EventTree.{EventTree}
+use Rattle.trace_types.specs.clock.Stamps.{tree_of}
+use Rattle.trace_types.specs.tenant.Rows.{History, is_event}
+use Rattle.trace_types.specs.tenant.Reachability.{predecessors, predecessors_of, LeadsBack, Reaches, reaches}
+use Rattle.trace_types.specs.declared.row.Row.{Row}
+use Rattle.trace_types.proofs.Reachability.{predecessors_of_before, reaches_iff}
+use Rattle.event_tree.specs.Comparison.{IsBelow}
+use Rattle.tenant_ledger.specs.Legal.{IsLegal}
+use Rattle.tenant_ledger.proofs.clock.Consequences.{below_iff_reaches}
+use Rattle.tenant_ledger.proofs.clock.TreeClock.{tree_clock_laws}
+use Rattle.tenant_ledger.proofs.clock.Upheld.{invariant_upheld}
+use Rattle.trace_export.specs.Edges.{Placing, IsPlaced, listed_preds, listed_tree, IsWayBack, IsConnected, ComparesAsConnected, AreOrderedAlike}
+use Rattle.trace_export.specs.declared.placed.Placed.{Placed}
+use Rattle.trace_export.proofs.Connecting.{with_next, length-with_next, placed_at-earlier, placed_at-next}
+use Rattle.trace_export.proofs.LegalRows.{AreSound}
+
+-- what is listed of the event that the row adds
+abbrev pub placed_of : Row → History → Placed
+placed_of row earlier = record { preds = row.preds; tree = tree_of tree_clock (row ∷ earlier) (suc (length earlier)) }
+
+-- what is listed of all events
+abbrev pub placing_of : History → Placing
+placing_of [] = []
+placing_of (row ∷ earlier) = with_next (placing_of earlier) (placed_of row earlier)
+
+pub length-placing : (history : History) → length (placing_of history) ≡ length history
+length-placing [] = refl
+length-placing (row ∷ earlier) = omega (arith, length-with_next (placing_of earlier) (placed_of row earlier), length-placing earlier)
+
+-- the listed edges are the predecessors
+preds_are : (history : History) → AreSound history → (event : ℕ) → IsPlaced (placing_of history) event → listed_preds (placing_of history) event ≡ predecessors_of history event
+preds_are [] sound event placed = absurd (omega (arith, placed.0, placed.1))
+preds_are (row ∷ earlier) sound event placed =
+    let before = placing_of earlier in
+    let this = placed_of row earlier in
+    let len = length-placing earlier in
+    elim (cases_eq event (suc (length earlier))) [
+      | inl new ↦
+          let at : event ≡ suc (length before) = omega (arith, new, len) in
+          ap (λ number. listed_preds (with_next before this) number) at ∙ ap (λ (found : Placed). found.preds) (placed_at-next before this)
+          ∙ sound.0.preds ∙ sym (cond-true (eqb event (suc (length earlier))) _ _ (eq-eqb event (suc (length earlier)) new))
+      | inr old ↦
+          let within : IsPlaced before event = (placed.0, omega (arith, placed.1, old, len, length-with_next before this)) in
+          ap (λ (found : Placed). found.preds) (placed_at-earlier before this event within) ∙ preds_are earlier sound.1 event within
+          ∙ sym (cond-false (eqb event (suc (length earlier))) _ _ (ne_eqb event (suc (length earlier)) old))
+    ]
+
+-- and the listed trees what the events know
+trees_are : (history : History) (event : ℕ) → IsPlaced (placing_of history) event → listed_tree (placing_of history) event ≡ tree_of tree_clock history event
+trees_are [] event placed = absurd (omega (arith, placed.0, placed.1))
+trees_are (row ∷ earlier) event placed =
+    let before = placing_of earlier in
+    let this = placed_of row earlier in
+    let len = length-placing earlier in
+    elim (cases_eq event (suc (length earlier))) [
+      | inl new ↦
+          let at : event ≡ suc (length before) = omega (arith, new, len) in
+          ap (λ number. listed_tree (with_next before this) number) at ∙ ap (λ (found : Placed). found.tree) (placed_at-next before this)
+          ∙ ap (tree_of tree_clock (row ∷ earlier)) (sym new)
+      | inr old ↦
+          let within : IsPlaced before event = (placed.0, omega (arith, placed.1, old, len, length-with_next before this)) in
+          ap (λ (found : Placed). found.tree) (placed_at-earlier before this event within) ∙ trees_are earlier event within
+          ∙ sym (cond-false (eqb event (suc (length earlier))) _ _ (ne_eqb event (suc (length earlier)) old))
+    ]
+
+-- an event before one that is placed is placed
+before_placed : (history : History) (event pred : ℕ) → Contains (predecessors_of history event) pred → IsPlaced (placing_of history) pred
+before_placed history event pred has =
+    let known = predecessors_of_before history event pred has in
+    (omega (arith, known.0), omega (arith, known.1, known.2, length-placing history))
+
+module _ (history : History) (sound : AreSound history) where
+  to_path : (a b : ℕ) (way : List ℕ) → IsPlaced (placing_of history) b → IsWayBack (placing_of history) b way a → LeadsBack history b way a
+  to_path a b [] placed leads = leads
+  to_path a b (event ∷ way) placed leads =
+      let has = subst (λ preds. Contains preds event) (preds_are history sound b placed) leads.0 in
+      (has, to_path a event way (before_placed history b event has) leads.1)
+
+  from_path : (a b : ℕ) (way : List ℕ) → IsPlaced (placing_of history) b → LeadsBack history b way a → IsWayBack (placing_of history) b way a
+  from_path a b [] placed leads = leads
+  from_path a b (event ∷ way) placed leads =
+      (subst (λ preds. Contains preds event) (sym (preds_are history sound b placed)) leads.0, from_path a event way (before_placed history b event leads.0) leads.1)
+
+  compares : IsLegal history → (a b : ℕ) → IsPlaced (placing_of history) a → IsPlaced (placing_of history) b → ComparesAsConnected (placing_of history) a b
+  compares legal a b a_placed b_placed =
+      let is : is_event history a ≡ true = grind (arith, nat_tests, a_placed.0, a_placed.1, length-placing history) in
+      let below = below_iff_reaches tree_clock_laws history (invariant_upheld tree_clock_laws history legal) a b is in
+      let a_tree = trees_are history a a_placed in
+      let b_tree = trees_are history b b_placed in (
+        (λ (listed : IsBelow (listed_tree (placing_of history) a) (listed_tree (placing_of history) b)).
+            let known = subst (λ tree. IsBelow (tree_of tree_clock history a) tree) b_tree (subst (λ tree. IsBelow tree (listed_tree (placing_of history) b)) a_tree listed) in
+            let path = (reaches_iff history a b).0 (below.0 known) in
+            (path.0, from_path a b path.0 b_placed path.1)),
+        (λ (connected : IsConnected (placing_of history) a b).
+            let known = below.1 ((reaches_iff history a b).1 (connected.0, to_path a b connected.0 b_placed connected.1)) in
+            subst (λ tree. IsBelow tree (listed_tree (placing_of history) b)) (sym a_tree) (subst (λ tree. IsBelow (tree_of tree_clock history a) tree) (sym b_tree) known)),
+      )
+
+  -- all trees compare as the edges say
+  pub ordered_alike : IsLegal history → (a b : ℕ) → IsPlaced (placing_of history) a → IsPlaced (placing_of history) b → AreOrderedAlike (placing_of history) a b
+  ordered_alike legal a b a_placed b_placed = (compares legal a b a_placed b_placed, compares legal b a b_placed a_placed)
