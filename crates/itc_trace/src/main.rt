@@ -1,8 +1,8 @@
-//! The trace collector's program: it replays lines of requests and writes the replies, or checks an export.
+//! The trace collector's program: it replays lines of requests and writes the replies, or checks or loads an export.
 //!
 //! `itc_trace replay [--events N] [--tasks N] [--messages N] [--cache N] [--export NAME] TENANT..` serves 1 to 16
-//! tenants, each of which has the limits for itself; `itc_trace check` judges an export. `itc_trace help replay` and
-//! `itc_trace help check` tell more.
+//! tenants, each of which has the limits for itself; `itc_trace check` judges an export, and `itc_trace load TENANT` makes
+//! its requests again. `itc_trace help replay`, `itc_trace help check` and `itc_trace help load` tell more.
 //!
 //! `main` hands its words and the standard streams to [`start`], and ends with the status that it answers. `start` runs what
 //! the words after the first ask: [`program::run`] says what comes of it, by the contracts of `replay` of `trace_world` and

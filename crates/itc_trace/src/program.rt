@@ -8,7 +8,7 @@ ghost use Rattle.trace_types.specs.tenant.Limits.{Limits as Bounds, are_limits};
 ghost use Rattle.command_line.specs.Demand.{ToReplay};
 ghost use Rattle.itc_trace.specs.Taking.{are_taken, can_export, is_taken};
 ghost use Rattle.itc_trace.specs.Fault.{status_of};
-ghost use Rattle.itc_trace.specs.Program.{ChecksInPart, DoesReplay, DoesReplayInPart, ExportsFreshInPart, GoesThrough, IsExportPlace, IsUntouched, TellsFault, TellsVerdict, line_of_verdict, status_of_verdict, IsFailure, ShowsSome, ShowsSomeAll};
+ghost use Rattle.itc_trace.specs.Program.{ChecksInPart, DoesReplay, DoesReplayInPart, ExportsFreshInPart, GoesThrough, IsExportPlace, IsFailure, IsUntouched, LoadsExport, LoadsExportInPart, RefusesTenants, ShowsSome, ShowsSomeAll, TellsFault, TellsNo, TellsVerdict, line_of_no, line_of_verdict, status_of_loaded, status_of_verdict};
 ghost use Rattle.itc_trace.specs.Showing.{Shows, ShowsAll};
 ghost use Rattle.command_line.specs.Reading.{wanted_of};
 ghost use Rattle.itc_trace.specs.Runs.{Runs};
@@ -22,7 +22,7 @@ use std::convert::AsStr;
 use std::net::{Net, TcpListener, TcpStream};
 use std::sync::Wait;
 use std::thread::Threads;
-use trace_export::{Verdict, check};
+use trace_export::{Loaded, Reason, Verdict, check, load};
 use trace_types::Name;
 use trace_world::{World, replay, replay_export};
 
@@ -33,9 +33,9 @@ use trace_world::{World, replay, replay_export};
 /// `--messages N` with N from 1 to 16384 (2048), `--cache N` with N from 1 to 65536 (1024) and `--export NAME` with the name
 /// of one of the tenants; or `serve` and then, in any order, tenants and options as these but `--export`, `--port N` with N
 /// from 1 to 65535, and, once at most, `--workers N` with N from 1 to 32 (4) and `--sessions N` with N from 1 to 1048576
-/// (1048576); or `check` alone.
-/// The status is 0 where all lines were replayed, the export was written or is right, programs were served, or all of the
-/// help was shown, 1 where the export is faulty, 2 where the words or the tenants are refused, 3 for a failed read or write,
+/// (1048576); or `check` alone; or `load` and a tenant.
+/// The status is 0 where all lines were replayed, the export was written, is right or was loaded, programs were served, or
+/// all of the help was shown, 1 where the export is faulty, 2 where the words or the tenants are refused, 3 for a failed read or write,
 /// too long an input, a port that cannot be bound or connections that cannot be accepted, and 4 for want of memory.
 pub fn run<T, S: AsStr, R: Source, W: Sink, E: Sink>(
     rt: &T,
@@ -58,6 +58,9 @@ where
         }
         Ok(Asked::Serve(wanted)) => return serve_programs(rt, alloc, wanted, writer, errors),
         Ok(Asked::Check) => return check_input(alloc, reader, writer, errors),
+        Ok(Asked::Load(tenant)) => {
+            return load_input(rt, alloc, tenant.as_str(), reader, writer, errors);
+        }
         Ok(Asked::Show(text)) => show_help(writer, text.as_str()),
         Err(Refusal::Words(text)) => return refuse(errors, text.as_str()),
         Err(Refusal::Memory) => Err(Fault::Memory),
@@ -223,6 +226,67 @@ fn verdict_status(verdict: Verdict) -> u8
         Verdict::Yes(_) => 0,
         Verdict::No(..) => 1,
     }
+}
+
+/// Loads the export that the reader gives, and answers the status; where it is not loaded it tells why.
+fn load_input<T, R: Source, W: Sink, E: Sink>(
+    rt: &T,
+    alloc: Global,
+    tenant: &str,
+    reader: &mut R,
+    writer: &mut W,
+    errors: &mut E,
+) -> u8
+    ensures refused { result ≡ 2 → IsUntouched reader.old reader.new writer.old writer.new × TellsFault (E.seen errors.old) (E.seen errors.new) Fault.Tenants }
+    ensures taken { RefusesTenants (is_name tenant.now) (E.seen errors.old) (E.seen errors.new) result }
+    ensures done { result < 2 → GoesThrough (R.seen reader.old) (R.seen reader.new) (W.seen writer.old) (W.seen writer.new)
+        × IsTrue (is_name tenant.now) × LoadsExport tenant.now (R.seen reader.old) (R.seen reader.new) (W.seen writer.old) (W.seen writer.new) result }
+    ensures quiet { result ≡ 0 → errors.new ≡ errors.old }
+    ensures not_loaded { result ≡ 1 → TellsNo (R.seen reader.old) (R.seen reader.new) (E.seen errors.old) (E.seen errors.new) }
+    ensures broken_off { 2 < result → (fault : Fault) × (result ≡ status_of fault) × IsTrue (is_name tenant.now)
+        × LoadsExportInPart fault tenant.now (R.seen reader.old) (R.seen reader.new) (W.seen writer.old) (W.seen writer.new)
+        × (status_of fault ≡ 3 → IsFailure (R.seen reader.old) (R.seen reader.new) (W.seen writer.old) (W.seen writer.new) fault)
+        × TellsFault (E.seen errors.old) (E.seen errors.new) fault }
+{
+    match load_export(rt, alloc, tenant, reader, writer) {
+        Ok(None) => 0,
+        Ok(Some(line)) => {
+            let _ = show(errors, line.as_str());
+            1
+        }
+        Err(fault) => fault.tell(errors),
+    }
+}
+
+/// Loads the export that the reader gives, and hands on what was written. It gives the line that tells why the export is not
+/// loaded, where it is not.
+fn load_export<T, R: Source, W: Sink>(
+    rt: &T,
+    alloc: Global,
+    tenant: &str,
+    reader: &mut R,
+    writer: &mut W,
+) -> Result<Option<String>, Fault> {
+    let Some(name) = Name::read(tenant.as_bytes()) else {
+        return Err(Fault::Tenants);
+    };
+    let loaded = load(rt, alloc, reader, &name, writer)?;
+    flush(writer).map_err(|_| Fault::Write)?;
+    match loaded {
+        Loaded::Done(_) => Ok(None),
+        Loaded::No(line, reason) => {
+            let line = no_line(alloc, line, reason).map_err(|_| Fault::Memory)?;
+            Ok(Some(line))
+        }
+    }
+}
+
+/// The line that tells which line is faulty, and why.
+fn no_line(alloc: Global, line: u64, reason: Reason) -> Result<String, AllocError>
+    ensures { IfOk result (λ text. string_bytes text ≡ line_of_no line reason) }
+{
+    let reason = reason.number();
+    format!(in alloc; "itc_trace: no {line} {reason}\n")
 }
 
 /// The tenants' names. Too many are refused before any memory is taken.
