@@ -105,6 +105,11 @@ Example:
   printf 'x local root\\n' | itc_trace replay --export x x | itc_trace load y
   y local root";
 
+const TENANTS_HELP: &str =
+    "A tenant's name: 1 to 24 letters, digits or _; 1 to 16 names, none twice";
+
+const TENANT_HELP: &str = "The tenant's name, one alone: 1 to 24 letters, digits or _";
+
 const EVENTS_HELP: &str = "The most events of each tenant: 1 to 16384 [default: 4096]";
 
 const TASKS_HELP: &str =
@@ -211,7 +216,7 @@ fn replay_command<'a>(alloc: Global) -> Result<Command<'a>, AllocError>
         .arg(limit(alloc, "messages", MESSAGES_HELP, Limits::MOST_MESSAGES))?
         .arg(limit(alloc, "cache", CACHE_HELP, MOST_CACHE))?
         .arg(export(alloc))?
-        .arg(tenants(alloc))
+        .arg(tenants(alloc, TENANTS_HELP))
 }
 
 /// The command `serve`.
@@ -229,7 +234,7 @@ fn serve_command<'a>(alloc: Global) -> Result<Command<'a>, AllocError>
         .arg(limit(alloc, "tasks", TASKS_HELP, Limits::MOST_TASKS))?
         .arg(limit(alloc, "messages", MESSAGES_HELP, Limits::MOST_MESSAGES))?
         .arg(limit(alloc, "cache", CACHE_HELP, MOST_CACHE))?
-        .arg(tenants(alloc))
+        .arg(tenants(alloc, TENANTS_HELP))
 }
 
 /// The command `check`.
@@ -250,16 +255,16 @@ fn load_command<'a>(alloc: Global) -> Result<Command<'a>, AllocError>
     Command::new(alloc, "load")
         .about("Reads an export from standard input, and writes the requests that make it")
         .after_help(LOAD_HELP)
-        .arg(tenants(alloc))
+        .arg(tenants(alloc, TENANT_HELP))
 }
 
-/// The argument for tenants.
-fn tenants<'a>(alloc: Global) -> Arg<'a>
+/// The argument for tenants, with its help.
+fn tenants<'a>(alloc: Global, help: &'a str) -> Arg<'a>
     ensures rule { rule_of result ≡ tenant_rule }
     ensures local { result.global ≡ false }
 {
     Arg::new(alloc, "TENANT")
-        .help("A tenant's name: 1 to 24 letters, digits or _; 1 to 16 names, none twice")
+        .help(help)
         .required(true)
         .num_args(1..)
         .action(ArgAction::Append)
