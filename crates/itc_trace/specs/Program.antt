@@ -186,6 +186,20 @@ pub record LoadsExport (tenant : Text) (before after : Given) (taken taken' : Ta
   pub handed_on : taken'.bytes ≡ between.bytes
   pub status_is : status ≡ status_of_loaded loaded
 
+-- the line that tells it, where it is not loaded
+abbrev pub line_of_loaded : Loaded → Option Text
+line_of_loaded (loaded.Done count) = None
+line_of_loaded (loaded.No line reason) = Some (line_of_no line reason)
+
+-- What the reader gave was loaded for this tenant, and what was written was handed on. This line is to tell why nothing was,
+-- where nothing was.
+pub record LoadsToTell (line : Option Text) (tenant : Text) (before after : Given) (taken taken' : Taken) : Type 0 where
+  pub loaded : Loaded
+  pub between : Taken
+  pub loads : Loads before after taken between tenant loaded
+  pub handed_on : taken'.bytes ≡ between.bytes
+  pub line_is : line ≡ line_of_loaded loaded
+
 -- Why what the reader gave is not loaded was told by a line on standard error.
 pub record TellsNo (before after : Given) (told told' : Taken) : Type 0 where
   pub number : ℕ

@@ -8,7 +8,7 @@ ghost use Rattle.trace_types.specs.tenant.Limits.{Limits as Bounds, are_limits};
 ghost use Rattle.command_line.specs.Demand.{ToReplay};
 ghost use Rattle.itc_trace.specs.Taking.{are_taken, can_export, is_taken};
 ghost use Rattle.itc_trace.specs.Fault.{status_of};
-ghost use Rattle.itc_trace.specs.Program.{ChecksInPart, DoesReplay, DoesReplayInPart, ExportsFreshInPart, GoesThrough, IsExportPlace, IsFailure, IsUntouched, LoadsExport, LoadsExportInPart, RefusesTenants, ShowsSome, ShowsSomeAll, TellsFault, TellsNo, TellsVerdict, line_of_no, line_of_verdict, status_of_loaded, status_of_verdict};
+ghost use Rattle.itc_trace.specs.Program.{ChecksInPart, DoesReplay, DoesReplayInPart, ExportsFreshInPart, GoesThrough, IsExportPlace, IsFailure, IsUntouched, LoadsExport, LoadsExportInPart, LoadsToTell, RefusesTenants, ShowsSome, ShowsSomeAll, TellsFault, TellsNo, TellsVerdict, line_of_no, line_of_verdict, status_of_loaded, status_of_verdict};
 ghost use Rattle.itc_trace.specs.Showing.{Shows, ShowsAll};
 ghost use Rattle.command_line.specs.Reading.{wanted_of};
 ghost use Rattle.itc_trace.specs.Runs.{Runs};
@@ -266,7 +266,16 @@ fn load_export<T, R: Source, W: Sink>(
     tenant: &str,
     reader: &mut R,
     writer: &mut W,
-) -> Result<Option<String>, Fault> {
+) -> Result<Option<String>, Fault>
+    ensures loads { IfOk result (λ line. LoadsToTell (option_map string_bytes line) tenant.now (R.seen reader.old) (R.seen reader.new) (W.seen writer.old) (W.seen writer.new)) }
+    ensures through { OnOk result (GoesThrough (R.seen reader.old) (R.seen reader.new) (W.seen writer.old) (W.seen writer.new)) }
+    ensures named { OnOk result (IsTrue (is_name tenant.now)) }
+    ensures refused { IsErrOf result Fault.Tenants → (is_name tenant.now ≡ false) × IsUntouched reader.old reader.new writer.old writer.new }
+    ensures words { IfErr result (λ fault. status_of fault ≡ 2 → fault ≡ Fault.Tenants) }
+    ensures in_part { IfErr result (λ fault. fault ≢ Fault.Tenants → IsTrue (is_name tenant.now)
+        × LoadsExportInPart fault tenant.now (R.seen reader.old) (R.seen reader.new) (W.seen writer.old) (W.seen writer.new)
+        × (status_of fault ≡ 3 → IsFailure (R.seen reader.old) (R.seen reader.new) (W.seen writer.old) (W.seen writer.new) fault)) }
+{
     let Some(name) = Name::read(tenant.as_bytes()) else {
         return Err(Fault::Tenants);
     };

@@ -8,6 +8,7 @@ pub mod LegalRows
 pub mod LoadedEvents
 pub mod LoadedLines
 pub mod LoadedWhole
+pub mod Making
 pub mod Numbers
 pub mod Ordering
 pub mod Placings
