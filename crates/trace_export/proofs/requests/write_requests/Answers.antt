@@ -1,5 +1,7 @@
-use Rattle.std.proofs.Common.{◌≡◌, ap, arith, rules, length, Some, Err}
+use Rattle.std.proofs.Common.{◌≡◌, ap, arith, rules, length, Some, Err, subst, sym}
 use Rattle.std.specs.List.{slice_get}
+use Rattle.trace_types.specs.declared.row.Row.{Row}
+use Rattle.trace_export.specs.Listing.{FitsKind}
 use Rattle.trace_export.specs.Loading.{request_line, request_lines}
 use Rattle.trace_export.proofs.WrittenRequests.{length-request_lines, line_at, some_line}
 use Rattle.trace_export.proofs.WrittenRows.{IfErr-equal}
@@ -11,6 +13,9 @@ use Rattle.trace_export.proofs.requests.write_requests.Goals.{After-write_reques
 -- the line that comes next
 this_line : (g : Over) (c : After-write_request g) → slice_get (request_lines c.args.tenant.now c.args.rows.now) c.loop-row.row-index ≡ Some (request_line c.args.tenant.now c.row-item.result)
 this_line g c = line_at c.args.tenant.now c.args.rows.now c.loop-row.row-index c.row-item.result (search rules) c.row-item.is
+
+pub write_request-requires : goal.write_request-requires
+write_request-requires g c = subst (λ (row : Row). FitsKind row.kind row.name) (sym c.row-item.is) (c.requires c.loop-row.row-index c.row-item.result (search rules))
 
 pub loop-row-init : goal.loop-row-init
 loop-row-init g c = wrote_no_text (g.W.Sink.seen c.args.writer.now) (request_lines c.args.tenant.now c.args.rows.now)
