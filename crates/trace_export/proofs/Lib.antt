@@ -1,5 +1,6 @@
 pub mod Alike
 pub mod BitSets
+pub mod Comparing
 pub mod Connecting
 mod GoodExports
 mod Headings

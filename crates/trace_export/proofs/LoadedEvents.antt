@@ -5,6 +5,7 @@ use Rattle.std.proofs.lemmas.List.{append-nil, get_or_append_left, get_or-append
 use Rattle.std.proofs.lemmas.Option.{same_Some}
 use Rattle.trace_types.specs.clock.Clock.{tree_clock}
 use Rattle.trace_types.specs.clock.EventTree.{EventTree, maximum}
+use Rattle.trace_types.specs.clock.Id.{Id}
 use Rattle.trace_types.specs.clock.Stamps.{stamp_of, stamp_text_of, tree_of}
 use Rattle.trace_types.specs.tenant.Limits.{Limits}
 use Rattle.trace_types.specs.tenant.Rows.{History, history_of, row_of}
@@ -99,7 +100,7 @@ right_all limits earlier (line ∷ rest) rows loaded legal sound =
 -- an older event has the stamp that it had before a row
 stamp_text-older : (row : Row) (earlier : History) (event : ℕ) → event ≤ length earlier → stamp_text_of (row ∷ earlier) event ≡ stamp_text_of earlier event
 stamp_text-older row earlier event old =
-    ap (λ stamp. stamp_text stamp.0 stamp.1) (cond-false (eqb event (suc (length earlier))) _ _ (ne_eqb event (suc (length earlier)) (λ is. omega (arith, is, old))))
+    ap (λ (stamp : Id × EventTree). stamp_text stamp.0 stamp.1) (cond-false (eqb event (suc (length earlier))) _ _ (ne_eqb event (suc (length earlier)) (λ is. omega (arith, is, old))))
 
 row_of-newest : (row : Row) (earlier : History) (event : ℕ) → event ≡ suc (length earlier) → row_of (row ∷ earlier) event ≡ Some row
 row_of-newest row earlier event is = cond-true (eqb event (suc (length earlier))) _ _ (eq-eqb event (suc (length earlier)) is)

@@ -1,5 +1,5 @@
 -- What a load leaves, of the lines that were loaded and the requests that were written.
-use Rattle.std.proofs.Common.{◌≡◌, ◌≢◌, ℕ, List, [], ◌++◌, inl, inr, refl, subst}
+use Rattle.std.proofs.Common.{◌≡◌, ◌≢◌, ℕ, List, [], ◌++◌, inl, inr, Result, Err, IsErrAnd, refl, subst}
 use Rattle.std.specs.List.{All}
 use Rattle.std.proofs.lemmas.List.{append-nil}
 use Rattle.trace_types.specs.text.Name.{Text}
@@ -11,7 +11,9 @@ use Rattle.trace_export.specs.Loading.{IsLoaded, limits_under, request_lines}
 use Rattle.trace_export.specs.Loads.{BreaksLoading, IsExportOfRun, Loads, LoadsAs, load_fault_of_export}
 use Rattle.trace_export.specs.declared.export_fault.ExportFault.{ExportFault}
 use Rattle.trace_export.specs.declared.load_fault.LoadFault.{LoadFault}
-use Rattle.trace_export.specs.declared.load_fault.LoadFault.TheVariants.{Write}
+use Rattle.trace_export.specs.declared.export_fault.ExportFault.TheVariants as export
+use Rattle.trace_export.specs.declared.load_fault.LoadFault.TheVariants.{Write, Memory}
+use Rattle.trace_export.specs.declared.loaded.Loaded.{Loaded}
 use Rattle.trace_export.specs.declared.loaded.Loaded.TheVariants.{Done, No}
 use Rattle.trace_export.specs.declared.reason.Reason.{Reason}
 use Rattle.trace_export.proofs.LoadedEvents.{loaded_is_export}
@@ -50,3 +52,10 @@ pub breaks_amid : (cause : ExportFault) (before after : Given) (taken taken' : T
     → BreaksLoading (load_fault_of_export cause) before after taken taken' tenant
 breaks_amid cause before after taken taken' tenant count rows loads breaks =
     inr (record { cause = cause; told = refl; count = count; rows = rows; loads = loads; is_export = is_export loads; breaks = breaks })
+
+-- a write fault that is told is one
+pub write_fault_is : (result : Result Loaded LoadFault) (cause : ExportFault) → IsErrAnd result (λ fault. fault ≡ load_fault_of_export cause) → result ≡ Err Write → cause ≡ export.Write
+write_fault_is result export.Write is told = refl
+write_fault_is result export.Memory is told =
+    let no : Write ≡ Memory = subst (λ (found : Result Loaded LoadFault). IsErrAnd found (λ fault. fault ≡ Memory)) told is in
+    absurd (cc)

@@ -6,7 +6,9 @@ use Rattle.std.proofs.Math.Seq.{get_or-append_seam}
 use Rattle.trace_types.specs.tenant.Tenant.{Tenant, Steps}
 use Rattle.trace_types.specs.declared.code.Code.{Code}
 use Rattle.trace_types.specs.declared.code.Code.TheVariants.{NoMemory}
+use Rattle.trace_types.specs.declared.reply.Reply.{Reply}
 use Rattle.trace_types.specs.declared.reply.Reply.TheVariants as reply
+use Rattle.trace_types.specs.declared.request.Request.{Request}
 use Rattle.trace_types.specs.declared.row.Row.{Row}
 use Rattle.trace_export.specs.Listing.{Listed}
 use Rattle.trace_export.specs.Loading.{IsAsListed, IsListedAsDue, IsUnfitAfter, MayFollow, listed_request, tenant_with}
@@ -14,6 +16,12 @@ use Rattle.trace_export.specs.Rebuilding.{IsMade}
 use Rattle.trace_export.specs.declared.reason.Reason.TheVariants.{NotDue, Refused}
 use Rattle.trace_export.specs.declared.rebuilt.Rebuilt.{Rebuilt}
 use Rattle.trace_export.proofs.Remaking.{AddsOne, accepted_adds, refused_why}
+
+-- the step of the listed request, with what it was answered
+pub steps_as : (tenant new : Tenant) (made : Request) (listed : Listed) (answer told : Reply) → made ≡ listed_request listed → answer ≡ told → Steps tenant made answer new
+    → Steps tenant (listed_request listed) told new
+steps_as tenant new made listed answer told is same steps =
+    subst (λ (found : Reply). Steps tenant (listed_request listed) found new) same (subst (λ (request : Request). Steps tenant request answer new) is steps)
 
 -- the row of the last event
 last_row : (rows : List Row) (row : Row) → slice_get (rows ++ row ∷ []) (suc (length rows) - 1) ≡ Some row

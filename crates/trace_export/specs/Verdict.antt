@@ -51,9 +51,9 @@ IsOrderedNext earlier placed =
 abbrev pub IsListing : Text → Listed → Type 0
 IsListing line listed = (length line ≤ 65536) × ListsAs line listed
 
--- The event may be the one of this number, with such edges and such a tree.
-pub record IsPlacedAs (number : ℕ) (listed : Listed) (placed : Placed) : Type 0 where
-  pub number : IsNumbered listed number
+-- The listed event may be this one, with such edges and such a tree.
+pub record IsPlacedAs (event : ℕ) (listed : Listed) (placed : Placed) : Type 0 where
+  pub number : IsNumbered listed event
   pub preds : FollowsEarlier listed
   pub tree : HasTree listed placed.tree
   pub edges : placed.preds ≡ listed.preds

@@ -84,7 +84,7 @@ fn judge<T>(
     requires whole { found ≡ Line.Whole → length line.now ≤ 65536 }
     ensures { IfOk result (λ loaded. IsTaken found line.now loaded rebuilt.old rebuilt.new) }
 {
-    let number = rebuilt.len() + 1;
+    let number = rebuilt.next_line();
     let fault = match found {
         Line::End => return Ok(Some(Loaded::Done(rebuilt.ledger.rows().len() as u64))),
         Line::Whole => rebuilt.add(rt, alloc, line)?,

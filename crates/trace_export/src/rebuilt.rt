@@ -1,5 +1,5 @@
 //! The tenant that the lines of an export lead to.
-ghost use Rattle.std.specs.Prelude.{◌≡◌, ◌≢◌, ◌+◌, ◌<◌, ◌≤◌, ◌↔◌, ◌⊎◌, ◌-◌, [], None, Some, IfErr, IfNone, IfOk, IfSome, IsTrue, length, slice_get};
+ghost use Rattle.std.specs.Prelude.{suc, ◌≡◌, ◌≢◌, ◌+◌, ◌<◌, ◌≤◌, ◌↔◌, ◌⊎◌, ◌-◌, [], None, Some, IfErr, IfNone, IfOk, IfSome, IsTrue, length, slice_get};
 ghost use Rattle.trace_types.specs.clock.Stamps.{stamp_text_of};
 ghost use Rattle.trace_types.specs.tenant.Rows.{history_of};
 ghost use Rattle.trace_types.specs.declared.row.Row.{Row};
@@ -38,14 +38,14 @@ impl Rebuilt {
         })
     }
 
-    /// How many lines there are.
-    pub(crate) fn len(&self) -> u64
-        ensures { result ≡ lines_ahead self.now.header + length self.now.ledger.rows }
+    /// The number of the line that comes next.
+    pub(crate) fn next_line(&self) -> u64
+        ensures { result ≡ lines_ahead self.now.header + suc (length self.now.ledger.rows) }
     {
-        let events = self.ledger.rows().len() as u64;
+        let event = self.ledger.rows().len() as u64 + 1;
         match self.header {
-            Some(_) => 1 + events,
-            None => events,
+            Some(_) => 1 + event,
+            None => event,
         }
     }
 

@@ -1,11 +1,11 @@
-use Rattle.std.proofs.Common.{◌≡◌, ap, arith, rules, length, Some, Err, subst, sym}
+use Rattle.std.proofs.Common.{◌≡◌, ◌+◌, suc, ap, arith, rules, length, Some, Err, subst, sym}
 use Rattle.std.specs.List.{slice_get}
 use Rattle.trace_types.specs.declared.row.Row.{Row}
 use Rattle.trace_export.specs.Listing.{FitsKind}
 use Rattle.trace_export.specs.Loading.{request_line, request_lines}
 use Rattle.trace_export.proofs.WrittenRequests.{length-request_lines, line_at, some_line}
 use Rattle.trace_export.proofs.WrittenRows.{IfErr-equal}
-use Rattle.trace_export.proofs.WrittenTexts.{breaks_text, ends_after, wrote_all_texts, wrote_no_text, wrote_text}
+use Rattle.trace_export.proofs.WrittenTexts.{WroteFirst, breaks_text, wrote_all_texts, wrote_no_text, wrote_text}
 use Rattle.trace_export.proofs.requests.write_requests.Goals as goal
 use Rattle.trace_export.proofs.requests.write_requests.Given.{Over}
 use Rattle.trace_export.proofs.requests.write_requests.Goals.{After-write_request}
@@ -23,7 +23,9 @@ loop-row-init g c = wrote_no_text (g.W.Sink.seen c.args.writer.now) (request_lin
 pub loop-row-preserved : goal.loop-row-preserved
 loop-row-preserved g c =
     let at = goal.at.loop-row-preserved g c in
-    wrote_text (request_line c.args.tenant.now c.row-item.result) (some_line c.args.tenant.now c.row-item.result) c.loop-row.invariant (this_line g at.After-write_request) c.in_ok-write_request.ensures.whole
+    let next : suc c.loop-row.row-index ≡ c.loop-row.row-index + 1 = omega arith in
+    subst (λ n. WroteFirst (g.W.Sink.seen c.args.writer.now) (g.W.Sink.seen c.write_request.new.writer) (request_lines c.args.tenant.now c.args.rows.now) n) next
+    (wrote_text (request_line c.args.tenant.now c.row-item.result) (some_line c.args.tenant.now c.row-item.result) c.loop-row.invariant (this_line g at.After-write_request) c.in_ok-write_request.ensures.whole)
 
 pub returns-in_err-write_request-clause-fault : goal.returns-in_err-write_request-clause-fault
 returns-in_err-write_request-clause-fault g c =
