@@ -21,21 +21,21 @@ not_false true e = refl
 not_false false e = cc
 
 same_numbers : (a b : List ℕ) (differ : Bool) → differ ≡ not (pointwise nat_eq a b) → differ ≡ false → a ≡ b
-same_numbers a b differ is no = (bytes_eq-Decides a b).0 (not_false (pointwise nat_eq a b) (sym is ∙ no))
+same_numbers a b differ is unequal = (bytes_eq-Decides a b).0 (not_false (pointwise nat_eq a b) (sym is ∙ unequal))
 
 other_numbers : (a b : List ℕ) (differ : Bool) → differ ≡ not (pointwise nat_eq a b) → differ ≡ true → a ≡ b → ⊥
-other_numbers a b differ is yes same =
-    let no : not (pointwise nat_eq a b) ≡ false = ap not ((bytes_eq-Decides a b).1 same) in
-    false≢true (sym no ∙ sym is ∙ yes)
+other_numbers a b differ is holds same =
+    let unequal : not (pointwise nat_eq a b) ≡ false = ap not ((bytes_eq-Decides a b).1 same) in
+    false≢true (sym unequal ∙ sym is ∙ holds)
 
 -- it has other predecessors
 pub other_preds : (rows : List Row) (event : ℕ) (row item : Row) (listed : Listed) (differ : Bool) → item ≡ row → differ ≡ not (pointwise nat_eq item.preds listed.preds) → differ ≡ true
     → IsTrue false ↔ IsAsListed rows event row listed
-other_preds rows event row item listed differ same is yes =
-    ((λ no. absurd (false≢true no)), (λ as_listed. absurd (other_numbers item.preds listed.preds differ is yes (ap (λ (found : Row). found.preds) same ∙ as_listed.0))))
+other_preds rows event row item listed differ same is holds =
+    ((λ unequal. absurd (false≢true unequal)), (λ as_listed. absurd (other_numbers item.preds listed.preds differ is holds (ap (λ (found : Row). found.preds) same ∙ as_listed.0))))
 
 -- it has those that are listed, and so the stamp decides
 pub same_preds : (rows : List Row) (event : ℕ) (row item : Row) (listed : Listed) (differ stamp : Bool) → item ≡ row → differ ≡ not (pointwise nat_eq item.preds listed.preds) → differ ≡ false
     → (IsTrue stamp ↔ (stamp_text_of (history_of rows) event ≡ listed.stamp)) → IsTrue stamp ↔ IsAsListed rows event row listed
-same_preds rows event row item listed differ stamp same is no has =
-    ((λ yes. (sym (ap (λ (found : Row). found.preds) same) ∙ same_numbers item.preds listed.preds differ is no, has.0 yes)), (λ as_listed. has.1 as_listed.1))
+same_preds rows event row item listed differ stamp same is unequal has =
+    ((λ holds. (sym (ap (λ (found : Row). found.preds) same) ∙ same_numbers item.preds listed.preds differ is unequal, has.0 holds)), (λ as_listed. has.1 as_listed.1))
