@@ -1,4 +1,4 @@
--- Words that ask for a replay or a service are spelled by their parts, those that ask for a check are `check`, and what is asked for is found.
+-- Words that ask for a replay, a service or a load are spelled by their parts, those that ask for a check are `check`, and what is asked for is found.
 use Rattle.std.proofs.Common.{◌≡◌, ◌∙◌, ℕ, suc, ◌≤◌, Bool, true, false, ◌||◌, List, [], ◌∷◌, length, Option, Some, None, option_map, option_and_then, refl, sym, ap, ap₂, subst, codes, arith, IfSome, if◌then◌else◌}
 use Rattle.std.specs.Prelude.{slice_get, unwrap_or}
 use Rattle.std.specs.List.{list_all, list_any}
@@ -13,9 +13,9 @@ use Rattle.clap.specs.declared.parser.ArgMatches.{ArgMatches}
 use Rattle.trace_types.specs.tenant.Limits.{Limits, are_limits}
 use Rattle.trace_types.specs.text.Name.{Text, is_between, is_same}
 use Rattle.trace_types.specs.text.Reading.{number_of}
-use Rattle.command_line.specs.Demand.{AskedReplay, AskedService, Demand, ToReplay, ToServe, ToCheck, Role, Tenant, Events, Tasks, Messages, Cache, Export, Port, Workers, Sessions, Part, replay_asked_by, cache_by, asked_by_options, export_by, port_by, replay_asked_in, service_asked_by, service_asked_in, service_with, check_asked_in, asked_in, asked_with, is_plain, is_role, limit_by, limits_by, limits_of, number_up_to, option_named, option_of, parts_after, words_for}
+use Rattle.command_line.specs.Demand.{AskedReplay, AskedService, Demand, ToReplay, ToServe, ToCheck, ToLoad, Role, Tenant, Events, Tasks, Messages, Cache, Export, Port, Workers, Sessions, Part, replay_asked_by, cache_by, asked_by_options, export_by, port_by, replay_asked_in, service_asked_by, service_asked_in, service_with, check_asked_in, load_asked_in, load_with, asked_in, asked_with, is_plain, is_role, limit_by, limits_by, limits_of, number_up_to, option_named, option_of, parts_after, words_for}
 use Rattle.command_line.specs.Reading.{Has, amount_in, cache_found, limits_found, limits_in, number_found, program_app, tenants_found, work_found, work_with, export_found}
-use Rattle.command_line.proofs.CommandLine.{Fits, FitsOnce, PlainOnce, same_role, Verb, Replays, Serves, finds, has_option, has_role, have_roles, id_of, name_of, options_of, row_of, simple, spelled, spelled_with, takes_parts}
+use Rattle.command_line.proofs.CommandLine.{Fits, FitsOnce, PlainOnce, same_role, Verb, Replays, Serves, Loads, finds, has_option, has_role, have_roles, id_of, name_of, options_of, row_of, simple, spelled, spelled_with, takes_parts}
 use Rattle.command_line.proofs.Rows.{row_in}
 
 some_same : {X : Type 0} {a b : X} → Some a ≡ Some b → a ≡ b
@@ -52,6 +52,7 @@ named (one ∷ options) word role is = go (is_same word (option_of one)) refl is
 no_tenant : (verb : Verb) (role : Role) → has_option verb role ≡ true → is_role Tenant role ≡ false
 no_tenant Replays Tenant has = cc
 no_tenant Serves Tenant has = cc
+no_tenant Loads Tenant has = cc
 no_tenant verb role has = refl
 
 spelled_option : (role : Role) (word : Text) (words : List Text) → is_role Tenant role ≡ false → option_of role ∷ word ∷ words ≡ spelled_with role word words
@@ -377,11 +378,41 @@ service_asks_for first words asked is_first e = read (parts_after (options_of Se
         by_parts parts (spelled_by Serves None words parts tt of) (words_for Tenant parts) refl (port_by (words_for Port parts)) refl
         (limit_by 4 32 (words_for Workers parts)) refl (limit_by 1048576 1048576 (words_for Sessions parts)) refl (limits_by parts) refl (cache_by parts) refl e
 
+-- how words ask for a load
+pub record AsksForLoad (words : List Text) (tenant : Text) : Type 0 where
+  pub parts : List Part
+  pub words_are : words ≡ codes "load" ∷ spelled parts
+  pub have : have_roles Loads parts ≡ true
+  pub tenants_are : words_for Tenant parts ≡ tenant ∷ []
+  pub plain : list_all is_plain (words_for Tenant parts) ≡ true
+
 -- how words ask for this
 abbrev pub Asks : List Text → Demand → Type 0
 Asks words (ToReplay asked) = AsksFor words asked
 Asks words (ToServe asked) = AsksForService words asked
 Asks words ToCheck = words ≡ codes "check" ∷ []
+Asks words (ToLoad tenant) = AsksForLoad words tenant
+
+load_asks_for : (first : Text) (words : List Text) (asked : Demand) → first ≡ codes "load" → load_asked_in words ≡ Some asked → Asks (first ∷ words) asked
+load_asks_for first words asked is_first e = read (parts_after (options_of Loads) None words) refl e
+  where
+    by_tenants : (parts : List Part) → Spelled Loads words parts → (tenants : List Text) → words_for Tenant parts ≡ tenants → load_with tenants ≡ Some asked → Asks (first ∷ words) asked
+    by_tenants parts is [] are e = cc
+    by_tenants parts is (tenant ∷ []) are e =
+        let asks : AsksForLoad (first ∷ words) tenant = record {
+          parts = parts;
+          words_are = ap₂ (λ (a : Text) (b : List Text). a ∷ b) is_first is.words_are;
+          have = is.have;
+          tenants_are = are;
+          plain = is.plain;
+        } in
+        subst (Asks (first ∷ words)) (some_same e) asks
+    by_tenants parts is (tenant ∷ other ∷ tenants) are e = cc
+
+    read : (after : Option (List Part)) → parts_after (options_of Loads) None words ≡ after → option_and_then (λ parts. load_with (words_for Tenant parts)) after ≡ Some asked
+        → Asks (first ∷ words) asked
+    read None of e = cc
+    read (Some parts) of e = by_tenants parts (spelled_by Loads None words parts tt of) (words_for Tenant parts) refl e
 
 asks_for : (first : Text) (words : List Text) (asked : Demand) → asked_in (first ∷ words) ≡ Some asked → Asks (first ∷ words) asked
 asks_for first words asked e = go (is_same first (codes "replay")) refl e
@@ -398,19 +429,25 @@ asks_for first words asked e = go (is_same first (codes "replay")) refl e
     check [] is_first e = subst (Asks (first ∷ [])) (some_same e) (ap (λ word. word ∷ []) is_first)
     check (word ∷ rest) is_first e = cc
 
-    other : (b : Bool) → is_same first (codes "check") ≡ b → (if b then check_asked_in words else None) ≡ Some asked → Asks (first ∷ words) asked
+    loads : (b : Bool) → is_same first (codes "load") ≡ b → (if b then load_asked_in words else None) ≡ Some asked → Asks (first ∷ words) asked
+    loads true same e = load_asks_for first words asked ((bytes_eq-Decides first (codes "load")).0 same) e
+    loads false same e = cc
+
+    other : (b : Bool) → is_same first (codes "check") ≡ b → (if b then check_asked_in words else if is_same first (codes "load") then load_asked_in words else None) ≡ Some asked
+        → Asks (first ∷ words) asked
     other true same e = check words ((bytes_eq-Decides first (codes "check")).0 same) e
-    other false same e = cc
+    other false same e = loads (is_same first (codes "load")) refl e
 
     serves : (b : Bool) → is_same first (codes "serve") ≡ b
-        → (if b then option_map ToServe (service_asked_in words) else if is_same first (codes "check") then check_asked_in words else None) ≡ Some asked
+        → (if b then option_map ToServe (service_asked_in words) else if is_same first (codes "check") then check_asked_in words
+        else if is_same first (codes "load") then load_asked_in words else None) ≡ Some asked
         → Asks (first ∷ words) asked
     serves true same e = service (service_asked_in words) ((bytes_eq-Decides first (codes "serve")).0 same) refl e
     serves false same e = other (is_same first (codes "check")) refl e
 
     go : (b : Bool) → is_same first (codes "replay") ≡ b
         → (if b then option_map ToReplay (replay_asked_in words) else if is_same first (codes "serve") then option_map ToServe (service_asked_in words)
-        else if is_same first (codes "check") then check_asked_in words else None) ≡ Some asked
+        else if is_same first (codes "check") then check_asked_in words else if is_same first (codes "load") then load_asked_in words else None) ≡ Some asked
         → Asks (first ∷ words) asked
     go true same e = replay (replay_asked_in words) ((bytes_eq-Decides first (codes "replay")).0 same) refl e
     go false same e = serves (is_same first (codes "serve")) refl e
@@ -457,6 +494,17 @@ fits_service words asked asks Messages = limit_fits 2048 16384 (words_for Messag
 fits_service words asked asks Port = port_fits (words_for Port asks.parts) asked.port asks.port
 fits_service words asked asks Workers = limit_fits 4 32 (words_for Workers asks.parts) asked.workers asks.workers
 fits_service words asked asks Sessions = limit_fits 1048576 1048576 (words_for Sessions asks.parts) asked.sessions asks.sessions
+
+fits_load : (words : List Text) (tenant : Text) (asks : AsksForLoad words tenant) (role : Role) → Fits role (words_for role asks.parts)
+fits_load words tenant asks Tenant = asks.plain
+fits_load words tenant asks Events = subst (FitsOnce 16384) (sym (no_words Loads Events asks.parts refl asks.have)) tt
+fits_load words tenant asks Tasks = subst (FitsOnce 2048) (sym (no_words Loads Tasks asks.parts refl asks.have)) tt
+fits_load words tenant asks Messages = subst (FitsOnce 16384) (sym (no_words Loads Messages asks.parts refl asks.have)) tt
+fits_load words tenant asks Cache = subst (FitsOnce 65536) (sym (no_words Loads Cache asks.parts refl asks.have)) tt
+fits_load words tenant asks Export = subst PlainOnce (sym (no_words Loads Export asks.parts refl asks.have)) tt
+fits_load words tenant asks Port = subst (FitsOnce 65535) (sym (no_words Loads Port asks.parts refl asks.have)) tt
+fits_load words tenant asks Workers = subst (FitsOnce 32) (sym (no_words Loads Workers asks.parts refl asks.have)) tt
+fits_load words tenant asks Sessions = subst (FitsOnce 1048576) (sym (no_words Loads Sessions asks.parts refl asks.have)) tt
 
 -- a part has a word at least
 few_parts : (parts : List Part) → length parts ≤ length (spelled parts)
@@ -538,6 +586,14 @@ found_service words asked asks bound =
           (is.2 Sessions) asks.sessions (limit_within 1048576 1048576 (words_for Sessions asks.parts) asked.sessions refl asks.sessions),
     )
 
+found_load : (words : List Text) (tenant : Text) → AsksForLoad words tenant → length words ≤ usize_max → Has (subcommand_of program_app words) (ToLoad tenant)
+found_load words tenant asks bound =
+    let is = finds Loads asks.parts asks.have (fits_load words tenant asks) (few_of words (codes "load") asks.parts asks.words_are bound) in
+    let found_is = ap (subcommand_of program_app) asks.words_are ∙ is.1 in (
+      ap work_found found_is,
+      ap tenants_found found_is ∙ ap (λ row. option_map (λ (r : Row). r.values) row) (is.2 Tenant ∙ ap (row_of Tenant) asks.tenants_are),
+    )
+
 found_check : Has (subcommand_of program_app (codes "check" ∷ [])) ToCheck
 unfolding clap_on_literals
 found_check = refl
@@ -546,6 +602,7 @@ found : (words : List Text) (asked : Demand) → Asks words asked → length wor
 found words (ToReplay asked) asks bound = found_replay words asked asks bound
 found words (ToServe asked) asks bound = found_service words asked asks bound
 found words ToCheck asks bound = ap (λ ws. work_found (subcommand_of program_app ws)) asks ∙ found_check
+found words (ToLoad tenant) asks bound = found_load words tenant asks bound
 
 -- what a parse found is what the model finds
 pub found_is : (app : App) (words : List Text) (matches : ArgMatches) → app ≡ program_app → HasMatchesOf app words matches
@@ -576,7 +633,14 @@ takes_service words asked asks bound =
     ∙ takes_parts Serves asks.parts ((asks.tenant, asks.tenants, asks.tenants_are), (port.0, port.1)) asks.have (fits_service words asked asks)
     (few_of words (codes "serve") asks.parts asks.words_are bound)
 
+takes_load : (words : List Text) (tenant : Text) → AsksForLoad words tenant → length words ≤ usize_max → takes program_app words ≡ true
+takes_load words tenant asks bound =
+    ap (takes program_app) asks.words_are
+    ∙ takes_parts Loads asks.parts (tenant, [], asks.tenants_are) asks.have (fits_load words tenant asks)
+    (few_of words (codes "load") asks.parts asks.words_are bound)
+
 pub takes_asked : (app : App) (words : List Text) (asked : Demand) → app ≡ program_app → Asks words asked → length words ≤ usize_max → takes app words ≡ true
 takes_asked app words (ToReplay asked) app_is asks bound = ap (λ a. takes a words) app_is ∙ takes_replay words asked asks bound
 takes_asked app words (ToServe asked) app_is asks bound = ap (λ a. takes a words) app_is ∙ takes_service words asked asks bound
 takes_asked app words ToCheck app_is asks bound = ap₂ takes app_is asks ∙ takes_check
+takes_asked app words (ToLoad tenant) app_is asks bound = ap (λ a. takes a words) app_is ∙ takes_load words tenant asks bound

@@ -1,4 +1,4 @@
--- What the command line makes of options and plain words after `replay` and after `serve`.
+-- What the command line makes of options and plain words after `replay`, after `serve` and after `load`.
 use Rattle.std.proofs.Common.{◌≡◌, ◌∙◌, ℕ, suc, ◌+◌, ◌≤◌, Bool, true, false, not, ◌&&◌, ◌||◌, cond, List, [], ◌∷◌, ◌++◌, map, Option, Some, None, refl, sym, ap, ap₂, subst, codes, fold, length, nat_le, append_assoc, append-nil, is_some, arith, if◌then◌else◌}
 use Rattle.std.proofs.lemmas.Bool.{le-leb, or_right}
 use Rattle.std.proofs.lemmas.List.{length-append}
@@ -17,7 +17,7 @@ use Rattle.clap.specs.Takes.{walk_passes, turn_passes, word_passes, step_passes,
 use Rattle.clap.specs.Walk.{Walk, Held, Waiting, walked, walk_from, nothing_held, idle, option, positional, positional_held, after_step, plain_word, subcommand_met, subcommand_or_other, finished, has_row, settled, settled_rows, stop_after, value, values_or_missing, walk, with_default, with_values, without}
 use Rattle.clap.proofs.WalkLemmas.{both as and_is_true, walk_stopped}
 use Rattle.command_line.specs.Demand.{Role, Tenant, Events, Tasks, Messages, Cache, Export, Port, Workers, Sessions, Part, is_plain, is_role, option_of, replay_options, service_options, words_for}
-use Rattle.command_line.specs.Reading.{program_app, replay_app, serve_app, tenant_rule}
+use Rattle.command_line.specs.Reading.{load_app, program_app, replay_app, serve_app, tenant_rule}
 use Rattle.command_line.proofs.Amounts.{passes, spells}
 use Rattle.command_line.proofs.Rows.{grown, row_beside, row_in, row_with, twice, unfound}
 
@@ -25,18 +25,22 @@ use Rattle.command_line.proofs.Rows.{grown, row_beside, row_in, row_with, twice,
 pub data Verb : Type 0 where
   Replays : Verb
   Serves : Verb
+  Loads : Verb
 
 abbrev pub name_of : Verb → Text
 name_of Replays = codes "replay"
 name_of Serves = codes "serve"
+name_of Loads = codes "load"
 
 abbrev app_of : Verb → App
 app_of Replays = replay_app
 app_of Serves = serve_app
+app_of Loads = load_app
 
 abbrev pub options_of : Verb → List Role
 options_of Replays = replay_options
 options_of Serves = service_options
+options_of Loads = []
 
 abbrev pub has_option : Verb → Role → Bool
 has_option verb role = list_any (is_role role) (options_of verb)
@@ -197,11 +201,13 @@ tenant_rows : (verb : Verb) (words : List Text) (rows : List Row)
     → settled_rows (rules verb) (Some (codes "TENANT", words)) rows ≡ with_values (codes "TENANT") AsWritten CommandLine (values_or_missing tenant_built words) rows
 tenant_rows Replays words rows = refl
 tenant_rows Serves words rows = refl
+tenant_rows Loads words rows = refl
 
 tenant_settles : (verb : Verb) (words : List Text) (rows : List Row) (skip : ℕ)
     → settle_passes (rules verb) false (record { rows = rows; pending = Some (codes "TENANT", words); skip = skip }) ≡ use_passes false tenant_built words rows
 tenant_settles Replays words rows skip = refl
 tenant_settles Serves words rows skip = refl
+tenant_settles Loads words rows skip = refl
 
 -- one more tenant among those that are pending
 more_rows : (verb : Verb) (word : Text) (words : List Text) (rows : List Row)
@@ -370,6 +376,8 @@ tenant_step Replays true word held plain = ap (λ step. after_step (rules Replay
 tenant_step Replays false word held plain = ap (λ step. after_step (rules Replays) word (at held false) step.0 step.1) (plain_met Replays idle word held plain)
 tenant_step Serves true word held plain = ap (λ step. after_step (rules Serves) word (at held true) step.0 step.1) (plain_met Serves positional word held plain)
 tenant_step Serves false word held plain = ap (λ step. after_step (rules Serves) word (at held false) step.0 step.1) (plain_met Serves idle word held plain)
+tenant_step Loads true word held plain = ap (λ step. after_step (rules Loads) word (at held true) step.0 step.1) (plain_met Loads positional word held plain)
+tenant_step Loads false word held plain = ap (λ step. after_step (rules Loads) word (at held false) step.0 step.1) (plain_met Loads idle word held plain)
 
 plain_passes : (verb : Verb) (waiting : Waiting) (word : Text) (held : Held) → is_plain word ≡ true → subcommand_met [] waiting word ≡ None
     → word_passes (shape verb) [] false waiting word held ≡ true
@@ -379,6 +387,7 @@ plain_passes verb waiting word held plain no_name = rw (no_name, no_dashes word 
 tenant_place : (verb : Verb) (held : Held) → settle_passes (rules verb) false held ≡ true → step_passes (shape verb) 1 held value ≡ true
 tenant_place Replays held settles = or_right _ _ settles
 tenant_place Serves held settles = or_right _ _ settles
+tenant_place Loads held settles = or_right _ _ settles
 
 tenant_turn : (verb : Verb) (after_tenant : Bool) (word : Text) (held : Held) → is_plain word ≡ true → settle_passes (rules verb) false held ≡ true
     → turn_passes (shape verb) [] (at held after_tenant) word ≡ true
@@ -666,6 +675,10 @@ no_defaults Serves rows =
     ∙ (ap (λ left. fold with_default left (Rattle.std.specs.Prelude.drop 8 (rules Serves))) (same_either (has_row (codes "TENANT") rows) rows)
     ∙ same_either (has_row (codes "help") rows) rows)))))))
 
+no_defaults Loads rows =
+    ap (λ left. fold with_default left (Rattle.std.specs.Prelude.drop 1 (rules Loads))) (same_either (has_row (codes "TENANT") rows) rows)
+    ∙ same_either (has_row (codes "help") rows) rows
+
 -- the rows in the end
 rows_end : (verb : Verb) (parts : List Part) (leads : Leads verb nothing_held false nothing_seen 0 parts) (role : Role)
     → row_in (id_of role) (finished (rules verb) leads.end) ≡ row_of role (words_for role parts)
@@ -691,17 +704,20 @@ HasTenant parts = (tenant : Text) × (tenants : List Text) × (words_for Tenant 
 abbrev pub Needs : Verb → List Part → Type 0
 Needs Replays parts = HasTenant parts
 Needs Serves parts = HasTenant parts × ((port : Text) × (words_for Port parts ≡ port ∷ []))
+Needs Loads parts = HasTenant parts
 
 valid : (verb : Verb) (parts : List Part) (leads : Leads verb nothing_held false nothing_seen 0 parts) → Needs verb parts
     → list_all default_passes (rules verb) && is_valid (shape verb) (finished (rules verb) leads.end) false ≡ true
 valid Replays parts leads needs = ap (λ b. b && true) (given Replays Tenant parts leads needs.0 needs.1 needs.2)
 valid Serves parts leads needs =
     ap₂ ◌&&◌ (given Serves Port parts leads needs.1.0 [] needs.1.1) (ap (λ b. b && true) (given Serves Tenant parts leads needs.0.0 needs.0.1 needs.0.2))
+valid Loads parts leads needs = ap (λ b. b && true) (given Loads Tenant parts leads needs.0 needs.1 needs.2)
 
 level : (verb : Verb) (parts : List Part) (leads : Leads verb nothing_held false nothing_seen 0 parts) → Needs verb parts
     → level_passes (shape verb) [] nothing_held (spelled parts) false ≡ true
 level Replays parts leads needs = ap₂ ◌&&◌ leads.passes (ap (ends_well Replays) leads.walks ∙ ap₂ ◌&&◌ leads.holds.settles (valid Replays parts leads needs))
 level Serves parts leads needs = ap₂ ◌&&◌ leads.passes (ap (ends_well Serves) leads.walks ∙ ap₂ ◌&&◌ leads.holds.settles (valid Serves parts leads needs))
+level Loads parts leads needs = ap₂ ◌&&◌ leads.passes (ap (ends_well Loads) leads.walks ∙ ap₂ ◌&&◌ leads.holds.settles (valid Loads parts leads needs))
 
 -- ---- the whole command line
 
@@ -710,11 +726,13 @@ stop_is : (verb : Verb) (words : List Text) → stop_after (built program_app).t
 unfolding walked
 stop_is Replays words = ap (λ (w : Walk). w.stopped) (sym (walk_stopped (built program_app).top.rules (names_of (built program_app)) (walk_from nothing_held) (codes "replay") [] words))
 stop_is Serves words = ap (λ (w : Walk). w.stopped) (sym (walk_stopped (built program_app).top.rules (names_of (built program_app)) (walk_from nothing_held) (codes "serve") [] words))
+stop_is Loads words = ap (λ (w : Walk). w.stopped) (sym (walk_stopped (built program_app).top.rules (names_of (built program_app)) (walk_from nothing_held) (codes "load") [] words))
 
 -- the command is found with the rows in which its walk ends
 entered_is : (verb : Verb) (words : List Text) → entered (built program_app) (Some (name_of verb, words)) ≡ Some (name_of verb, finished (rules verb) (fold (walked (rules verb) []) (walk_from nothing_held) words).held)
 entered_is Replays words = refl
 entered_is Serves words = refl
+entered_is Loads words = refl
 
 -- what is found
 pub finds : (verb : Verb) (parts : List Part) → have_roles verb parts ≡ true → ((role : Role) → Fits role (words_for role parts)) → length parts ≤ usize_max
@@ -745,6 +763,8 @@ top_level Replays words = ap₂ ◌&&◌ (stopped_passes (walk_from nothing_held
     (ap top_ends_well (sym (walk_stopped (built program_app).top.rules (names_of (built program_app)) (walk_from nothing_held) (codes "replay") [] words)))
 top_level Serves words = ap₂ ◌&&◌ (stopped_passes (walk_from nothing_held) (codes "serve") [] words)
     (ap top_ends_well (sym (walk_stopped (built program_app).top.rules (names_of (built program_app)) (walk_from nothing_held) (codes "serve") [] words)))
+top_level Loads words = ap₂ ◌&&◌ (stopped_passes (walk_from nothing_held) (codes "load") [] words)
+    (ap top_ends_well (sym (walk_stopped (built program_app).top.rules (names_of (built program_app)) (walk_from nothing_held) (codes "load") [] words)))
 
 -- the words are taken
 pub takes_parts : (verb : Verb) (parts : List Part) → Needs verb parts → have_roles verb parts ≡ true → ((role : Role) → Fits role (words_for role parts))
@@ -761,3 +781,4 @@ takes_parts verb parts needs have fits few =
         && level_passes (built program_app).top (names_of (built program_app)) nothing_held (name_of verb ∷ words) (is_some (entered (built program_app) (Some (name_of verb, words))))) ≡ true
     entered_level Replays words low top = ap₂ ◌&&◌ low top
     entered_level Serves words low top = ap₂ ◌&&◌ low top
+    entered_level Loads words low top = ap₂ ◌&&◌ low top

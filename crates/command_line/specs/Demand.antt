@@ -23,11 +23,12 @@ pub record AskedService : Type 0 where
   pub cache : ℕ
   pub tenants : List Text
 
--- what the program is asked to do
+-- what the program is asked to do; a load is asked for with the tenant to which its requests are written
 pub data Demand : Type 0 where
   ToReplay : AskedReplay → Demand
   ToServe : AskedService → Demand
   ToCheck : Demand
+  ToLoad : Text → Demand
 
 -- what a word is: a tenant, or the number or the name of an option
 pub data Role : Type 0 where
@@ -182,6 +183,15 @@ abbrev pub check_asked_in : List Text → Option Demand
 check_asked_in [] = Some ToCheck
 check_asked_in (word ∷ words) = None
 
+-- the load that these tenants ask for, where there is one
+abbrev pub load_with : List Text → Option Demand
+load_with (tenant ∷ []) = Some (ToLoad tenant)
+load_with tenants = None
+
+-- the load that the words after `load` ask for, where they are a tenant
+abbrev pub load_asked_in : List Text → Option Demand
+load_asked_in words = option_and_then (λ parts. load_with (words_for Tenant parts)) (parts_after [] None words)
+
 -- what the words ask for, by the first of them
 abbrev pub asked_in : List Text → Option Demand
 asked_in [] = None
@@ -189,4 +199,5 @@ asked_in (first ∷ words) =
     if is_same first (codes "replay") then option_map ToReplay (replay_asked_in words)
     else if is_same first (codes "serve") then option_map ToServe (service_asked_in words)
     else if is_same first (codes "check") then check_asked_in words
+    else if is_same first (codes "load") then load_asked_in words
     else None

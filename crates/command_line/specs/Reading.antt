@@ -1,5 +1,5 @@
 -- The command line as it is built, and what is read of it.
-use Rattle.std.specs.Prelude.{◌≡◌, ℕ, Bool, true, false, List, Option, Some, None, Result, Ok, Err, ◌⊎◌, [], codes, option_map, option_and_then, if◌then◌else◌, map, string_bytes}
+use Rattle.std.specs.Prelude.{◌≡◌, ℕ, Bool, true, false, List, Option, Some, None, Result, Ok, Err, ◌⊎◌, [], codes, ◌∷◌, option_map, option_and_then, if◌then◌else◌, map, string_bytes}
 use Rattle.std.specs.Option.{option_map_or}
 use Rattle.clap.specs.Words.{App, Row, Rule, Text, all_of, first_of, one_of, new_app, new_rule, subcommand_of, with_rule, with_subcommand}
 use Rattle.clap.specs.Faults.{fault_of}
@@ -11,9 +11,9 @@ use Rattle.clap.specs.declared.builder.value_parser.ValueParser.TheVariants as p
 use Rattle.trace_types.specs.tenant.Limits.{Limits, are_limits, default_limits}
 use Rattle.trace_types.specs.text.Name.{is_between, is_same}
 use Rattle.trace_types.specs.text.Reading.{number_of}
-use Rattle.command_line.specs.Demand.{AskedReplay as Wanted, AskedService, Demand, ToReplay, ToServe, ToCheck, limits_of}
+use Rattle.command_line.specs.Demand.{AskedReplay as Wanted, AskedService, Demand, ToReplay, ToServe, ToCheck, ToLoad, limits_of}
 use Rattle.command_line.specs.declared.words.Asked.{Asked}
-use Rattle.command_line.specs.declared.words.Asked.TheVariants.{Replay, Serve, Check, Show}
+use Rattle.command_line.specs.declared.words.Asked.TheVariants.{Replay, Serve, Check, Load, Show}
 use Rattle.command_line.specs.declared.wanted.Replay.{Replay as Replays}
 use Rattle.command_line.specs.declared.wanted.Serve.{Serve as Serves}
 use Rattle.command_line.specs.declared.words.Refusal.{Refusal}
@@ -58,6 +58,9 @@ serve_app =
 abbrev pub check_app : App
 check_app = new_app (codes "check")
 
+abbrev pub load_app : App
+load_app = with_rule (new_app (codes "load")) tenant_rule
+
 abbrev pub bare_app : App
 bare_app = record (new_app (codes "itc_trace")) {
   top = record (new_app (codes "itc_trace")).top { has_version = true; no_binary_name = true; subcommand_required = true };
@@ -65,7 +68,7 @@ bare_app = record (new_app (codes "itc_trace")) {
 
 -- the whole command line
 abbrev pub program_app : App
-program_app = with_subcommand (with_subcommand (with_subcommand bare_app replay_app.top) serve_app.top) check_app.top
+program_app = with_subcommand (with_subcommand (with_subcommand (with_subcommand bare_app replay_app.top) serve_app.top) check_app.top) load_app.top
 
 -- why the command line does not take the words: the kinds of fault that may come, and none where it takes them
 abbrev pub kinds_of : List (List ℕ) → List ErrorKind
@@ -77,6 +80,7 @@ pub data Work : Type 0 where
   Exporting : Work
   Serving : Work
   Checking : Work
+  Loading : Work
 
 -- the tenant to be exported, if any, among what was found of a subcommand
 abbrev pub export_found : Option (Text × List Row) → Option Text
@@ -96,6 +100,7 @@ is_found name (Some found) = is_same found.0 name
 abbrev pub work_found : Option (Text × List Row) → Work
 work_found found =
     if is_found (codes "check") found then Checking
+    else if is_found (codes "load") found then Loading
     else if is_found (codes "serve") found then Serving
     else work_with (export_found found)
 
@@ -120,6 +125,7 @@ abbrev pub IsToldOf : ErrorKind → Result Asked Refusal → Type 0
 IsToldOf kind (Ok (Replay replay)) = ⊥
 IsToldOf kind (Ok (Serve service)) = ⊥
 IsToldOf kind (Ok Check) = ⊥
+IsToldOf kind (Ok (Load tenant)) = ⊥
 IsToldOf kind (Ok (Show text)) = IsShown kind
 IsToldOf kind (Err (Words text)) = IsShown kind → ⊥
 IsToldOf kind (Err Memory) = Unit {0}
@@ -129,6 +135,7 @@ abbrev pub IsAnswer : List ErrorKind → Work → Result Asked Refusal → Type 
 IsAnswer kinds work (Ok (Replay replay)) = (kinds ≡ []) × (work ≡ work_with (option_map string_bytes replay.export))
 IsAnswer kinds work (Ok (Serve service)) = (kinds ≡ []) × (work ≡ Serving)
 IsAnswer kinds work (Ok Check) = (kinds ≡ []) × (work ≡ Checking)
+IsAnswer kinds work (Ok (Load tenant)) = (kinds ≡ []) × (work ≡ Loading)
 IsAnswer kinds work (Ok (Show text)) = AsksForHelp kinds
 IsAnswer kinds work (Err (Words text)) = MayBeRefused kinds
 IsAnswer kinds work (Err Memory) = Unit {0}
@@ -179,6 +186,7 @@ Has found (ToServe asked) = (work_found found ≡ Serving) × (tenants_found fou
     × (number_found (codes "workers") 4 32 found ≡ Some asked.workers)
     × (number_found (codes "sessions") 1048576 1048576 found ≡ Some asked.sessions)
 Has found ToCheck = work_found found ≡ Checking
+Has found (ToLoad tenant) = (work_found found ≡ Loading) × (tenants_found found ≡ Some (tenant ∷ []))
 
 -- what a replay that was read is asked for
 abbrev pub wanted_of : Replays → Wanted
@@ -205,6 +213,7 @@ abbrev pub ReadsWords : Demand → Result Asked Refusal → Type 0
 ReadsWords asked (Ok (Replay replay)) = asked ≡ ToReplay (wanted_of replay)
 ReadsWords asked (Ok (Serve service)) = asked ≡ ToServe (service_of service)
 ReadsWords asked (Ok Check) = asked ≡ ToCheck
+ReadsWords asked (Ok (Load tenant)) = asked ≡ ToLoad (string_bytes tenant)
 ReadsWords asked (Ok (Show text)) = ⊥
 ReadsWords asked (Err (Words text)) = ⊥
 ReadsWords asked (Err Memory) = Unit {0}

@@ -2,9 +2,9 @@
 ghost use Rattle.std.specs.Prelude.{◌≡◌, ◌↔◌, IsTrue, ℕ, false, [], Some, Err, map, option_map, IfOk, IfErr, IfSome, string_bytes};
 ghost use Rattle.clap.specs.Words.{app_of, found_of, kind_of, rows_of, rule_of, subcommand_rows_of};
 ghost use Rattle.clap.specs.declared.builder.Command.TheViews.{out-Command as fields_of};
-ghost use Rattle.trace_types.specs.text.Name.{is_between};
-ghost use Rattle.command_line.specs.Demand.{AskedReplay, AskedService, Demand, ToReplay, ToServe, asked_in};
-ghost use Rattle.command_line.specs.Reading.{FindsTenants, FindsLimits, Has, IsAnswer, IsToldOf, ReadsWords, Serving, amount_in, check_app, export_found, export_rule, is_found, kinds_of, limit_rule, number_found, port_rule, program_app, replay_app, serve_app, tenant_rule, work_found, work_of, work_with};
+ghost use Rattle.trace_types.specs.text.Name.{Text, is_between};
+ghost use Rattle.command_line.specs.Demand.{AskedReplay, AskedService, Demand, ToLoad, ToReplay, ToServe, asked_in};
+ghost use Rattle.command_line.specs.Reading.{FindsTenants, FindsLimits, Has, IsAnswer, IsToldOf, Loading, ReadsWords, Serving, amount_in, check_app, export_found, export_rule, is_found, kinds_of, limit_rule, load_app, number_found, port_rule, program_app, replay_app, serve_app, tenant_rule, work_found, work_of, work_with};
 
 use crate::wanted::{Replay, Serve};
 use clap::builder::ValueParser;
@@ -25,7 +25,7 @@ Example:
   printf 'x local root\\nx local root\\nx order 1 2\\n' | itc_trace replay x
 
 `itc_trace help replay` tells of the lines and the options, `itc_trace help serve` of programs that
-connect, `itc_trace help check` of exports.";
+connect, `itc_trace help check` of exports, `itc_trace help load` of the way back from one.";
 
 /// What help on `replay` says after the options.
 const REPLAY_HELP: &str = "\
@@ -70,18 +70,45 @@ Example:
 const CHECK_HELP: &str = "\
 Standard input is an export, with its header or without. The answer is `yes N` where every line is
 right and N of them list events, with status 0; else `no LINE REASON` with the first faulty line,
-from 1, and the number of the first of these reasons, with status 1:
-  1 it is no JSON, or has more than 65536 bytes
-  2 it is no object of the keys event, kind, name, preds, stamp and task, with their kinds of values,
-    nor as the first line a header of the keys events, messages, tasks, tenant and version, which is 2
-  3 its event is not the number of the line, the header not counted, or is above 16384
-  4 its preds do not increase, or are no earlier events
-  5 its stamp is none
-  6 the trees of an earlier event and of this one do not compare as the preds say
+from 1, and the number of the first of these reasons, with status 1. `load` alone tells 7 and 8:
+  1 The line is no JSON of at most 127 levels, or it has more than 65536 bytes.
+  2 The line is no object with exactly the keys and values of an event, or of a header in line 1.
+  3 The number of the event is not that of the line, the header not counted, or is above 16384.
+  4 The predecessors do not increase, or one of them is no earlier event.
+  5 The stamp is no text of a stamp: its shape is wrong, it is not normal, or it is too large.
+  6 The trees of this event and of an earlier one do not compare as the predecessors say.
+  7 The request that reports this event is refused after the requests of the lines before it.
+  8 The predecessors or the stamp are not those that the collector gives to this event.
 
 Example:
   printf 'x local root\\nx local root\\n' | itc_trace replay --export x x | itc_trace check
   yes 2";
+
+/// What help on `load` says after the options.
+const LOAD_HELP: &str = "\
+Standard input is an export, with its header or without. Its requests are made again from nothing,
+under the limits of its header, or without one under the greatest. Where each of them is accepted
+and makes what its line lists, they are written, a line for each to the tenant that is named here,
+with status 0. Else nothing is written but `itc_trace: no LINE REASON` on standard error, with the
+first faulty line, from 1, and the number of the first of these reasons, with status 1. `check`
+alone tells 6:
+  1 The line is no JSON of at most 127 levels, or it has more than 65536 bytes.
+  2 The line is no object with exactly the keys and values of an event, or of a header in line 1.
+  3 The number of the event is not that of the line, the header not counted, or is above 16384.
+  4 The predecessors do not increase, or one of them is no earlier event.
+  5 The stamp is no text of a stamp: its shape is wrong, it is not normal, or it is too large.
+  6 The trees of this event and of an earlier one do not compare as the predecessors say.
+  7 The request that reports this event is refused after the requests of the lines before it.
+  8 The predecessors or the stamp are not those that the collector gives to this event.
+
+Example:
+  printf 'x local root\\n' | itc_trace replay --export x x | itc_trace load y
+  y local root";
+
+const TENANTS_HELP: &str =
+    "A tenant's name: 1 to 24 letters, digits or _; 1 to 16 names, none twice";
+
+const TENANT_HELP: &str = "The tenant's name, one alone: 1 to 24 letters, digits or _";
 
 const EVENTS_HELP: &str = "The most events of each tenant: 1 to 16384 [default: 4096]";
 
@@ -127,6 +154,8 @@ pub enum Asked {
     Serve(Serve),
     /// The check of an export.
     Check,
+    /// To load an export, with its requests to this tenant.
+    Load(String),
     /// To show this text, which is help or the version.
     Show(String),
 }
@@ -173,7 +202,8 @@ fn command<'a>(alloc: Global) -> Result<Command<'a>, AllocError>
         .subcommand_required(true)
         .subcommand(replay_command(alloc)?)?
         .subcommand(serve_command(alloc)?)?
-        .subcommand(check_command(alloc))
+        .subcommand(check_command(alloc))?
+        .subcommand(load_command(alloc)?)
 }
 
 /// The command `replay`.
@@ -189,7 +219,7 @@ fn replay_command<'a>(alloc: Global) -> Result<Command<'a>, AllocError>
         .arg(limit(alloc, "messages", MESSAGES_HELP, Limits::MOST_MESSAGES))?
         .arg(limit(alloc, "cache", CACHE_HELP, MOST_CACHE))?
         .arg(export(alloc))?
-        .arg(tenants(alloc))
+        .arg(tenants(alloc, TENANTS_HELP))
 }
 
 /// The command `serve`.
@@ -207,7 +237,7 @@ fn serve_command<'a>(alloc: Global) -> Result<Command<'a>, AllocError>
         .arg(limit(alloc, "tasks", TASKS_HELP, Limits::MOST_TASKS))?
         .arg(limit(alloc, "messages", MESSAGES_HELP, Limits::MOST_MESSAGES))?
         .arg(limit(alloc, "cache", CACHE_HELP, MOST_CACHE))?
-        .arg(tenants(alloc))
+        .arg(tenants(alloc, TENANTS_HELP))
 }
 
 /// The command `check`.
@@ -220,13 +250,24 @@ fn check_command<'a>(alloc: Global) -> Command<'a>
         .after_help(CHECK_HELP)
 }
 
-/// The argument for tenants.
-fn tenants<'a>(alloc: Global) -> Arg<'a>
+/// The command `load`.
+fn load_command<'a>(alloc: Global) -> Result<Command<'a>, AllocError>
+    ensures app { IfOk result (λ command. app_of command ≡ load_app) }
+    ensures local { IfOk result (λ command. (fields_of command).has_globals ≡ false) }
+{
+    Command::new(alloc, "load")
+        .about("Reads an export from standard input, and writes the requests that make it")
+        .after_help(LOAD_HELP)
+        .arg(tenants(alloc, TENANT_HELP))
+}
+
+/// The argument for tenants, with its help.
+fn tenants<'a>(alloc: Global, help: &'a str) -> Arg<'a>
     ensures rule { rule_of result ≡ tenant_rule }
     ensures local { result.global ≡ false }
 {
     Arg::new(alloc, "TENANT")
-        .help("A tenant's name: 1 to 24 letters, digits or _; 1 to 16 names, none twice")
+        .help(help)
         .required(true)
         .num_args(1..)
         .action(ArgAction::Append)
@@ -275,6 +316,7 @@ fn export<'a>(alloc: Global) -> Arg<'a>
 /// | `replay` | 1 or more tenants, `--events N`, `--tasks N`, `--messages N`, `--cache N`, `--export NAME` |
 /// | `serve` | `--port N` and 1 or more tenants, the options with numbers of `replay`, `--workers N`, `--sessions N` |
 /// | `check` | Nothing |
+/// | `load` | 1 tenant |
 pub fn read_words<S: AsStr>(alloc: Global, words: &[S]) -> Result<Asked, Refusal>
     // Limits and tenants are read as they stand, and want of memory alone prevents it.
     ensures asked { IfSome (asked_in (map S.text words.now)) (λ asked. ReadsWords asked result) }
@@ -294,6 +336,9 @@ fn asked_of(alloc: Global, matches: &ArgMatches) -> Result<Asked, Refusal>
 {
     if is_named(matches, "check") {
         return Ok(Asked::Check);
+    }
+    if is_named(matches, "load") {
+        return load_of(alloc, matches);
     }
     if is_named(matches, "serve") {
         return serve_of(alloc, matches);
@@ -318,6 +363,18 @@ fn replay_of(alloc: Global, matches: &ArgMatches) -> Result<Asked, Refusal>
             tenants,
             export,
         })),
+        _ => Err(Refusal::Words(String::new(alloc))),
+    }
+}
+
+/// The load that was found.
+fn load_of(alloc: Global, matches: &ArgMatches) -> Result<Asked, Refusal>
+    ensures asked { (tenant : Text) → Has (subcommand_rows_of matches.now) (ToLoad tenant) → ReadsWords (ToLoad tenant) result }
+    ensures work { IsAnswer [] Loading result }
+{
+    let tenants = tenants_of(alloc, matches)?;
+    match tenants.as_slice() {
+        [tenant] => Ok(Asked::Load(String::from_str(alloc, tenant.as_str())?)),
         _ => Err(Refusal::Words(String::new(alloc))),
     }
 }

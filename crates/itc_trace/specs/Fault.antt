@@ -8,6 +8,8 @@ use Rattle.trace_world.specs.declared.replay_fault.ReplayFault.{ReplayFault}
 use Rattle.trace_world.specs.declared.replay_fault.ReplayFault.TheVariants as replay
 use Rattle.trace_export.specs.declared.check_fault.CheckFault.{CheckFault}
 use Rattle.trace_export.specs.declared.check_fault.CheckFault.TheVariants as check
+use Rattle.trace_export.specs.declared.load_fault.LoadFault.{LoadFault}
+use Rattle.trace_export.specs.declared.load_fault.LoadFault.TheVariants as load
 use Rattle.tcp_door.specs.declared.tcp_door.DoorRefusal.{DoorRefusal}
 use Rattle.tcp_door.specs.declared.tcp_door.DoorRefusal.TheVariants as door
 use Rattle.trace_session.specs.declared.serving.ServeFault.{ServeFault}
@@ -55,6 +57,13 @@ abbrev pub fault_of_check : CheckFault → Fault
 fault_of_check check.Read = Read
 fault_of_check check.TooLong = TooLong
 fault_of_check check.Memory = Memory
+
+-- the program's fault where an export is not loaded whole
+abbrev pub fault_of_load : LoadFault → Fault
+fault_of_load load.Read = Read
+fault_of_load load.Write = Write
+fault_of_load load.TooLong = TooLong
+fault_of_load load.Memory = Memory
 
 -- the program's fault where no door is opened
 abbrev pub fault_of_refusal : DoorRefusal → Fault

@@ -1,25 +1,31 @@
 -- What the program did.
 use Rattle.std.specs.Prelude.{◌≡◌, ◌≢◌, ℕ, ◌+◌, ◌<◌, ◌^◌, Bool, true, false, IsTrue, List, ◌++◌, ◌⊎◌, codes, decimal, length, map, Option, Some, None, is_some, IfSome}
-use Rattle.trace_types.specs.text.Name.{Text, is_between}
+use Rattle.trace_types.specs.text.Name.{Text, is_between, is_name}
 use Rattle.trace_types.specs.tenant.Limits.{Limits, are_limits}
 use Rattle.trace_types.specs.tenant.Tenant.{fresh}
+use Rattle.trace_types.specs.declared.row.Row.{Row}
 use Rattle.trace_types.specs.world.Replay.{place_of}
 use Rattle.trace_types.specs.world.World.{World}
 use Rattle.line_protocol.specs.Source.{Given}
 use Rattle.line_protocol.specs.Sink.{Taken}
 use Rattle.line_protocol.specs.Writing.{EndsInFault}
 use Rattle.trace_export.specs.Checked.{Judges}
+use Rattle.trace_export.specs.Loads.{BreaksLoading, Loads, LoadsAs}
 use Rattle.trace_export.specs.Reasons.{reason_number}
+use Rattle.trace_export.specs.declared.load_fault.LoadFault.{LoadFault}
+use Rattle.trace_export.specs.declared.loaded.Loaded.{Loaded}
+use Rattle.trace_export.specs.declared.loaded.Loaded.TheVariants as loaded
+use Rattle.trace_export.specs.declared.reason.Reason.{Reason}
 use Rattle.trace_export.specs.declared.verdict.Verdict.{Verdict}
 use Rattle.trace_export.specs.declared.verdict.Verdict.TheVariants.{Yes, No}
 use Rattle.trace_world.specs.Exported.{BreaksExport, Exports}
 use Rattle.trace_world.specs.Replayed.{Replays, ReplaysInPart}
 use Rattle.trace_world.specs.declared.counts.Counts.{Counts}
 use Rattle.trace_world.specs.declared.replay_fault.ReplayFault.{ReplayFault}
-use Rattle.command_line.specs.Demand.{Demand, ToReplay, ToServe, ToCheck}
+use Rattle.command_line.specs.Demand.{Demand, ToReplay, ToServe, ToCheck, ToLoad}
 use Rattle.itc_trace.specs.Taking.{are_taken}
-use Rattle.itc_trace.specs.Fault.{line_of_fault, fault_of_replay}
-use Rattle.command_line.specs.Reading.{Work, Replaying, Exporting, Serving, Checking}
+use Rattle.itc_trace.specs.Fault.{fault_of_load, fault_of_replay, line_of_fault}
+use Rattle.command_line.specs.Reading.{Work, Replaying, Exporting, Serving, Checking, Loading}
 use Rattle.itc_trace.specs.Serving.{Serves, ServesInPart, line_of_port}
 use Rattle.itc_trace.specs.Showing.{Shows, ShowsAll, ShowsFront}
 use Rattle.itc_trace.specs.declared.fault.Fault.{Fault}
@@ -163,6 +169,52 @@ abbrev pub DoesReplay : (export : Option Text) (limits : Limits) (names : List T
 DoesReplay None limits names before after taken taken' = ReplaysFresh limits names before after taken taken'
 DoesReplay (Some name) limits names before after taken taken' = ExportsFresh name limits names before after taken taken'
 
+-- the line that tells that this line is faulty, for this reason
+abbrev pub line_of_no : ℕ → Reason → Text
+line_of_no line reason = codes "itc_trace: no " ++ decimal line ++ codes " " ++ decimal (reason_number reason) ++ codes "\n"
+
+-- the status that tells what loading answers
+abbrev pub status_of_loaded : Loaded → ℕ
+status_of_loaded (loaded.Done count) = 0
+status_of_loaded (loaded.No line reason) = 1
+
+-- What the reader gave was loaded for this tenant, what was written was handed on, and this status tells it.
+pub record LoadsExport (tenant : Text) (before after : Given) (taken taken' : Taken) (status : ℕ) : Type 0 where
+  pub loaded : Loaded
+  pub between : Taken
+  pub loads : Loads before after taken between tenant loaded
+  pub handed_on : taken'.bytes ≡ between.bytes
+  pub status_is : status ≡ status_of_loaded loaded
+
+-- the line that tells it, where it is not loaded
+abbrev pub line_of_loaded : Loaded → Option Text
+line_of_loaded (loaded.Done count) = None
+line_of_loaded (loaded.No line reason) = Some (line_of_no line reason)
+
+-- What the reader gave was loaded for this tenant, and what was written was handed on. This line is to tell why nothing was,
+-- where nothing was.
+pub record LoadsToTell (line : Option Text) (tenant : Text) (before after : Given) (taken taken' : Taken) : Type 0 where
+  pub loaded : Loaded
+  pub between : Taken
+  pub loads : Loads before after taken between tenant loaded
+  pub handed_on : taken'.bytes ≡ between.bytes
+  pub line_is : line ≡ line_of_loaded loaded
+
+-- Why what the reader gave is not loaded was told by a line on standard error.
+pub record TellsNo (before after : Given) (told told' : Taken) : Type 0 where
+  pub number : ℕ
+  pub reason : Reason
+  pub rows : List Row
+  pub loads : LoadsAs before after (loaded.No number reason) rows
+  pub line : Shows told told' (line_of_no number reason)
+
+-- Loading for this tenant was broken off by this fault; or all was loaded and written, and it could not be handed on.
+abbrev pub LoadsExportInPart : (fault : Fault) (tenant : Text) (before after : Given) (taken taken' : Taken) → Type 0
+LoadsExportInPart fault tenant before after taken taken' =
+    ((cause : LoadFault) × (fault_of_load cause ≡ fault) × BreaksLoading cause before after taken taken' tenant)
+    ⊎ ((fault ≡ Write) × ((loaded : Loaded) × (between : Taken) × Loads before after taken between tenant loaded × (taken'.bytes ≡ between.bytes)))
+    ⊎ ((fault ≡ Memory) × ((loaded : Loaded) × (between : Taken) × Loads before after taken between tenant loaded × (taken'.bytes ≡ between.bytes)))
+
 -- It was broken off by this fault.
 abbrev pub DoesReplayInPart : (export : Option Text) (fault : Fault) (limits : Limits) (names : List Text) (before after : Given) (taken taken' : Taken) → Type 0
 DoesReplayInPart None fault limits names before after taken taken' = ReplaysFreshInPart fault limits names before after taken taken'
@@ -174,6 +226,7 @@ Does (ToReplay asked) before after taken taken' status =
     (status ≡ 0) × DoesReplay asked.export asked.limits asked.tenants before after taken taken'
 Does (ToServe asked) before after taken taken' status = (status ≡ 0) × (after ≡ before) × Serves asked.port asked.sessions taken taken'
 Does ToCheck before after taken taken' status = TellsVerdict before after taken taken' status
+Does (ToLoad tenant) before after taken taken' status = LoadsExport tenant before after taken taken' status
 
 -- What is asked for was broken off by this fault.
 abbrev pub DoesInPart : (asked : Demand) (fault : Fault) (before after : Given) (taken taken' : Taken) → Type 0
@@ -181,6 +234,7 @@ DoesInPart (ToReplay asked) fault before after taken taken' =
     DoesReplayInPart asked.export fault asked.limits asked.tenants before after taken taken'
 DoesInPart (ToServe asked) fault before after taken taken' = (after ≡ before) × ServesInPart fault asked.port taken taken'
 DoesInPart ToCheck fault before after taken taken' = ChecksInPart fault before after taken taken'
+DoesInPart (ToLoad tenant) fault before after taken taken' = LoadsExportInPart fault tenant before after taken taken'
 
 -- Such work was done, and this status tells it.
 abbrev pub DoesSome : (work : Work) (before after : Given) (taken taken' : Taken) (status : ℕ) → Type 0
@@ -189,6 +243,7 @@ DoesSome Exporting before after taken taken' status = (status ≡ 0) × ExportsS
 DoesSome Serving before after taken taken' status = (status ≡ 0) × (after ≡ before)
     × ((port : ℕ) × (sessions : ℕ) × IsTrue (is_between 1 65535 port) × IsTrue (is_between 1 1048576 sessions) × Serves port sessions taken taken')
 DoesSome Checking before after taken taken' status = TellsVerdict before after taken taken' status
+DoesSome Loading before after taken taken' status = (tenant : Text) × IsTrue (is_name tenant) × LoadsExport tenant before after taken taken' status
 
 -- Such work was broken off by this fault.
 abbrev pub DoesSomeInPart : (work : Work) (fault : Fault) (before after : Given) (taken taken' : Taken) → Type 0
@@ -197,9 +252,10 @@ DoesSomeInPart Exporting fault before after taken taken' = ExportsSomeInPart fau
 DoesSomeInPart Serving fault before after taken taken' = (after ≡ before)
     × ((port : ℕ) × IsTrue (is_between 1 65535 port) × ServesInPart fault port taken taken')
 DoesSomeInPart Checking fault before after taken taken' = ChecksInPart fault before after taken taken'
+DoesSomeInPart Loading fault before after taken taken' = (tenant : Text) × IsTrue (is_name tenant) × LoadsExportInPart fault tenant before after taken taken'
 
--- What want of memory leaves: nothing was read or written, unless an export was broken off, or a check before its verdict, or
--- serving after its first line.
+-- What want of memory leaves: nothing was read or written, unless an export or a load was broken off, or a check before its
+-- verdict, or serving after its first line.
 abbrev pub LacksMemory : {R W : Type 0} (given : R → Given) (taken : W → Taken) (work : Work) → R → R → W → W → Type 0
 LacksMemory given taken Replaying reader reader' writer writer' = IsUntouched reader reader' writer writer'
 LacksMemory given taken Exporting reader reader' writer writer' = IsUntouched reader reader' writer writer'
@@ -207,6 +263,12 @@ LacksMemory given taken Exporting reader reader' writer writer' = IsUntouched re
 LacksMemory given taken Serving reader reader' writer writer' = (reader' ≡ reader)
     × ((port : ℕ) × ServesInPart Memory port (taken writer) (taken writer'))
 LacksMemory given taken Checking reader reader' writer writer' = writer' ≡ writer
+LacksMemory given taken Loading reader reader' writer writer' = IsUntouched reader reader' writer writer'
+    ⊎ ((tenant : Text) × LoadsExportInPart Memory tenant (given reader) (given reader') (taken writer) (taken writer'))
+
+-- nothing was told on standard error, but why an export is not loaded
+abbrev pub IsQuiet : {E : Type 0} → Work → ℕ → E → E → Type 0
+IsQuiet work status errors errors' = ((status ≡ 1) × (work ≡ Loading) → ⊥) → errors' ≡ errors
 
 -- What a run that fails leaves: the fault's cause, and in part what is asked for.
 abbrev pub BreaksOff : (before after : Given) (taken taken' : Taken) → Option Demand → Fault → Type 0

@@ -1,7 +1,7 @@
 -- Which of the tenants that a replay or a service is asked for are taken.
 use Rattle.std.specs.Prelude.{Bool, true, List, Option, Some, None, is_some, ◌&&◌}
 use Rattle.std.specs.List.{list_all}
-use Rattle.command_line.specs.Demand.{Demand, ToReplay, ToServe, ToCheck}
+use Rattle.command_line.specs.Demand.{Demand, ToReplay, ToServe, ToCheck, ToLoad}
 use Rattle.trace_types.specs.text.Name.{Text, is_name}
 use Rattle.trace_types.specs.world.Replay.{place_of}
 use Rattle.trace_world.specs.Tenants.{can_be_tenants}
@@ -20,3 +20,4 @@ abbrev pub is_taken : Demand → Bool
 is_taken (ToReplay asked) = are_taken asked.tenants && can_export asked.export asked.tenants
 is_taken (ToServe asked) = are_taken asked.tenants
 is_taken ToCheck = true
+is_taken (ToLoad tenant) = is_name tenant

@@ -1,11 +1,11 @@
 //! The faults of the program.
 ghost use Rattle.std.specs.Prelude.{◌≡◌};
-ghost use Rattle.itc_trace.specs.Fault.{status_of, line_of_fault, fault_of_world, fault_of_replay, fault_of_check, fault_of_refusal, fault_of_serving};
+ghost use Rattle.itc_trace.specs.Fault.{status_of, line_of_fault, fault_of_world, fault_of_replay, fault_of_check, fault_of_load, fault_of_refusal, fault_of_serving};
 ghost use Rattle.itc_trace.specs.Program.{TellsFault};
 
 use line_protocol::{Sink, flush, write_bytes};
 use tcp_door::DoorRefusal;
-use trace_export::CheckFault;
+use trace_export::{CheckFault, LoadFault};
 use trace_session::ServeFault;
 use trace_types::WorldFault;
 use trace_world::ReplayFault;
@@ -104,6 +104,19 @@ impl From<CheckFault> for Fault {
             CheckFault::Read => Fault::Read,
             CheckFault::TooLong => Fault::TooLong,
             CheckFault::Memory => Fault::Memory,
+        }
+    }
+}
+
+impl From<LoadFault> for Fault {
+    ghost from_gives = { λ fault gives. gives ≡ fault_of_load fault };
+
+    fn from(fault: LoadFault) -> Fault {
+        match fault {
+            LoadFault::Read => Fault::Read,
+            LoadFault::Write => Fault::Write,
+            LoadFault::TooLong => Fault::TooLong,
+            LoadFault::Memory => Fault::Memory,
         }
     }
 }

@@ -1,5 +1,5 @@
-//! The trace collector's program. It replays lines of requests and writes the replies, serves programs that connect, or
-//! checks an export.
+//! The trace collector's program. It replays lines of requests and writes the replies, serves programs that connect, and
+//! checks or loads an export.
 //!
 //! | Words | What they do |
 //! |---|---|
@@ -7,7 +7,8 @@
 //! | `replay --export NAME TENANT..` | Does the lines, and writes the export of one tenant |
 //! | `serve --port N TENANT..` | Answers programs that connect |
 //! | `check` | Says whether an export is right |
-//! | `help`, `help replay`, `help serve`, `help check` | Tells of all options |
+//! | `load TENANT` | Writes the requests that an export comes from |
+//! | `help`, `help replay`, `help serve`, `help check`, `help load` | Tells of all options |
 //!
 //! `main` hands its words and the standard streams to [`start`], and ends with the status that it answers. `start` runs
 //! what the words after the first ask. [`program::run`] says what comes of them, by the contracts of `replay` of

@@ -8,7 +8,7 @@ ghost use Rattle.trace_types.specs.tenant.Limits.{Limits as Bounds, are_limits};
 ghost use Rattle.command_line.specs.Demand.{ToReplay};
 ghost use Rattle.itc_trace.specs.Taking.{are_taken, can_export, is_taken};
 ghost use Rattle.itc_trace.specs.Fault.{status_of};
-ghost use Rattle.itc_trace.specs.Program.{ChecksInPart, DoesReplay, DoesReplayInPart, ExportsFreshInPart, GoesThrough, IsExportPlace, IsUntouched, TellsFault, TellsVerdict, line_of_verdict, status_of_verdict, IsFailure, ShowsSome, ShowsSomeAll};
+ghost use Rattle.itc_trace.specs.Program.{ChecksInPart, DoesReplay, DoesReplayInPart, ExportsFreshInPart, GoesThrough, IsExportPlace, IsFailure, IsUntouched, LoadsExport, LoadsExportInPart, LoadsToTell, RefusesTenants, ShowsSome, ShowsSomeAll, TellsFault, TellsNo, TellsVerdict, line_of_no, line_of_verdict, status_of_loaded, status_of_verdict};
 ghost use Rattle.itc_trace.specs.Showing.{Shows, ShowsAll};
 ghost use Rattle.command_line.specs.Reading.{wanted_of};
 ghost use Rattle.itc_trace.specs.Runs.{Runs};
@@ -22,7 +22,7 @@ use std::convert::AsStr;
 use std::net::{Net, TcpListener, TcpStream};
 use std::sync::Wait;
 use std::thread::Threads;
-use trace_export::{Verdict, check};
+use trace_export::{Loaded, Reason, Verdict, check, load};
 use trace_types::Name;
 use trace_world::{World, replay, replay_export};
 
@@ -36,6 +36,7 @@ use trace_world::{World, replay, replay_export};
 /// | `replay` | Tenants, the options below, and `--export NAME` with the name of one of the tenants |
 /// | `serve` | Tenants, `--port N` with N from 1 to 65535, the options below, `--workers N` and `--sessions N` |
 /// | `check` | Nothing |
+/// | `load` | A tenant |
 ///
 /// | Option | Range of N | If it is left out |
 /// |---|---|---|
@@ -48,7 +49,7 @@ use trace_world::{World, replay, replay_export};
 ///
 /// | Status | When |
 /// |---|---|
-/// | 0 | All lines were replayed, the export was written or is right, programs were served, or all of the help was shown |
+/// | 0 | All lines were replayed, the export was written, is right or was loaded, programs were served, or all of the help was shown |
 /// | 1 | The export is faulty |
 /// | 2 | The words or the tenants are refused |
 /// | 3 | A read or a write failed, the input is too long, no port could be bound, or no connection accepted |
@@ -74,6 +75,9 @@ where
         }
         Ok(Asked::Serve(wanted)) => return serve_programs(rt, alloc, wanted, writer, errors),
         Ok(Asked::Check) => return check_input(alloc, reader, writer, errors),
+        Ok(Asked::Load(tenant)) => {
+            return load_input(rt, alloc, tenant.as_str(), reader, writer, errors);
+        }
         Ok(Asked::Show(text)) => show_help(writer, text.as_str()),
         Err(Refusal::Words(text)) => return refuse(errors, text.as_str()),
         Err(Refusal::Memory) => Err(Fault::Memory),
@@ -239,6 +243,76 @@ fn verdict_status(verdict: Verdict) -> u8
         Verdict::Yes(_) => 0,
         Verdict::No(..) => 1,
     }
+}
+
+/// Loads the export that the reader gives, and answers the status; where it is not loaded it tells why.
+fn load_input<T, R: Source, W: Sink, E: Sink>(
+    rt: &T,
+    alloc: Global,
+    tenant: &str,
+    reader: &mut R,
+    writer: &mut W,
+    errors: &mut E,
+) -> u8
+    ensures refused { result ≡ 2 → IsUntouched reader.old reader.new writer.old writer.new × TellsFault (E.seen errors.old) (E.seen errors.new) Fault.Tenants }
+    ensures taken { RefusesTenants (is_name tenant.now) (E.seen errors.old) (E.seen errors.new) result }
+    ensures done { result < 2 → GoesThrough (R.seen reader.old) (R.seen reader.new) (W.seen writer.old) (W.seen writer.new)
+        × IsTrue (is_name tenant.now) × LoadsExport tenant.now (R.seen reader.old) (R.seen reader.new) (W.seen writer.old) (W.seen writer.new) result }
+    ensures quiet { result ≡ 0 → errors.new ≡ errors.old }
+    ensures not_loaded { result ≡ 1 → TellsNo (R.seen reader.old) (R.seen reader.new) (E.seen errors.old) (E.seen errors.new) }
+    ensures broken_off { 2 < result → (fault : Fault) × (result ≡ status_of fault) × IsTrue (is_name tenant.now)
+        × LoadsExportInPart fault tenant.now (R.seen reader.old) (R.seen reader.new) (W.seen writer.old) (W.seen writer.new)
+        × (status_of fault ≡ 3 → IsFailure (R.seen reader.old) (R.seen reader.new) (W.seen writer.old) (W.seen writer.new) fault)
+        × TellsFault (E.seen errors.old) (E.seen errors.new) fault }
+{
+    match load_export(rt, alloc, tenant, reader, writer) {
+        Ok(None) => 0,
+        Ok(Some(line)) => {
+            let _ = show(errors, line.as_str());
+            1
+        }
+        Err(fault) => fault.tell(errors),
+    }
+}
+
+/// Loads the export that the reader gives, and hands on what was written. It gives the line that tells why the export is not
+/// loaded, where it is not.
+fn load_export<T, R: Source, W: Sink>(
+    rt: &T,
+    alloc: Global,
+    tenant: &str,
+    reader: &mut R,
+    writer: &mut W,
+) -> Result<Option<String>, Fault>
+    ensures loads { IfOk result (λ line. LoadsToTell (option_map string_bytes line) tenant.now (R.seen reader.old) (R.seen reader.new) (W.seen writer.old) (W.seen writer.new)) }
+    ensures through { OnOk result (GoesThrough (R.seen reader.old) (R.seen reader.new) (W.seen writer.old) (W.seen writer.new)) }
+    ensures named { OnOk result (IsTrue (is_name tenant.now)) }
+    ensures refused { IsErrOf result Fault.Tenants → (is_name tenant.now ≡ false) × IsUntouched reader.old reader.new writer.old writer.new }
+    ensures words { IfErr result (λ fault. status_of fault ≡ 2 → fault ≡ Fault.Tenants) }
+    ensures in_part { IfErr result (λ fault. fault ≢ Fault.Tenants → IsTrue (is_name tenant.now)
+        × LoadsExportInPart fault tenant.now (R.seen reader.old) (R.seen reader.new) (W.seen writer.old) (W.seen writer.new)
+        × (status_of fault ≡ 3 → IsFailure (R.seen reader.old) (R.seen reader.new) (W.seen writer.old) (W.seen writer.new) fault)) }
+{
+    let Some(name) = Name::read(tenant.as_bytes()) else {
+        return Err(Fault::Tenants);
+    };
+    let loaded = load(rt, alloc, reader, &name, writer)?;
+    flush(writer).map_err(|_| Fault::Write)?;
+    match loaded {
+        Loaded::Done(_) => Ok(None),
+        Loaded::No(line, reason) => {
+            let line = no_line(alloc, line, reason).map_err(|_| Fault::Memory)?;
+            Ok(Some(line))
+        }
+    }
+}
+
+/// The line that tells which line is faulty, and why.
+fn no_line(alloc: Global, line: u64, reason: Reason) -> Result<String, AllocError>
+    ensures { IfOk result (λ text. string_bytes text ≡ line_of_no line reason) }
+{
+    let reason = reason.number();
+    format!(in alloc; "itc_trace: no {line} {reason}\n")
 }
 
 /// The tenants' names. Too many are refused before any memory is taken.

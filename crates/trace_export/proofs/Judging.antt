@@ -41,18 +41,18 @@ abbrev pub IsNoFirstHeader : Option Header → Placing → Text → Type 0
 IsNoFirstHeader header placing line = header ≡ None → placing ≡ [] → IsNoHeader line
 
 -- more lines of events behind those in parts
-parts_more : (header : Option Header) (found events : List Text) (line : Text) (rest : List Text) → AreParts found header events → (header ≡ None → events ≡ [] → IsNoHeader line)
+pub parts_more : (header : Option Header) (found events : List Text) (line : Text) (rest : List Text) → AreParts found header events → (header ≡ None → events ≡ [] → IsNoHeader line)
     → AreParts (found ++ line ∷ rest) header (events ++ line ∷ rest)
 parts_more None found [] line rest parts none = (ap (λ these. these ++ line ∷ rest) parts.0, none refl refl)
 parts_more None found (first ∷ events) line rest parts none = (ap (λ these. these ++ line ∷ rest) parts.0, parts.1)
 parts_more (Some header) found events line rest parts none = (parts.0, ap (λ these. these ++ line ∷ rest) parts.1, parts.2)
 
 -- there are as many lines as it says
-parts_count : (header : Option Header) (found events : List Text) → AreParts found header events → length found ≡ lines_ahead header + length events
+pub parts_count : (header : Option Header) (found events : List Text) → AreParts found header events → length found ≡ lines_ahead header + length events
 parts_count None found events parts = omega (arith, ap length parts.0)
 parts_count (Some header) found events parts = omega (arith, ap length parts.1)
 
-no_texts : (events : List Text) → length events ≡ 0 → events ≡ []
+pub no_texts : (events : List Text) → length events ≡ 0 → events ≡ []
 no_texts [] counted = refl
 no_texts (line ∷ events) counted = absurd (omega (arith, counted))
 
@@ -153,7 +153,7 @@ judges_no before after given held held' header placing line reason number found 
     }
 
 -- a line was found, with this text
-text_found : {given given' : List ℕ} (old new : Held) (found : Line) → (new.bounds ≡ export_bounds) → Finds given given' old new found → (found ≡ End → ⊥)
+pub text_found : {given given' : List ℕ} (old new : Held) (found : Line) → (new.bounds ≡ export_bounds) → Finds given given' old new found → (found ≡ End → ⊥)
     → (text : Text) × GivesLine given given' old.left new.left new.is_ended text × IsTextFound found new.line text
 text_found old new Whole bounds finds some = (new.line, finds.0, (refl, omega (arith, ltb-false 65536 (length new.line) (subst (λ (b : ReadingBounds). is_longer_than b.bytes new.line ≡ false) bounds finds.1))))
 text_found old new TooLong bounds finds some = (finds.0, finds.1, ltb-true 65536 (length finds.0) (subst (λ (b : ReadingBounds). is_longer_than b.bytes finds.0 ≡ true) bounds finds.2))

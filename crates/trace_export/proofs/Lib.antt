@@ -1,15 +1,29 @@
 pub mod Alike
 pub mod BitSets
+pub mod Comparing
 pub mod Connecting
 mod GoodExports
 pub mod GoodStamps
 mod Headings
 pub mod Judging
+pub mod LegalRows
+pub mod LoadedEvents
+pub mod LoadedLines
+pub mod LoadedWhole
+pub mod Making
 pub mod Numbers
 pub mod OneLine
 pub mod Ordering
+pub mod Placings
 pub mod Reached
 pub mod ReadAgain
+pub mod Refusing
+pub mod Remaking
+pub mod Rerunning
+pub mod SpelledTrees
+pub mod StampReplies
 pub mod WrittenLines
+pub mod WrittenRequests
 pub mod WrittenRows
+pub mod WrittenTexts
 mod Vectors

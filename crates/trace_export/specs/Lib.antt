@@ -6,5 +6,8 @@ pub mod Graph
 pub mod Heading
 pub mod Laws
 pub mod Listing
+pub mod Loading
+pub mod Loads
+pub mod Rebuilding
 pub mod Reasons
 pub mod Verdict

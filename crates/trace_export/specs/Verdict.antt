@@ -51,12 +51,16 @@ IsOrderedNext earlier placed =
 abbrev pub IsListing : Text → Listed → Type 0
 IsListing line listed = (length line ≤ 65536) × ListsAs line listed
 
--- The event may come next after these, with such edges and such a tree.
-pub record ComesNext (earlier : Placing) (listed : Listed) (placed : Placed) : Type 0 where
-  pub number : IsNumbered listed (suc (length earlier))
+-- The listed event may be this one, with such edges and such a tree.
+pub record IsPlacedAs (event : ℕ) (listed : Listed) (placed : Placed) : Type 0 where
+  pub number : IsNumbered listed event
   pub preds : FollowsEarlier listed
   pub tree : HasTree listed placed.tree
   pub edges : placed.preds ≡ listed.preds
+
+-- it may come next after these
+abbrev pub ComesNext : Placing → Listed → Placed → Type 0
+ComesNext earlier listed placed = IsPlacedAs (suc (length earlier)) listed placed
 
 -- The line lists the event that comes next, which is ordered as the edges say.
 pub record IsRightNext (earlier : Placing) (line : Text) (placed : Placed) : Type 0 where
@@ -71,17 +75,19 @@ AreRightAfter earlier [] placing = placing ≡ earlier
 AreRightAfter earlier (line ∷ rest) placing =
     (placed : Placed) × IsRightNext earlier line placed × AreRightAfter (earlier ++ placed ∷ []) rest placing
 
+-- why the event cannot be the one of this number, whatever came before
+abbrev pub IsUnfitFor : Reason → ℕ → Listed → Type 0
+IsUnfitFor Number number listed = ¬ IsNumbered listed number
+IsUnfitFor Preds number listed = IsNumbered listed number × (¬ FollowsEarlier listed)
+IsUnfitFor Stamp number listed = IsNumbered listed number × FollowsEarlier listed × ((tree : EventTree) → ¬ HasTree listed tree)
+IsUnfitFor reason number listed = ⊥
+
 -- why the event does not come next after these
 abbrev pub IsRefusedFor : Reason → Placing → Listed → Type 0
-IsRefusedFor NoJson earlier listed = ⊥
-IsRefusedFor NoEvent earlier listed = ⊥
-IsRefusedFor Number earlier listed = ¬ IsNumbered listed (suc (length earlier))
-IsRefusedFor Preds earlier listed = IsNumbered listed (suc (length earlier)) × (¬ FollowsEarlier listed)
-IsRefusedFor Stamp earlier listed =
-    IsNumbered listed (suc (length earlier)) × FollowsEarlier listed × ((tree : EventTree) → ¬ HasTree listed tree)
 IsRefusedFor Order earlier listed =
     (placed : Placed) × ComesNext earlier listed placed
     × ((other : ℕ) × IsPlaced earlier other × (¬ AreOrderedAlike (earlier ++ placed ∷ []) other (suc (length earlier))))
+IsRefusedFor reason earlier listed = IsUnfitFor reason (suc (length earlier)) listed
 
 -- the line after these is faulty for this reason, and for none that comes before it
 abbrev pub IsFaulty : Reason → Placing → Text → Type 0

@@ -1,20 +1,20 @@
 //! The judging of one line of an export.
-ghost use Rattle.std.specs.Prelude.{◌≡◌, ◌<◌, ◌≤◌, ◌++◌, ◌∷◌, ◌↔◌, [], IfOk, IfSome, IfNone, IsTrue, length};
+ghost use Rattle.std.specs.Prelude.{◌≡◌, ◌<◌, ◌≤◌, ◌++◌, ◌∷◌, ◌↔◌, [], IfErr, IfOk, IfSome, IfNone, IsTrue, length};
 ghost use Rattle.trace_types.specs.clock.EventTree.{EventTree};
 ghost use Rattle.trace_export.specs.declared.placed.Placed.{Placed};
 ghost use Rattle.trace_export.specs.Graph.{IsKeptGraph};
 ghost use Rattle.trace_export.specs.Listing.{listed_of};
-ghost use Rattle.trace_export.specs.Verdict.{IsFaulty, IsRightNext, IsRefusedFor, ComesNext, IsOrderedNext, AreIncreasingBefore, IsStampTree};
+ghost use Rattle.trace_export.specs.Verdict.{IsFaulty, IsRightNext, IsRefusedFor, ComesNext, IsOrderedNext, AreIncreasingBefore, IsPlacedAs, IsStampTree, IsUnfitFor};
 
 use crate::Reason;
 use crate::event_line::{EventLine, read_listed};
 use crate::graph::Graph;
+use crate::json_line::read_json;
 use crate::placed::Placed;
 use event_tree::EvTree;
-use serde_json::{Category, Value};
 use stamp_codec::{StampFault, read_stamp};
 use std::alloc::Global;
-use trace_types::{Memory, Preds};
+use trace_types::{Limits, Memory, Preds};
 
 /// Adds the event that the line lists if the line is right, else tells why it is faulty.
 pub(crate) fn add_line(
@@ -29,16 +29,12 @@ pub(crate) fn add_line(
     ensures faulty { IfOk result (λ fault. IfSome fault (λ reason. IsFaulty reason graph.old.placed.items line.now
         × (graph.new.placed.items ≡ graph.old.placed.items))) }
 {
-    let Ok(text) = str::from_utf8(line) else {
-        return Ok(Some(Reason::NoJson));
-    };
-    match Value::from_str(alloc, text) {
-        Ok(json) => match read_listed(alloc, &json) {
+    match read_json(alloc, line)? {
+        None => Ok(Some(Reason::NoJson)),
+        Some(json) => match read_listed(alloc, &json) {
             Some(listed) => add_listed(graph, alloc, &listed),
             None => Ok(Some(Reason::NoEvent)),
         },
-        Err(error) if error.classify() == Category::Memory => Err(Memory),
-        Err(_) => Ok(Some(Reason::NoJson)),
     }
 }
 
@@ -56,25 +52,41 @@ fn add_listed(
         × (graph.new.placed.items ≡ graph.old.placed.items))) }
 {
     let number = graph.len() as u64 + 1;
-    if listed.event != number || graph.len() >= Graph::MOST {
-        return Ok(Some(Reason::Number));
+    match place(alloc, number, listed)? {
+        Err(reason) => Ok(Some(reason)),
+        Ok(placed) => {
+            let fault = if graph.add(alloc, placed)? {
+                None
+            } else {
+                Some(Reason::Order)
+            };
+            Ok(fault)
+        }
+    }
+}
+
+/// What the listed event says of the order, where it may be the one of this number; else why it may not.
+pub(crate) fn place(
+    alloc: Global,
+    number: u64,
+    listed: &EventLine<'_>,
+) -> Result<Result<Placed, Reason>, Memory>
+    ensures placed { IfOk result (λ found. IfOk found (IsPlacedAs number (listed_of listed.now))) }
+    ensures unfit { IfOk result (λ found. IfErr found (λ reason. IsUnfitFor reason number (listed_of listed.now))) }
+{
+    if listed.event != number || number > Limits::MOST_EVENTS {
+        return Ok(Err(Reason::Number));
     }
     if !are_increasing_before(&listed.preds, number) {
-        return Ok(Some(Reason::Preds));
+        return Ok(Err(Reason::Preds));
     }
     let Some(tree) = read_tree(alloc, listed.stamp)? else {
-        return Ok(Some(Reason::Stamp));
+        return Ok(Err(Reason::Stamp));
     };
-    let placed = Placed {
+    Ok(Ok(Placed {
         preds: listed.preds.share(),
         tree,
-    };
-    let fault = if graph.add(alloc, placed)? {
-        None
-    } else {
-        Some(Reason::Order)
-    };
-    Ok(fault)
+    }))
 }
 
 /// Whether the events increase, and are all before this one.

@@ -11,10 +11,10 @@ use std::alloc::Global;
 use trace_types::Memory;
 
 /// The most bytes of a line.
-const MOST_BYTES: usize = 65536;
+pub(crate) const MOST_BYTES: usize = 65536;
 
-/// The most reads of one check.
-const MOST_READS: u64 = 1 << 30;
+/// The most reads of one call.
+pub(crate) const MOST_READS: u64 = 1 << 30;
 
 /// Whether the lines that a reader gives are an export in which the trees of every two events compare as the listed edges
 /// say. It reads to the end, or to the end of the first faulty line.

@@ -176,7 +176,7 @@ fn preds_json(alloc: Global, preds: &Preds) -> Result<Vec<Value>, Memory>
 }
 
 /// The word for the kind of a report.
-fn kind_word(kind: Kind) -> &'static str
+pub(crate) fn kind_word(kind: Kind) -> &'static str
     ensures { result.now ≡ kind_text kind }
 {
     match kind {

@@ -4,8 +4,9 @@ ghost use Rattle.serde_json.specs.View.{view};
 ghost use Rattle.trace_export.specs.Heading.{IsHeader, IsHeaderJson, IsNoHeader};
 ghost use Rattle.trace_export.specs.declared.header.Header.{Header as Listed};
 
+use crate::json_line::read_json;
 use crate::member::value_of;
-use serde_json::{Category, Value};
+use serde_json::Value;
 use std::alloc::Global;
 use trace_types::{Limits, Memory, Name};
 
@@ -26,13 +27,9 @@ pub(crate) fn read_header(alloc: Global, line: &[u8]) -> Result<Option<Header>, 
     requires short { length line.now ≤ 65536 }
     ensures { IfOk result (λ header. MatchOption header (IsNoHeader line.now) (IsHeader line.now)) }
 {
-    let Ok(text) = str::from_utf8(line) else {
-        return Ok(None);
-    };
-    match Value::from_str(alloc, text) {
-        Ok(json) => Ok(header_of(&json)),
-        Err(error) if error.classify() == Category::Memory => Err(Memory),
-        Err(_) => Ok(None),
+    match read_json(alloc, line)? {
+        Some(json) => Ok(header_of(&json)),
+        None => Ok(None),
     }
 }
 

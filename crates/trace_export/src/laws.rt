@@ -1,9 +1,13 @@
 //! What the definitions of this crate mean. Each law is the contract of a function that does nothing.
 ghost use Rattle.std.specs.Prelude.{◌≡◌, ◌↔◌, ℕ, List, length};
 ghost use Rattle.trace_types.specs.text.Lines.{lines};
+ghost use Rattle.trace_types.specs.declared.row.Row.{Row};
 ghost use Rattle.trace_export.specs.Edges.{Placing};
 ghost use Rattle.trace_export.specs.Heading.{BeginsWithNoHeader};
 ghost use Rattle.trace_export.specs.Laws.{IsGoodExport, TellsVersion};
+ghost use Rattle.trace_export.specs.Loading.{IsLoaded};
+ghost use Rattle.trace_export.specs.Loads.{IsExportOfRun};
+ghost use Rattle.trace_export.specs.declared.loaded.Loaded.TheVariants.{Done};
 ghost use Rattle.trace_export.specs.Verdict.{IsVerdict, IsVerdictOnEvents};
 ghost use Rattle.trace_export.specs.declared.reason.Reason.TheVariants.{NoEvent};
 ghost use Rattle.trace_export.specs.declared.verdict.Verdict.{Verdict};
@@ -28,4 +32,11 @@ pub fn version_1()
 /// holds if the line is not too long.
 pub fn spoilt_header()
     ensures { (bytes : List ℕ) → TellsVersion (lines bytes) → BeginsWithNoHeader (lines bytes) → IsVerdict bytes (No 1 NoEvent) }
+{}
+
+/// Bytes that are loaded whole are the export of the rows that their requests make: these requests, run from nothing, are
+/// all accepted and leave the rows, and each line lists its row and its stamp. So, by the clock theorem, a check of the
+/// bytes says yes.
+pub fn loaded()
+    ensures { (bytes : List ℕ) (count : ℕ) (rows : List Row) → IsLoaded bytes (Done count) rows → IsExportOfRun bytes count rows }
 {}

@@ -1,12 +1,14 @@
-//! Exports: the trace of one tenant as lines of JSON, written and checked.
+//! Exports: the trace of one tenant as lines of JSON, written, checked and loaded.
 //!
-//! Use it to hand a trace to another program, and to check a trace that comes from one.
+//! Use it to hand a trace to another program, and to check or load a trace that comes from one.
 //!
 //! The contracts that carry it: [`export_rows`] writes exactly the lines of its rows, or a prefix of them at a fault.
 //! [`check`] says yes only if every line is right. By [`laws::yes`] the stamps then agree with the listed edges: one
 //! event's tree is nowhere above another's exactly if it reaches the other. `specs/Export.antt` defines what is written.
 //! `specs/Verdict.antt` defines the verdict, by what each line lists (`specs/Listing.antt`) and by edges and trees
 //! (`specs/Edges.antt`). `specs/Graph.antt` has what is kept of the lines so far.
+//! [`load`] writes the requests that make the rows of an export from nothing, or tells the first line that no request
+//! makes (`specs/Loading.antt`, `specs/Loads.antt`).
 //!
 //! ```
 //! use line_protocol::FromReader;
@@ -31,10 +33,16 @@ mod export_fault;
 mod exporting;
 mod graph;
 mod header;
+mod json_line;
 pub mod laws;
+mod load_fault;
+mod loaded;
+mod loading;
 mod member;
 mod placed;
 mod reason;
+mod rebuilt;
+mod requests;
 mod sides;
 mod stamp_texts;
 mod verdict;
@@ -44,6 +52,9 @@ pub use checking::check;
 pub use export_fault::ExportFault;
 pub use exporting::export_rows;
 pub use header::Header;
+pub use load_fault::LoadFault;
+pub use loaded::Loaded;
+pub use loading::load;
 pub use reason::Reason;
 pub use stamp_texts::StampTexts;
 pub use verdict::Verdict;

@@ -16,12 +16,16 @@ pub enum Reason {
     Preds,
     /// The text of the stamp is refused.
     Stamp,
-    /// The trees of an earlier event and of this one do not compare as the listed edges say.
+    /// The trees of an earlier event and of this one do not compare as the listed edges say. A check tells it alone.
     Order,
+    /// The request of the line is refused after those of the lines before it. Loading tells it alone.
+    Refused,
+    /// The request leaves other predecessors or another stamp. Loading tells it alone.
+    NotDue,
 }
 
 impl Reason {
-    /// The number of the reason in a verdict, from 1 to 6.
+    /// The number of the reason in a verdict, from 1 to 8.
     pub fn number(self) -> u64
         ensures { result ≡ reason_number self }
     {
@@ -32,6 +36,8 @@ impl Reason {
             Reason::Preds => 4,
             Reason::Stamp => 5,
             Reason::Order => 6,
+            Reason::Refused => 7,
+            Reason::NotDue => 8,
         }
     }
 }

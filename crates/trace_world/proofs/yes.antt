@@ -1,4 +1,2 @@
-pub mod LegalRows
-pub mod Placings
 pub mod RightExports
 pub mod StampTrees

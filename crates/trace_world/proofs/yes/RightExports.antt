@@ -44,8 +44,8 @@ use Rattle.trace_export.proofs.WrittenLines.{AreLines, length-texts, lines_of_ex
 use Rattle.trace_world.specs.Exported.{export_of, stamp_texts}
 use Rattle.trace_world.specs.Tenants.{IsTenantWith, IsWorld}
 use Rattle.trace_world.proofs.StampTexts.{length-stamp_texts, stamp_texts-at}
-use Rattle.trace_world.proofs.yes.LegalRows.{AreSound, legal_rows_are_sound}
-use Rattle.trace_world.proofs.yes.Placings.{placed_of, placing_of, length-placing, ordered_alike}
+use Rattle.trace_export.proofs.LegalRows.{AreSound, legal_rows_are_sound}
+use Rattle.trace_export.proofs.Placings.{placed_of, placing_of, length-placing, ordered_alike}
 use Rattle.trace_world.proofs.yes.StampTrees.{newest_stamp}
 
 -- one line more is right

@@ -11,5 +11,7 @@ returns c =
     ∙ ap₂ with_subcommand bare_is (ap (λ app. app.top) c.in_ok-replay_command.ensures.app) in
     let serve_is = c.in_ok-subcommand-2.ensures.shape c.in_ok-serve_command.ensures.local
     ∙ ap₂ with_subcommand replay_is (ap (λ app. app.top) c.in_ok-serve_command.ensures.app) in
-    IfOk-weaker c.subcommand-3.result _ _ (λ command adds. adds.shape c.check_command.ensures.local
-    ∙ ap₂ with_subcommand serve_is (ap (λ app. app.top) c.check_command.ensures.app)) c.subcommand-3.ensures
+    let check_is = c.in_ok-subcommand-3.ensures.shape c.check_command.ensures.local
+    ∙ ap₂ with_subcommand serve_is (ap (λ app. app.top) c.check_command.ensures.app) in
+    IfOk-weaker c.subcommand-4.result _ _ (λ command adds. adds.shape c.in_ok-load_command.ensures.local
+    ∙ ap₂ with_subcommand check_is (ap (λ app. app.top) c.in_ok-load_command.ensures.app)) c.subcommand-4.ensures

@@ -7,7 +7,7 @@ use Rattle.clap.specs.declared.error.kind.ErrorKind.{ErrorKind}
 use Rattle.clap.specs.declared.error.kind.ErrorKind.TheVariants.{OutOfMemory}
 use Rattle.command_line.specs.Reading.{IsAnswer, IsToldOf, Work, kinds_of, program_app, work_found, work_of}
 use Rattle.command_line.specs.declared.words.Asked.{Asked}
-use Rattle.command_line.specs.declared.words.Asked.TheVariants.{Replay, Serve, Check, Show}
+use Rattle.command_line.specs.declared.words.Asked.TheVariants.{Replay, Serve, Check, Load, Show}
 use Rattle.command_line.specs.declared.words.Refusal.{Refusal}
 use Rattle.command_line.specs.declared.words.Refusal.TheVariants.{Words, Memory}
 use Rattle.command_line.proofs.Asking.{asks, found_is, has_asked, takes_asked}
@@ -21,6 +21,7 @@ of_kinds : (kind : ErrorKind) (kinds : Kinds) (work : Work) (result : Result Ask
 of_kinds kind kinds work (Ok (Replay replay)) among told = absurd told
 of_kinds kind kinds work (Ok (Serve service)) among told = absurd told
 of_kinds kind kinds work (Ok Check) among told = absurd told
+of_kinds kind kinds work (Ok (Load tenant)) among told = absurd told
 of_kinds kind kinds work (Ok (Show text)) among told = (kind, among, told)
 of_kinds kind kinds work (Err (Words text)) among told = inr (kind, among, told)
 of_kinds kind kinds work (Err Memory) among told = tt

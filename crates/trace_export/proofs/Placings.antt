@@ -1,23 +1,24 @@
 -- The graph that the export of a legal history lists: its trees compare as its edges say.
-use Rattle.std.proofs.Common.{◌≡◌, ℕ, suc, true, List, [], ◌∷◌, length, refl, sym, ap, subst, ◌∙◌, inl, inr, eqb, arith}
+use Rattle.std.proofs.Common.{◌≡◌, ◌↔◌, ℕ, suc, ◌<◌, ◌≤◌, IsTrue, true, List, [], ◌∷◌, length, refl, sym, ap, subst, ◌∙◌, inl, inr, eqb, arith}
 use Rattle.std.specs.List.{Contains}
 use Rattle.std.proofs.lemmas.Bool.{cases_eq, cond-true, cond-false, eq-eqb, ne_eqb}
 use Rattle.std.proofs.lemmas.Bool.Decides.{nat_tests}
 use Rattle.trace_types.specs.clock.Clock.{tree_clock}
+use Rattle.trace_types.specs.clock.EventTree.{EventTree}
 use Rattle.trace_types.specs.clock.Stamps.{tree_of}
 use Rattle.trace_types.specs.tenant.Rows.{History, is_event}
-use Rattle.trace_types.specs.tenant.Reachability.{predecessors_of, LeadsBack}
+use Rattle.trace_types.specs.tenant.Reachability.{predecessors, predecessors_of, LeadsBack, Reaches, reaches}
 use Rattle.trace_types.specs.declared.row.Row.{Row}
 use Rattle.trace_types.proofs.Reachability.{predecessors_of_before, reaches_iff}
+use Rattle.event_tree.specs.Comparison.{IsBelow}
 use Rattle.tenant_ledger.specs.Legal.{IsLegal}
-use Rattle.tenant_ledger.proofs.Words.{IsBelow}
 use Rattle.tenant_ledger.proofs.clock.Consequences.{below_iff_reaches}
 use Rattle.tenant_ledger.proofs.clock.TreeClock.{tree_clock_laws}
 use Rattle.tenant_ledger.proofs.clock.Upheld.{invariant_upheld}
 use Rattle.trace_export.specs.Edges.{Placing, IsPlaced, listed_preds, listed_tree, IsWayBack, IsConnected, ComparesAsConnected, AreOrderedAlike}
 use Rattle.trace_export.specs.declared.placed.Placed.{Placed}
 use Rattle.trace_export.proofs.Connecting.{with_next, length-with_next, placed_at-earlier, placed_at-next}
-use Rattle.trace_world.proofs.yes.LegalRows.{AreSound}
+use Rattle.trace_export.proofs.LegalRows.{AreSound}
 
 -- what is listed of the event that the row adds
 abbrev pub placed_of : Row → History → Placed

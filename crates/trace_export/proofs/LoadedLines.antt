@@ -1,0 +1,202 @@
+-- Lines that were loaded, one more, and what loading answers.
+use Rattle.std.proofs.Common.{◌≡◌, ℕ, suc, ◌+◌, IsTrue, inl, inr, Option, Some, None, List, [], ◌∷◌, ◌++◌, length, refl, sym, ap, subst, ◌∙◌, arith, append_assoc}
+use Rattle.std.proofs.lemmas.List.{append-nil}
+use Rattle.trace_types.specs.tenant.Limits.{Limits}
+use Rattle.trace_types.specs.tenant.Tenant.{Tenant, fresh}
+use Rattle.trace_types.specs.text.Lines.{lines}
+use Rattle.trace_types.specs.text.Name.{Text}
+use Rattle.trace_types.specs.declared.row.Row.{Row}
+use Rattle.line_protocol.specs.Held.{Held, ReadingBounds}
+use Rattle.line_protocol.specs.LineReading.{HasRead, GivesLine, Finds}
+use Rattle.line_protocol.specs.Source.{Given, HasToldEnd}
+use Rattle.line_protocol.specs.declared.line.Line.{Line}
+use Rattle.line_protocol.specs.declared.line.Line.TheVariants.{Whole, TooLong, End}
+use Rattle.line_protocol.proofs.LineReadingLemmas.{HasRead-start, HasRead-line, HasRead-end}
+use Rattle.trace_export.specs.Heading.{AreParts, IsHeader, IsNoHeader, lines_ahead}
+use Rattle.trace_export.specs.Loading.{AreLoadedAfter, IsFaultyAfter, IsLoadedNext, limits_under, tenant_with}
+use Rattle.trace_export.specs.Loads.{LoadsAs}
+use Rattle.trace_export.specs.Rebuilding.{IsTaken, IsTakenAs, IsUnbegun}
+use Rattle.trace_export.specs.declared.header.Header.{Header}
+use Rattle.trace_export.specs.declared.loaded.Loaded.{Loaded}
+use Rattle.trace_export.specs.declared.loaded.Loaded.TheVariants.{Done, No}
+use Rattle.trace_export.specs.declared.reason.Reason.{Reason}
+use Rattle.trace_export.specs.declared.rebuilt.Rebuilt.{Rebuilt}
+use Rattle.trace_export.proofs.Judging.{export_bounds, no_texts, parts_more, text_found}
+use Rattle.trace_export.proofs.Rerunning.{loaded_count}
+
+-- Since the reader had given `start`, these lines were found, each of them loaded, and they lead to this tenant.
+pub record FoundLoaded (start given : List ℕ) (held : Held) (header : Option Header) (tenant : Tenant) : Type 0 where
+  pub found : List Text
+  pub events : List Text
+  pub read : HasRead start given held found
+  pub parts : AreParts found header events
+  pub limits : tenant.limits ≡ limits_under header
+  pub loaded : AreLoadedAfter tenant.limits [] events tenant.rows
+
+-- the line may be the first, and is then no header
+abbrev IsNoFirst : Option Header → Tenant → Text → Type 0
+IsNoFirst header tenant line = header ≡ None → tenant.rows ≡ [] → IsNoHeader line
+
+-- there are as many rows as lines of events
+found_count : {start given : List ℕ} {held : Held} {header : Option Header} {tenant : Tenant} → (so_far : FoundLoaded start given held header tenant) → length tenant.rows ≡ length so_far.events
+found_count {tenant = tenant} so_far = loaded_count tenant.limits so_far.events tenant.rows so_far.loaded
+
+no_rows : (rows : List Row) → length rows ≡ 0 → rows ≡ []
+no_rows [] counted = refl
+no_rows (row ∷ rows) counted = absurd (omega (arith, counted))
+
+-- where no row is, no line of an event is
+no_rows_yet : {start given : List ℕ} {held : Held} {header : Option Header} {tenant : Tenant} → (so_far : FoundLoaded start given held header tenant) → so_far.events ≡ [] → tenant.rows ≡ []
+no_rows_yet {tenant = tenant} so_far empty = no_rows tenant.rows (found_count so_far ∙ ap length empty)
+
+no_events_yet : {start given : List ℕ} {held : Held} {header : Option Header} {tenant : Tenant} → (so_far : FoundLoaded start given held header tenant) → tenant.rows ≡ [] → so_far.events ≡ []
+no_events_yet so_far empty = no_texts so_far.events (sym (found_count so_far) ∙ ap length empty)
+
+-- one more line is loaded
+loaded_more : (limits : Limits) (earlier rows : List Row) (events : List Text) (line : Text) (row : Row) → AreLoadedAfter limits earlier events rows → IsLoadedNext limits rows line row
+    → AreLoadedAfter limits earlier (events ++ line ∷ []) (rows ++ row ∷ [])
+loaded_more limits earlier rows [] line row loaded next = (
+  row,
+  subst (λ (before : List Row). IsLoadedNext limits before line row) loaded next,
+  ap (λ before. before ++ row ∷ []) loaded,
+)
+loaded_more limits earlier rows (first ∷ events) line row loaded next =
+    (loaded.0, loaded.1, loaded_more limits (earlier ++ loaded.0 ∷ []) rows events line row loaded.2 next)
+
+pub found_none_loaded : (start : List ℕ) (held : Held) → held.left ≡ [] → FoundLoaded start start held None (fresh (limits_under None))
+found_none_loaded start held none = record { found = []; events = []; read = HasRead-start start held none; parts = (refl, tt); limits = refl; loaded = refl }
+
+found_made : {start given given' : List ℕ} {held held' : Held} {header : Option Header} {tenant : Tenant} {line : Text} {row : Row} → FoundLoaded start given held header tenant
+    → GivesLine given given' held.left held'.left held'.is_ended line → (IsTrue held.is_ended → (given' ≡ given) × IsTrue held'.is_ended)
+    → IsNoFirst header tenant line → IsLoadedNext tenant.limits tenant.rows line row → FoundLoaded start given' held' header (tenant_with tenant.limits (tenant.rows ++ row ∷ []))
+found_made {header = header} {tenant} {line} {row} before gives at_end none next = record {
+  found = before.found ++ line ∷ [];
+  events = before.events ++ line ∷ [];
+  read = HasRead-line before.read gives at_end;
+  parts = parts_more header before.found before.events line [] before.parts (λ headless empty. none headless (no_rows_yet before empty));
+  limits = before.limits;
+  loaded = loaded_more tenant.limits [] tenant.rows before.events line row before.loaded next;
+}
+
+-- the first line is a header
+found_begun : {start given given' : List ℕ} {held held' : Held} {header : Option Header} {tenant : Tenant} {line : Text} (first : Header) → FoundLoaded start given held header tenant
+    → GivesLine given given' held.left held'.left held'.is_ended line → (IsTrue held.is_ended → (given' ≡ given) × IsTrue held'.is_ended)
+    → header ≡ None → tenant.rows ≡ [] → IsHeader line first → FoundLoaded start given' held' (Some first) (fresh first.limits)
+found_begun {header = None} {tenant} {line} first before gives at_end headless empty is =
+    let none : before.found ≡ [] = before.parts.0 ∙ no_events_yet before empty in
+    record {
+      found = before.found ++ line ∷ [];
+      events = [];
+      read = HasRead-line before.read gives at_end;
+      parts = (line, ap (λ these. these ++ line ∷ []) none, is);
+      limits = refl;
+      loaded = refl;
+    }
+found_begun {header = Some other} first before gives at_end headless empty is = absurd (cc headless)
+
+-- At the end of the input all is done.
+loads_done : (before after : Given) (held : Held) (header : Option Header) (tenant : Tenant) → FoundLoaded before.bytes after.bytes held header tenant → held.left ≡ [] → HasToldEnd after
+    → LoadsAs before after (Done (length tenant.rows)) tenant.rows
+loads_done before after held header tenant found none told = record {
+  came = found.read.came;
+  grows = found.read.grows;
+  all = told;
+  is_due = λ rest ends.
+      let all : lines (found.read.came ++ rest) ≡ found.found = ap (λ more. lines (found.read.came ++ more)) (ends told.0) ∙ ap lines (append-nil found.read.came) ∙ HasRead-end found.read none in
+      record {
+        header = header;
+        events = found.events;
+        parts = subst (λ (these : List Text). AreParts these header found.events) (sym all) found.parts;
+        judged = (found_count found, subst (λ (limits : Limits). AreLoadedAfter limits [] found.events tenant.rows) found.limits found.loaded);
+      };
+}
+
+-- A line that was read to its end is faulty.
+loads_no : (before after : Given) (given : List ℕ) (held held' : Held) (header : Option Header) (tenant : Tenant) (line : Text) (reason : Reason) (number : ℕ) (rows : List Row) → FoundLoaded before.bytes given held header tenant
+    → GivesLine given after.bytes held.left held'.left held'.is_ended line → (IsTrue held.is_ended → (after.bytes ≡ given) × IsTrue held'.is_ended)
+    → (IsTrue held'.is_ended → IsTrue after.has_ended) → IsNoFirst header tenant line → IsFaultyAfter reason tenant.limits tenant.rows line → number ≡ lines_ahead header + suc (length tenant.rows)
+    → LoadsAs before after (No number reason) rows
+loads_no before after given held held' header tenant line reason number rows found gives at_end told none faulty counts =
+    let read : HasRead before.bytes after.bytes held' (found.found ++ line ∷ []) = HasRead-line found.read gives at_end in
+    record {
+      came = read.came;
+      grows = read.grows;
+      all = tt;
+      is_due = λ rest ends.
+          let behind = lines (held'.left ++ rest) in
+          let all : lines (read.came ++ rest) ≡ found.found ++ line ∷ behind = read.so_far rest (λ ended. ends (told ended)) ∙ append_assoc found.found (line ∷ []) behind in
+          record {
+            header = header;
+            events = found.events ++ line ∷ behind;
+            parts = subst (λ (these : List Text). AreParts these header (found.events ++ line ∷ behind)) (sym all)
+                (parts_more header found.found found.events line behind found.parts (λ headless empty. none headless (no_rows_yet found empty)));
+            judged = record {
+              before = found.events;
+              line = line;
+              rest = behind;
+              splits = refl;
+              counts = omega (arith, counts, found_count found);
+              rows = tenant.rows;
+              loaded = subst (λ (limits : Limits). AreLoadedAfter limits [] found.events tenant.rows) found.limits found.loaded;
+              faulty = subst (λ (limits : Limits). IsFaultyAfter reason limits tenant.rows line) found.limits faulty;
+            };
+          };
+    }
+
+-- What was found next: since `before` the lines were loaded, and of the source and what is held it is known how they went on.
+pub record LoadsOn (before middle after : Given) (held held' : Held) (rebuilt : Rebuilt) (found : Line) : Type 0 where
+  pub so_far : FoundLoaded before.bytes middle.bytes held rebuilt.header rebuilt.ledger
+  pub bounds : held'.bounds ≡ export_bounds
+  pub finds : Finds middle.bytes after.bytes held held' found
+  pub at_end : IsTrue held.is_ended → (after.bytes ≡ middle.bytes) × IsTrue held'.is_ended
+  pub told : IsTrue held'.is_ended → HasToldEnd after
+
+answered_as : {before middle after : Given} {held held' : Held} {old : Rebuilt} {found : Line} (new : Rebuilt) (loaded : Loaded) (text : Text) → LoadsOn before middle after held held' old found
+    → GivesLine middle.bytes after.bytes held.left held'.left held'.is_ended text → IsTakenAs (Some loaded) old new text → LoadsAs before after loaded new.ledger.rows
+answered_as new (Done count) text on gives taken = absurd taken
+answered_as {before} {middle} {after} {held} {held'} {old} new (No number reason) text on gives taken =
+    loads_no before after middle.bytes held held' old.header old.ledger text reason number new.ledger.rows on.so_far gives on.at_end (λ ended. (on.told ended).0) taken.1.no_header taken.1.faulty taken.0
+
+-- what is answered in the end
+pub answered_over : (before middle after : Given) (held held' : Held) (old new : Rebuilt) (found : Line) (loaded : Loaded) → LoadsOn before middle after held held' old found
+    → IsTaken found held'.line (Some loaded) old new → LoadsAs before after loaded new.ledger.rows
+answered_over before middle after held held' old new End loaded on taken =
+    let same : loaded ≡ Done (length old.ledger.rows) = cc taken.0 in
+    subst (λ (tenant : Tenant). LoadsAs before after loaded tenant.rows) (sym taken.1)
+    (subst (λ (found : Loaded). LoadsAs before after found old.ledger.rows) (sym same)
+    (loads_done before after held old.header old.ledger (subst (λ bytes. FoundLoaded before.bytes bytes held old.header old.ledger) (sym on.finds.0) on.so_far) on.finds.1 (on.told on.finds.3)))
+answered_over before middle after held held' old new Whole loaded on taken =
+    let text = text_found held held' Whole on.bounds on.finds (λ same. absurd (cc)) in
+    answered_as new loaded text.0 on text.1 (taken text.0 text.2)
+answered_over before middle after held held' old new TooLong loaded on taken =
+    let text = text_found held held' TooLong on.bounds on.finds (λ same. absurd (cc)) in
+    answered_as new loaded text.0 on text.1 (taken text.0 text.2)
+
+loaded_on : {before middle after : Given} {held held' : Held} {old : Rebuilt} {found : Line} (new : Rebuilt) (text : Text) → LoadsOn before middle after held held' old found
+    → GivesLine middle.bytes after.bytes held.left held'.left held'.is_ended text → IsTakenAs None old new text
+    → FoundLoaded before.bytes after.bytes held' new.header new.ledger
+loaded_on {before} {after = after} {held' = held'} new text on gives (inl begun) =
+    subst (λ (header : Option Header). FoundLoaded before.bytes after.bytes held' header new.ledger) (sym begun.headed)
+    (subst (λ (tenant : Tenant). FoundLoaded before.bytes after.bytes held' (Some begun.header) tenant) (sym begun.ledger)
+    (found_begun begun.header on.so_far gives on.at_end begun.first.0 begun.first.1 begun.is))
+loaded_on {before} {after = after} {held' = held'} {old} new text on gives (inr goes) =
+    subst (λ (header : Option Header). FoundLoaded before.bytes after.bytes held' header new.ledger) (sym goes.made.more.header)
+    (subst (λ (tenant : Tenant). FoundLoaded before.bytes after.bytes held' old.header tenant) (sym goes.made.more.ledger)
+    (found_made on.so_far gives on.at_end goes.no_header goes.made.loaded))
+
+-- loading goes on
+pub loaded_so_far : (before middle after : Given) (held held' : Held) (old new : Rebuilt) (found : Line) → LoadsOn before middle after held held' old found
+    → IsTaken found held'.line None old new → FoundLoaded before.bytes after.bytes held' new.header new.ledger
+loaded_so_far before middle after held held' old new End on taken = absurd (cc taken.0)
+loaded_so_far before middle after held held' old new Whole on taken =
+    let text = text_found held held' Whole on.bounds on.finds (λ same. absurd (cc)) in
+    loaded_on new text.0 on text.1 (taken text.0 text.2)
+loaded_so_far before middle after held held' old new TooLong on taken =
+    let text = text_found held held' TooLong on.bounds on.finds (λ same. absurd (cc)) in
+    loaded_on new text.0 on text.1 (taken text.0 text.2)
+
+-- it begins with no line
+pub begins_loading : (start : List ℕ) (held : Held) (rebuilt : Rebuilt) → held.left ≡ [] → IsUnbegun rebuilt → FoundLoaded start start held rebuilt.header rebuilt.ledger
+begins_loading start held rebuilt none unbegun =
+    subst (λ (header : Option Header). FoundLoaded start start held header rebuilt.ledger) (sym unbegun.0)
+    (subst (λ (tenant : Tenant). FoundLoaded start start held None tenant) (sym unbegun.1) (found_none_loaded start held none))

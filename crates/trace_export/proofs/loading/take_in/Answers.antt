@@ -1,0 +1,55 @@
+use Rattle.std.proofs.Common.{ap, Some, None, subst, arith}
+use Rattle.trace_types.specs.text.Name.{Text}
+use Rattle.line_protocol.specs.Held.{Held, ReadingBounds, fresh_within}
+use Rattle.line_protocol.specs.LineReading.{Reads}
+use Rattle.line_protocol.proofs.LineReadingLemmas.{Reads-none, Reads-on, has_told_end}
+use Rattle.trace_export.specs.Rebuilding.{IsTaken}
+use Rattle.trace_export.proofs.Judging.{export_bounds}
+use Rattle.trace_export.proofs.LoadedLines.{LoadsOn, answered_over, begins_loading, loaded_so_far}
+use Rattle.trace_export.proofs.loading.take_in.Goals as goal
+use Rattle.trace_export.proofs.loading.take_in.Given.{Over}
+use Rattle.trace_export.proofs.loading.take_in.Goals.{After-judge}
+
+-- all reads that were made
+reads_so_far : (g : Over) (c : After-judge g) → Reads (g.R.Source.seen c.args.reader.now) (g.R.Source.seen c.next_line.new.source) (fresh_within export_bounds) c.next_line.new.self 0
+reads_so_far g c = Reads-on {failed = 0} c.loop-lines.invariant.reads (λ ended. ap g.R.Source.seen (c.next_line.ensures.at_end ended).0) c.in_ok-found.ensures.finds.reads.reads
+
+-- what was found
+found_on : (g : Over) (c : After-judge g)
+    → LoadsOn (g.R.Source.seen c.args.reader.now) (g.R.Source.seen c.loop-lines.reader) (g.R.Source.seen c.next_line.new.source) c.loop-lines.lines c.next_line.new.self c.loop-lines.rebuilt c.in_ok-found.found
+found_on g c = record {
+  so_far = c.loop-lines.invariant.so_far;
+  bounds = (reads_so_far g c).bounds;
+  finds = c.in_ok-found.ensures.finds.line;
+  at_end = λ ended. (ap (λ source. (g.R.Source.seen source).bytes) (c.next_line.ensures.at_end ended).0, (c.next_line.ensures.at_end ended).1);
+  told = has_told_end (reads_so_far g c);
+}
+
+pub loop-lines-init : goal.loop-lines-init
+loop-lines-init g c =
+    let held = c.in_ok-lines.ensures in
+    record {
+      so_far = begins_loading _ c.in_ok-lines.lines c.args.rebuilt.now (ap (λ (h : Held). h.left) held) c.requires;
+      reads = rw held (Reads-none _ _);
+      most = rw held (omega arith);
+    }
+
+pub returns-in-Some-clause-loads : goal.returns-in-Some-clause-loads
+returns-in-Some-clause-loads g c =
+    let at = goal.at.returns-in-Some-clause-loads g c in
+    answered_over (g.R.Source.seen c.args.reader.now) (g.R.Source.seen c.loop-lines.reader) (g.R.Source.seen c.next_line.new.source) c.loop-lines.lines c.next_line.new.self c.loop-lines.rebuilt c.judge.new.rebuilt
+    c.in_ok-found.found c.in-Some.loaded (found_on g at.After-judge)
+    (subst (λ (line : Text). IsTaken c.in_ok-found.found line (Some c.in-Some.loaded) c.loop-lines.rebuilt c.judge.new.rebuilt) c.line.ensures
+    (subst (λ loaded. IsTaken c.in_ok-found.found c.line.result.now loaded c.loop-lines.rebuilt c.judge.new.rebuilt) c.in-Some.is c.in_ok-loaded.ensures))
+
+pub loop-lines-preserved : goal.loop-lines-preserved
+loop-lines-preserved g c =
+    let at = goal.at.loop-lines-preserved g c in
+    record {
+      so_far = loaded_so_far (g.R.Source.seen c.args.reader.now) (g.R.Source.seen c.loop-lines.reader) (g.R.Source.seen c.next_line.new.source) c.loop-lines.lines c.next_line.new.self c.loop-lines.rebuilt c.judge.new.rebuilt
+          c.in_ok-found.found (found_on g at.After-judge)
+          (subst (λ (line : Text). IsTaken c.in_ok-found.found line None c.loop-lines.rebuilt c.judge.new.rebuilt) c.line.ensures
+          (subst (λ loaded. IsTaken c.in_ok-found.found c.line.result.now loaded c.loop-lines.rebuilt c.judge.new.rebuilt) c.in_default.is c.in_ok-loaded.ensures));
+      reads = reads_so_far g at.After-judge;
+      most = omega (arith, c.in_ok-found.ensures.finds.reads.most, ap (λ (b : ReadingBounds). b.reads) (reads_so_far g at.After-judge).bounds);
+    }
