@@ -674,7 +674,6 @@ no_defaults Serves rows =
     ∙ (ap (λ left. fold with_default left (Rattle.std.specs.Prelude.drop 7 (rules Serves))) (same_either (has_row (codes "cache") rows) rows)
     ∙ (ap (λ left. fold with_default left (Rattle.std.specs.Prelude.drop 8 (rules Serves))) (same_either (has_row (codes "TENANT") rows) rows)
     ∙ same_either (has_row (codes "help") rows) rows)))))))
-
 no_defaults Loads rows =
     ap (λ left. fold with_default left (Rattle.std.specs.Prelude.drop 1 (rules Loads))) (same_either (has_row (codes "TENANT") rows) rows)
     ∙ same_either (has_row (codes "help") rows) rows

@@ -88,8 +88,7 @@ right_all limits earlier (line ∷ rest) rows loaded legal sound =
     let row = loaded.0 in
     let new = reverse-append earlier (row ∷ []) in
     let now_legal = subst IsLegal new (holds_before IsLegal (λ first history known. known.1) limits (earlier ++ row ∷ []) rest rows loaded.2 legal) in
-    let now_sound = subst AreSound new (holds_before AreSound (λ first history known. known.1) limits (earlier ++ row ∷ []) rest rows loaded.2 sound) in
-    (
+    let now_sound = subst AreSound new (holds_before AreSound (λ first history known. known.1) limits (earlier ++ row ∷ []) rest rows loaded.2 sound) in (
       placed_of row (history_of earlier),
       right_next limits earlier line row loaded.1 now_legal now_sound,
       subst (λ history. AreRightAfter (placing_of history) rest (placing_of (history_of rows))) new (right_all limits (earlier ++ row ∷ []) rest rows loaded.2 legal sound),
@@ -166,7 +165,7 @@ module _ (limits : Limits) (before : List Text) (rows : List Row) (line : Text) 
   lists_older event found is =
       let within = row_of-within (history_of rows) event found is in
       let same : event_line (before ++ line ∷ []) event ≡ event_line before event =
-          get_or_append_left before (line ∷ []) [] (event - 1) (omega (arith, within.0, within.1, so_far.counted, length-reverse rows)) in
+      get_or_append_left before (line ∷ []) [] (event - 1) (omega (arith, within.0, within.1, so_far.counted, length-reverse rows)) in
       subst (λ (text : Text). ListsAs text (listed_row event found (stamp_text_of after_row event))) (sym same)
       (subst (λ (stamp : Text). ListsAs (event_line before event) (listed_row event found stamp)) (sym (stamp_text-older row (history_of rows) event within.1)) (so_far.each event found is))
 

@@ -40,7 +40,7 @@ of_added : (P : List Row → ℕ → Row → Type 0) (rows : List Row) (row : Ro
     → P (rows ++ row ∷ []) (suc (length rows)) row
 of_added P rows row after event leaves counted known =
     let added : OfEvent P (rows ++ row ∷ []) (suc (length rows)) =
-        subst (λ count. OfEvent P (rows ++ row ∷ []) count) counted (subst (λ these. OfEvent P these event) leaves known) in
+    subst (λ count. OfEvent P (rows ++ row ∷ []) count) counted (subst (λ these. OfEvent P these event) leaves known) in
     added row (last_row rows row)
 
 module _ (tenant : Tenant) (listed : Listed) (count : ℕ) (new : Tenant) (steps : Steps tenant (listed_request listed) (reply.Accepted count) new) where

@@ -85,12 +85,7 @@ impl Rebuilt {
     }
 
     /// Makes the request of the event that the line lists, where it may come next; else tells why the line is faulty.
-    fn add_line<T>(
-        &mut self,
-        rt: &T,
-        alloc: Global,
-        line: &[u8],
-    ) -> Result<Option<Reason>, Memory>
+    fn add_line<T>(&mut self, rt: &T, alloc: Global, line: &[u8]) -> Result<Option<Reason>, Memory>
         requires short { length line.now ≤ 65536 }
         ensures right { IfOk result (λ fault. IfNone fault (IsLineMade self.old self.new line.now)) }
         ensures faulty { IfOk result (λ fault. IfSome fault (λ reason. IsFaultyAfter reason self.old.ledger.limits self.old.ledger.rows line.now)) }

@@ -37,5 +37,5 @@ returns-in-Refused-clause-unfit g c =
     let listed = listed_of c.args.listed.now in
     let steps = steps_as c.args.self.now.ledger c.report.new.self c.request_for-request.result listed c.report.result (Refused c.in-Refused.code) c.request_for-request.ensures c.in-Refused.is c.report.ensures.steps in
     IfOk-weaker c.refused.result _ _ (λ fault known.
-        subst (λ found. IfSome found (λ reason. IsUnfitAfter reason c.args.self.now.ledger.limits c.args.self.now.ledger.rows listed)) (sym known.0)
-        (refused_next c.args.self.now.ledger listed c.in-Refused.code c.report.new.self c.requires.may steps known.1)) c.refused.ensures
+    subst (λ found. IfSome found (λ reason. IsUnfitAfter reason c.args.self.now.ledger.limits c.args.self.now.ledger.rows listed)) (sym known.0)
+    (refused_next c.args.self.now.ledger listed c.in-Refused.code c.report.new.self c.requires.may steps known.1)) c.refused.ensures
