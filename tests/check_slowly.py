@@ -113,7 +113,7 @@ def read_stamp(text):
 
 
 def read_line(line, number):
-    """The events that the line's event follows, and its tree."""
+    """The event that the line lists, and its tree."""
     if len(line) > MOST_BYTES:
         raise Faulty(1)
     value = read_json(line)
@@ -124,26 +124,26 @@ def read_line(line, number):
         raise Faulty(3)
     if not all(one < other for one, other in itertools.pairwise([0, *event["preds"], number])):
         raise Faulty(4)
-    return event["preds"], read_stamp(event["stamp"])
+    return event, read_stamp(event["stamp"])
 
 
 def is_within(value, most):
     return type(value) is int and 1 <= value <= most
 
 
-def is_header(line):
-    """Whether the first line is a header, which has a version. A spoilt one is faulty."""
+def read_header(line):
+    """The header that the first line is, which has a version; None where it is none. A spoilt one is faulty."""
     if len(line) > MOST_BYTES:
         raise Faulty(1)
     value = read_json(line)
     if not isinstance(value, Members) or "version" not in dict(value):
-        return False
+        return None
     header = dict(value)
     if (set(header) != HEADER_KEYS or not is_within(header["events"], MOST_EVENTS)
             or not is_within(header["tasks"], MOST_TASKS) or not is_within(header["messages"], MOST_MESSAGES)
             or not is_name(header["tenant"]) or type(header["version"]) is not int or header["version"] != VERSION):
         raise Faulty(2)
-    return True
+    return header
 
 
 def lines(data):
@@ -180,7 +180,7 @@ def reaching(preds_of, event):
 
 def first_out_of_order(listed):
     """The first event whose tree does not compare with that of some earlier one as the edges say."""
-    preds_of, trees = [preds for preds, _ in listed], [tree for _, tree in listed]
+    preds_of, trees = [event["preds"] for event, _ in listed], [tree for _, tree in listed]
     everywhere = list(set().union(*map(points, trees)))
     values = [[value_at(tree, point) for point in everywhere] for tree in trees]
     reached = [reaching(preds_of, event) for event in range(1, len(listed) + 1)]
@@ -195,18 +195,24 @@ def first_out_of_order(listed):
     return None
 
 
-def verdict(data):
-    listed, fault, ahead = [], None, 0
+def listed_in(data):
+    """The header if there is one, and what the lines list up to the first that is faulty by itself; and what is answered then."""
+    header, listed = None, []
     for number, line in enumerate(lines(data), 1):
         try:
-            if number == 1 and is_header(line):
-                ahead = 1
-            else:
-                listed.append(read_line(line, number - ahead))
+            if number == 1:
+                header = read_header(line)
+            if number > 1 or header is None:
+                listed.append(read_line(line, len(listed) + 1))
         except Faulty as faulty:
-            fault = f"no {number} {faulty}"
-            break
+            return header, listed, f"no {number} {faulty}"
+    return header, listed, None
+
+
+def verdict(data):
+    header, listed, fault = listed_in(data)
     event = first_out_of_order(listed)
+    ahead = 0 if header is None else 1
     return f"no {ahead + event} 6" if event else fault or f"yes {len(listed)}"
 
 
