@@ -2,7 +2,8 @@
 """Changes a good export in one place: `spoil.py SEED` reads it from standard input and writes the changed one.
 
 With the same seed it makes the same change: to one byte, key, value, number, edge or stamp, to two of them in one line, to
-how JSON is laid out, or to its header; now and then to nothing. Some changes leave an export that is good.
+how JSON is laid out, or to its header; now and then to nothing. Some changes leave an export that is good. Some leave stamps
+and edges that agree, but not with what a tenant could have reported: another name, another place in the order, another id.
 """
 import json
 import random
@@ -19,6 +20,7 @@ OTHERS = ["null", "true", "{}", "[]", "[0]", "[1]", "[1,1]", "[1,2,3]", '["1"]',
           *("[" * levels + "]" * levels for levels in (126, 127, 1000, 20000))]
 VALUES = [*NUMBERS, *(f'"{text}"' for text in TEXTS), *OTHERS]
 WORDS = ["local", "spawn", "send", "recv", "end", "join", "-", "root", "task_1", "Local", "", "a b", "a" * 24, "a" * 25]
+IDS = ["0", "1", "(1,0)", "(0,1)", "((1,0),0)", "((0,1),0)", "(0,(0,1))", "((1,0),(1,0))"]
 STAMPS = ["1;(1,0,0)", "1;(0,1,2)", "(1,1);1", "0;1", "1;9223372036854775807", "1;9223372036854775808",
           "1;(1,0,9223372036854775806)", "1;(1,0,9223372036854775807)", "1;(9223372036854775808,0,1)", "1;01",
           f"1;{'(0,0,' * 2049}1{')' * 2049}", *(f"{'(0,' * levels}1{')' * levels};1" for levels in (1, 2048, 2049))]
@@ -186,11 +188,92 @@ def layout(members, choose, number):
     return blank + line + blank + " " * (length - len(line) - 2 * len(blank)) + choose.choice(["", "", "\r", "\r\r"])
 
 
+def at_events(change):
+    """The change of the list of events, as one of a whole export."""
+    def change_export(export, choose):
+        lines, ahead = lines_of(export)
+        events = [json.loads(line) for line in lines[ahead:]]
+        return text_of(lines[:ahead] + [json.dumps(event, separators=(",", ":")) for event in change(events, choose)])
+    return change_export
+
+
+def renumbered(events, number_of):
+    """The events with other numbers, by the old ones, in their order. An edge from an event without a number is lost."""
+    for event in events:
+        event["event"] = number_of[event["event"]]
+        event["preds"] = sorted(number_of[pred] for pred in event["preds"] if pred in number_of)
+    return sorted(events, key=lambda event: event["event"])
+
+
+def one_event_less(events, choose):
+    less = choose.randrange(len(events))
+    left = events[:less] + events[less + 1:]
+    return renumbered(left, {event["event"]: number for number, event in enumerate(left, 1)})
+
+
+def two_exchanged(events, choose):
+    """Two events that follow each other in the list are exchanged. A tenant may have reported them so, if the second did not follow
+    the first."""
+    first = choose.randrange(1, len(events))
+    numbers = {number: number for number in range(1, len(events) + 1)}
+    return renumbered(events, numbers | {first: first + 1, first + 1: first})
+
+
+def some_name_from(events, choose):
+    """A task or a message has another name, from some event on or in all of them."""
+    names = sorted({event[key] for event in events for key in ("name", "task")} - {"-"})
+    old, new = choose.choice(names), choose.choice([*names, "other", "a" * 24])
+    since = choose.choice([0, 0, choose.randrange(len(events))])
+    for event in events[since:]:
+        event.update({key: new for key in ("name", "task") if event[key] == old})
+    return events
+
+
+def all_greater(events, choose):
+    """Each tree is greater by one."""
+    for event in events:
+        part, tree = event["stamp"].split(";")
+        event["stamp"] = part + ";" + re.sub("[0-9]+", lambda root: str(int(root[0]) + 1), tree, count=1)
+    return events
+
+
+def mirrored(part):
+    return part if isinstance(part, int) else [*part[:-2], mirrored(part[-1]), mirrored(part[-2])]
+
+
+def all_mirrored(events, choose):
+    """In each stamp the left half is the right one."""
+    for event in events:
+        parts = [json.loads(part.replace("(", "[").replace(")", "]")) for part in event["stamp"][1:-1].split(";")]
+        text = ";".join(json.dumps(mirrored(part), separators=(",", ":")) for part in parts)
+        event["stamp"] = "[" + text.replace("[", "(").replace("]", ")") + "]"
+    return events
+
+
+def some_id(events, choose):
+    event = choose.choice(events)
+    event["stamp"] = f'[{choose.choice(IDS)};{event["stamp"].split(";")[1]}'
+    return events
+
+
+def some_limit_of_the_trace(export, choose):
+    """A limit is what the trace needs, or one less."""
+    lines, ahead = lines_of(export)
+    kinds = [json.loads(line)["kind"] for line in lines[ahead:]]
+    needed = {"events": len(kinds), "messages": kinds.count("send"), "tasks": 1 + kinds.count("spawn")}
+    key = choose.choice(sorted(needed))
+    header = json.loads(lines[0] if ahead else HEADER) | {key: max(1, needed[key] - choose.randrange(2))}
+    return text_of([json.dumps(header, separators=(",", ":")), *lines[ahead:]])
+
+
 CHANGES = [nothing, some_byte, some_byte, some_end,
            *map(at_some_line, [some_key, some_value, some_word, some_number, some_number, some_edge, some_edge, some_stamp,
                                two_at_once, layout]),
            some_headers, *map(at_header, [some_header_key, some_header_value, some_limit, some_version, some_tenant,
-                                          header_layout])]
+                                          header_layout]),
+           some_limit_of_the_trace, some_limit_of_the_trace,
+           *map(at_events, [one_event_less, two_exchanged, two_exchanged, some_name_from, some_name_from, all_greater, all_mirrored,
+                            some_id, some_id])]
 
 
 def spoiled(export, choose):
