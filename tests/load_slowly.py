@@ -4,7 +4,7 @@
 `load_slowly.py TENANT` reads an export from standard input. If no line is faulty it writes the requests that report the
 events, each behind the tenant's name. Else it writes `no LINE REASON` on standard error, and its status is 1.
 
-It lists the lines as bench/check_slowly.py does. Its ledger is a list of rows that is searched, beside the id of each task.
+It lists the lines as check_slowly.py does. Its ledger is a list of rows that is searched, beside the id of each task.
 """
 import sys
 
