@@ -1,4 +1,4 @@
--- The text of an event's JSON, and that of a header's, is one line, and how long it is, where its words stand for themselves in JSON.
+-- The text of an event or of a header is one line, and how long that line is, where its words stand for themselves in JSON.
 use Rattle.std.proofs.Common.{◌≡◌, ◌≢◌, ℕ, ◌+◌, ◌*◌, ◌^◌, ◌<◌, ◌≤◌, Bool, true, false, IsTrue, List, [], ◌∷◌, ◌++◌, length, refl, sym, ap, subst, ◌∙◌, arith, length-append, append_assoc, codes}
 use Rattle.std.specs.Prelude.{◌==◌, ◌&&◌, ◌||◌, ◌%◌, not, nat_le, nat_lt}
 use Rattle.std.specs.Fmt.{decimal}

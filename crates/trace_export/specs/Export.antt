@@ -37,7 +37,7 @@ lines_after count (row ∷ rows) stamps =
 abbrev pub export_lines : Header → List Row → List Text → List Text
 export_lines header rows stamps = header_line header ∷ lines_after 0 rows stamps
 
--- of each of these rows, which come after so many events, the JSON is read again from its line
+-- each of these rows, which come after so many events, is read again from its line
 abbrev pub AreReadAgain : ℕ → List Row → List Text → Type 0
 AreReadAgain count [] stamps = Unit {0}
 AreReadAgain count (row ∷ rows) stamps =

@@ -49,6 +49,6 @@ lines_ahead (Some header) = 1
 abbrev pub header_text : Header → Text
 header_text header = compact_text (header_json header)
 
--- its line, with its end
+-- the line in which a header is written, with its end
 abbrev pub header_line : Header → Text
 header_line header = header_text header ++ codes "\n"

@@ -120,7 +120,7 @@ fn line_of(alloc: Global, event: u64, row: &Row, stamp: Vec<u8>) -> Result<Vec<u
     Ok(line)
 }
 
-/// The text of the JSON, with an end of line. It is read again if the JSON is no deeper than JSON may be.
+/// The text of the JSON, with an end of line. The text is read again if the JSON nests no deeper than is read.
 fn with_end(alloc: Global, json: &Value) -> Result<Vec<u8>, Memory>
     ensures line { IfOk result (λ line. has_float (view json.now) ≡ false → line.items ≡ compact_text (view json.now) ++ codes "\n") }
     ensures read { IfOk result (λ _. has_float (view json.now) ≡ false → depth (view json.now) ≤ max_depth → IsReadAs (compact_text (view json.now)) (view json.now)) }
