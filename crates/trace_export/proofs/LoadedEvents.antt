@@ -1,5 +1,5 @@
 -- Lines that are loaded list the rows that their requests make, and a check finds each of them right.
-use Rattle.std.proofs.Common.{◌≡◌, ℕ, suc, ◌+◌, ◌-◌, ◌^◌, ◌<◌, ◌≤◌, eqb, List, [], ◌∷◌, ◌++◌, length, slice_index_or, Option, Some, None, inl, inr, refl, sym, ap, subst, ◌∙◌, arith, length-append, append_assoc}
+use Rattle.std.proofs.Common.{◌≡◌, ℕ, suc, ◌+◌, ◌-◌, ◌^◌, ◌<◌, ◌≤◌, eqb, List, [], ◌∷◌, ◌++◌, length, slice_index_or, Option, Some, inl, inr, refl, sym, ap, subst, ◌∙◌, arith, length-append, append_assoc}
 use Rattle.std.proofs.lemmas.Bool.{cases_eq, cond-true, cond-false, eq-eqb, ne_eqb}
 use Rattle.std.proofs.lemmas.List.{append-nil, get_or_append_left, get_or-append-add, length-reverse, reverse-append}
 use Rattle.std.proofs.lemmas.Option.{same_Some}
@@ -9,7 +9,6 @@ use Rattle.trace_types.specs.clock.Id.{Id}
 use Rattle.trace_types.specs.clock.Stamps.{stamp_of, stamp_text_of, tree_of}
 use Rattle.trace_types.specs.tenant.Limits.{Limits}
 use Rattle.trace_types.specs.tenant.Rows.{History, history_of, row_of}
-use Rattle.trace_types.specs.text.Lines.{lines}
 use Rattle.trace_types.specs.text.Name.{Text}
 use Rattle.trace_types.specs.text.StampText.{stamp_text}
 use Rattle.trace_types.specs.declared.row.Kind.{Kind}
@@ -23,9 +22,8 @@ use Rattle.trace_export.specs.Laws.{event_line}
 use Rattle.trace_export.specs.Listing.{Listed, ListsAs}
 use Rattle.trace_export.specs.Loading.{AreLoadedAfter, IsLoaded, IsLoadedNext, limits_under}
 use Rattle.trace_export.specs.Loads.{IsExportOfRun, ListEachEvent}
-use Rattle.trace_export.specs.Verdict.{AreRightAfter, HasTree, IsNumbered, IsPlacedAs, IsRightNext, IsStampTree}
+use Rattle.trace_export.specs.Verdict.{AreRightAfter, HasTree, IsNumbered, IsRightNext}
 use Rattle.trace_export.specs.declared.loaded.Loaded.TheVariants.{Done}
-use Rattle.trace_export.specs.declared.placed.Placed.{Placed}
 use Rattle.trace_export.proofs.Connecting.{length-with_next}
 use Rattle.trace_export.proofs.LegalRows.{AreSound, legal_rows_are_sound}
 use Rattle.trace_export.proofs.Placings.{length-placing, ordered_alike, placed_of, placing_of}

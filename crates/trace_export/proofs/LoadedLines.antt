@@ -6,7 +6,7 @@ use Rattle.trace_types.specs.tenant.Tenant.{Tenant, fresh}
 use Rattle.trace_types.specs.text.Lines.{lines}
 use Rattle.trace_types.specs.text.Name.{Text}
 use Rattle.trace_types.specs.declared.row.Row.{Row}
-use Rattle.line_protocol.specs.Held.{Held, ReadingBounds}
+use Rattle.line_protocol.specs.Held.{Held}
 use Rattle.line_protocol.specs.LineReading.{HasRead, GivesLine, Finds}
 use Rattle.line_protocol.specs.Source.{Given, HasToldEnd}
 use Rattle.line_protocol.specs.declared.line.Line.{Line}

@@ -1,5 +1,5 @@
 -- The request of a listed event was made: what is known of it, by its reply.
-use Rattle.std.proofs.Common.{◌≡◌, ◌≢◌, ℕ, suc, ◌-◌, ◌<◌, ◌≤◌, List, [], ◌∷◌, ◌++◌, length, Some, refl, sym, ap, subst, ◌∙◌, arith, length-append}
+use Rattle.std.proofs.Common.{◌≡◌, ◌≢◌, ℕ, suc, ◌-◌, ◌<◌, ◌≤◌, List, [], ◌∷◌, ◌++◌, length, Some, ap, subst, ◌∙◌, arith, length-append}
 use Rattle.std.specs.List.{slice_get}
 use Rattle.std.proofs.lemmas.Option.{slice_get-get_or}
 use Rattle.std.proofs.Math.Seq.{get_or-append_seam}
@@ -11,7 +11,7 @@ use Rattle.trace_types.specs.declared.reply.Reply.TheVariants as reply
 use Rattle.trace_types.specs.declared.request.Request.{Request}
 use Rattle.trace_types.specs.declared.row.Row.{Row}
 use Rattle.trace_export.specs.Listing.{Listed}
-use Rattle.trace_export.specs.Loading.{IsAsListed, IsListedAsDue, IsUnfitAfter, MayFollow, listed_request, tenant_with}
+use Rattle.trace_export.specs.Loading.{IsAsListed, IsUnfitAfter, MayFollow, listed_request}
 use Rattle.trace_export.specs.Rebuilding.{IsMade}
 use Rattle.trace_export.specs.declared.reason.Reason.TheVariants.{NotDue, Refused}
 use Rattle.trace_export.specs.declared.rebuilt.Rebuilt.{Rebuilt}

@@ -1,13 +1,12 @@
 -- The graph that the export of a legal history lists: its trees compare as its edges say.
-use Rattle.std.proofs.Common.{◌≡◌, ◌↔◌, ℕ, suc, ◌<◌, ◌≤◌, IsTrue, true, List, [], ◌∷◌, length, refl, sym, ap, subst, ◌∙◌, inl, inr, eqb, arith}
+use Rattle.std.proofs.Common.{◌≡◌, ℕ, suc, true, List, [], ◌∷◌, length, refl, sym, ap, subst, ◌∙◌, inl, inr, eqb, arith}
 use Rattle.std.specs.List.{Contains}
 use Rattle.std.proofs.lemmas.Bool.{cases_eq, cond-true, cond-false, eq-eqb, ne_eqb}
 use Rattle.std.proofs.lemmas.Bool.Decides.{nat_tests}
 use Rattle.trace_types.specs.clock.Clock.{tree_clock}
-use Rattle.trace_types.specs.clock.EventTree.{EventTree}
 use Rattle.trace_types.specs.clock.Stamps.{tree_of}
 use Rattle.trace_types.specs.tenant.Rows.{History, is_event}
-use Rattle.trace_types.specs.tenant.Reachability.{predecessors, predecessors_of, LeadsBack, Reaches, reaches}
+use Rattle.trace_types.specs.tenant.Reachability.{predecessors_of, LeadsBack}
 use Rattle.trace_types.specs.declared.row.Row.{Row}
 use Rattle.trace_types.proofs.Reachability.{predecessors_of_before, reaches_iff}
 use Rattle.event_tree.specs.Comparison.{IsBelow}

@@ -1,5 +1,5 @@
 -- Why a line is faulty, of why the event that it lists does not come next.
-use Rattle.std.proofs.Common.{◌≡◌, ◌≤◌, ℕ, suc, List, length, Some, sym, subst, ◌∙◌}
+use Rattle.std.proofs.Common.{suc, List, length, sym, subst, ◌∙◌}
 use Rattle.std.proofs.lemmas.Option.{same_Some}
 use Rattle.serde_json.specs.Data.{Data}
 use Rattle.trace_types.specs.tenant.Limits.{Limits}
@@ -10,7 +10,7 @@ use Rattle.trace_export.specs.Listing.{Listed, ListsAs, IsJsonOf, IsReadAs}
 use Rattle.trace_export.specs.Loading.{IsFaultyAfter, IsUnfitAfter}
 use Rattle.trace_export.specs.Verdict.{IsFaulty, IsJsonLine, IsListing, IsRefusedFor, IsUnfitFor}
 use Rattle.trace_export.specs.declared.reason.Reason.{Reason}
-use Rattle.trace_export.specs.declared.reason.Reason.TheVariants.{NoJson, NoEvent, Number, Preds, Stamp, Order, Refused, NotDue}
+use Rattle.trace_export.specs.declared.reason.Reason.TheVariants.{NoJson, NoEvent, Order, Refused, NotDue}
 
 -- a line that is no JSON
 pub no_json_line : (line : Text) → ((json : Data) → ¬ IsReadAs line json) → ¬ IsJsonLine line

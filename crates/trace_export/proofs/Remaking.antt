@@ -1,5 +1,5 @@
 -- What the request of a listed event does after some rows.
-use Rattle.std.proofs.Common.{◌≡◌, ◌≢◌, ◌⊎◌, inl, inr, ℕ, suc, IsTrue, List, [], ◌∷◌, ◌++◌, length, Option, Some, None, refl, sym, ap, subst, ◌∙◌}
+use Rattle.std.proofs.Common.{◌≡◌, ◌≢◌, ◌⊎◌, inl, inr, ℕ, suc, IsTrue, [], ◌∷◌, ◌++◌, length, Option, Some, None, refl, sym, ap, subst, ◌∙◌}
 use Rattle.std.proofs.lemmas.List.{length-reverse, append_cancel_left}
 use Rattle.trace_types.specs.tenant.Refusal.{refusal_of}
 use Rattle.trace_types.specs.tenant.Rows.{History, history_of}

@@ -1,12 +1,12 @@
 -- The requests of lines that are loaded, run again from nothing.
-use Rattle.std.proofs.Common.{◌≡◌, ℕ, suc, ◌+◌, IsTrue, List, [], ◌∷◌, ◌++◌, length, map, refl, sym, ap, subst, ◌∙◌, arith, length-append, append_assoc}
+use Rattle.std.proofs.Common.{◌≡◌, ℕ, suc, ◌+◌, List, [], ◌∷◌, ◌++◌, length, map, refl, sym, ap, subst, ◌∙◌, arith, length-append, append_assoc}
 use Rattle.std.specs.List.{All, AllByRecursion, range_with_len}
 use Rattle.std.proofs.lemmas.List.{append-nil, reverse-append}
 use Rattle.std.proofs.lemmas.List.Elements.{All-from_recursion}
 use Rattle.trace_types.specs.tenant.Limits.{Limits}
 use Rattle.trace_types.specs.tenant.Rows.{History, history_of}
-use Rattle.trace_types.specs.tenant.Tenant.{Tenant, AreLegal, after, fresh, replies, row_after, step}
-use Rattle.trace_types.specs.text.Name.{Text, is_name}
+use Rattle.trace_types.specs.tenant.Tenant.{Tenant, AreLegal, after, replies, row_after, step}
+use Rattle.trace_types.specs.text.Name.{Text}
 use Rattle.trace_types.specs.text.Text.{CanBeWritten}
 use Rattle.trace_types.specs.declared.reply.Reply.{Reply}
 use Rattle.trace_types.specs.declared.reply.Reply.TheVariants.{Accepted}

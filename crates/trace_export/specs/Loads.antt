@@ -1,5 +1,5 @@
 -- What a load leaves, of what its reader and its writer had before and after.
-use Rattle.std.specs.Prelude.{◌≡◌, ◌≢◌, ℕ, suc, ◌⊎◌, IsTrue, List, [], ◌∷◌, ◌++◌, length, map, Option, Some}
+use Rattle.std.specs.Prelude.{◌≡◌, ◌≢◌, ℕ, ◌⊎◌, IsTrue, List, [], ◌++◌, length, map, Option, Some}
 use Rattle.std.specs.List.{range_with_len}
 use Rattle.trace_types.specs.clock.Stamps.{stamp_text_of}
 use Rattle.trace_types.specs.tenant.Limits.{Limits}

@@ -1,5 +1,5 @@
 -- What one line does to the tenant that the lines before it lead to.
-use Rattle.std.specs.Prelude.{◌≡◌, ℕ, suc, ◌+◌, ◌⊎◌, List, [], ◌∷◌, ◌++◌, length, Option, Some, None}
+use Rattle.std.specs.Prelude.{◌≡◌, suc, ◌+◌, ◌⊎◌, [], ◌∷◌, ◌++◌, length, Option, Some, None}
 use Rattle.trace_types.specs.tenant.Tenant.{fresh}
 use Rattle.trace_types.specs.text.Name.{Text}
 use Rattle.trace_types.specs.declared.row.Row.{Row}

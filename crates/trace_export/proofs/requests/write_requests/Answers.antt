@@ -1,4 +1,4 @@
-use Rattle.std.proofs.Common.{◌≡◌, ◌+◌, suc, ap, arith, rules, length, Some, Err, subst, sym}
+use Rattle.std.proofs.Common.{◌≡◌, ◌+◌, suc, ap, arith, rules, Some, Err, subst, sym}
 use Rattle.std.specs.List.{slice_get}
 use Rattle.trace_types.specs.declared.row.Row.{Row}
 use Rattle.trace_export.specs.Listing.{FitsKind}

@@ -1,7 +1,6 @@
-use Rattle.std.proofs.Common.{◌≡◌, ◌∙◌, refl, sym, subst, inl, inr, IfSome}
+use Rattle.std.proofs.Common.{◌∙◌, refl, sym, subst, inl, inr, IfSome}
 use Rattle.std.proofs.lemmas.Bool.{false≢true}
 use Rattle.std.proofs.lemmas.Result.{IfOk-weaker}
-use Rattle.trace_types.specs.tenant.Tenant.{Steps}
 use Rattle.trace_types.specs.declared.reply.Reply.TheVariants.{Accepted, Refused}
 use Rattle.trace_export.specs.Listing.{listed_of}
 use Rattle.trace_export.specs.Loading.{IsUnfitAfter}
