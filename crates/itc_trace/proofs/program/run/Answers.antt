@@ -1,22 +1,22 @@
 use Rattle.std.proofs.Common.{rules, ℕ, ◌≡◌, ◌∙◌, ◌⊎◌, inl, inr, Bool, true, false, Option, Some, None, Result, Ok, Err, IfSome, IfErr, OnOk, ◌≢◌, ◌<◌, ◌≤◌, map, refl, sym, ap, subst, arith}
-use Rattle.command_line.specs.Demand.{Demand, ToReplay, ToServe, ToCheck}
+use Rattle.command_line.specs.Demand.{Demand, ToReplay, ToServe, ToCheck, ToLoad}
 use Rattle.itc_trace.specs.Taking.{are_taken, is_taken}
 use Rattle.itc_trace.specs.Fault.{status_of}
-use Rattle.itc_trace.specs.Program.{Does, DoesInPart, DoesReplay, DoesReplayInPart, DoesSome, DoesSomeInPart, ExportsFreshInPart, GoesThrough, IsFailure, IsUntouched, LacksMemory, RefusesTenants, ShowsSome, TellsFault}
+use Rattle.itc_trace.specs.Program.{Does, DoesInPart, DoesReplay, DoesReplayInPart, DoesSome, DoesSomeInPart, ExportsFreshInPart, GoesThrough, IsFailure, IsUntouched, LacksMemory, LoadsExport, LoadsExportInPart, RefusesTenants, ShowsSome, TellsFault}
 use Rattle.itc_trace.specs.Serving.{Serves, ServesInPart}
 use Rattle.itc_trace.specs.Showing.{ShowsAll}
 use Rattle.line_protocol.specs.Source.{Given}
 use Rattle.line_protocol.specs.Sink.{Taken}
-use Rattle.std.proofs.lemmas.Bool.{and_parts}
+use Rattle.std.proofs.lemmas.Bool.{and_parts, cases_eq}
 use Rattle.std.specs.Global.{Global}
 use Rattle.std.specs.Prelude.{String, option_map, IsSomeAnd, IsTrue, List, string_bytes}
 use Rattle.trace_types.specs.tenant.Limits.{Limits, are_limits}
-use Rattle.trace_types.specs.text.Name.{Text, is_between}
+use Rattle.trace_types.specs.text.Name.{Text, is_between, is_name}
 use Rattle.command_line.specs.declared.wanted.Replay.{Replay as Replays}
 use Rattle.itc_trace.specs.declared.fault.Fault.{Fault}
 use Rattle.itc_trace.specs.declared.fault.Fault.TheVariants.{Words, Tenants, Port, Accept, Read, Write, TooLong, Memory}
-use Rattle.command_line.specs.Reading.{IsAnswer, ReadsWords, Work, Replaying, Exporting, Serving, Checking, kinds_of, service_of, wanted_of, work_of, work_with}
-use Rattle.command_line.specs.declared.words.Asked.TheVariants.{Replay, Serve, Check, Show}
+use Rattle.command_line.specs.Reading.{IsAnswer, ReadsWords, Work, Replaying, Exporting, Serving, Checking, Loading, kinds_of, service_of, wanted_of, work_of, work_with}
+use Rattle.command_line.specs.declared.words.Asked.TheVariants.{Replay, Serve, Check, Load, Show}
 use Rattle.command_line.specs.declared.words.Refusal.TheVariants as refusal
 use Rattle.itc_trace.proofs.program.run.Goals as goal
 use Rattle.itc_trace.proofs.program.run.Goals.{in-Ok-Replay, in-Ok-Show, in-Err-Memory}
@@ -97,6 +97,7 @@ untouched_lacks given taken Replaying reader reader' writer writer' untouched = 
 untouched_lacks given taken Exporting reader reader' writer writer' untouched = inl untouched
 untouched_lacks given taken Serving reader reader' writer writer' untouched = (untouched.0, (0, inl (ap taken untouched.1)))
 untouched_lacks given taken Checking reader reader' writer writer' untouched = untouched.1
+untouched_lacks given taken Loading reader reader' writer writer' untouched = inl untouched
 
 -- what want of memory leaves of a replay
 replay_lacks : {R W : Type 0} (given : R → Given) (taken : W → Taken) (work : Work) (fault : Fault) (replay : Replays) (reader reader' : R) (writer writer' : W)
@@ -188,13 +189,14 @@ returns-in-Ok-Serve g c =
           );
       done = λ few.
           let did = c.serve_programs.ensures.done few in (
-            did.1,
+            (λ loud. did.1),
             served_through port sessions given taken taken' did.2,
             inr (
               answer.0,
               subst (λ work. DoesSome work given given taken taken' c.serve_programs.result) (sym answer.1) (did.0, refl, (port, sessions, in_range, sessions_in_range, did.2)),
             ),
           );
+      not_loaded = λ one is. let differ : Serving ≡ Loading = sym answer.1 ∙ is in absurd (cc);
       did = λ few.
           let did = c.serve_programs.ensures.done few in
           on_asked _ (λ asked. asked ≡ asked_is) _ read (λ asked is.
@@ -228,6 +230,7 @@ returns-in-Err-Words g c = record {
       absurd (subst (λ one. ReadsWords asked (Err one)) field read));
   memory = search rules;
   done = search rules;
+  not_loaded = search rules;
   did = search rules;
   broken_off = search rules;
 }
@@ -249,7 +252,7 @@ returns-in-Ok-Check g c =
           (subst (λ work. LacksMemory g.R.Source.seen g.W.Sink.seen work c.args.reader.now c.check_input.new.reader c.args.writer.now c.check_input.new.writer) (sym answer.1) lacked.0, lacked.1);
       done = λ few.
           let did = c.check_input.ensures.done few in (
-            did.0,
+            (λ loud. did.0),
             did.1,
             inr (
               answer.0,
@@ -257,6 +260,7 @@ returns-in-Ok-Check g c =
                   (g.W.Sink.seen c.args.writer.now) (g.W.Sink.seen c.check_input.new.writer) c.check_input.result) (sym answer.1) did.2,
             ),
           );
+      not_loaded = λ one is. let differ : Checking ≡ Loading = sym answer.1 ∙ is in absurd (cc);
       did = λ few. on_asked _ (λ asked. asked ≡ ToCheck) _ read (λ asked is.
           subst (λ one. Does one (g.R.Source.seen c.args.reader.now) (g.R.Source.seen c.check_input.new.reader)
           (g.W.Sink.seen c.args.writer.now) (g.W.Sink.seen c.check_input.new.writer) c.check_input.result) (sym is) (c.check_input.ensures.done few).2);
@@ -279,6 +283,70 @@ returns-in-Ok-Check g c =
           );
     }
 
+pub returns-in-Ok-Load : goal.returns-in-Ok-Load
+returns-in-Ok-Load g c =
+    let words = map g.S.AsStr.text c.args.words.now in
+    let tenant = string_bytes c.in-Ok-Load.tenant in
+    let field : c.in-Ok-Load.field-0 ≡ Load c.in-Ok-Load.tenant = search rules in
+    let answer = subst (λ one. IsAnswer (kinds_of words) (work_of words) (Ok one)) field c.in-Ok-Load.ensures.kinds in
+    let read = on_asked _ (λ asked. ReadsWords asked (Ok c.in-Ok-Load.field-0)) (λ asked. asked ≡ ToLoad tenant) c.in-Ok-Load.ensures.asked
+    (λ asked read. subst (λ one. ReadsWords asked (Ok one)) field read) in
+    let same : c.as_str.result.now ≡ tenant = search rules in
+    let given = g.R.Source.seen c.args.reader.now in
+    let given' = g.R.Source.seen c.load_input.new.reader in
+    let taken = g.W.Sink.seen c.args.writer.now in
+    let taken' = g.W.Sink.seen c.load_input.new.writer in
+    let told = g.E.Sink.seen c.args.errors.now in
+    let told' = g.E.Sink.seen c.load_input.new.errors in
+    record {
+      words_refused = λ two.
+          let refused = c.load_input.ensures.refused two in
+          (inl answer.0, refused.0, told_some told told' refused.1);
+      tenants_refused = on_asked _ (λ asked. asked ≡ ToLoad tenant) _ read (λ asked is.
+          subst (λ one. RefusesTenants (is_taken one) told told' c.load_input.result) (sym is)
+          (subst (λ name. RefusesTenants (is_name name) told told' c.load_input.result) same c.load_input.ensures.taken));
+      memory = λ four.
+          let broken = c.load_input.ensures.broken_off (omega (arith, four)) in
+          let fault_is = four_only broken.0 (sym broken.1 ∙ four) in (
+            subst (λ work. LacksMemory g.R.Source.seen g.W.Sink.seen work c.args.reader.now c.load_input.new.reader c.args.writer.now c.load_input.new.writer) (sym answer.1)
+                (inr (c.as_str.result.now, subst (λ fault. LoadsExportInPart fault c.as_str.result.now given given' taken taken') fault_is broken.3)),
+            subst (λ fault. TellsFault told told' fault) fault_is broken.5,
+          );
+      done = λ few.
+          let did = c.load_input.ensures.done few in (
+            (λ loud. elim (cases_eq c.load_input.result 1) [
+              | inl one ↦ absurd (loud (one, answer.1))
+              | inr other ↦ c.load_input.ensures.quiet (omega (arith, few, other))
+            ]),
+            did.0,
+            inr (
+              answer.0,
+              subst (λ work. DoesSome work given given' taken taken' c.load_input.result) (sym answer.1) (c.as_str.result.now, did.1, did.2),
+            ),
+          );
+      not_loaded = λ one is. c.load_input.ensures.not_loaded one;
+      did = λ few. on_asked _ (λ asked. asked ≡ ToLoad tenant) _ read (λ asked is.
+          subst (λ one. Does one given given' taken taken' c.load_input.result) (sym is)
+          (subst (λ name. LoadsExport name given given' taken taken' c.load_input.result) same (c.load_input.ensures.done few).2));
+      broken_off = λ others.
+          let broken = c.load_input.ensures.broken_off others.0 in
+          let three = three_only broken.0 (subst (λ n. 2 < n) broken.1 others.0) (λ e. others.1 (broken.1 ∙ e)) in (
+            broken.1 ∙ three,
+            broken.0,
+            (
+              broken.4 three,
+              on_asked _ (λ asked. asked ≡ ToLoad tenant) _ read (λ asked is.
+                  subst (λ one. DoesInPart one broken.0 given given' taken taken') (sym is)
+                  (subst (λ name. LoadsExportInPart broken.0 name given given' taken taken') same broken.3)),
+            ),
+            broken.5,
+            inr (
+              answer.0,
+              subst (λ work. DoesSomeInPart work broken.0 given given' taken taken') (sym answer.1) (c.as_str.result.now, broken.2, broken.3),
+            ),
+          );
+    }
+
 pub returns-in-Ok : goal.returns-in-Ok
 returns-in-Ok g c = record {
   words_refused = search rules;
@@ -294,8 +362,9 @@ returns-in-Ok g c = record {
     | in-Err-Memory w ↦ let no = sym w.done-is ∙ c.in-Ok.is in cc
   ];
   memory = search rules;
+  not_loaded = λ one is. absurd (omega (arith, one));
   done = λ few. (
-    search rules,
+    (λ loud. search rules),
     search rules,
     elim c.match-read_words.branch [
       | in-Ok-Replay w ↦
@@ -401,6 +470,7 @@ returns-in-Err g c = record {
     search rules,
   );
   done = λ few. absurd (omega (arith, two_at_least c.in-Err.fault, c.tell.ensures.status));
+  not_loaded = λ one is. absurd (omega (arith, one, two_at_least c.in-Err.fault, c.tell.ensures.status));
   did = λ few. absurd (omega (arith, two_at_least c.in-Err.fault, c.tell.ensures.status));
   broken_off = λ others.
       let is = c.tell.ensures.status in
