@@ -61,6 +61,19 @@ def exports():
         yield "".join(deep_export(owned, known)).encode(), ended, reads
 
 
+def loads():
+    """An export with and without its header, and two that are not loaded. Each has how its load ends for the tenant `x` and how
+    many reads that takes."""
+    requests = b"".join(
+        b"x %s\n" % request.encode()
+        for request in ("local root", "spawn root a", "local a", "local root", "send a m", "recv root m", "end a", "join root a")
+    )
+    yield file_of("an_export_is_right", "stdin"), (0, requests, b""), 2
+    yield file_of("an_export_has_a_header", "stdin"), (0, requests, b""), 2
+    for spoilt in ("a_load_of_another_task", "a_load_of_another_stamp"):
+        yield file_of(spoilt, "stdin"), (1, b"", file_of(spoilt, "stderr")), 1
+
+
 def written_export():
     """Words that ask for an export, the lines of a replay, and the export that they get."""
     words, data, whole = (file_of("an_export_is_written", file) for file in ("words", "stdin", "stdout"))
