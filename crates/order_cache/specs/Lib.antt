@@ -1,2 +1,3 @@
+pub mod Caches
 pub mod Capacity
 pub mod Rows

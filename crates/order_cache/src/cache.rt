@@ -1,11 +1,13 @@
 //! The cache, and when it looks a pair up.
 ghost use Rattle.std.specs.Prelude.{◌≡◌, ◌<◌, ◌≤◌, ◌↔◌, IfOk, IfSome, IsErrOf, IsTrue, MatchOption};
+ghost use Rattle.std.specs.NonZero.{non_zero_usize_get};
 ghost use Rattle.event_tree.specs.Comparison.{StandsAs};
 ghost use Rattle.tree_forest.specs.Kept.{IsOf};
 ghost use Rattle.order_cache.specs.Capacity.{IsCapacity};
 
 use crate::CacheFault;
 use crate::compared::Compared;
+use crate::extent::Extent;
 use crate::remembered::Remembered;
 use counted_slot::{Counted, FREE, PRESENT, TAKEN};
 use event_tree::EvTree;
@@ -16,7 +18,7 @@ use std::sync::atomic::{AtomicU64, Ordering};
 use trace_types::Order;
 use tree_forest::{Forest, Home, Tree};
 
-/// Remembers how pairs of trees of one forest stand to each other. A clause sees the forest's home.
+/// Remembers how pairs of trees of one forest stand to each other. A clause sees the forest's home, and the capacity.
 ///
 /// One thread at a time is lent what is remembered, for one step of the map. It never compares trees in that time.
 /// Another thread does not wait, and compares the trees itself.
@@ -33,9 +35,9 @@ pub struct OrderCache {
 }
 
 impl Model for OrderCache {
-    ghost use Rattle.std.specs.Prelude.{ℕ, List};
+    ghost use Rattle.order_cache.specs.Caches.{Cache};
 
-    ghost Value = { List ℕ };
+    ghost Value = { Cache };
 
     ghost view = { λ c. c.slot };
 }
@@ -64,7 +66,8 @@ const SAMPLE: u64 = 64;
 
 /// The capacity as the map takes it, or `None` if it is out of range.
 fn capacity_of(capacity: u64) -> Option<NonZeroUsize>
-    ensures { MatchOption result (¬ IsCapacity capacity) (λ _. IsCapacity capacity) }
+    ensures taken { MatchOption result (¬ IsCapacity capacity) (λ _. IsCapacity capacity) }
+    ensures same { IfSome result (λ taken. non_zero_usize_get taken ≡ capacity) }
 {
     if !OrderCache::takes(capacity) {
         return None;
@@ -86,22 +89,23 @@ impl OrderCache {
         0 < capacity && capacity <= MOST
     }
 
-    /// A cache for trees of this forest, which remembers at most `capacity` comparisons.
+    /// A cache for trees of this forest, which has room for `capacity` comparisons.
     ///
-    /// Returns `Capacity` exactly if the capacity is 0 or above 65536, and `Memory` if it runs out of memory.
+    /// Whenever a thread is lent what is remembered, it has that room. Returns `Capacity` exactly if the capacity is 0 or above 65536, and `Memory` if it runs out of memory.
     pub fn new(
         alloc: Global,
         capacity: u64,
         forest: &Forest<EvTree>,
     ) -> Result<OrderCache, CacheFault>
         ensures capacity { IsErrOf result CacheFault.Capacity ↔ (¬ IsCapacity capacity) }
-        ensures home { IfOk result (λ cache. cache ≡ forest.now) }
+        ensures home { IfOk result (λ cache. cache.home ≡ forest.now) }
+        ensures room { IfOk result (λ cache. cache.capacity ≡ capacity) }
     {
         let capacity = capacity_of(capacity).ok_or(CacheFault::Capacity)?;
-        let home = Home::of(forest);
-        let remembered = Remembered::new(alloc, capacity, home.again())?;
+        let extent = Extent::of(Home::of(forest), capacity);
+        let remembered = Remembered::new(alloc, &extent)?;
         Ok(OrderCache {
-            slot: Counted::new(Some(remembered), &home),
+            slot: Counted::new(Some(remembered), &extent),
             hits: AtomicU64::new(0),
             watch: AtomicU64::new(2 * FEW_ASKS),
             misses: AtomicU64::new(0),
@@ -119,7 +123,7 @@ impl OrderCache {
         first: &Tree<EvTree>,
         second: &Tree<EvTree>,
     ) -> Order
-        requires cache { self.now ≡ forest.now }
+        requires cache { self.now.home ≡ forest.now }
         requires first { IsOf forest.now first.now }
         requires second { IsOf forest.now second.now }
         ensures { StandsAs result first.now.value second.now.value }
@@ -152,7 +156,7 @@ impl OrderCache {
         first: &Tree<EvTree>,
         second: &Tree<EvTree>,
     ) -> Order
-        requires cache { self.now ≡ forest.now }
+        requires cache { self.now.home ≡ forest.now }
         requires first { IsOf forest.now first.now }
         requires second { IsOf forest.now second.now }
         ensures { StandsAs result first.now.value second.now.value }
@@ -181,7 +185,7 @@ impl OrderCache {
         first: &Tree<EvTree>,
         second: &Tree<EvTree>,
     ) -> Order
-        requires cache { self.now ≡ forest.now }
+        requires cache { self.now.home ≡ forest.now }
         requires first { IsOf forest.now first.now }
         requires second { IsOf forest.now second.now }
         ensures { StandsAs result first.now.value second.now.value }
@@ -211,7 +215,7 @@ impl OrderCache {
         first: &Tree<EvTree>,
         second: &Tree<EvTree>,
     ) -> Option<Order>
-        requires cache { self.now ≡ forest.now }
+        requires cache { self.now.home ≡ forest.now }
         requires first { IsOf forest.now first.now }
         requires second { IsOf forest.now second.now }
         ensures { IfSome result (λ order. StandsAs order first.now.value second.now.value) }
@@ -228,8 +232,8 @@ impl OrderCache {
     /// Compares the two trees, and remembers the result if there is memory and the slot is free.
     #[inline(never)]
     fn compared(&self, first: &Tree<EvTree>, second: &Tree<EvTree>) -> Order
-        requires first { IsOf self.now first.now }
-        requires second { IsOf self.now second.now }
+        requires first { IsOf self.now.home first.now }
+        requires second { IsOf self.now.home second.now }
         ensures { StandsAs result first.now.value second.now.value }
     {
         let order = first.value().order(second.value());

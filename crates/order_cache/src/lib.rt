@@ -32,6 +32,7 @@
 mod cache;
 mod cache_fault;
 mod compared;
+mod extent;
 mod remembered;
 
 pub use cache::OrderCache;

@@ -4,16 +4,17 @@ ghost use Rattle.event_tree.specs.Comparison.{StandsAs};
 ghost use Rattle.tree_forest.specs.Kept.{IsOf};
 
 use crate::compared::Compared;
+use crate::extent::Extent;
 use counted_slot::Fits;
 use event_tree::EvTree;
 use lru::LruCache;
 use std::alloc::{AllocError, Global};
 use std::marker::Model;
-use std::num::NonZeroUsize;
 use trace_types::Order;
 use tree_forest::{Forest, Home, Tree};
 
-/// The comparisons that were used last, by the numbers of their trees. A clause sees the home of their forest.
+/// The comparisons that were used last, by the numbers of their trees. A clause sees the home of their forest, and how
+/// many the map has room for.
 ///
 /// The map is behind a pointer, so lending it moves two words.
 #[derive(Drop)]
@@ -23,12 +24,12 @@ pub(crate) struct Remembered {
 }
 
 impl Model for Remembered {
-    ghost use Rattle.std.specs.Prelude.{ℕ, List};
+    ghost use Rattle.order_cache.specs.Caches.{Cache};
     ghost use Rattle.order_cache.specs.Rows.{AreOf};
 
-    ghost Value = { List ℕ };
+    ghost Value = { Cache };
 
-    ghost view = { λ r. r.home };
+    ghost view = { λ r. record { home = r.home; capacity = r.rows.value.cap } };
 
     ghost invariant = { λ r. AreOf r.home r.rows.value.entries };
 }
@@ -36,23 +37,19 @@ impl Model for Remembered {
 impl Fits for Remembered {
     ghost use Rattle.std.specs.Prelude.{◌≡◌};
 
-    type Tag = Home;
+    type Tag = Extent;
 
-    ghost fits = { λ home remembered. remembered ≡ home };
+    ghost fits = { λ extent remembered. remembered ≡ extent };
 }
 
 impl Remembered {
-    /// Nothing yet, with room for this many comparisons. Returns `AllocError` if it runs out of memory.
-    pub(crate) fn new(
-        alloc: Global,
-        capacity: NonZeroUsize,
-        home: Home,
-    ) -> Result<Remembered, AllocError>
-        ensures { IfOk result (λ remembered. remembered ≡ home) }
+    /// Nothing yet, with room for as many comparisons as the extent says. Returns `AllocError` if it runs out of memory.
+    pub(crate) fn new(alloc: Global, extent: &Extent) -> Result<Remembered, AllocError>
+        ensures { IfOk result (λ remembered. remembered ≡ extent.now) }
     {
         Ok(Remembered {
-            rows: Box::new(alloc, LruCache::new(alloc, capacity)?)?,
-            home,
+            rows: Box::new(alloc, LruCache::new(alloc, extent.capacity())?)?,
+            home: extent.home(),
         })
     }
 
@@ -63,10 +60,10 @@ impl Remembered {
         first: &Tree<EvTree>,
         second: &Tree<EvTree>,
     ) -> Option<Order>
-        requires cache { self.old ≡ forest.now }
+        requires cache { self.old.home ≡ forest.now }
         requires first { IsOf forest.now first.now }
         requires second { IsOf forest.now second.now }
-        ensures home { self.new ≡ self.old }
+        ensures cache { self.new ≡ self.old }
         ensures order { IfSome result (λ order. StandsAs order first.now.value second.now.value) }
     {
         let key = (first.number(), second.number());
@@ -76,7 +73,7 @@ impl Remembered {
     /// Remembers this comparison, in place of the one used longest ago if there is no room. All stays as it was if it
     /// runs out of memory.
     pub(crate) fn remember(&mut self, compared: Compared)
-        requires { compared ≡ self.old }
+        requires { compared ≡ self.old.home }
         ensures { self.new ≡ self.old }
     {
         let _ = self.rows.put(compared.key(), compared);
