@@ -1,5 +1,5 @@
 //! The cache, and when it looks a pair up.
-ghost use Rattle.std.specs.Prelude.{◌≡◌, ◌<◌, ◌≤◌, ◌↔◌, IfOk, IfSome, IsErrOf, IsTrue, MatchOption};
+ghost use Rattle.std.specs.Prelude.{◌≡◌, ◌+◌, ◌-◌, ◌^◌, ◌<◌, ◌≤◌, ◌↔◌, min, IfOk, IfSome, IsErrOf, IsTrue, MatchOption};
 ghost use Rattle.std.specs.NonZero.{non_zero_usize_get};
 ghost use Rattle.event_tree.specs.Comparison.{StandsAs};
 ghost use Rattle.tree_forest.specs.Kept.{IsOf};
@@ -81,6 +81,13 @@ fn ranges_decide(first: &EvTree, second: &EvTree) -> bool {
     first.max() <= second.min() || second.max() <= first.min()
 }
 
+/// One hit more, or as many if there are 2^64 - 1.
+fn one_more(hits: u64) -> u64
+    ensures { result ≡ min (hits + 1) (2 ^ 64 - 1) }
+{
+    hits.saturating_add(1)
+}
+
 impl OrderCache {
     /// Whether a cache can have this capacity: 1 to 65536 comparisons.
     pub fn takes(capacity: u64) -> bool
@@ -135,6 +142,8 @@ impl OrderCache {
     }
 
     /// How often a remembered comparison was the answer, for the operator. It stays at 2^64 - 1.
+    ///
+    /// No clause says how often, since threads count at once and no contract tells what an atomic has.
     pub fn hits(&self) -> u64 {
         self.hits.load(Ordering::Relaxed)
     }
@@ -247,7 +256,7 @@ impl OrderCache {
     /// Counts an ask that found something. Only the thread that has the slot calls it.
     fn count_hit(&self) {
         let hits = self.hits.load(Ordering::Relaxed);
-        self.hits.store(hits.saturating_add(1), Ordering::Relaxed);
+        self.hits.store(one_more(hits), Ordering::Relaxed);
         self.misses.store(0, Ordering::Relaxed);
     }
 
