@@ -22,7 +22,7 @@ pub struct Shared {
     ids: Forest<IdTree>,
     trees: Forest<EvTree>,
     orders: OrderCache,
-    ghost one_home: { orders ≡ trees },
+    ghost one_home: { orders.home ≡ trees },
 }
 
 impl Shared {
