@@ -64,6 +64,9 @@ impl<T> Forest<T> {
 
 impl<T: Shape + Drop> Forest<T> {
     /// A forest without rows. Returns `Memory` if it runs out of memory.
+    ///
+    /// No clause says that it has no rows, since the contract of its table tells nothing of what is in it. No body could
+    /// add one: it is handed no value, and cannot make one.
     pub fn new(alloc: Global) -> Result<Forest<T>, Memory> {
         Ok(Forest {
             table: boxcar::Vec::new(alloc)?,
