@@ -15,7 +15,7 @@ use Rattle.trace_types.specs.text.Name.{Text, is_between, is_same}
 use Rattle.trace_types.specs.text.Reading.{number_of}
 use Rattle.command_line.specs.Demand.{AskedReplay, AskedService, Demand, ToReplay, ToServe, ToCheck, ToLoad, Role, Tenant, Events, Tasks, Messages, Cache, Export, Port, Workers, Sessions, Part, replay_asked_by, cache_by, asked_by_options, export_by, port_by, replay_asked_in, service_asked_by, service_asked_in, service_with, check_asked_in, load_asked_in, load_with, asked_in, asked_with, is_plain, is_role, limit_by, limits_by, limits_of, number_up_to, option_named, option_of, parts_after, words_for}
 use Rattle.command_line.specs.Reading.{Has, amount_in, cache_found, limits_found, limits_in, number_found, program_app, tenants_found, work_found, work_with, export_found}
-use Rattle.command_line.proofs.CommandLine.{Fits, FitsOnce, PlainOnce, same_role, Verb, Replays, Serves, Loads, finds, has_option, has_role, have_roles, id_of, name_of, options_of, row_of, simple, spelled, spelled_with, takes_parts}
+use Rattle.command_line.proofs.CommandLine.{Fits, FitsOnce, PlainOnce, same_role, Verb, Replays, Serves, Loads, finds, has_option, has_role, have_roles, id_of, options_of, row_of, simple, spelled, spelled_with, takes_parts}
 use Rattle.command_line.proofs.Rows.{row_in}
 
 some_same : {X : Type 0} {a b : X} → Some a ≡ Some b → a ≡ b

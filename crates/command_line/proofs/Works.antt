@@ -1,5 +1,5 @@
 -- Whether a command is found, by its name.
-use Rattle.std.proofs.Common.{◌≡◌, ◌∙◌, ◌↔◌, Bool, true, false, List, Option, Some, None, option_map, refl, sym, ap}
+use Rattle.std.proofs.Common.{◌≡◌, ◌∙◌, ◌↔◌, true, List, Option, Some, None, option_map, refl, sym, ap}
 use Rattle.std.specs.Prelude.{Box, unwrap_or}
 use Rattle.std.specs.Box.{box_value}
 use Rattle.std.proofs.lemmas.Slice.Eq.{bytes_eq-Decides}
@@ -8,7 +8,7 @@ use Rattle.clap.specs.Matches.{subcommand_name_of}
 use Rattle.clap.specs.declared.parser.matches.ArgMatches.{ArgMatches}
 use Rattle.clap.specs.declared.parser.matches.ArgMatches.TheViews.{out-ArgMatches, out-SubCommand}
 use Rattle.clap.specs.declared.parser.matches.SubCommand.{SubCommand}
-use Rattle.trace_types.specs.text.Name.{Text, is_same}
+use Rattle.trace_types.specs.text.Name.{Text}
 use Rattle.command_line.specs.Reading.{is_found}
 
 some_same : {X : Type 0} {a b : X} → Some a ≡ Some b → a ≡ b

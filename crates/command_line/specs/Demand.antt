@@ -77,7 +77,7 @@ option_of Port = codes "--port"
 option_of Workers = codes "--workers"
 option_of Sessions = codes "--sessions"
 
--- the role of the word after this one, where this one is the option of one of these roles
+-- the role of the word after this one, if this one is the option of one of these roles
 abbrev pub option_named : List Role → Text → Option Role
 option_named [] word = None
 option_named (role ∷ roles) word = if is_same word (option_of role) then Some role else option_named roles word
@@ -94,7 +94,7 @@ service_options = Port ∷ Workers ∷ Sessions ∷ Events ∷ Tasks ∷ Message
 abbrev pub with_part : Role → Text → Option (List Part) → Option (List Part)
 with_part role word = option_map (λ parts. record { role = role; word = word } ∷ parts)
 
--- The parts of the words, where there are these options, and the word before them was this one. A plain word is a tenant,
+-- The parts of the words, if there are these options, and the word before them was this one. A plain word is a tenant,
 -- and the word after an option is its number or its name. Of words with `-` in front that are no such option, as those that
 -- ask for help, nothing is said here.
 abbrev pub parts_after : List Role → Option Role → List Text → Option (List Part)
@@ -109,7 +109,7 @@ parts_after options (Some role) (word ∷ words) = with_part role word (parts_af
 abbrev pub words_for : Role → List Part → List Text
 words_for role parts = map (λ part. part.word) (filter (λ part. is_role role part.role) parts)
 
--- the number that the word spells, where it is one from 1 to this most
+-- the number that the word spells, if it is one from 1 to this most
 abbrev pub number_up_to : ℕ → Text → Option ℕ
 number_up_to most word = option_and_then (λ number. if is_between 1 most number then Some number else None) (number_of word)
 
@@ -119,17 +119,17 @@ limit_by default most [] = Some default
 limit_by default most (word ∷ []) = number_up_to most word
 limit_by default most words = None
 
--- the limits of these three numbers, where each is there
+-- the limits of these three numbers, if each is there
 abbrev pub limits_of : Option ℕ → Option ℕ → Option ℕ → Option Limits
 limits_of (Some events) (Some tasks) (Some messages) = Some (record { events = events; tasks = tasks; messages = messages })
 limits_of events tasks messages = None
 
--- the limits that the parts ask for, and the default where an option is not used
+-- the limits that the parts ask for, and the default if an option is not used
 abbrev pub limits_by : List Part → Option Limits
 limits_by parts = limits_of (limit_by default_limits.events 16384 (words_for Events parts))
     (limit_by default_limits.tasks 2048 (words_for Tasks parts)) (limit_by default_limits.messages 16384 (words_for Messages parts))
 
--- how many comparisons the parts ask to be remembered, and the default where the option is not used
+-- how many comparisons the parts ask to be remembered, and the default if the option is not used
 abbrev pub cache_by : List Part → Option ℕ
 cache_by parts = limit_by 1024 65536 (words_for Cache parts)
 
@@ -139,12 +139,12 @@ export_by [] = Some None
 export_by (word ∷ []) = if is_plain word then Some (Some word) else None
 export_by words = None
 
--- what these tenants, limits, number of comparisons and export ask for, where there is a tenant
+-- what these tenants, limits, number of comparisons and export ask for, if there is a tenant
 abbrev pub asked_with : List Text → Limits → ℕ → Option Text → Option AskedReplay
 asked_with [] limits cache export = None
 asked_with tenants limits cache export = Some (record { limits = limits; cache = cache; tenants = tenants; export = export })
 
--- what these tenants ask for with these limits, this number and this export, where each is there
+-- what these tenants ask for with these limits, this number and this export, if each is there
 abbrev pub asked_by_options : List Text → Option Limits → Option ℕ → Option (Option Text) → Option AskedReplay
 asked_by_options tenants (Some limits) (Some cache) (Some export) = asked_with tenants limits cache export
 asked_by_options tenants limits cache export = None
@@ -153,7 +153,7 @@ asked_by_options tenants limits cache export = None
 abbrev pub replay_asked_by : List Part → Option AskedReplay
 replay_asked_by parts = asked_by_options (words_for Tenant parts) (limits_by parts) (cache_by parts) (export_by (words_for Export parts))
 
--- the replay that the words after `replay` ask for, where they are options, each with its number or name, and tenants
+-- the replay that the words after `replay` ask for, if they are options, each with its number or name, and tenants
 abbrev pub replay_asked_in : List Text → Option AskedReplay
 replay_asked_in words = option_and_then replay_asked_by (parts_after replay_options None words)
 
@@ -162,7 +162,7 @@ abbrev pub port_by : List Text → Option ℕ
 port_by (word ∷ []) = number_up_to 65535 word
 port_by words = None
 
--- the service that these ask for, where each is there, and a tenant is
+-- the service that these ask for, if each is there, and a tenant is
 abbrev pub service_with : List Text → Option ℕ → Option ℕ → Option ℕ → Option Limits → Option ℕ → Option AskedService
 service_with [] port workers sessions limits cache = None
 service_with tenants (Some port) (Some workers) (Some sessions) (Some limits) (Some cache) =
@@ -174,21 +174,21 @@ abbrev pub service_asked_by : List Part → Option AskedService
 service_asked_by parts = service_with (words_for Tenant parts) (port_by (words_for Port parts)) (limit_by 4 32 (words_for Workers parts))
     (limit_by 1048576 1048576 (words_for Sessions parts)) (limits_by parts) (cache_by parts)
 
--- the service that the words after `serve` ask for, where they are options, each with its number, and tenants
+-- the service that the words after `serve` ask for, if they are options, each with its number, and tenants
 abbrev pub service_asked_in : List Text → Option AskedService
 service_asked_in words = option_and_then service_asked_by (parts_after service_options None words)
 
--- the check that the words after `check` ask for, where there are none
+-- the check that the words after `check` ask for, if there are none
 abbrev pub check_asked_in : List Text → Option Demand
 check_asked_in [] = Some ToCheck
 check_asked_in (word ∷ words) = None
 
--- the load that these tenants ask for, where there is one
+-- the load that these tenants ask for, if there is one
 abbrev pub load_with : List Text → Option Demand
 load_with (tenant ∷ []) = Some (ToLoad tenant)
 load_with tenants = None
 
--- the load that the words after `load` ask for, where they are a tenant
+-- the load that the words after `load` ask for, if they are a tenant
 abbrev pub load_asked_in : List Text → Option Demand
 load_asked_in words = option_and_then (λ parts. load_with (words_for Tenant parts)) (parts_after [] None words)
 

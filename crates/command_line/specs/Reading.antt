@@ -1,5 +1,5 @@
 -- The command line as it is built, and what is read of it.
-use Rattle.std.specs.Prelude.{◌≡◌, ℕ, Bool, true, false, List, Option, Some, None, Result, Ok, Err, ◌⊎◌, [], codes, ◌∷◌, option_map, option_and_then, if◌then◌else◌, map, string_bytes}
+use Rattle.std.specs.Prelude.{◌≡◌, ℕ, Bool, true, false, IsTrue, List, Option, Some, None, IfSome, Result, Ok, Err, ◌⊎◌, [], codes, ◌∷◌, option_map, option_and_then, if◌then◌else◌, map, string_bytes}
 use Rattle.std.specs.Option.{option_map_or}
 use Rattle.clap.specs.Words.{App, Row, Rule, Text, all_of, first_of, one_of, new_app, new_rule, subcommand_of, with_rule, with_subcommand}
 use Rattle.clap.specs.Faults.{fault_of}
@@ -11,7 +11,7 @@ use Rattle.clap.specs.declared.builder.value_parser.ValueParser.TheVariants as p
 use Rattle.trace_types.specs.tenant.Limits.{Limits, are_limits, default_limits}
 use Rattle.trace_types.specs.text.Name.{is_between, is_same}
 use Rattle.trace_types.specs.text.Reading.{number_of}
-use Rattle.command_line.specs.Demand.{AskedReplay as Wanted, AskedService, Demand, ToReplay, ToServe, ToCheck, ToLoad, limits_of}
+use Rattle.command_line.specs.Demand.{AskedReplay as Wanted, AskedService, Demand, ToReplay, ToServe, ToCheck, ToLoad, asked_in, limits_of}
 use Rattle.command_line.specs.declared.words.Asked.{Asked}
 use Rattle.command_line.specs.declared.words.Asked.TheVariants.{Replay, Serve, Check, Load, Show}
 use Rattle.command_line.specs.declared.wanted.Replay.{Replay as Replays}
@@ -70,7 +70,7 @@ bare_app = record (new_app (codes "itc_trace")) {
 abbrev pub program_app : App
 program_app = with_subcommand (with_subcommand (with_subcommand (with_subcommand bare_app replay_app.top) serve_app.top) check_app.top) load_app.top
 
--- why the command line does not take the words: the kinds of fault that may come, and none where it takes them
+-- why the command line does not take the words: the kinds of fault that may come, and none if it takes them
 abbrev pub kinds_of : List (List ℕ) → List ErrorKind
 kinds_of words = fault_of program_app words
 
@@ -104,9 +104,13 @@ work_found found =
     else if is_found (codes "serve") found then Serving
     else work_with (export_found found)
 
--- the work that the words name, where the command line takes them
+-- what clap's model finds of a subcommand among the words
+abbrev pub found_in : List (List ℕ) → Option (Text × List Row)
+found_in words = subcommand_of program_app words
+
+-- the work that the words name, if the command line takes them
 abbrev pub work_of : List Text → Work
-work_of words = work_found (subcommand_of program_app words)
+work_of words = work_found (found_in words)
 
 -- A fault of this kind is no mistake: help or the version was asked for.
 abbrev pub IsShown : ErrorKind → Type 0
@@ -119,6 +123,13 @@ AsksForHelp kinds = (kind : ErrorKind) × IsAmong kind kinds × IsShown kind
 -- The command line may refuse the words, or takes them.
 abbrev pub MayBeRefused : List ErrorKind → Type 0
 MayBeRefused kinds = (kinds ≡ []) ⊎ ((kind : ErrorKind) × IsAmong kind kinds × (IsShown kind → ⊥))
+
+-- the work that is asked for
+abbrev pub work_asked : Demand → Work
+work_asked (ToReplay asked) = work_with asked.export
+work_asked (ToServe asked) = Serving
+work_asked ToCheck = Checking
+work_asked (ToLoad tenant) = Loading
 
 -- what is made of a fault of this kind
 abbrev pub IsToldOf : ErrorKind → Result Asked Refusal → Type 0
@@ -152,7 +163,7 @@ FindsTenants found tenants = (names : List Text) → tenants_found found ≡ Som
 abbrev pub amount_in : Text → ℕ → List Row → Option ℕ
 amount_in name default rows = option_map_or number_of (one_of name rows) (Some default)
 
--- the limits among what was found, where they are in their ranges
+-- the limits among what was found, if they are in their ranges
 abbrev pub limits_in : List Row → Option Limits
 limits_in rows = option_and_then (λ limits. if are_limits limits.events limits.tasks limits.messages then Some limits else None)
     (limits_of (amount_in (codes "events") default_limits.events rows) (amount_in (codes "tasks") default_limits.tasks rows)
@@ -166,7 +177,7 @@ limits_found = option_and_then (λ found. limits_in found.1)
 abbrev pub FindsLimits : Option (Text × List Row) → Option Limits → Type 0
 FindsLimits found result = (limits : Limits) → limits_found found ≡ Some limits → result ≡ Some limits
 
--- the number of the option of this name among what was found of a subcommand, and this one by default, where it is one from
+-- the number of the option of this name among what was found of a subcommand, and this one by default, if it is one from
 -- 1 to this most
 abbrev pub number_found : Text → ℕ → ℕ → Option (Text × List Row) → Option ℕ
 number_found name default most = option_and_then (λ found. option_and_then (λ number. if is_between 1 most number then Some number else None)
@@ -217,3 +228,44 @@ ReadsWords asked (Ok (Load tenant)) = asked ≡ ToLoad (string_bytes tenant)
 ReadsWords asked (Ok (Show text)) = ⊥
 ReadsWords asked (Err (Words text)) = ⊥
 ReadsWords asked (Err Memory) = Unit {0}
+
+-- what is asked for, if it is not that a text is shown
+abbrev pub demand_of : Asked → Option Demand
+demand_of (Replay replay) = Some (ToReplay (wanted_of replay))
+demand_of (Serve service) = Some (ToServe (service_of service))
+demand_of Check = Some ToCheck
+demand_of (Load tenant) = Some (ToLoad (string_bytes tenant))
+demand_of (Show text) = None
+
+-- If what was found has a number for the option of this name, from 1 to this most, it is this one.
+abbrev pub FindsNumber : Text → ℕ → ℕ → Option (Text × List Row) → ℕ → Type 0
+FindsNumber name default most found number = (other : ℕ) → number_found name default most found ≡ Some other → number ≡ other
+
+-- What is asked for is what was found: each tenant, limit, number and name.
+abbrev pub Agrees : Option (Text × List Row) → Demand → Type 0
+Agrees found (ToReplay asked) = FindsTenants found asked.tenants × FindsLimits found (Some asked.limits)
+    × FindsNumber (codes "cache") 1024 65536 found asked.cache × (export_found found ≡ asked.export)
+Agrees found (ToServe asked) = FindsTenants found asked.tenants × FindsLimits found (Some asked.limits)
+    × FindsNumber (codes "cache") 1024 65536 found asked.cache × FindsNumber (codes "port") 0 65535 found asked.port
+    × FindsNumber (codes "workers") 4 32 found asked.workers × FindsNumber (codes "sessions") 1048576 1048576 found asked.sessions
+Agrees found ToCheck = Unit {0}
+Agrees found (ToLoad tenant) = FindsTenants found (tenant ∷ [])
+
+-- the limits and the numbers that are asked for are in their ranges
+abbrev pub IsInRange : Demand → Type 0
+IsInRange (ToReplay asked) = IsTrue (are_limits asked.limits.events asked.limits.tasks asked.limits.messages)
+    × IsTrue (is_between 1 65536 asked.cache)
+IsInRange (ToServe asked) = IsTrue (are_limits asked.limits.events asked.limits.tasks asked.limits.messages)
+    × IsTrue (is_between 1 65536 asked.cache) × IsTrue (is_between 1 65535 asked.port) × IsTrue (is_between 1 32 asked.workers)
+    × IsTrue (is_between 1 1048576 asked.sessions)
+IsInRange ToCheck = Unit {0}
+IsInRange (ToLoad tenant) = Unit {0}
+
+-- The command line takes the words, and this is what they ask for.
+pub record IsAskedBy (words : List (List ℕ)) (asked : Demand) : Type 0 where
+  pub taken : kinds_of words ≡ []
+  pub work : work_of words ≡ work_asked asked
+  pub found : Agrees (found_in words) asked
+  -- it is what the words say, if they are a command with its options and tenants, and nothing else
+  pub exact : IfSome (asked_in words) (λ due. due ≡ asked)
+  pub ranges : IsInRange asked

@@ -4,7 +4,7 @@ ghost use Rattle.clap.specs.Words.{app_of, found_of, kind_of, rows_of, rule_of, 
 ghost use Rattle.clap.specs.declared.builder.Command.TheViews.{out-Command as fields_of};
 ghost use Rattle.trace_types.specs.text.Name.{Text, is_between};
 ghost use Rattle.command_line.specs.Demand.{AskedReplay, AskedService, Demand, ToLoad, ToReplay, ToServe, asked_in};
-ghost use Rattle.command_line.specs.Reading.{FindsTenants, FindsLimits, Has, IsAnswer, IsToldOf, Loading, ReadsWords, Serving, amount_in, check_app, export_found, export_rule, is_found, kinds_of, limit_rule, load_app, number_found, port_rule, program_app, replay_app, serve_app, tenant_rule, work_found, work_of, work_with};
+ghost use Rattle.command_line.specs.Reading.{Agrees, FindsTenants, FindsLimits, Has, IsAnswer, IsToldOf, Loading, ReadsWords, Serving, amount_in, check_app, demand_of, export_found, export_rule, found_in, is_found, kinds_of, limit_rule, load_app, number_found, port_rule, program_app, replay_app, serve_app, tenant_rule, work_found, work_of, work_with};
 
 use crate::wanted::{Replay, Serve};
 use clap::builder::ValueParser;
@@ -68,7 +68,7 @@ Example:
 
 /// What help on `check` says after the options.
 const CHECK_HELP: &str = "\
-Standard input is an export, with its header or without. The answer is `yes N` where every line is
+Standard input is an export, with its header or without. The answer is `yes N` if every line is
 right and N of them list events, with status 0; else `no LINE REASON` with the first faulty line,
 from 1, and the number of the first of these reasons, with status 1. `load` alone tells 7 and 8:
   1 The line is no JSON of at most 127 levels, or it has more than 65536 bytes.
@@ -87,7 +87,7 @@ Example:
 /// What help on `load` says after the options.
 const LOAD_HELP: &str = "\
 Standard input is an export, with its header or without. Its requests are made again from nothing,
-under the limits of its header, or without one under the greatest. Where each of them is accepted
+under the limits of its header, or without one under the greatest. If each of them is accepted
 and makes what its line lists, they are written, a line for each to the tenant that is named here,
 with status 0. Else nothing is written but `itc_trace: no LINE REASON` on standard error, with the
 first faulty line, from 1, and the number of the first of these reasons, with status 1. `check`
@@ -318,9 +318,11 @@ fn export<'a>(alloc: Global) -> Arg<'a>
 /// | `check` | Nothing |
 /// | `load` | 1 tenant |
 pub fn read_words<S: AsStr>(alloc: Global, words: &[S]) -> Result<Asked, Refusal>
-    // Limits and tenants are read as they stand, and want of memory alone prevents it.
+    // Limits and tenants are read as they stand, unless the call runs out of memory.
     ensures asked { IfSome (asked_in (map S.text words.now)) (λ asked. ReadsWords asked result) }
-    // Whatever the words are, help is shown only where it is asked for.
+    // Whatever the words are, what is asked for is what was found among them.
+    ensures found { IfOk result (λ asked. IfSome (demand_of asked) (Agrees (found_in (map S.text words.now)))) }
+    // Whatever the words are, help is shown only if it is asked for.
     ensures kinds { IsAnswer (kinds_of (map S.text words.now)) (work_of (map S.text words.now)) result }
 {
     match command(alloc)?.try_get_matches_from(words) {
@@ -332,6 +334,7 @@ pub fn read_words<S: AsStr>(alloc: Global, words: &[S]) -> Result<Asked, Refusal
 /// What was found.
 fn asked_of(alloc: Global, matches: &ArgMatches) -> Result<Asked, Refusal>
     ensures asked { (asked : Demand) → Has (subcommand_rows_of matches.now) asked → ReadsWords asked result }
+    ensures found { IfOk result (λ asked. IfSome (demand_of asked) (Agrees (subcommand_rows_of matches.now))) }
     ensures kinds { IsAnswer [] (work_found (subcommand_rows_of matches.now)) result }
 {
     if is_named(matches, "check") {
@@ -349,6 +352,7 @@ fn asked_of(alloc: Global, matches: &ArgMatches) -> Result<Asked, Refusal>
 /// The replay that was found.
 fn replay_of(alloc: Global, matches: &ArgMatches) -> Result<Asked, Refusal>
     ensures asked { (asked : AskedReplay) → Has (subcommand_rows_of matches.now) (ToReplay asked) → ReadsWords (ToReplay asked) result }
+    ensures found { IfOk result (λ asked. IfSome (demand_of asked) (Agrees (subcommand_rows_of matches.now))) }
     ensures work { IsAnswer [] (work_with (export_found (subcommand_rows_of matches.now))) result }
 {
     let tenants = tenants_of(alloc, matches)?;
@@ -370,6 +374,7 @@ fn replay_of(alloc: Global, matches: &ArgMatches) -> Result<Asked, Refusal>
 /// The load that was found.
 fn load_of(alloc: Global, matches: &ArgMatches) -> Result<Asked, Refusal>
     ensures asked { (tenant : Text) → Has (subcommand_rows_of matches.now) (ToLoad tenant) → ReadsWords (ToLoad tenant) result }
+    ensures found { IfOk result (λ asked. IfSome (demand_of asked) (Agrees (subcommand_rows_of matches.now))) }
     ensures work { IsAnswer [] Loading result }
 {
     let tenants = tenants_of(alloc, matches)?;
@@ -382,6 +387,7 @@ fn load_of(alloc: Global, matches: &ArgMatches) -> Result<Asked, Refusal>
 /// The service that was found.
 fn serve_of(alloc: Global, matches: &ArgMatches) -> Result<Asked, Refusal>
     ensures asked { (asked : AskedService) → Has (subcommand_rows_of matches.now) (ToServe asked) → ReadsWords (ToServe asked) result }
+    ensures found { IfOk result (λ asked. IfSome (demand_of asked) (Agrees (subcommand_rows_of matches.now))) }
     ensures work { IsAnswer [] Serving result }
 {
     let tenants = tenants_of(alloc, matches)?;

@@ -2,7 +2,7 @@ use Rattle.std.proofs.Common.{rules, ◌≡◌, ◌∙◌, true, false, List, Op
 use Rattle.clap.specs.Words.{Row, subcommand_rows_of}
 use Rattle.trace_types.specs.text.Name.{Text}
 use Rattle.command_line.specs.Demand.{AskedService, Demand, ToReplay, ToServe, ToCheck, ToLoad}
-use Rattle.command_line.specs.Reading.{Has, Loading, ReadsWords, Serving, Work, is_found, work_found, work_with}
+use Rattle.command_line.specs.Reading.{Has, Loading, ReadsWords, Serving, is_found, work_found, work_with}
 use Rattle.command_line.specs.declared.words.Asked.{Asked}
 use Rattle.command_line.specs.declared.words.Refusal.{Refusal}
 use Rattle.command_line.proofs.words.asked_of.Goals as goal

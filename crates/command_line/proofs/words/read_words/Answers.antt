@@ -1,11 +1,11 @@
-use Rattle.std.proofs.Common.{rules, ◌≡◌, ◌≤◌, ◌∙◌, ◌⊎◌, true, ap, sym, subst, inl, inr, refl, arith, map, length, [], Result, Ok, Err}
+use Rattle.std.proofs.Common.{rules, ◌≡◌, ◌≤◌, ◌∙◌, ◌⊎◌, true, ap, sym, subst, inl, inr, refl, arith, map, length, [], Result, Ok, Err, IfOk, IfSome}
 use Rattle.std.proofs.lemmas.List.{length-map}
 use Rattle.clap.specs.Words.{App}
 use Rattle.clap.specs.Faults.{fault_of, is_simple_and_free}
 use Rattle.clap.specs.Kinds.{IsAmong, Kinds}
 use Rattle.clap.specs.declared.error.kind.ErrorKind.{ErrorKind}
 use Rattle.clap.specs.declared.error.kind.ErrorKind.TheVariants.{OutOfMemory}
-use Rattle.command_line.specs.Reading.{IsAnswer, IsToldOf, Work, kinds_of, program_app, work_found, work_of}
+use Rattle.command_line.specs.Reading.{Agrees, IsAnswer, IsToldOf, Work, demand_of, kinds_of, program_app, work_found, work_of}
 use Rattle.command_line.specs.declared.words.Asked.{Asked}
 use Rattle.command_line.specs.declared.words.Asked.TheVariants.{Replay, Serve, Check, Load, Show}
 use Rattle.command_line.specs.declared.words.Refusal.{Refusal}
@@ -45,6 +45,11 @@ returns-in-Ok-clause-kinds g c =
     let work = ap work_found (found_is _ words c.in-Ok.matches c.in_ok-command.ensures c.in-Ok.ensures.matches) in
     subst (λ kinds. IsAnswer kinds (work_of words) c.asked_of.result) (sym is)
     (subst (λ work. IsAnswer [] work c.asked_of.result) work c.asked_of.ensures.kinds)
+
+pub returns-in-Ok-clause-found : goal.returns-in-Ok-clause-found
+returns-in-Ok-clause-found g c =
+    let same = found_is _ (map g.S.AsStr.text c.args.words.now) c.in-Ok.matches c.in_ok-command.ensures c.in-Ok.ensures.matches in
+    subst (λ found. IfOk c.asked_of.result (λ asked. IfSome (demand_of asked) (Agrees found))) same c.asked_of.ensures.found
 
 pub returns-in-Err-clause-asked : goal.returns-in-Err-clause-asked
 returns-in-Err-clause-asked g c = asks (map g.S.AsStr.text c.args.words.now) _ (λ asked asks.
