@@ -1,5 +1,5 @@
 -- Texts that are shown one behind another, and what faults leave of them.
-use Rattle.std.proofs.Common.{◌≡◌, ◌∙◌, ℕ, ◌+◌, ◌++◌, ◌≤◌, inl, inr, [], List, subst, sym, ap, append_assoc, append-nil, arith}
+use Rattle.std.proofs.Common.{◌∙◌, ℕ, ◌+◌, ◌++◌, ◌≤◌, inl, inr, [], List, sym, ap, append_assoc, append-nil, arith}
 use Rattle.line_protocol.specs.Sink.{Taken}
 use Rattle.line_protocol.specs.Writing.{EndsInFault}
 use Rattle.trace_types.specs.text.Name.{Text}

@@ -39,44 +39,44 @@ line_of_fault Write = codes "itc_trace: write fault\n"
 line_of_fault TooLong = codes "itc_trace: input too long\n"
 line_of_fault Memory = codes "itc_trace: no memory\n"
 
--- the program's fault where no world is made
+-- the program's fault if no world is made
 abbrev pub fault_of_world : WorldFault → Fault
 fault_of_world world.Names = Tenants
 fault_of_world world.Capacity = Words
 fault_of_world world.Memory = Memory
 
--- the program's fault where a replay stops
+-- the program's fault if a replay stops
 abbrev pub fault_of_replay : ReplayFault → Fault
 fault_of_replay replay.Read = Read
 fault_of_replay replay.Write = Write
 fault_of_replay replay.TooLong = TooLong
 fault_of_replay replay.Memory = Memory
 
--- the program's fault where a check stops
+-- the program's fault if a check stops
 abbrev pub fault_of_check : CheckFault → Fault
 fault_of_check check.Read = Read
 fault_of_check check.TooLong = TooLong
 fault_of_check check.Memory = Memory
 
--- the program's fault where an export is not loaded whole
+-- the program's fault if an export is not loaded whole
 abbrev pub fault_of_load : LoadFault → Fault
 fault_of_load load.Read = Read
 fault_of_load load.Write = Write
 fault_of_load load.TooLong = TooLong
 fault_of_load load.Memory = Memory
 
--- the program's fault where no door is opened
+-- the program's fault if no door is opened
 abbrev pub fault_of_refusal : DoorRefusal → Fault
 fault_of_refusal door.Port = Port
 fault_of_refusal door.Memory = Memory
 
--- the program's fault where no more is served
+-- the program's fault if no more is served
 abbrev pub fault_of_serving : ServeFault → Fault
 fault_of_serving serving.Workers = Words
 fault_of_serving serving.Door = Accept
 fault_of_serving serving.Memory = Memory
 
--- the program's fault where its words cannot be had
+-- the program's fault if its words cannot be had
 abbrev pub fault_of_words : ErrorKind → Fault
 fault_of_words OutOfMemory = Memory
 fault_of_words kind = Words

@@ -1,7 +1,7 @@
 -- What the program did.
-use Rattle.std.specs.Prelude.{◌≡◌, ◌≢◌, ℕ, ◌+◌, ◌<◌, ◌^◌, Bool, true, false, IsTrue, List, ◌++◌, ◌⊎◌, codes, decimal, length, map, Option, Some, None, is_some, IfSome}
-use Rattle.trace_types.specs.text.Name.{Text, is_between, is_name}
-use Rattle.trace_types.specs.tenant.Limits.{Limits, are_limits}
+use Rattle.std.specs.Prelude.{◌≡◌, ◌≢◌, ℕ, ◌+◌, ◌<◌, ◌^◌, Bool, true, false, IsTrue, List, ◌++◌, ◌⊎◌, codes, decimal, length, map, Option, Some, None, is_some, IfSome, IsSomeAnd}
+use Rattle.trace_types.specs.text.Name.{Text}
+use Rattle.trace_types.specs.tenant.Limits.{Limits}
 use Rattle.trace_types.specs.tenant.Tenant.{fresh}
 use Rattle.trace_types.specs.declared.row.Row.{Row}
 use Rattle.trace_types.specs.world.Replay.{place_of}
@@ -23,10 +23,9 @@ use Rattle.trace_world.specs.Replayed.{Replays, ReplaysInPart}
 use Rattle.trace_world.specs.declared.counts.Counts.{Counts}
 use Rattle.trace_world.specs.declared.replay_fault.ReplayFault.{ReplayFault}
 use Rattle.command_line.specs.Demand.{Demand, ToReplay, ToServe, ToCheck, ToLoad}
-use Rattle.itc_trace.specs.Taking.{are_taken}
 use Rattle.itc_trace.specs.Fault.{fault_of_load, fault_of_replay, line_of_fault}
-use Rattle.command_line.specs.Reading.{Work, Replaying, Exporting, Serving, Checking, Loading}
-use Rattle.itc_trace.specs.Serving.{Serves, ServesInPart, line_of_port}
+use Rattle.command_line.specs.Reading.{Work, Loading}
+use Rattle.itc_trace.specs.Serving.{Serves, ServesInPart}
 use Rattle.itc_trace.specs.Showing.{Shows, ShowsAll, ShowsFront}
 use Rattle.itc_trace.specs.declared.fault.Fault.{Fault}
 use Rattle.itc_trace.specs.declared.fault.Fault.TheVariants.{Tenants, Port, Accept, Read, Write, TooLong, Memory}
@@ -47,18 +46,6 @@ pub record ReplaysFreshInPart (fault : Fault) (limits : Limits) (names : List Te
   pub told : fault_of_replay cause ≡ fault
   pub later : World
   pub replays : ReplaysInPart cause before after taken taken' (fresh_world limits names) later
-
--- All that the reader gave was replayed, for some tenants that are taken, with limits in their ranges.
-abbrev pub ReplaysSome : (before after : Given) (taken taken' : Taken) → Type 0
-ReplaysSome before after taken taken' = (limits : Limits) × (tenants : List Text)
-    × IsTrue (are_limits limits.events limits.tasks limits.messages) × IsTrue (are_taken tenants)
-    × ReplaysFresh limits tenants before after taken taken'
-
--- Such a replay was broken off by this fault.
-abbrev pub ReplaysSomeInPart : (fault : Fault) (before after : Given) (taken taken' : Taken) → Type 0
-ReplaysSomeInPart fault before after taken taken' = (limits : Limits) × (tenants : List Text)
-    × IsTrue (are_limits limits.events limits.tasks limits.messages) × IsTrue (are_taken tenants)
-    × ReplaysFreshInPart fault limits tenants before after taken taken'
 
 -- This is the place of the tenant to be exported, if any.
 abbrev pub IsExportPlace : Option Text → List Text → Option ℕ → Type 0
@@ -81,18 +68,6 @@ pub record ExportsFreshInPart (fault : Fault) (name : Text) (limits : Limits) (n
   pub told : fault_of_replay cause ≡ fault
   pub later : World
   pub breaks : BreaksExport cause before after taken taken' (fresh_world limits names) place later
-
--- Some tenant was exported so, of some that are taken, with limits in their ranges.
-abbrev pub ExportsSome : (before after : Given) (taken taken' : Taken) → Type 0
-ExportsSome before after taken taken' = (name : Text) × (limits : Limits) × (tenants : List Text)
-    × IsTrue (are_limits limits.events limits.tasks limits.messages) × IsTrue (are_taken tenants)
-    × ExportsFresh name limits tenants before after taken taken'
-
--- Such an export was broken off by this fault.
-abbrev pub ExportsSomeInPart : (fault : Fault) (before after : Given) (taken taken' : Taken) → Type 0
-ExportsSomeInPart fault before after taken taken' = (name : Text) × (limits : Limits) × (tenants : List Text)
-    × IsTrue (are_limits limits.events limits.tasks limits.messages) × IsTrue (are_taken tenants)
-    × ExportsFreshInPart fault name limits tenants before after taken taken'
 
 -- Nothing was read, and nothing written on the output.
 abbrev pub IsUntouched : {R W : Type 0} → R → R → W → W → Type 0
@@ -120,12 +95,12 @@ TellsFault before after fault = Shows before after (line_of_fault fault)
 abbrev pub ShowsSomeAll : Taken → Taken → Type 0
 ShowsSomeAll before after = (text : Text) × (0 < length text) × ShowsAll before after text
 
--- Some text was shown, or a front of it where a call failed.
+-- Some text was shown, or a prefix of it if a call failed.
 abbrev pub ShowsSome : Taken → Taken → Type 0
 ShowsSome before after = (text : Text) × (0 < length text) × Shows before after text
 
--- By whether the tenants are taken: those that are taken are not refused, and others are, unless memory is wanting
--- before; and then the line says so.
+-- By whether the tenants are taken: those that are taken are not refused. Others are, unless the program runs out of memory
+-- before, and then the line says so.
 abbrev pub RefusesTenants : Bool → Taken → Taken → ℕ → Type 0
 RefusesTenants true before after status = status ≢ 2
 RefusesTenants false before after status = ((status ≡ 2) × TellsFault before after Tenants) ⊎ (status ≡ 4)
@@ -153,7 +128,7 @@ pub record TellsVerdict (before after : Given) (taken taken' : Taken) (status : 
   pub line : ShowsAll taken taken' (line_of_verdict verdict)
   pub status_is : status ≡ status_of_verdict verdict
 
--- Of the line of such a verdict a front was written.
+-- A prefix of the line of such a verdict was written.
 pub record TellsFrontOfVerdict (before after : Given) (taken taken' : Taken) : Type 0 where
   pub verdict : Verdict
   pub judges : Judges before after verdict
@@ -161,10 +136,13 @@ pub record TellsFrontOfVerdict (before after : Given) (taken taken' : Taken) : T
 
 -- A check was broken off by this fault: nothing was written, unless the fault is one of writing.
 abbrev pub ChecksInPart : (fault : Fault) (before after : Given) (taken taken' : Taken) → Type 0
+ChecksInPart Read before after taken taken' = taken' ≡ taken
 ChecksInPart Write before after taken taken' = TellsFrontOfVerdict before after taken taken'
-ChecksInPart fault before after taken taken' = taken' ≡ taken
+ChecksInPart TooLong before after taken taken' = taken' ≡ taken
+ChecksInPart Memory before after taken taken' = taken' ≡ taken
+ChecksInPart fault before after taken taken' = ⊥
 
--- The replay was done, or where the name of a tenant is given its export.
+-- The replay was done, or, if the name of a tenant is given, its export.
 abbrev pub DoesReplay : (export : Option Text) (limits : Limits) (names : List Text) (before after : Given) (taken taken' : Taken) → Type 0
 DoesReplay None limits names before after taken taken' = ReplaysFresh limits names before after taken taken'
 DoesReplay (Some name) limits names before after taken taken' = ExportsFresh name limits names before after taken taken'
@@ -186,13 +164,13 @@ pub record LoadsExport (tenant : Text) (before after : Given) (taken taken' : Ta
   pub handed_on : taken'.bytes ≡ between.bytes
   pub status_is : status ≡ status_of_loaded loaded
 
--- the line that tells it, where it is not loaded
+-- the line that tells it, if it is not loaded
 abbrev pub line_of_loaded : Loaded → Option Text
 line_of_loaded (loaded.Done count) = None
 line_of_loaded (loaded.No line reason) = Some (line_of_no line reason)
 
--- What the reader gave was loaded for this tenant, and what was written was handed on. This line is to tell why nothing was,
--- where nothing was.
+-- What the reader gave was loaded for this tenant, and what was written was handed on. If nothing was, this line is to tell
+-- why.
 pub record LoadsToTell (line : Option Text) (tenant : Text) (before after : Given) (taken taken' : Taken) : Type 0 where
   pub loaded : Loaded
   pub between : Taken
@@ -208,12 +186,23 @@ pub record TellsNo (before after : Given) (told told' : Taken) : Type 0 where
   pub loads : LoadsAs before after (loaded.No number reason) rows
   pub line : Shows told told' (line_of_no number reason)
 
--- Loading for this tenant was broken off by this fault; or all was loaded and written, and it could not be handed on.
+-- A line of what the reader gave is faulty, and nothing was written.
+abbrev pub FindsFaultyLine : (before after : Given) (taken taken' : Taken) → Type 0
+FindsFaultyLine before after taken taken' = (number : ℕ) × (reason : Reason) × (rows : List Row)
+    × LoadsAs before after (loaded.No number reason) rows × (taken'.bytes ≡ taken.bytes)
+
+-- All was loaded, and what was written could not be handed on.
+abbrev pub LoadsUnflushed : (tenant : Text) (before after : Given) (taken taken' : Taken) → Type 0
+LoadsUnflushed tenant before after taken taken' = (loaded : Loaded) × (between : Taken)
+    × Loads before after taken between tenant loaded × (taken'.bytes ≡ between.bytes)
+
+-- Loading for this tenant was broken off by this fault; or its end could not be told: what was written could not be handed
+-- on, or there was no memory for the line that tells which line is faulty.
 abbrev pub LoadsExportInPart : (fault : Fault) (tenant : Text) (before after : Given) (taken taken' : Taken) → Type 0
 LoadsExportInPart fault tenant before after taken taken' =
     ((cause : LoadFault) × (fault_of_load cause ≡ fault) × BreaksLoading cause before after taken taken' tenant)
-    ⊎ ((fault ≡ Write) × ((loaded : Loaded) × (between : Taken) × Loads before after taken between tenant loaded × (taken'.bytes ≡ between.bytes)))
-    ⊎ ((fault ≡ Memory) × ((loaded : Loaded) × (between : Taken) × Loads before after taken between tenant loaded × (taken'.bytes ≡ between.bytes)))
+    ⊎ ((fault ≡ Write) × LoadsUnflushed tenant before after taken taken')
+    ⊎ ((fault ≡ Memory) × FindsFaultyLine before after taken taken')
 
 -- It was broken off by this fault.
 abbrev pub DoesReplayInPart : (export : Option Text) (fault : Fault) (limits : Limits) (names : List Text) (before after : Given) (taken taken' : Taken) → Type 0
@@ -236,35 +225,15 @@ DoesInPart (ToServe asked) fault before after taken taken' = (after ≡ before) 
 DoesInPart ToCheck fault before after taken taken' = ChecksInPart fault before after taken taken'
 DoesInPart (ToLoad tenant) fault before after taken taken' = LoadsExportInPart fault tenant before after taken taken'
 
--- Such work was done, and this status tells it.
-abbrev pub DoesSome : (work : Work) (before after : Given) (taken taken' : Taken) (status : ℕ) → Type 0
-DoesSome Replaying before after taken taken' status = (status ≡ 0) × ReplaysSome before after taken taken'
-DoesSome Exporting before after taken taken' status = (status ≡ 0) × ExportsSome before after taken taken'
-DoesSome Serving before after taken taken' status = (status ≡ 0) × (after ≡ before)
-    × ((port : ℕ) × (sessions : ℕ) × IsTrue (is_between 1 65535 port) × IsTrue (is_between 1 1048576 sessions) × Serves port sessions taken taken')
-DoesSome Checking before after taken taken' status = TellsVerdict before after taken taken' status
-DoesSome Loading before after taken taken' status = (tenant : Text) × IsTrue (is_name tenant) × LoadsExport tenant before after taken taken' status
-
--- Such work was broken off by this fault.
-abbrev pub DoesSomeInPart : (work : Work) (fault : Fault) (before after : Given) (taken taken' : Taken) → Type 0
-DoesSomeInPart Replaying fault before after taken taken' = ReplaysSomeInPart fault before after taken taken'
-DoesSomeInPart Exporting fault before after taken taken' = ExportsSomeInPart fault before after taken taken'
-DoesSomeInPart Serving fault before after taken taken' = (after ≡ before)
-    × ((port : ℕ) × IsTrue (is_between 1 65535 port) × ServesInPart fault port taken taken')
-DoesSomeInPart Checking fault before after taken taken' = ChecksInPart fault before after taken taken'
-DoesSomeInPart Loading fault before after taken taken' = (tenant : Text) × IsTrue (is_name tenant) × LoadsExportInPart fault tenant before after taken taken'
-
--- What want of memory leaves: nothing was read or written, unless an export or a load was broken off, or a check before its
--- verdict, or serving after its first line.
-abbrev pub LacksMemory : {R W : Type 0} (given : R → Given) (taken : W → Taken) (work : Work) → R → R → W → W → Type 0
-LacksMemory given taken Replaying reader reader' writer writer' = IsUntouched reader reader' writer writer'
-LacksMemory given taken Exporting reader reader' writer writer' = IsUntouched reader reader' writer writer'
-    ⊎ ExportsSomeInPart Memory (given reader) (given reader') (taken writer) (taken writer')
-LacksMemory given taken Serving reader reader' writer writer' = (reader' ≡ reader)
-    × ((port : ℕ) × ServesInPart Memory port (taken writer) (taken writer'))
-LacksMemory given taken Checking reader reader' writer writer' = writer' ≡ writer
-LacksMemory given taken Loading reader reader' writer writer' = IsUntouched reader reader' writer writer'
-    ⊎ ((tenant : Text) × LoadsExportInPart Memory tenant (given reader) (given reader') (taken writer) (taken writer'))
+-- What running out of memory leaves of what was asked for. Only an export, a service, a check and a load can have begun then.
+abbrev pub LacksMemory : {R W : Type 0} (given : R → Given) (taken : W → Taken) (asked : Demand) → R → R → W → W → Type 0
+LacksMemory given taken (ToReplay asked) reader reader' writer writer' = IsSomeAnd asked.export (λ name.
+    ExportsFreshInPart Memory name asked.limits asked.tenants (given reader) (given reader') (taken writer) (taken writer'))
+LacksMemory given taken (ToServe asked) reader reader' writer writer' = (reader' ≡ reader)
+    × ServesInPart Memory asked.port (taken writer) (taken writer')
+LacksMemory given taken ToCheck reader reader' writer writer' = writer' ≡ writer
+LacksMemory given taken (ToLoad tenant) reader reader' writer writer' =
+    LoadsExportInPart Memory tenant (given reader) (given reader') (taken writer) (taken writer')
 
 -- nothing was told on standard error, but why an export is not loaded
 abbrev pub IsQuiet : {E : Type 0} → Work → ℕ → E → E → Type 0

@@ -22,7 +22,7 @@ pub record Serves (port sessions : ℕ) (taken taken' : Taken) : Type 0 where
   pub all : counts.sessions ≡ sessions
   pub lines : ShowsAll taken taken' (line_of_port port ++ line_of_counts counts)
 
--- Of such two lines a front was written, and a write failed.
+-- A prefix of such two lines was written, and a write failed.
 pub record ServesFront (port : ℕ) (taken taken' : Taken) : Type 0 where
   pub counts : ServeCounts
   pub lines : ShowsFront taken.bytes taken'.bytes (line_of_port port ++ line_of_counts counts)

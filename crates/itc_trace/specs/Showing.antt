@@ -8,14 +8,14 @@ use Rattle.line_protocol.specs.Writing.{EndsInFault}
 abbrev pub ShowsAll : Taken → Taken → Text → Type 0
 ShowsAll before after text = (after.bytes ≡ before.bytes ++ text) × IsTrue after.is_flushed × (after.failures ≡ before.failures)
 
--- Of the text a front was written, perhaps all of it.
+-- Of the text a prefix was written, perhaps all of it.
 pub record ShowsFront (old new text : List ℕ) : Type 0 where
   pub written : List ℕ
   pub rest : List ℕ
   pub grows : new ≡ old ++ written
   pub front : text ≡ written ++ rest
 
--- The text was written and handed on; or a call failed, and a front of it was written, perhaps all of it.
+-- The text was written and handed on; or a call failed, and a prefix of it was written, perhaps all of it.
 abbrev pub Shows : Taken → Taken → Text → Type 0
 Shows before after text =
     ShowsAll before after text

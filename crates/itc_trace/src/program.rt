@@ -245,7 +245,7 @@ fn verdict_status(verdict: Verdict) -> u8
     }
 }
 
-/// Loads the export that the reader gives, and answers the status; where it is not loaded it tells why.
+/// Loads the export that the reader gives, and answers the status. It tells why the export is not loaded, if it is not.
 fn load_input<T, R: Source, W: Sink, E: Sink>(
     rt: &T,
     alloc: Global,
@@ -276,7 +276,7 @@ fn load_input<T, R: Source, W: Sink, E: Sink>(
 }
 
 /// Loads the export that the reader gives, and hands on what was written. It gives the line that tells why the export is not
-/// loaded, where it is not.
+/// loaded, if it is not.
 fn load_export<T, R: Source, W: Sink>(
     rt: &T,
     alloc: Global,

@@ -7,7 +7,7 @@ use Rattle.trace_export.specs.Loads.{Loads}
 use Rattle.trace_export.specs.declared.loaded.Loaded.{Loaded}
 use Rattle.trace_export.specs.declared.loaded.Loaded.TheVariants.{Done, No}
 use Rattle.itc_trace.specs.Fault.{status_of}
-use Rattle.itc_trace.specs.Program.{LoadsToTell, TellsNo, line_of_loaded, line_of_no}
+use Rattle.itc_trace.specs.Program.{LoadsToTell, TellsNo, line_of_loaded}
 use Rattle.itc_trace.specs.Showing.{Shows}
 use Rattle.itc_trace.specs.declared.fault.Fault.{Fault}
 use Rattle.itc_trace.specs.declared.fault.Fault.TheVariants.{Tenants}

@@ -2,20 +2,20 @@ use Rattle.std.proofs.Common.{rules, ℕ, ◌≡◌, ◌∙◌, ◌⊎◌, inl, 
 use Rattle.command_line.specs.Demand.{Demand, ToReplay, ToServe, ToCheck, ToLoad}
 use Rattle.itc_trace.specs.Taking.{are_taken, is_taken}
 use Rattle.itc_trace.specs.Fault.{status_of}
-use Rattle.itc_trace.specs.Program.{Does, DoesInPart, DoesReplay, DoesReplayInPart, DoesSome, DoesSomeInPart, ExportsFreshInPart, GoesThrough, IsFailure, IsUntouched, LacksMemory, LoadsExport, LoadsExportInPart, RefusesTenants, ShowsSome, TellsFault}
+use Rattle.itc_trace.specs.Program.{Does, DoesInPart, ExportsFreshInPart, GoesThrough, IsFailure, IsUntouched, LacksMemory, LoadsExport, LoadsExportInPart, RefusesTenants, ShowsSome, TellsFault}
 use Rattle.itc_trace.specs.Serving.{Serves, ServesInPart}
-use Rattle.itc_trace.specs.Showing.{ShowsAll}
 use Rattle.line_protocol.specs.Source.{Given}
 use Rattle.line_protocol.specs.Sink.{Taken}
-use Rattle.std.proofs.lemmas.Bool.{and_parts, cases_eq}
+use Rattle.std.proofs.lemmas.Bool.{cases_eq}
 use Rattle.std.specs.Global.{Global}
-use Rattle.std.specs.Prelude.{String, option_map, IsSomeAnd, IsTrue, List, string_bytes}
-use Rattle.trace_types.specs.tenant.Limits.{Limits, are_limits}
+use Rattle.std.specs.Prelude.{String, option_map, unwrap_or, IsSomeAnd, IsTrue, List, string_bytes}
 use Rattle.trace_types.specs.text.Name.{Text, is_between, is_name}
 use Rattle.command_line.specs.declared.wanted.Replay.{Replay as Replays}
 use Rattle.itc_trace.specs.declared.fault.Fault.{Fault}
 use Rattle.itc_trace.specs.declared.fault.Fault.TheVariants.{Words, Tenants, Port, Accept, Read, Write, TooLong, Memory}
-use Rattle.command_line.specs.Reading.{IsAnswer, ReadsWords, Work, Replaying, Exporting, Serving, Checking, Loading, kinds_of, service_of, wanted_of, work_of, work_with}
+use Rattle.command_line.specs.Demand.{asked_in}
+use Rattle.command_line.specs.Reading.{Agrees, IsAnswer, IsAskedBy, IsInRange, ReadsWords, Serving, Checking, Loading, demand_of, found_in, kinds_of, service_of, wanted_of, work_of}
+use Rattle.command_line.specs.declared.words.Asked.{Asked}
 use Rattle.command_line.specs.declared.words.Asked.TheVariants.{Replay, Serve, Check, Load, Show}
 use Rattle.command_line.specs.declared.words.Refusal.TheVariants as refusal
 use Rattle.itc_trace.proofs.program.run.Goals as goal
@@ -24,6 +24,9 @@ use Rattle.itc_trace.proofs.program.run.Goals.{in-Ok-Replay, in-Ok-Show, in-Err-
 on_asked : (option : Option Demand) (P Q : Demand → Type 0) → IfSome option P → ((asked : Demand) → P asked → Q asked) → IfSome option Q
 on_asked None P Q holds then_holds = tt
 on_asked (Some asked) P Q holds then_holds = then_holds asked holds
+
+some_same : {X : Type 0} {a b : X} → Some a ≡ Some b → a ≡ b
+some_same {X} {a} e = ap (λ o. unwrap_or o a) e
 
 at_ok : {T E : Type 0} (result : Result T E) (value : T) (P : Type 0) → result ≡ Ok value → OnOk result P → P
 at_ok result value P is holds = subst (λ r. OnOk r P) is holds
@@ -91,52 +94,52 @@ two_at_least Write = omega arith
 two_at_least TooLong = omega arith
 two_at_least Memory = omega arith
 
-untouched_lacks : {R W : Type 0} (given : R → Given) (taken : W → Taken) (work : Work) (reader reader' : R) (writer writer' : W) → IsUntouched reader reader' writer writer'
-    → LacksMemory given taken work reader reader' writer writer'
-untouched_lacks given taken Replaying reader reader' writer writer' untouched = untouched
-untouched_lacks given taken Exporting reader reader' writer writer' untouched = inl untouched
-untouched_lacks given taken Serving reader reader' writer writer' untouched = (untouched.0, (0, inl (ap taken untouched.1)))
-untouched_lacks given taken Checking reader reader' writer writer' untouched = untouched.1
-untouched_lacks given taken Loading reader reader' writer writer' untouched = inl untouched
+-- what is known of what was read, as an answer to the words
+abbrev IsReadAs : List Text → Asked → Type 0
+IsReadAs words asked = IsAnswer (kinds_of words) (work_of words) (Ok asked)
+    × IfSome (asked_in words) (λ due. ReadsWords due (Ok asked))
+    × IfSome (demand_of asked) (Agrees (found_in words))
 
--- what want of memory leaves of a replay
-replay_lacks : {R W : Type 0} (given : R → Given) (taken : W → Taken) (work : Work) (fault : Fault) (replay : Replays) (reader reader' : R) (writer writer' : W)
-    → fault ≡ Memory → IsTrue (are_limits replay.limits.events replay.limits.tasks replay.limits.messages) → work ≡ work_with (option_map string_bytes replay.export)
+-- so the words ask for it
+asked_by : (words : List Text) (asked : Asked) (demand : Demand) → demand_of asked ≡ Some demand → IsReadAs words asked → IsInRange demand → IsAskedBy words demand
+asked_by words (Replay replay) demand is read ranges =
+    subst (IsAskedBy words) (some_same is)
+    (record { taken = read.0.0; work = read.0.1; found = read.2; exact = read.1; ranges = subst IsInRange (sym (some_same is)) ranges })
+asked_by words (Serve service) demand is read ranges =
+    subst (IsAskedBy words) (some_same is)
+    (record { taken = read.0.0; work = read.0.1; found = read.2; exact = read.1; ranges = subst IsInRange (sym (some_same is)) ranges })
+asked_by words Check demand is read ranges =
+    subst (IsAskedBy words) (some_same is)
+    (record { taken = read.0.0; work = read.0.1; found = read.2; exact = read.1; ranges = subst IsInRange (sym (some_same is)) ranges })
+asked_by words (Load tenant) demand is read ranges =
+    subst (IsAskedBy words) (some_same is)
+    (record { taken = read.0.0; work = read.0.1; found = read.2; exact = read.1; ranges = subst IsInRange (sym (some_same is)) ranges })
+asked_by words (Show text) demand is read ranges = cc
+
+-- what running out of memory leaves of a replay
+replay_lacks : {R W : Type 0} (given : R → Given) (taken : W → Taken) (words : List Text) (fault : Fault) (replay : Replays) (reader reader' : R) (writer writer' : W)
+    → fault ≡ Memory → IsAskedBy words (ToReplay (wanted_of replay))
     → IsUntouched reader reader' writer writer' ⊎ IsSomeAnd replay.export (λ name. (are_taken (map string_bytes replay.tenants.items) ≡ true)
     × ExportsFreshInPart fault (string_bytes name) replay.limits (map string_bytes replay.tenants.items) (given reader) (given reader') (taken writer) (taken writer'))
-    → LacksMemory given taken work reader reader' writer writer'
-replay_lacks given taken work fault replay reader reader' writer writer' fault_is ranges work_is (inl untouched) = untouched_lacks given taken work reader reader' writer writer' untouched
-replay_lacks given taken work fault replay reader reader' writer writer' fault_is ranges work_is (inr part) = go replay.export work_is part
+    → IsUntouched reader reader' writer writer' ⊎ ((asked : Demand) × IsAskedBy words asked × LacksMemory given taken asked reader reader' writer writer')
+replay_lacks given taken words fault replay reader reader' writer writer' fault_is asked (inl untouched) = inl untouched
+replay_lacks given taken words fault replay reader reader' writer writer' fault_is asked (inr part) =
+    inr (ToReplay (wanted_of replay), asked, exported replay.export part)
   where
-    go : (export : Option (String Global)) → work ≡ work_with (option_map string_bytes export)
-        → IsSomeAnd export (λ name. (are_taken (map string_bytes replay.tenants.items) ≡ true)
+    exported : (export : Option (String Global)) → IsSomeAnd export (λ name. (are_taken (map string_bytes replay.tenants.items) ≡ true)
         × ExportsFreshInPart fault (string_bytes name) replay.limits (map string_bytes replay.tenants.items) (given reader) (given reader') (taken writer) (taken writer'))
-        → LacksMemory given taken work reader reader' writer writer'
-    go None is part = absurd part
-    go (Some name) is part = subst (λ one. LacksMemory given taken one reader reader' writer writer') (sym is)
-        (inr (
-          string_bytes name,
-          replay.limits,
-          map string_bytes replay.tenants.items,
-          ranges,
-          part.0,
-          subst (λ one. ExportsFreshInPart one (string_bytes name) replay.limits (map string_bytes replay.tenants.items) (given reader) (given reader') (taken writer) (taken writer'))
-              fault_is part.1,
-        ))
+        → IsSomeAnd (option_map string_bytes export) (λ name. ExportsFreshInPart Memory name replay.limits (map string_bytes replay.tenants.items)
+        (given reader) (given reader') (taken writer) (taken writer'))
+    exported None part = part
+    exported (Some name) part =
+        subst (λ one. ExportsFreshInPart one (string_bytes name) replay.limits (map string_bytes replay.tenants.items) (given reader) (given reader') (taken writer) (taken writer'))
+        fault_is part.1
 
--- a replay that was done, or an export
-some_done : (export : Option Text) (limits : Limits) (tenants : List Text) (before after : Given) (taken taken' : Taken)
-    → IsTrue (are_limits limits.events limits.tasks limits.messages) → are_taken tenants ≡ true
-    → DoesReplay export limits tenants before after taken taken' → DoesSome (work_with export) before after taken taken' 0
-some_done None limits tenants before after taken taken' ranges names does = (refl, (limits, tenants, ranges, names, does))
-some_done (Some name) limits tenants before after taken taken' ranges names does = (refl, (name, limits, tenants, ranges, names, does))
-
--- and one that was broken off
-some_in_part : (export : Option Text) (fault : Fault) (limits : Limits) (tenants : List Text) (before after : Given) (taken taken' : Taken)
-    → IsTrue (are_limits limits.events limits.tasks limits.messages) → are_taken tenants ≡ true
-    → DoesReplayInPart export fault limits tenants before after taken taken' → DoesSomeInPart (work_with export) fault before after taken taken'
-some_in_part None fault limits tenants before after taken taken' ranges names does = (limits, tenants, ranges, names, does)
-some_in_part (Some name) fault limits tenants before after taken taken' ranges names does = (name, limits, tenants, ranges, names, does)
+-- tenants that are not refused are taken, if memory did not lack
+taken_unless : (before after : Taken) (taken : Bool) (status : ℕ) → RefusesTenants taken before after status → status ≢ 2 → status ≢ 4 → taken ≡ true
+taken_unless before after true status refuses other_than_two other_than_four = refl
+taken_unless before after false status (inl refused) other_than_two other_than_four = absurd (other_than_two refused.0)
+taken_unless before after false status (inr lacks) other_than_two other_than_four = absurd (other_than_four lacks)
 
 -- why serving was broken off
 serving_failed : (fault : Fault) (port : ℕ) (before after : Given) (taken taken' : Taken) → status_of fault ≡ 3 → ServesInPart fault port taken taken'
@@ -162,44 +165,44 @@ pub returns-in-Ok-Serve : goal.returns-in-Ok-Serve
 returns-in-Ok-Serve g c =
     let words = map g.S.AsStr.text c.args.words.now in
     let field : c.in-Ok-Serve.field-0 ≡ Serve c.in-Ok-Serve.wanted = search rules in
-    let answer = subst (λ one. IsAnswer (kinds_of words) (work_of words) (Ok one)) field c.in-Ok-Serve.ensures.kinds in
     let asked_is = ToServe (service_of c.in-Ok-Serve.wanted) in
-    let read = on_asked _ (λ asked. ReadsWords asked (Ok c.in-Ok-Serve.field-0)) (λ asked. asked ≡ asked_is) c.in-Ok-Serve.ensures.asked
-    (λ asked read. subst (λ one. ReadsWords asked (Ok one)) field read) in
+    let read = subst (IsReadAs words) field (c.in-Ok-Serve.ensures.kinds, c.in-Ok-Serve.ensures.asked, c.in-Ok-Serve.ensures.found) in
+    let ranges : IsInRange asked_is = search rules in
+    let by = asked_by words (Serve c.in-Ok-Serve.wanted) asked_is refl read ranges in
     let given = g.R.Source.seen c.args.reader.now in
     let taken = g.W.Sink.seen c.args.writer.now in
     let taken' = g.W.Sink.seen c.serve_programs.new.writer in
+    let told = g.E.Sink.seen c.args.errors.now in
+    let told' = g.E.Sink.seen c.serve_programs.new.errors in
     let port = c.in-Ok-Serve.wanted.port in
-    let in_range : IsTrue (is_between 1 65535 port) = search rules in
     let sessions = c.in-Ok-Serve.wanted.sessions in
-    let sessions_in_range : IsTrue (is_between 1 1048576 sessions) = search rules in
     record {
       words_refused = λ two.
           let refused = c.serve_programs.ensures.refused two in
-          (inl answer.0, (search rules, refused.0), told_some (g.E.Sink.seen c.args.errors.now) (g.E.Sink.seen c.serve_programs.new.errors) refused.1);
-      tenants_refused = on_asked _ (λ asked. asked ≡ asked_is) _ read (λ asked is.
-          subst (λ one. RefusesTenants (is_taken one) (g.E.Sink.seen c.args.errors.now) (g.E.Sink.seen c.serve_programs.new.errors) c.serve_programs.result) (sym is)
-          c.serve_programs.ensures.taken);
+          (inl by.taken, (search rules, refused.0), told_some told told' refused.1);
+      tenants_refused = on_asked _ (λ asked. asked ≡ asked_is) _ by.exact (λ asked is.
+          subst (λ one. RefusesTenants (is_taken one) told told' c.serve_programs.result) (sym is) c.serve_programs.ensures.taken);
       memory = λ four.
           let broken = c.serve_programs.ensures.broken_off (omega arith) in
           let fault_is = four_only broken.0 (sym broken.1 ∙ four) in (
-            subst (λ work. LacksMemory g.R.Source.seen g.W.Sink.seen work c.args.reader.now c.args.reader.now c.args.writer.now c.serve_programs.new.writer) (sym answer.1)
-                (refl, (port, subst (λ fault. ServesInPart fault port taken taken') fault_is broken.2)),
-            subst (λ fault. TellsFault (g.E.Sink.seen c.args.errors.now) (g.E.Sink.seen c.serve_programs.new.errors) fault) fault_is broken.3,
+            subst (λ fault. TellsFault told told' fault) fault_is broken.3,
+            inr (asked_is, by, (refl, subst (λ fault. ServesInPart fault port taken taken') fault_is broken.2)),
           );
       done = λ few.
           let did = c.serve_programs.ensures.done few in (
             (λ loud. did.1),
             served_through port sessions given taken taken' did.2,
             inr (
-              answer.0,
-              subst (λ work. DoesSome work given given taken taken' c.serve_programs.result) (sym answer.1) (did.0, refl, (port, sessions, in_range, sessions_in_range, did.2)),
+              asked_is,
+              by,
+              taken_unless told told' (is_taken asked_is) c.serve_programs.result c.serve_programs.ensures.taken (λ e. omega (arith, did.0, e)) (λ e. omega (arith, did.0, e)),
+              (did.0, refl, did.2),
             ),
           );
-      not_loaded = λ one is. let differ : Serving ≡ Loading = sym answer.1 ∙ is in absurd (cc);
+      not_loaded = λ one is. let differ : Serving ≡ Loading = sym by.work ∙ is in absurd (cc);
       did = λ few.
           let did = c.serve_programs.ensures.done few in
-          on_asked _ (λ asked. asked ≡ asked_is) _ read (λ asked is.
+          on_asked _ (λ asked. asked ≡ asked_is) _ by.exact (λ asked is.
           subst (λ one. Does one given given taken taken' c.serve_programs.result) (sym is) (did.0, refl, did.2));
       broken_off = λ others.
           let broken = c.serve_programs.ensures.broken_off others.0 in
@@ -208,13 +211,15 @@ returns-in-Ok-Serve g c =
             broken.0,
             (
               serving_failed broken.0 port given given taken taken' is broken.2,
-              on_asked _ (λ asked. asked ≡ asked_is) _ read (λ asked same.
+              on_asked _ (λ asked. asked ≡ asked_is) _ by.exact (λ asked same.
                   subst (λ one. DoesInPart one broken.0 given given taken taken') (sym same) (refl, broken.2)),
             ),
             broken.3,
             inr (
-              answer.0,
-              subst (λ work. DoesSomeInPart work broken.0 given given taken taken') (sym answer.1) (refl, (port, in_range, broken.2)),
+              asked_is,
+              by,
+              taken_unless told told' (is_taken asked_is) c.serve_programs.result c.serve_programs.ensures.taken (λ e. omega (arith, others.0, e)) others.1,
+              (refl, broken.2),
             ),
           );
     }
@@ -239,47 +244,36 @@ pub returns-in-Ok-Check : goal.returns-in-Ok-Check
 returns-in-Ok-Check g c =
     let words = map g.S.AsStr.text c.args.words.now in
     let field : c.in-Ok-Check.field-0 ≡ Check = search rules in
-    let answer = subst (λ one. IsAnswer (kinds_of words) (work_of words) (Ok one)) field c.in-Ok-Check.ensures.kinds in
-    let read = on_asked _ (λ asked. ReadsWords asked (Ok c.in-Ok-Check.field-0)) (λ asked. asked ≡ ToCheck) c.in-Ok-Check.ensures.asked
-    (λ asked read. subst (λ one. ReadsWords asked (Ok one)) field read) in
+    let read = subst (IsReadAs words) field (c.in-Ok-Check.ensures.kinds, c.in-Ok-Check.ensures.asked, c.in-Ok-Check.ensures.found) in
+    let by = asked_by words Check ToCheck refl read tt in
+    let given = g.R.Source.seen c.args.reader.now in
+    let given' = g.R.Source.seen c.check_input.new.reader in
+    let taken = g.W.Sink.seen c.args.writer.now in
+    let taken' = g.W.Sink.seen c.check_input.new.writer in
+    let told = g.E.Sink.seen c.args.errors.now in
+    let told' = g.E.Sink.seen c.check_input.new.errors in
     record {
       words_refused = λ two. absurd (c.check_input.ensures.taken two);
-      tenants_refused = on_asked _ (λ asked. asked ≡ ToCheck) _ read (λ asked is.
-          subst (λ one. RefusesTenants (is_taken one) (g.E.Sink.seen c.args.errors.now) (g.E.Sink.seen c.check_input.new.errors) c.check_input.result) (sym is)
-          c.check_input.ensures.taken);
-      memory = λ four.
-          let lacked = c.check_input.ensures.memory four in
-          (subst (λ work. LacksMemory g.R.Source.seen g.W.Sink.seen work c.args.reader.now c.check_input.new.reader c.args.writer.now c.check_input.new.writer) (sym answer.1) lacked.0, lacked.1);
+      tenants_refused = on_asked _ (λ asked. asked ≡ ToCheck) _ by.exact (λ asked is.
+          subst (λ one. RefusesTenants (is_taken one) told told' c.check_input.result) (sym is) c.check_input.ensures.taken);
+      memory = λ four. let lacked = c.check_input.ensures.memory four in (lacked.1, inr (ToCheck, by, lacked.0));
       done = λ few.
-          let did = c.check_input.ensures.done few in (
-            (λ loud. did.0),
-            did.1,
-            inr (
-              answer.0,
-              subst (λ work. DoesSome work (g.R.Source.seen c.args.reader.now) (g.R.Source.seen c.check_input.new.reader)
-                  (g.W.Sink.seen c.args.writer.now) (g.W.Sink.seen c.check_input.new.writer) c.check_input.result) (sym answer.1) did.2,
-            ),
-          );
-      not_loaded = λ one is. let differ : Checking ≡ Loading = sym answer.1 ∙ is in absurd (cc);
-      did = λ few. on_asked _ (λ asked. asked ≡ ToCheck) _ read (λ asked is.
-          subst (λ one. Does one (g.R.Source.seen c.args.reader.now) (g.R.Source.seen c.check_input.new.reader)
-          (g.W.Sink.seen c.args.writer.now) (g.W.Sink.seen c.check_input.new.writer) c.check_input.result) (sym is) (c.check_input.ensures.done few).2);
+          let did = c.check_input.ensures.done few in
+          ((λ loud. did.0), did.1, inr (ToCheck, by, refl, did.2));
+      not_loaded = λ one is. let differ : Checking ≡ Loading = sym by.work ∙ is in absurd (cc);
+      did = λ few. on_asked _ (λ asked. asked ≡ ToCheck) _ by.exact (λ asked is.
+          subst (λ one. Does one given given' taken taken' c.check_input.result) (sym is) (c.check_input.ensures.done few).2);
       broken_off = λ others.
           let broken = c.check_input.ensures.broken_off others.0 others.1 in (
             broken.0,
             broken.1,
             (
               broken.2,
-              on_asked _ (λ asked. asked ≡ ToCheck) _ read (λ asked is.
-                  subst (λ one. DoesInPart one broken.1 (g.R.Source.seen c.args.reader.now) (g.R.Source.seen c.check_input.new.reader)
-                  (g.W.Sink.seen c.args.writer.now) (g.W.Sink.seen c.check_input.new.writer)) (sym is) broken.3),
+              on_asked _ (λ asked. asked ≡ ToCheck) _ by.exact (λ asked is.
+                  subst (λ one. DoesInPart one broken.1 given given' taken taken') (sym is) broken.3),
             ),
             broken.4,
-            inr (
-              answer.0,
-              subst (λ work. DoesSomeInPart work broken.1 (g.R.Source.seen c.args.reader.now) (g.R.Source.seen c.check_input.new.reader)
-                  (g.W.Sink.seen c.args.writer.now) (g.W.Sink.seen c.check_input.new.writer)) (sym answer.1) broken.3,
-            ),
+            inr (ToCheck, by, refl, broken.3),
           );
     }
 
@@ -288,9 +282,8 @@ returns-in-Ok-Load g c =
     let words = map g.S.AsStr.text c.args.words.now in
     let tenant = string_bytes c.in-Ok-Load.tenant in
     let field : c.in-Ok-Load.field-0 ≡ Load c.in-Ok-Load.tenant = search rules in
-    let answer = subst (λ one. IsAnswer (kinds_of words) (work_of words) (Ok one)) field c.in-Ok-Load.ensures.kinds in
-    let read = on_asked _ (λ asked. ReadsWords asked (Ok c.in-Ok-Load.field-0)) (λ asked. asked ≡ ToLoad tenant) c.in-Ok-Load.ensures.asked
-    (λ asked read. subst (λ one. ReadsWords asked (Ok one)) field read) in
+    let read = subst (IsReadAs words) field (c.in-Ok-Load.ensures.kinds, c.in-Ok-Load.ensures.asked, c.in-Ok-Load.ensures.found) in
+    let by = asked_by words (Load c.in-Ok-Load.tenant) (ToLoad tenant) refl read tt in
     let same : c.as_str.result.now ≡ tenant = search rules in
     let given = g.R.Source.seen c.args.reader.now in
     let given' = g.R.Source.seen c.load_input.new.reader in
@@ -301,49 +294,52 @@ returns-in-Ok-Load g c =
     record {
       words_refused = λ two.
           let refused = c.load_input.ensures.refused two in
-          (inl answer.0, refused.0, told_some told told' refused.1);
-      tenants_refused = on_asked _ (λ asked. asked ≡ ToLoad tenant) _ read (λ asked is.
+          (inl by.taken, refused.0, told_some told told' refused.1);
+      tenants_refused = on_asked _ (λ asked. asked ≡ ToLoad tenant) _ by.exact (λ asked is.
           subst (λ one. RefusesTenants (is_taken one) told told' c.load_input.result) (sym is)
           (subst (λ name. RefusesTenants (is_name name) told told' c.load_input.result) same c.load_input.ensures.taken));
       memory = λ four.
           let broken = c.load_input.ensures.broken_off (omega (arith, four)) in
           let fault_is = four_only broken.0 (sym broken.1 ∙ four) in (
-            subst (λ work. LacksMemory g.R.Source.seen g.W.Sink.seen work c.args.reader.now c.load_input.new.reader c.args.writer.now c.load_input.new.writer) (sym answer.1)
-                (inr (c.as_str.result.now, subst (λ fault. LoadsExportInPart fault c.as_str.result.now given given' taken taken') fault_is broken.3)),
             subst (λ fault. TellsFault told told' fault) fault_is broken.5,
+            inr (
+              ToLoad tenant,
+              by,
+              subst (λ name. LoadsExportInPart Memory name given given' taken taken') same
+                  (subst (λ fault. LoadsExportInPart fault c.as_str.result.now given given' taken taken') fault_is broken.3),
+            ),
           );
       done = λ few.
           let did = c.load_input.ensures.done few in (
             (λ loud. elim (cases_eq c.load_input.result 1) [
-              | inl one ↦ absurd (loud (one, answer.1))
+              | inl one ↦ absurd (loud (one, by.work))
               | inr other ↦ c.load_input.ensures.quiet (omega (arith, few, other))
             ]),
             did.0,
             inr (
-              answer.0,
-              subst (λ work. DoesSome work given given' taken taken' c.load_input.result) (sym answer.1) (c.as_str.result.now, did.1, did.2),
+              ToLoad tenant,
+              by,
+              subst (λ name. is_name name ≡ true) same did.1,
+              subst (λ name. LoadsExport name given given' taken taken' c.load_input.result) same did.2,
             ),
           );
       not_loaded = λ one is. c.load_input.ensures.not_loaded one;
-      did = λ few. on_asked _ (λ asked. asked ≡ ToLoad tenant) _ read (λ asked is.
+      did = λ few. on_asked _ (λ asked. asked ≡ ToLoad tenant) _ by.exact (λ asked is.
           subst (λ one. Does one given given' taken taken' c.load_input.result) (sym is)
           (subst (λ name. LoadsExport name given given' taken taken' c.load_input.result) same (c.load_input.ensures.done few).2));
       broken_off = λ others.
           let broken = c.load_input.ensures.broken_off others.0 in
-          let three = three_only broken.0 (subst (λ n. 2 < n) broken.1 others.0) (λ e. others.1 (broken.1 ∙ e)) in (
+          let three = three_only broken.0 (subst (λ n. 2 < n) broken.1 others.0) (λ e. others.1 (broken.1 ∙ e)) in
+          let part = subst (λ name. LoadsExportInPart broken.0 name given given' taken taken') same broken.3 in (
             broken.1 ∙ three,
             broken.0,
             (
               broken.4 three,
-              on_asked _ (λ asked. asked ≡ ToLoad tenant) _ read (λ asked is.
-                  subst (λ one. DoesInPart one broken.0 given given' taken taken') (sym is)
-                  (subst (λ name. LoadsExportInPart broken.0 name given given' taken taken') same broken.3)),
+              on_asked _ (λ asked. asked ≡ ToLoad tenant) _ by.exact (λ asked is.
+                  subst (λ one. DoesInPart one broken.0 given given' taken taken') (sym is) part),
             ),
             broken.5,
-            inr (
-              answer.0,
-              subst (λ work. DoesSomeInPart work broken.0 given given' taken taken') (sym answer.1) (c.as_str.result.now, broken.2, broken.3),
-            ),
+            inr (ToLoad tenant, by, subst (λ name. is_name name ≡ true) same broken.2, part),
           );
     }
 
@@ -370,21 +366,15 @@ returns-in-Ok g c = record {
       | in-Ok-Replay w ↦
           let words = map g.S.AsStr.text c.args.words.now in
           let field : w.in-Ok-Replay.field-0 ≡ Replay w.in-Ok-Replay.wanted = search rules in
-          let answer = subst (λ one. IsAnswer (kinds_of words) (work_of words) (Ok one)) field w.in-Ok-Replay.ensures.kinds in
+          let asked_is = ToReplay (wanted_of w.in-Ok-Replay.wanted) in
           let done = sym w.done-is ∙ c.in-Ok.is in
+          let limits = at_ok w.replay_tenants-done.result c.in-Ok.field-0 _ done w.replay_tenants-done.ensures.ranges in
+          let cache : IsTrue (is_between 1 65536 w.in-Ok-Replay.wanted.cache) = search rules in
+          let read = subst (IsReadAs words) field (w.in-Ok-Replay.ensures.kinds, w.in-Ok-Replay.ensures.asked, w.in-Ok-Replay.ensures.found) in
+          let by = asked_by words (Replay w.in-Ok-Replay.wanted) asked_is refl read (limits, cache) in
           let taken = at_ok w.replay_tenants-done.result c.in-Ok.field-0 _ done w.replay_tenants-done.ensures.taken in
-          let ranges = at_ok w.replay_tenants-done.result c.in-Ok.field-0 _ done w.replay_tenants-done.ensures.ranges in
           let does = at_ok w.replay_tenants-done.result c.in-Ok.field-0 _ done w.replay_tenants-done.ensures.ok in
-          let some : DoesSome (work_with (option_map string_bytes w.in-Ok-Replay.wanted.export)) (g.R.Source.seen c.args.reader.now) (g.R.Source.seen c.match-read_words.reader)
-          (g.W.Sink.seen c.args.writer.now) (g.W.Sink.seen c.match-read_words.writer) 0 =
-          some_done (option_map string_bytes w.in-Ok-Replay.wanted.export) w.in-Ok-Replay.wanted.limits (map string_bytes w.in-Ok-Replay.wanted.tenants.items)
-          (g.R.Source.seen c.args.reader.now) (g.R.Source.seen c.match-read_words.reader) (g.W.Sink.seen c.args.writer.now) (g.W.Sink.seen c.match-read_words.writer) ranges (and_parts _ _ taken).0 (rw (w.reader-is, w.writer-is) does)
-          in
-          inr (
-            answer.0,
-            subst (λ work. DoesSome work (g.R.Source.seen c.args.reader.now) (g.R.Source.seen c.match-read_words.reader)
-                (g.W.Sink.seen c.args.writer.now) (g.W.Sink.seen c.match-read_words.writer) 0) (sym answer.1) some,
-          )
+          inr (asked_is, by, taken, (refl, rw (w.reader-is, w.writer-is) does))
       | in-Ok-Show w ↦
           let words = map g.S.AsStr.text c.args.words.now in
           let field : w.in-Ok-Show.field-0 ≡ Show w.in-Ok-Show.text = search rules in
@@ -450,24 +440,25 @@ returns-in-Err g c = record {
         subst (λ status. RefusesTenants (is_taken asked) (g.E.Sink.seen c.args.errors.now) (g.E.Sink.seen c.tell.new.errors) status) (sym (c.tell.ensures.status ∙ ap status_of fault_is)) (memory_taken _ _ (is_taken asked)))
   ];
   memory = λ four. (
+    search rules,
     elim c.match-read_words.branch [
       | in-Ok-Replay w ↦
           let words = map g.S.AsStr.text c.args.words.now in
           let field : w.in-Ok-Replay.field-0 ≡ Replay w.in-Ok-Replay.wanted = search rules in
-          let answer = subst (λ one. IsAnswer (kinds_of words) (work_of words) (Ok one)) field w.in-Ok-Replay.ensures.kinds in
           let lacked = at_err w.replay_tenants-done.result c.in-Err.fault _ (sym w.done-is ∙ c.in-Err.is) w.replay_tenants-done.ensures.memory (sym c.tell.ensures.status ∙ four) in
-          let ranges : IsTrue (are_limits w.in-Ok-Replay.wanted.limits.events w.in-Ok-Replay.wanted.limits.tasks w.in-Ok-Replay.wanted.limits.messages) = search rules in
-          replay_lacks g.R.Source.seen g.W.Sink.seen (work_of words) c.in-Err.fault w.in-Ok-Replay.wanted c.args.reader.now c.match-read_words.reader c.args.writer.now c.match-read_words.writer (four_only c.in-Err.fault (sym c.tell.ensures.status ∙ four)) ranges answer.1
-          (rw (w.reader-is, w.writer-is) lacked)
+          let ranges : IsInRange (ToReplay (wanted_of w.in-Ok-Replay.wanted)) = search rules in
+          let read = subst (IsReadAs words) field (w.in-Ok-Replay.ensures.kinds, w.in-Ok-Replay.ensures.asked, w.in-Ok-Replay.ensures.found) in
+          let by = asked_by words (Replay w.in-Ok-Replay.wanted) (ToReplay (wanted_of w.in-Ok-Replay.wanted)) refl read ranges in
+          replay_lacks g.R.Source.seen g.W.Sink.seen words c.in-Err.fault w.in-Ok-Replay.wanted c.args.reader.now c.match-read_words.reader c.args.writer.now c.match-read_words.writer
+          (four_only c.in-Err.fault (sym c.tell.ensures.status ∙ four)) by (rw (w.reader-is, w.writer-is) lacked)
       | in-Ok-Show w ↦
           let fault = at_err w.show_help-done.result c.in-Err.fault _ (sym w.done-is ∙ c.in-Err.is) w.show_help-done.ensures.err in
           let no : 3 ≡ 4 = sym (c.tell.ensures.status ∙ ap status_of fault.0) ∙ four in
           absurd (omega arith)
       | in-Err-Memory w ↦
           let untouched : IsUntouched c.args.reader.now c.match-read_words.reader c.args.writer.now c.match-read_words.writer = search rules in
-          untouched_lacks g.R.Source.seen g.W.Sink.seen (work_of (map g.S.AsStr.text c.args.words.now)) _ _ _ _ untouched
+          inl untouched
     ],
-    search rules,
   );
   done = λ few. absurd (omega (arith, two_at_least c.in-Err.fault, c.tell.ensures.status));
   not_loaded = λ one is. absurd (omega (arith, one, two_at_least c.in-Err.fault, c.tell.ensures.status));
@@ -501,19 +492,12 @@ returns-in-Err g c = record {
           | in-Ok-Replay w ↦
               let words = map g.S.AsStr.text c.args.words.now in
               let field : w.in-Ok-Replay.field-0 ≡ Replay w.in-Ok-Replay.wanted = search rules in
-              let answer = subst (λ one. IsAnswer (kinds_of words) (work_of words) (Ok one)) field w.in-Ok-Replay.ensures.kinds in
+              let asked_is = ToReplay (wanted_of w.in-Ok-Replay.wanted) in
               let in_part = at_err w.replay_tenants-done.result c.in-Err.fault _ (sym w.done-is ∙ c.in-Err.is) w.replay_tenants-done.ensures.in_part (sym c.tell.ensures.status ∙ three) in
-              let ranges : IsTrue (are_limits w.in-Ok-Replay.wanted.limits.events w.in-Ok-Replay.wanted.limits.tasks w.in-Ok-Replay.wanted.limits.messages) = search rules in
-              let some : DoesSomeInPart (work_with (option_map string_bytes w.in-Ok-Replay.wanted.export)) c.in-Err.fault (g.R.Source.seen c.args.reader.now)
-              (g.R.Source.seen c.match-read_words.reader) (g.W.Sink.seen c.args.writer.now) (g.W.Sink.seen c.match-read_words.writer) =
-              some_in_part (option_map string_bytes w.in-Ok-Replay.wanted.export) c.in-Err.fault w.in-Ok-Replay.wanted.limits (map string_bytes w.in-Ok-Replay.wanted.tenants.items)
-              (g.R.Source.seen c.args.reader.now) (g.R.Source.seen c.match-read_words.reader) (g.W.Sink.seen c.args.writer.now) (g.W.Sink.seen c.match-read_words.writer) ranges (and_parts _ _ in_part.0).0 (rw (w.reader-is, w.writer-is) in_part.1)
-              in
-              inr (
-                answer.0,
-                subst (λ work. DoesSomeInPart work c.in-Err.fault (g.R.Source.seen c.args.reader.now) (g.R.Source.seen c.match-read_words.reader)
-                    (g.W.Sink.seen c.args.writer.now) (g.W.Sink.seen c.match-read_words.writer)) (sym answer.1) some,
-              )
+              let ranges : IsInRange asked_is = search rules in
+              let read = subst (IsReadAs words) field (w.in-Ok-Replay.ensures.kinds, w.in-Ok-Replay.ensures.asked, w.in-Ok-Replay.ensures.found) in
+              let by = asked_by words (Replay w.in-Ok-Replay.wanted) asked_is refl read ranges in
+              inr (asked_is, by, in_part.0, rw (w.reader-is, w.writer-is) in_part.1)
           | in-Ok-Show w ↦
               let words = map g.S.AsStr.text c.args.words.now in
               let field : w.in-Ok-Show.field-0 ≡ Show w.in-Ok-Show.text = search rules in

@@ -1,4 +1,4 @@
-use Rattle.std.proofs.Common.{rules, ◌≡◌, ◌≢◌, ℕ, inl, inr, [], Result, Err, IfErr, subst, sym, append-nil}
+use Rattle.std.proofs.Common.{rules, ◌≡◌, ◌≢◌, ℕ, Result, Err, IfErr, subst, sym}
 use Rattle.line_protocol.specs.Source.{Given}
 use Rattle.line_protocol.specs.Sink.{Taken}
 use Rattle.line_protocol.specs.Writing.{EndsInFault}

@@ -1,4 +1,4 @@
-use Rattle.std.proofs.Common.{◌≡◌, ◌∙◌, ℕ, ◌++◌, IfOk, ap, sym, append_assoc, codes, decimal, string_bytes}
+use Rattle.std.proofs.Common.{◌≡◌, ◌∙◌, ◌++◌, IfOk, ap, sym, append_assoc, codes, decimal, string_bytes}
 use Rattle.std.proofs.lemmas.Result.{IfOk-weaker}
 use Rattle.trace_session.specs.declared.serving.ServeCounts.{ServeCounts}
 use Rattle.itc_trace.specs.Serving.{line_of_counts}
