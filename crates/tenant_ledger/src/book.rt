@@ -2,10 +2,13 @@
 ghost use Rattle.std.specs.Prelude.{◌≡◌, ◌-◌, ◌<◌, ◌≤◌, true, IsTrue, IfOk, OnOk, IfErr, IfSome, is_some, Some, None, All, length, if◌then◌else◌, slice_get, map};
 ghost use Rattle.trace_types.specs.tenant.Limits.{are_limits};
 ghost use Rattle.trace_types.specs.tenant.Rows.{row_of, is_event};
-ghost use Rattle.trace_types.specs.clock.Stamps.{stamp_text_of};
+ghost use Rattle.trace_types.specs.clock.Clock.{tree_clock};
+ghost use Rattle.trace_types.specs.clock.Size.{inner_of_id, inner_of_tree};
+ghost use Rattle.trace_types.specs.clock.Stamps.{stamp_of, stamp_text_of, tree_of};
 ghost use Rattle.trace_types.specs.tenant.Tenant.{fresh};
 ghost use Rattle.message_book.specs.Book.{entry_of};
 ghost use Rattle.tenant_ledger.specs.Ledger.{IsKept, history_in, task_in, tenant_of};
+ghost use Rattle.tenant_ledger.specs.Size.{spawns_up_to};
 
 mod commit;
 mod draft;
@@ -209,12 +212,48 @@ impl<S: Keep> Book<S> {
         self.alloc
     }
 
+    /// What the event knows, as it is kept. It is `None` if there is no such event.
+    pub(crate) fn kept_tree(&self, event: u64) -> Option<&S::Kept>
+        requires { IsKept self.now }
+        ensures known { is_some result ≡ is_event (history_in self.now) event }
+        ensures tree { IfSome result (λ kept. S.Kept.tree kept.now ≡ tree_of tree_clock (history_in self.now) event) }
+        ensures size { IfSome result (λ kept. inner_of_tree (S.Kept.tree kept.now) ≤ spawns_up_to self.now.rows event) }
+    {
+        if self.is_event(event) {
+            Some(self.tree_at(event))
+        } else {
+            None
+        }
+    }
+
+    /// The id that the event's task has after it, as it is kept. It is `None` if there is no such event.
+    pub(crate) fn kept_id(&self, event: u64) -> Option<&S::Id>
+        requires { IsKept self.now }
+        ensures known { is_some result ≡ is_event (history_in self.now) event }
+        ensures id { IfSome result (λ kept. S.Id.id kept.now ≡ (stamp_of tree_clock (history_in self.now) event).0) }
+        ensures size { IfSome result (λ kept. inner_of_id (S.Id.id kept.now) ≤ spawns_up_to self.now.rows event) }
+    {
+        if self.is_event(event) {
+            Some(self.id_at(self.place(event)))
+        } else {
+            None
+        }
+    }
+
+    /// What is kept of the event's tree.
+    fn tree_at(&self, event: u64) -> &S::Kept
+        requires { (0 < event) × (event ≤ length self.now.trees) }
+        ensures { slice_get self.now.trees (event - 1) ≡ Some (S.Kept.tree result.now) }
+    {
+        &self.trees[event as usize - 1]
+    }
+
     /// The tree that is kept of the event.
     fn tree(&self, event: u64) -> &EvTree
         requires { (0 < event) × (event ≤ length self.now.trees) }
         ensures { slice_get self.now.trees (event - 1) ≡ Some result.now }
     {
-        S::tree_value(&self.trees[event as usize - 1])
+        S::tree_value(self.tree_at(event))
     }
 
     /// The place of the id of the event's task after it.
@@ -225,13 +264,22 @@ impl<S: Keep> Book<S> {
         self.places[event as usize - 1]
     }
 
+    /// What is kept of the id at the place.
+    fn id_at(&self, place: usize) -> &S::Id
+        requires place { place < length self.now.ids }
+        requires seeded { 0 < self.now.kept_ids }
+        ensures { slice_get self.now.ids place ≡ Some (S.Id.id result.now) }
+    {
+        &self.ids[place]
+    }
+
     /// The id that is kept at the place.
     fn id(&self, place: usize) -> &IdTree
         requires place { place < length self.now.ids }
         requires seeded { 0 < self.now.kept_ids }
         ensures { slice_get self.now.ids place ≡ Some result.now }
     {
-        S::id_value(&self.ids[place])
+        S::id_value(self.id_at(place))
     }
 
     /// How many ids are kept.

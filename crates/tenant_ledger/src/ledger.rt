@@ -1,13 +1,14 @@
 //! Ledgers, which take and answer requests by their books.
-ghost use Rattle.std.specs.Prelude.{◌≡◌, suc, true, Some, IfOk, IfErr, IfSome, is_some, length};
+ghost use Rattle.std.specs.Prelude.{◌≡◌, ◌≤◌, suc, true, Some, IfOk, IfErr, IfSome, is_some, length};
 ghost use Rattle.trace_types.specs.tenant.Rows.{history_of, is_event};
 ghost use Rattle.trace_types.specs.tenant.Reachability.{order_of};
 ghost use Rattle.trace_types.specs.clock.Clock.{tree_clock};
-ghost use Rattle.trace_types.specs.clock.Stamps.{tree_of};
+ghost use Rattle.trace_types.specs.clock.Size.{inner_of_id, inner_of_tree};
+ghost use Rattle.trace_types.specs.clock.Stamps.{stamp_of, tree_of};
 ghost use Rattle.trace_types.specs.tenant.Tenant.{fresh, step, Steps, Answers, AreLegal, is_report, reply_to_view, with_row};
 ghost use Rattle.event_tree.specs.Comparison.{StandsAs};
 ghost use Rattle.tenant_ledger.specs.Ledger.{code_of, is_brief};
-ghost use Rattle.tenant_ledger.specs.Size.{AreShort, AreSized, IsShort};
+ghost use Rattle.tenant_ledger.specs.Size.{AreShort, AreSized, IsShort, spawns_up_to};
 
 use crate::book::Book;
 use crate::share::{Keep, MeantId, Share, Through};
@@ -66,6 +67,24 @@ impl<S: Keep> Ledger<S> {
         self.book.rows()
     }
 
+    /// What the event knows, as the ledger keeps it. It is `None` if there is no such event.
+    pub fn tree(&self, event: u64) -> Option<&S::Kept>
+        ensures known { is_some result ≡ is_event (history_of self.now.rows) event }
+        ensures tree { IfSome result (λ kept. S.Kept.tree kept.now ≡ tree_of tree_clock (history_of self.now.rows) event) }
+        ensures size { IfSome result (λ kept. inner_of_tree (S.Kept.tree kept.now) ≤ spawns_up_to self.now.rows event) }
+    {
+        self.book.kept_tree(event)
+    }
+
+    /// The id that the event's task has after it, as the ledger keeps it. It is `None` if there is no such event.
+    pub fn id(&self, event: u64) -> Option<&S::Id>
+        ensures known { is_some result ≡ is_event (history_of self.now.rows) event }
+        ensures id { IfSome result (λ kept. S.Id.id kept.now ≡ (stamp_of tree_clock (history_of self.now.rows) event).0) }
+        ensures size { IfSome result (λ kept. inner_of_id (S.Id.id kept.now) ≤ spawns_up_to self.now.rows event) }
+    {
+        self.book.kept_id(event)
+    }
+
     /// The law by which an order is answered: the trees kept for two events stand to each other as the events do.
     ///
     /// It does nothing.
@@ -81,6 +100,7 @@ impl<S: Keep> Ledger<S> {
     }
 
     /// How large the ids and the stamps of the tenant are, by [`laws::size`] and [`laws::text_size`].
+    /// [`Ledger::tree`] and [`Ledger::id`] say it of what is kept.
     ///
     /// It does nothing.
     pub fn size(&self)

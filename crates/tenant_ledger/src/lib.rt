@@ -19,6 +19,9 @@
 //! assert_eq!(rt; ledger.report(&rt, &Request::Local(root)), Reply::Accepted(3));
 //! let order = ledger.report(&rt, &Request::Order(2, 3));
 //! assert_eq!(rt; order, Reply::Ordering(Order::Concurrent));
+//! let (tree, id) = (ledger.tree(2).ok_or("no event")?, ledger.id(2).ok_or("no event")?);
+//! assert!(rt; tree.inner() == 1 && id.inner() == 1);
+//! assert!(rt; ledger.tree(4).is_none() && ledger.id(4).is_none());
 //! ```
 #![tactic(auto)]
 

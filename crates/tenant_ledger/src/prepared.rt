@@ -1,7 +1,8 @@
 //! Prepared reports.
-ghost use Rattle.std.specs.Prelude.{◌≡◌, suc, ◌∷◌, Some, length};
+ghost use Rattle.std.specs.Prelude.{◌≡◌, ◌≤◌, suc, ◌∷◌, Some, length};
 ghost use Rattle.trace_types.specs.clock.Clock.{tree_clock};
-ghost use Rattle.trace_types.specs.tenant.Rows.{history_of};
+ghost use Rattle.trace_types.specs.tenant.Rows.{history_of, spawn_count};
+ghost use Rattle.trace_types.specs.clock.Size.{inner_of_id, inner_of_tree};
 ghost use Rattle.trace_types.specs.clock.Stamps.{id_of, tree_of};
 ghost use Rattle.trace_types.specs.tenant.Tenant.{with_row};
 ghost use Rattle.trace_types.specs.declared.reply.Reply.TheVariants as reply;
@@ -43,7 +44,8 @@ impl<S: Keep> Prepared<S> {
 
     /// What the report's event knows, as it is kept.
     pub fn tree(&self) -> &S::Kept
-        ensures { S.Kept.tree result.now ≡ tree_of tree_clock (self.now.row ∷ history_of self.now.tenant.rows) (suc (length self.now.tenant.rows)) }
+        ensures tree { S.Kept.tree result.now ≡ tree_of tree_clock (self.now.row ∷ history_of self.now.tenant.rows) (suc (length self.now.tenant.rows)) }
+        ensures size { inner_of_tree (S.Kept.tree result.now) ≤ spawn_count (self.now.row ∷ history_of self.now.tenant.rows) }
     {
         self.draft.tree()
     }
@@ -64,7 +66,8 @@ impl<S: Keep> Prepared<S> {
 
     /// The id that the report's task has after the event, as it is kept.
     pub fn id(&self) -> &S::Id
-        ensures { S.Id.id result.now ≡ id_of tree_clock (self.now.row ∷ history_of self.now.tenant.rows) self.now.row.task }
+        ensures id { S.Id.id result.now ≡ id_of tree_clock (self.now.row ∷ history_of self.now.tenant.rows) self.now.row.task }
+        ensures size { inner_of_id (S.Id.id result.now) ≤ spawn_count (self.now.row ∷ history_of self.now.tenant.rows) }
     {
         self.book.id_after(&self.draft)
     }

@@ -1,12 +1,12 @@
 -- A book is kept with the event of a report that is not refused.
-use Rattle.std.proofs.Common.{◌≡◌, ℕ, List, suc, ◌-◌, ◌<◌, ◌≤◌, [], ◌∷◌, ◌++◌, length, map, slice_get, option_map, Option, Some, refl, sym, ap, ◌∙◌, subst, arith}
-use Rattle.tenant_ledger.proofs.Words.{nat_tests, length-append, length-map, length-reverse, reverse-append, map-append, same_Some, slice_get-map, transport, Text, History, history_of, EventTree, task_count, tree_clock, id_of, tree_of, row_after, Row, IsLegal, Contents, Event, IsKept, IsKeptWith, IsTask, IsReport, IsReady, HasRoom, AreMessages, ArePoints, MayRaise, Notes, history_in, task_in, of_each, id_after, start_of, event_of, with_event, tasks_with, task_count_with, Report}
+use Rattle.std.proofs.Common.{◌≡◌, ℕ, IsTrue, List, suc, ◌-◌, ◌<◌, ◌≤◌, [], ◌∷◌, ◌++◌, length, map, slice_get, option_map, Option, Some, refl, sym, ap, ◌∙◌, subst, arith}
+use Rattle.tenant_ledger.proofs.Words.{nat_tests, length-append, length-map, length-reverse, reverse-append, map-append, same_Some, slice_get-map, transport, Text, History, history_of, is_event, EventTree, task_count, tree_clock, id_of, tree_of, row_after, Row, IsLegal, Contents, Event, IsKept, IsKeptWith, IsTask, IsReport, IsReady, HasRoom, AreMessages, ArePoints, MayRaise, Notes, history_in, task_in, of_each, id_after, start_of, event_of, with_event, tasks_with, task_count_with, Report}
 use Rattle.message_book.specs.Book as message_book
 use Rattle.trace_query.specs.declared.deciding.Deciding.{Deciding}
-use Rattle.tenant_ledger.proofs.clock.Events.{tree_of-older}
+use Rattle.tenant_ledger.proofs.clock.Events.{event_bounds, tree_of-older}
 use Rattle.tenant_ledger.proofs.clock.Legality.{IsLegal_from_AreLegal}
 use Rattle.tenant_ledger.proofs.keeping.Known.{legal_history}
-use Rattle.tenant_ledger.proofs.keeping.Lists.{length-of_each, at_event, same_places, Stays}
+use Rattle.tenant_ledger.proofs.keeping.Lists.{length-of_each, at_event, same_places, slice_get-seam, Stays}
 use Rattle.tenant_ledger.proofs.keeping.Messages.{noted_are_messages}
 use Rattle.tenant_ledger.proofs.keeping.Points.{points_with_one}
 use Rattle.tenant_ledger.proofs.keeping.Tasks.{id_is_kept, id_is_left, start_is_kept, tasks_are_kept, tasks_are_counted}
@@ -21,6 +21,12 @@ module _ (rows : List Row) (trees : List EventTree) (are : trees ≡ of_each (tr
   -- a tree is kept of each event
   pub one_tree : length trees ≡ length rows
   one_tree = ap length are ∙ length-of_each (tree_of tree_clock) (history_of rows) ∙ length-reverse rows
+
+-- an event of the book is one of its rows
+pub event_within : (book : Contents) (event : ℕ) → IsTrue (is_event (history_in book) event) → (0 < event) × (event ≤ length book.rows)
+event_within book event is =
+    let bounds = event_bounds (history_in book) event is in
+    (bounds.0, omega (arith, bounds.1, length-reverse book.rows))
 
 -- what is told of an event's task is not told anew by a later row
 pub id_after-older : Stays id_after
@@ -107,6 +113,17 @@ module _ (book : Contents) (kept : IsKept book) (report : Report) (is : IsReport
     room = search;
     id = id_is_left book kept report.task report.acting is.acting legal_with_row.0.0 report.kind report.name;
   }
+
+-- What a ready event knows is what the rows with its own tell.
+pub ready_tree : (book : Contents) (event : Event) → IsReady book event → event.tree ≡ tree_of tree_clock (event.row ∷ history_in book) (suc (length book.rows))
+ready_tree book event ready =
+    let rows = book.rows ++ event.row ∷ [] in
+    let trees = book.trees ++ event.tree ∷ [] in
+    let as_many = one_tree book.rows book.trees ready.was.trees in
+    let place : length book.trees ≡ suc (length book.rows) - 1 = omega (arith, as_many) in
+    let newest = tree_at_event rows trees ready.next.trees (suc (length book.rows)) (omega arith) (omega (arith, length-append book.rows (event.row ∷ []))) in
+    same_Some _ _ (sym (slice_get-seam book.trees event.tree []) ∙ ap (slice_get trees) place ∙ newest)
+    ∙ ap (λ h. tree_of tree_clock h (suc (length book.rows))) (reverse-append book.rows (event.row ∷ []))
 
 -- A book to which a ready event was added is kept.
 pub added_is_kept : (book : Contents) (event : Event) → IsReady book event → (new : Contents) → new.limits ≡ book.limits → new.messages ≡ book.messages

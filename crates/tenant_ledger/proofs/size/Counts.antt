@@ -7,7 +7,7 @@ use Rattle.trace_types.specs.text.Name.{Text}
 use Rattle.trace_types.specs.clock.Id.{Zero}
 use Rattle.trace_types.specs.clock.EventTree.{Leaf}
 use Rattle.trace_types.specs.clock.Clock.{tree_clock}
-use Rattle.trace_types.specs.clock.Size.{inner_of_id}
+use Rattle.trace_types.specs.clock.Size.{inner_of_id, inner_of_tree}
 use Rattle.trace_types.specs.clock.Stamps.{id_of, tree_of, stamp_of}
 use Rattle.trace_types.specs.tenant.Rows.{History, history_of, spawn_count}
 use Rattle.trace_types.specs.declared.row.Row.{Row}
@@ -75,9 +75,14 @@ within_spawns rows event =
     (stamp_is_within (history_of rows) event)
 
 -- the id of a task is within all spawns
-id_is_within : (history : History) (task : Text) → inner_of_id (id_of tree_clock history task) ≤ spawn_count history
+pub id_is_within : (history : History) (task : Text) → inner_of_id (id_of tree_clock history task) ≤ spawn_count history
 id_is_within history task =
     omega (arith, place_count-le_spawns history, inner_of_id-le (id_of tree_clock history task) (places_of history) (among-id_of history task))
+
+-- and so is what an event knows
+pub tree_is_within : (history : History) (event : ℕ) → inner_of_tree (tree_of tree_clock history event) ≤ spawn_count history
+tree_is_within history event =
+    omega (arith, place_count-le_spawns history, inner_of_tree-le (tree_of tree_clock history event) (places_of history) (among-tree_of history event))
 
 pub are_sized : (rows : List Row) → AreSized rows
 are_sized rows = record { ids = id_is_within (history_of rows); stamps = within_spawns rows }
