@@ -6,6 +6,7 @@ use Rattle.trace_types.specs.clock.EventTree.{EventTree}
 use Rattle.trace_types.specs.clock.Clock.{tree_clock}
 use Rattle.trace_types.specs.clock.Size.{inner_of_id, inner_of_tree}
 use Rattle.trace_types.specs.clock.Stamps.{id_of, stamp_of, stamp_text_of}
+use Rattle.trace_types.specs.text.StampText.{id_text, tree_text}
 use Rattle.trace_types.specs.tenant.Limits.{Limits}
 use Rattle.trace_types.specs.tenant.Rows.{History, history_of, spawn_count, task_count}
 use Rattle.trace_types.specs.declared.reply.Reply.{Reply}
@@ -32,6 +33,16 @@ pub record AreSized (rows : List Row) : Type 0 where
 -- The text of each event's stamp has at most 18 bytes for each task that was spawned up to the event, and 9 more.
 abbrev pub AreShort : List Row → Type 0
 AreShort rows = (event : ℕ) → length (stamp_text_of (history_of rows) event) ≤ 18 * spawns_up_to rows event + 9
+
+-- The text of the stamp's id has at most four bytes for each of so many spawns, and one more. The text of its tree has at
+-- most 14 bytes for each, and five more.
+pub record HasShortParts (spawns : ℕ) (stamp : Id × EventTree) : Type 0 where
+  pub id : length (id_text stamp.0) ≤ 4 * spawns + 1
+  pub tree : length (tree_text stamp.1) ≤ 14 * spawns + 5
+
+-- Each event's stamp has such texts, by the tasks that were spawned up to the event.
+abbrev pub HaveShortParts : List Row → Type 0
+HaveShortParts rows = (event : ℕ) → HasShortParts (spawns_up_to rows event) (stamp_of tree_clock (history_of rows) event)
 
 -- how many bytes of a stamp the answer has
 abbrev pub stamp_bytes : Reply → ℕ
