@@ -14,6 +14,8 @@ use Rattle.trace_types.specs.declared.reply.Reply.TheVariants as reply
 use Rattle.trace_types.specs.declared.request.Request.{Request}
 use Rattle.trace_types.specs.declared.request.Request.TheVariants.{Stamp}
 use Rattle.trace_types.specs.declared.row.Row.{Row}
+use Rattle.event_tree.specs.Height.{height}
+use Rattle.stamp_codec.specs.Bounds.{id_height}
 
 -- how many of the rows up to that of the event started a task
 abbrev pub spawns_up_to : List Row → ℕ → ℕ
@@ -43,6 +45,15 @@ pub record HasShortParts (spawns : ℕ) (stamp : Id × EventTree) : Type 0 where
 -- Each event's stamp has such texts, by the tasks that were spawned up to the event.
 abbrev pub HaveShortParts : List Row → Type 0
 HaveShortParts rows = (event : ℕ) → HasShortParts (spawns_up_to rows event) (stamp_of tree_clock (history_of rows) event)
+
+-- The pairs of the stamp's id and the nodes of its tree are nested at most so deep.
+pub record NestsAtMost (most : ℕ) (stamp : Id × EventTree) : Type 0 where
+  pub id : id_height stamp.0 ≤ most
+  pub tree : height stamp.1 ≤ most
+
+-- Each event's stamp is nested at most as deep as tasks were spawned up to the event.
+abbrev pub NestBySpawns : List Row → Type 0
+NestBySpawns rows = (event : ℕ) → NestsAtMost (spawns_up_to rows event) (stamp_of tree_clock (history_of rows) event)
 
 -- how many bytes of a stamp the answer has
 abbrev pub stamp_bytes : Reply → ℕ

@@ -4,13 +4,13 @@ ghost use Rattle.trace_types.specs.clock.Clock.{tree_clock};
 ghost use Rattle.trace_types.specs.tenant.Limits.{Limits, are_limits};
 ghost use Rattle.trace_types.specs.tenant.Reachability.{order_of};
 ghost use Rattle.trace_types.specs.tenant.Rows.{history_of, is_event};
-ghost use Rattle.trace_types.specs.clock.Stamps.{stamp_text_of, tree_of};
+ghost use Rattle.trace_types.specs.clock.Stamps.{stamp_of, stamp_text_of, tree_of};
 ghost use Rattle.trace_types.specs.tenant.Tenant.{AreLegal};
 ghost use Rattle.trace_types.specs.declared.row.Row.{Row};
 ghost use Rattle.event_tree.specs.Comparison.{StandsAs};
 ghost use Rattle.trace_types.specs.clock.Points.{Point};
 ghost use Rattle.tenant_ledger.specs.Laws.{DecidesReach, IsAtMostItsNumber, IsRaisedBy};
-ghost use Rattle.tenant_ledger.specs.Size.{AreShort, AreSized, HaveShortParts, IsWithinLimits};
+ghost use Rattle.tenant_ledger.specs.Size.{AreShort, AreSized, HaveShortParts, IsWithinLimits, NestBySpawns, NestsAtMost};
 
 /// The clock theorem: for legal rows, comparing what two events know gives exactly their order in the graph. So the
 /// interval tree clock (Almeida, Baquero and Fonte 2008) tells happened-before (Lamport 1978).
@@ -54,4 +54,12 @@ pub fn text_size()
         → AreLegal limits rows → HaveShortParts rows }
     ensures greatest { (limits : Limits) (rows : List Row) → IsTrue (are_limits limits.events limits.tasks limits.messages)
         → AreLegal limits rows → (event : ℕ) → length (stamp_text_of (history_of rows) event) ≤ 36855 }
+{}
+
+/// No stamp is nested deeper than tasks had been spawned up to its event. For legal rows it is nested at most 2047 deep,
+/// and `read_stamp` of `stamp_codec` reads one that is nested 2048 deep.
+pub fn nesting()
+    ensures spawns { (rows : List Row) → NestBySpawns rows }
+    ensures greatest { (limits : Limits) (rows : List Row) → IsTrue (are_limits limits.events limits.tasks limits.messages)
+        → AreLegal limits rows → (event : ℕ) → NestsAtMost 2047 (stamp_of tree_clock (history_of rows) event) }
 {}

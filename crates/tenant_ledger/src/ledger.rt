@@ -8,7 +8,7 @@ ghost use Rattle.trace_types.specs.clock.Stamps.{stamp_of, tree_of};
 ghost use Rattle.trace_types.specs.tenant.Tenant.{fresh, step, Steps, Answers, AreLegal, is_report, reply_to_view, with_row};
 ghost use Rattle.event_tree.specs.Comparison.{StandsAs};
 ghost use Rattle.tenant_ledger.specs.Ledger.{code_of, is_brief};
-ghost use Rattle.tenant_ledger.specs.Size.{AreShort, AreSized, HaveShortParts, IsShort, spawns_up_to};
+ghost use Rattle.tenant_ledger.specs.Size.{AreShort, AreSized, HaveShortParts, IsShort, NestBySpawns, spawns_up_to};
 
 use crate::book::Book;
 use crate::share::{Keep, MeantId, Share, Through};
@@ -99,7 +99,7 @@ impl<S: Keep> Ledger<S> {
         laws::clock();
     }
 
-    /// How large the ids and the stamps of the tenant are, by [`laws::size`] and [`laws::text_size`].
+    /// How large the ids and the stamps of the tenant are, by [`laws::size`], [`laws::text_size`] and [`laws::nesting`].
     /// [`Ledger::tree`] and [`Ledger::id`] say it of what is kept.
     ///
     /// It does nothing.
@@ -107,11 +107,13 @@ impl<S: Keep> Ledger<S> {
         ensures sizes { AreSized self.now.rows }
         ensures texts { AreShort self.now.rows }
         ensures parts { HaveShortParts self.now.rows }
+        ensures nesting { NestBySpawns self.now.rows }
     {
         let _ = self.book.limits();
         self.legal();
         laws::size();
         laws::text_size();
+        laws::nesting();
     }
 
     fn legal(&self)
