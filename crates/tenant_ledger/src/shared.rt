@@ -1,5 +1,5 @@
 //! A share that keeps the ids and trees of all tenants together.
-ghost use Rattle.std.specs.Prelude.{◌≡◌, ◌↔◌, IsErrOf};
+ghost use Rattle.std.specs.Prelude.{◌≡◌, ◌↔◌, IfOk, IsErrOf};
 ghost use Rattle.order_cache.specs.Capacity.{IsCapacity};
 
 use crate::share::MeantId;
@@ -30,7 +30,8 @@ impl Shared {
     ///
     /// Returns `Capacity` if the capacity is outside 1 to 65536, else `Memory` if it runs out of memory.
     pub fn new(alloc: Global, capacity: u64) -> Result<Shared, CacheFault>
-        ensures { IsErrOf result CacheFault.Capacity ↔ (¬ IsCapacity capacity) }
+        ensures capacity { IsErrOf result CacheFault.Capacity ↔ (¬ IsCapacity capacity) }
+        ensures room { IfOk result (λ shared. shared.orders.capacity ≡ capacity) }
     {
         if !OrderCache::takes(capacity) {
             return Err(CacheFault::Capacity);
