@@ -9,7 +9,7 @@ use Rattle.line_protocol.specs.declared.stop.Stop.{Stop}
 use Rattle.line_protocol.specs.declared.stop.Stop.TheVariants as stop
 use Rattle.line_protocol.specs.Sink.{Taken, WritesOnce}
 use Rattle.line_protocol.specs.Writing.{OnlyWrites, TriesToWrite}
-use Rattle.line_protocol.specs.Patience.{SinkCall, Took, WriteInterrupted, FlushInterrupted, FlushDone, CallFailed, bytes_taken_by, failed_calls, write_waits, flush_waits}
+use Rattle.line_protocol.specs.Patience.{SinkCall, Took, WriteInterrupted, FlushInterrupted, FlushDone, CallFailed, bytes_taken_by, failed_calls, write_waits, flush_calls}
 
 -- the counts over two stretches of calls
 pub bytes_taken_by-append : (more calls : List SinkCall) → bytes_taken_by (more ++ calls) ≡ bytes_taken_by calls + bytes_taken_by more
@@ -36,13 +36,17 @@ write_waits-append (FlushInterrupted ∷ more) calls = write_waits-append more c
 write_waits-append (FlushDone ∷ more) calls = write_waits-append more calls
 write_waits-append (CallFailed ∷ more) calls = write_waits-append more calls
 
-pub flush_waits-append : (more calls : List SinkCall) → flush_waits (more ++ calls) ≡ flush_waits calls + flush_waits more
-flush_waits-append [] calls = omega arith
-flush_waits-append (Took count ∷ more) calls = flush_waits-append more calls
-flush_waits-append (WriteInterrupted ∷ more) calls = flush_waits-append more calls
-flush_waits-append (FlushInterrupted ∷ more) calls = omega (arith, flush_waits-append more calls)
-flush_waits-append (FlushDone ∷ more) calls = flush_waits-append more calls
-flush_waits-append (CallFailed ∷ more) calls = flush_waits-append more calls
+pub flush_calls-append : (more calls : List SinkCall) → flush_calls (more ++ calls) ≡ flush_calls calls + flush_calls more
+flush_calls-append [] calls = omega arith
+flush_calls-append (Took count ∷ more) calls = flush_calls-append more calls
+flush_calls-append (WriteInterrupted ∷ more) calls = flush_calls-append more calls
+flush_calls-append (FlushInterrupted ∷ more) calls = omega (arith, flush_calls-append more calls)
+flush_calls-append (FlushDone ∷ more) calls = omega (arith, flush_calls-append more calls)
+flush_calls-append (CallFailed ∷ more) calls = flush_calls-append more calls
+
+-- calls that flush nothing leave the count of flushes
+pub flush_calls-kept : (before after more : List SinkCall) → after ≡ more ++ before → flush_calls more ≡ 0 → flush_calls after ≡ flush_calls before
+flush_calls-kept before after more is none = omega (arith, ap flush_calls is, flush_calls-append more before, none)
 
 -- no call is only writes
 pub OnlyWrites-none : (taken : Taken) → OnlyWrites taken taken
@@ -110,7 +114,7 @@ OnlyWrites-then {before = before} {middle = middle} {after = after} first second
   taken = omega (arith, first.taken, second.taken, bytes_taken_by-append second.more first.more);
   failures = omega (arith, first.failures, second.failures, failed_calls-append second.more first.more);
   interruptions = omega (arith, first.interruptions, second.interruptions, write_waits-append second.more first.more);
-  no_flush = omega (arith, first.no_flush, second.no_flush, flush_waits-append second.more first.more);
+  no_flush = omega (arith, first.no_flush, second.no_flush, flush_calls-append second.more first.more);
   began = Keeps-trans before.began middle.began after.began first.began second.began;
 }
 

@@ -96,6 +96,7 @@ Writes-patiently before after patience' text (Err fault) front tries no_wait = (
     more = tries.only.more;
     calls = tries.only.calls;
     taken = omega (arith, ap length front.grows, length-append before.bytes front.written, ap length front.front, length-append front.written front.rest, front.some_left, tries.only.taken);
+    no_flush = tries.only.no_flush;
     fault = gives_up before after patience' tries.only tries.spent.1 tries.failed tries.spent.2;
   },
 )

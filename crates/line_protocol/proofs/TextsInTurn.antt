@@ -5,7 +5,7 @@ use Rattle.std.specs.Prelude.{if◌then◌else◌}
 use Rattle.std.proofs.lemmas.Bool.Decides.{nat_tests}
 use Rattle.std.proofs.lemmas.List.Folds.{concat-append}
 use Rattle.trace_types.specs.text.Name.{Text}
-use Rattle.line_protocol.specs.Patience.{SinkCall, Took, WriteInterrupted, FlushInterrupted, FlushDone, CallFailed, bytes_taken_by, failed_calls, write_waits, flush_waits, last_flush_waits, waits_since_bytes, is_last_failed, HasFailed, is_inside, waits_between, EachPatiently, WritesPatiently, GivesUpWriting, FlushesPatiently, GivesUpFlushing}
+use Rattle.line_protocol.specs.Patience.{SinkCall, Took, WriteInterrupted, FlushInterrupted, FlushDone, CallFailed, bytes_taken_by, failed_calls, write_waits, flush_waits, flush_calls, last_flush_waits, waits_since_bytes, is_last_failed, HasFailed, is_inside, waits_between, EachPatiently, WritesPatiently, GivesUpWriting, FlushesPatiently, GivesUpFlushing}
 use Rattle.line_protocol.proofs.PatienceLemmas.{bytes_taken_by-append, failed_calls-append}
 use Rattle.line_protocol.specs.TextsInTurn.{BreaksOffAt}
 
@@ -130,7 +130,7 @@ length-concat-push : (texts : List Text) (text : Text) → length (concat (texts
 length-concat-push texts text =
     ap length (concat-append texts (text ∷ []) ∙ ap (λ bytes. concat texts ++ bytes) (append-nil text)) ∙ length-append (concat texts) text
 
-last_flush_waits-le : (calls : List SinkCall) → last_flush_waits calls ≤ flush_waits calls
+last_flush_waits-le : (calls : List SinkCall) → last_flush_waits calls ≤ flush_calls calls
 last_flush_waits-le [] = omega arith
 last_flush_waits-le (Took count ∷ calls) = omega arith
 last_flush_waits-le (WriteInterrupted ∷ calls) = omega arith

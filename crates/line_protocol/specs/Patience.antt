@@ -39,6 +39,13 @@ flush_waits [] = 0
 flush_waits (FlushInterrupted ∷ earlier) = flush_waits earlier + 1
 flush_waits (call ∷ earlier) = flush_waits earlier
 
+-- how many of them flushed; a failed one did not
+abbrev pub flush_calls : List SinkCall → ℕ
+flush_calls [] = 0
+flush_calls (FlushInterrupted ∷ earlier) = flush_calls earlier + 1
+flush_calls (FlushDone ∷ earlier) = flush_calls earlier + 1
+flush_calls (call ∷ earlier) = flush_calls earlier
+
 -- how many of the last calls were interrupted flushes
 abbrev pub last_flush_waits : List SinkCall → ℕ
 last_flush_waits (FlushInterrupted ∷ earlier) = last_flush_waits earlier + 1
@@ -78,8 +85,8 @@ EachPatiently from [] calls = Unit {0}
 EachPatiently from (text ∷ texts) calls =
     (waits_between from (from + length text) calls < 1048576) × EachPatiently (from + length text) texts calls
 
--- A text of so many bytes was written by these calls and no other: none of them failed, fewer than 1048576 were
--- interrupted, and each of those before the last byte was taken.
+-- A text of so many bytes was written by these calls and no other: none of them failed or flushed, fewer than 1048576
+-- were interrupted, and each of those before the last byte was taken.
 pub record WritesPatiently (before after : List SinkCall) (count : ℕ) : Type 0 where
   pub more : List SinkCall
   pub calls : after ≡ more ++ before
@@ -87,13 +94,15 @@ pub record WritesPatiently (before after : List SinkCall) (count : ℕ) : Type 0
   pub none_failed : failed_calls more ≡ 0
   pub few : write_waits more < 1048576
   pub none_idle : 0 < count → waits_since_bytes more ≡ 0
-  pub no_flush : flush_waits more ≡ 0
+  pub no_flush : flush_calls more ≡ 0
 
--- Fewer bytes were written by these calls: the last failed and none before it, or none failed and 1048576 were interrupted.
+-- Fewer bytes were written by these calls, and none of them flushed: the last failed and none before it, or none failed
+-- and 1048576 were interrupted.
 pub record GivesUpWriting (before after : List SinkCall) (count : ℕ) : Type 0 where
   pub more : List SinkCall
   pub calls : after ≡ more ++ before
   pub taken : bytes_taken_by more < count
+  pub no_flush : flush_calls more ≡ 0
   pub fault : (HasFailed more × (write_waits more < 1048576)) ⊎ ((failed_calls more ≡ 0) × (write_waits more ≡ 1048576))
 
 -- Nothing was written by these calls, none failed, and fewer than 1048576 flushes were interrupted, none of them last.

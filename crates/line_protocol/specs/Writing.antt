@@ -2,7 +2,7 @@
 use Rattle.std.specs.Prelude.{◌≡◌, ℕ, ◌+◌, ◌≤◌, ◌<◌, Result, Ok, Err, OnErr, IsTrue, List, ◌++◌, ◌⊎◌, length}
 use Rattle.trace_types.specs.text.Name.{Text}
 use Rattle.std.specs.Io.KnownBytes.{Keeps}
-use Rattle.line_protocol.specs.Patience.{SinkCall, bytes_taken_by, failed_calls, write_waits, flush_waits, is_last_failed, WritesPatiently, GivesUpWriting, FlushesPatiently, GivesUpFlushing}
+use Rattle.line_protocol.specs.Patience.{SinkCall, bytes_taken_by, failed_calls, write_waits, flush_calls, is_last_failed, WritesPatiently, GivesUpWriting, FlushesPatiently, GivesUpFlushing}
 use Rattle.line_protocol.specs.Sink.{Taken}
 
 -- Of the text a front was written, and not all of it.
@@ -94,7 +94,7 @@ pub record OnlyWrites (before after : Taken) : Type 0 where
   pub taken : length after.bytes ≡ length before.bytes + bytes_taken_by more
   pub failures : after.failures ≡ before.failures + failed_calls more
   pub interruptions : after.interruptions ≡ before.interruptions + write_waits more
-  pub no_flush : flush_waits more ≡ 0
+  pub no_flush : flush_calls more ≡ 0
   pub began : Keeps before.began after.began
 
 -- In between only writes were made, with so much patience, of which this is left. A failure came last.

@@ -17,8 +17,9 @@ use Rattle.trace_types.specs.text.Name.{Text, is_name, is_name_byte}
 use Rattle.trace_types.specs.text.Text.{kind_text, name_text}
 use Rattle.trace_types.specs.declared.row.Row.{Row}
 use Rattle.line_protocol.specs.Sink.{Taken}
-use Rattle.line_protocol.specs.Patience.{EachPatiently}
+use Rattle.line_protocol.specs.Patience.{EachPatiently, flush_calls}
 use Rattle.line_protocol.specs.Writing.{EndsInFault, GoesWrong, WritesPart, WritesWhole}
+use Rattle.line_protocol.proofs.PatienceLemmas.{flush_calls-kept}
 use Rattle.line_protocol.proofs.TextsInTurn.{WroteTexts, WroteTexts-none, WroteTexts-text, BreaksTexts-text}
 use Rattle.trace_export.specs.Export.{listed_row, stamp_at, lines_after, export_lines, WritesLines, BreaksLines}
 use Rattle.trace_export.specs.Heading.{header_json, header_line}
@@ -122,6 +123,7 @@ pub record WroteRows (before after : Taken) (header : Header) (rows : List Row) 
   pub few : count ≤ length rows
   pub grows : after.bytes ≡ before.bytes ++ concat (lines_of_first header count rows stamps)
   pub wrote : WroteTexts before.calls after.calls (lines_of_first header count rows stamps)
+  pub no_flush : flush_calls after.calls ≡ flush_calls before.calls
   pub failures : after.failures ≡ before.failures
   pub more : before.interruptions ≤ after.interruptions
   pub began : Keeps before.began after.began
@@ -134,6 +136,7 @@ wrote_header {before} {after} header rows stamps (grows, well, patient) = record
   few = omega arith;
   grows = grows ∙ ap (λ bytes. before.bytes ++ bytes) (sym (append-nil (header_line header)));
   wrote = WroteTexts-text [] (header_line header) (some_header header) (WroteTexts-none before.calls) patient;
+  no_flush = flush_calls-kept before.calls after.calls patient.more patient.calls patient.no_flush;
   failures = well.failures;
   more = well.more;
   began = well.began;
@@ -152,6 +155,7 @@ breaks_header_write {before} {after} header rows stamps (front, wrong, stops) =
       begins = (front.rest, front.front, front.some_left);
       grows = front.grows;
       patient = record { more = breaks.more; calls = breaks.calls; each = breaks.each };
+      no_flush = flush_calls-kept before.calls after.calls stops.more stops.calls stops.no_flush;
       write = λ same. breaks.broken;
       memory = λ same. absurd (cc same);
       began = wrong.began;
@@ -170,6 +174,7 @@ breaks_header_memory before header rows stamps =
       begins = (header_line header, refl, some_header header);
       grows = sym (append-nil before.bytes);
       patient = record { more = none.more; calls = none.calls; each = none.each };
+      no_flush = refl;
       write = λ same. absurd (cc same);
       memory = λ same. (refl, refl);
       began = Keeps-refl before.began;
@@ -224,6 +229,7 @@ wrote_row {before} {middle} {after} {header} {rows} {stamps} {count} row wrote i
       few = slice_get_within rows count row is;
       grows = grows ∙ ap (λ bytes. bytes ++ line) wrote.grows ∙ append_assoc before.bytes (concat lines) line ∙ ap (λ bytes. before.bytes ++ bytes) (sym (concat_push lines line) ∙ ap concat (sym push));
       wrote = subst (λ (texts : List Text). WroteTexts before.calls after.calls texts) (sym push) (WroteTexts-text lines line (some_line count row stamps) wrote.wrote patient);
+      no_flush = flush_calls-kept middle.calls after.calls patient.more patient.calls patient.no_flush ∙ wrote.no_flush;
       failures = well.failures ∙ wrote.failures;
       more = omega (arith, well.more, wrote.more);
       began = Keeps-trans before.began middle.began after.began wrote.began well.began;
@@ -236,6 +242,7 @@ wrote_all {before} {after} {header} {rows} {stamps} {count} wrote all =
     record {
       grows = wrote.grows ∙ ap (λ these. before.bytes ++ concat these) same;
       patient = record { more = wrote.wrote.more; calls = wrote.wrote.calls; each = subst (λ (texts : List Text). EachPatiently 0 texts wrote.wrote.more) same wrote.wrote.each };
+      no_flush = wrote.no_flush;
       failures = wrote.failures;
       more = wrote.more;
       began = wrote.began;
@@ -257,6 +264,7 @@ breaks_write {before} {middle} {after} {header} {rows} {stamps} {count} row wrot
       begins = (front.rest, front.front, front.some_left);
       grows = front.grows ∙ ap (λ bytes. bytes ++ front.written) wrote.grows ∙ append_assoc before.bytes (concat lines) front.written;
       patient = record { more = breaks.more; calls = breaks.calls; each = breaks.each };
+      no_flush = flush_calls-kept middle.calls after.calls stops.more stops.calls stops.no_flush ∙ wrote.no_flush;
       write = λ same. breaks.broken;
       memory = λ same. absurd (cc same);
       began = Keeps-trans before.began middle.began after.began wrote.began wrong.began;
@@ -276,6 +284,7 @@ breaks_memory {before} {middle} {header} {rows} {stamps} {count} row wrote is =
       begins = (next_line count row stamps, refl, some_line count row stamps);
       grows = wrote.grows ∙ ap (λ bytes. before.bytes ++ bytes) (sym (append-nil (concat lines)));
       patient = record { more = wrote.wrote.more; calls = wrote.wrote.calls; each = wrote.wrote.each };
+      no_flush = wrote.no_flush;
       write = λ same. absurd (cc same);
       memory = λ same. (refl, wrote.failures);
       began = wrote.began;

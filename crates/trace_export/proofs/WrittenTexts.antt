@@ -9,8 +9,9 @@ use Rattle.std.proofs.lemmas.Option.{slice_get_within, get_or_from_slice_get}
 use Rattle.std.proofs.Math.Seq.{take-suc}
 use Rattle.trace_types.specs.text.Name.{Text}
 use Rattle.line_protocol.specs.Sink.{Taken}
-use Rattle.line_protocol.specs.Patience.{EachPatiently}
+use Rattle.line_protocol.specs.Patience.{EachPatiently, flush_calls}
 use Rattle.line_protocol.specs.Writing.{EndsInFault, GoesWrong, WritesPart, WritesWhole}
+use Rattle.line_protocol.proofs.PatienceLemmas.{flush_calls-kept}
 use Rattle.line_protocol.proofs.TextsInTurn.{WroteTexts, WroteTexts-none, WroteTexts-text, BreaksTexts-text}
 use Rattle.trace_export.specs.Export.{WritesLines, BreaksLines}
 use Rattle.trace_export.specs.declared.export_fault.ExportFault.{ExportFault}
@@ -21,6 +22,7 @@ pub record WroteFirst (before after : Taken) (texts : List Text) (count : ℕ) :
   pub few : count ≤ length texts
   pub grows : after.bytes ≡ before.bytes ++ concat (take count texts)
   pub wrote : WroteTexts before.calls after.calls (take count texts)
+  pub no_flush : flush_calls after.calls ≡ flush_calls before.calls
   pub failures : after.failures ≡ before.failures
   pub more : before.interruptions ≤ after.interruptions
   pub began : Keeps before.began after.began
@@ -30,6 +32,7 @@ wrote_no_text before texts = record {
   few = omega arith;
   grows = sym (append-nil before.bytes);
   wrote = WroteTexts-none before.calls;
+  no_flush = refl;
   failures = refl;
   more = omega arith;
   began = Keeps-refl before.began;
@@ -60,6 +63,7 @@ wrote_text {before} {middle} {after} {texts} {count} text some wrote is (grows, 
       grows = grows ∙ ap (λ bytes. bytes ++ text) wrote.grows ∙ append_assoc before.bytes (concat first) text
           ∙ ap (λ bytes. before.bytes ++ bytes) (sym (concat-push first text) ∙ ap concat (sym more));
       wrote = subst (λ (these : List Text). WroteTexts before.calls after.calls these) (sym more) (WroteTexts-text first text some wrote.wrote patient);
+      no_flush = flush_calls-kept middle.calls after.calls patient.more patient.calls patient.no_flush ∙ wrote.no_flush;
       failures = well.failures ∙ wrote.failures;
       more = omega (arith, well.more, wrote.more);
       began = Keeps-trans before.began middle.began after.began wrote.began well.began;
@@ -72,6 +76,7 @@ wrote_all_texts {before} {after} {texts} {count} wrote all =
     record {
       grows = wrote.grows ∙ ap (λ these. before.bytes ++ concat these) same;
       patient = record { more = wrote.wrote.more; calls = wrote.wrote.calls; each = subst (λ (these : List Text). EachPatiently 0 these wrote.wrote.more) same wrote.wrote.each };
+      no_flush = wrote.no_flush;
       failures = wrote.failures;
       more = wrote.more;
       began = wrote.began;
@@ -92,6 +97,7 @@ breaks_off {before} {middle} {after} {texts} {count} text wrote is (front, wrong
       begins = (front.rest, front.front, front.some_left);
       grows = front.grows ∙ ap (λ bytes. bytes ++ front.written) wrote.grows ∙ append_assoc before.bytes (concat first) front.written;
       patient = record { more = breaks.more; calls = breaks.calls; each = breaks.each };
+      no_flush = flush_calls-kept middle.calls after.calls stops.more stops.calls stops.no_flush ∙ wrote.no_flush;
       write = λ same. breaks.broken;
       memory = λ same. absurd (cc same);
       began = Keeps-trans before.began middle.began after.began wrote.began wrong.began;
@@ -109,6 +115,7 @@ lacks_memory {before} {middle} {texts} {count} text some wrote is = record {
   begins = (text, refl, some);
   grows = wrote.grows ∙ ap (λ bytes. before.bytes ++ bytes) (sym (append-nil (concat (take count texts))));
   patient = record { more = wrote.wrote.more; calls = wrote.wrote.calls; each = wrote.wrote.each };
+  no_flush = wrote.no_flush;
   write = λ same. absurd (cc same);
   memory = λ same. (refl, wrote.failures);
   began = wrote.began;

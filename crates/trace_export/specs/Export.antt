@@ -4,6 +4,7 @@ use Rattle.std.specs.List.{concat, slice_index_or}
 use Rattle.std.specs.Io.KnownBytes.{Keeps}
 use Rattle.trace_types.specs.text.Name.{Text}
 use Rattle.trace_types.specs.declared.row.Row.{Row}
+use Rattle.line_protocol.specs.Patience.{flush_calls}
 use Rattle.line_protocol.specs.Sink.{Taken}
 use Rattle.line_protocol.specs.TextsInTurn.{WritesTexts, BeginsFirst, BreaksOffAt}
 use Rattle.trace_export.specs.Heading.{header_line}
@@ -47,15 +48,16 @@ AreReadAgain count (row ∷ rows) stamps =
 abbrev pub export_text : Header → List Row → List Text → Text
 export_text header rows stamps = concat (export_lines header rows stamps)
 
--- These lines were written, one behind the other and each with patience of its own, and no call failed.
+-- These lines were written, one behind the other and each with patience of its own, and no call failed or flushed.
 pub record WritesLines (before after : Taken) (lines : List Text) : Type 0 where
   pub grows : after.bytes ≡ before.bytes ++ concat lines
   pub patient : WritesTexts before.calls after.calls lines
+  pub no_flush : flush_calls after.calls ≡ flush_calls before.calls
   pub failures : after.failures ≡ before.failures
   pub more : before.interruptions ≤ after.interruptions
   pub began : Keeps before.began after.began
 
--- Some of these lines were written, each patiently, and of the next a front; then this fault came.
+-- Some of these lines were written, each patiently, and a prefix of the next; then this fault came. No call flushed.
 pub record BreaksLines (fault : ExportFault) (before after : Taken) (lines : List Text) : Type 0 where
   pub whole : List Text
   pub left : List Text
@@ -65,6 +67,7 @@ pub record BreaksLines (fault : ExportFault) (before after : Taken) (lines : Lis
   pub begins : BeginsFirst begun left
   pub grows : after.bytes ≡ before.bytes ++ (concat whole ++ begun)
   pub patient : WritesTexts before.calls after.calls whole
+  pub no_flush : flush_calls after.calls ≡ flush_calls before.calls
   pub write : fault ≡ Write → BreaksOffAt (length (concat whole)) left patient.more
   pub memory : fault ≡ Memory → (begun ≡ []) × (after.failures ≡ before.failures)
   pub began : Keeps before.began after.began
