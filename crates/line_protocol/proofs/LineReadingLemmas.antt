@@ -51,6 +51,13 @@ Reads-more first goes_on second = Reads-on first (λ ended. absurd (cc)) second
 pub has_told_end : {before after : Given} {bounds : ReadingBounds} {held : Held} {failed : ℕ} → Reads before after (fresh_within bounds) held failed → IsTrue held.is_ended → HasToldEnd after
 has_told_end reads ended = elim (reads.ended ended) [ inl never ↦ absurd (cc) | inr told ↦ told ]
 
+-- and it was told once
+pub told_once : {before after : Given} {bounds : ReadingBounds} {held : Held} {failed : ℕ} → Reads before after (fresh_within bounds) held failed → IsTrue held.is_ended → after.ends ≡ before.ends + 1
+told_once {before = before} {after = after} {held = held} reads ended =
+    let ends : after.ends + 0 ≡ before.ends + one_if held.is_ended = reads.ends in
+    let one : one_if held.is_ended ≡ 1 = ap one_if ended in
+    omega (arith, ends, one)
+
 -- the end was told once at most, and by the last read
 pub stops_at_end : {before after : Given} {bounds : ReadingBounds} {held : Held} {failed : ℕ} → Reads before after (fresh_within bounds) held failed → StopsAtEnd before after
 stops_at_end {before = before} {after = after} {held = held} reads = by held.is_ended reads.ends (has_told_end reads)
@@ -225,6 +232,14 @@ HasRead-line {start = start} {given = given} {given' = given'} {held = held} {he
 pub HasRead-end : {start given : List ℕ} {held : Held} {found : List Text} (read : HasRead start given held found) → held.left ≡ [] → lines read.came ≡ found
 HasRead-end {found = found} read none =
     ap lines (sym (append-nil read.came)) ∙ read.so_far [] (λ _. refl) ∙ ap (λ bytes. found ++ lines (bytes ++ [])) none ∙ append-nil found
+
+-- For callers: each line that was found has its end, unless the source told the end.
+pub HasRead-ended : {start given : List ℕ} {held : Held} {found : List Text} (read : HasRead start given held found) → held.is_ended ≡ false → length found ≤ end_count read.came
+HasRead-ended {held = held} {found = found} read goes_on =
+    let all : length (lines (read.came ++ 10 ∷ [])) ≡ end_count read.came + 1 = length-lines-ended read.came in
+    let split : lines (read.came ++ 10 ∷ []) ≡ found ++ lines (held.left ++ 10 ∷ []) = read.so_far (10 ∷ []) (λ ended. absurd (cc)) in
+    let last : length (lines (held.left ++ 10 ∷ [])) ≡ end_count held.left + 1 = length-lines-ended held.left in
+    omega (arith, all, ap length split, length-append found (lines (held.left ++ 10 ∷ [])), last)
 
 -- For callers: where no line was found, there are as many lines as ends of line came.
 pub HasRead-none : {start given given' : List ℕ} {held : Held} {found : List Text} (read : HasRead start given held found) (none : FindsNone given given' held)

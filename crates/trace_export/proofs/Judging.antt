@@ -1,16 +1,16 @@
 -- Lines that were found right, one more, and the verdict.
-use Rattle.std.proofs.Common.{◌≡◌, ℕ, suc, ◌+◌, ◌^◌, IsTrue, true, false, inl, inr, Option, Some, None, List, [], ◌∷◌, ◌++◌, length, refl, sym, ap, subst, ◌∙◌, arith, length-append, append_assoc}
+use Rattle.std.proofs.Common.{◌≡◌, ℕ, suc, ◌+◌, ◌^◌, Bool, IsTrue, true, false, inl, inr, Option, Some, None, List, [], ◌∷◌, ◌++◌, length, refl, sym, ap, subst, ◌∙◌, arith, length-append, append_assoc}
 use Rattle.std.proofs.lemmas.Bool.{ltb-true, ltb-false}
 use Rattle.std.proofs.lemmas.List.{append-nil}
 use Rattle.trace_types.specs.text.Name.{Text}
 use Rattle.trace_types.specs.text.Lines.{lines}
-use Rattle.line_protocol.specs.Held.{Held, ReadingBounds}
+use Rattle.line_protocol.specs.Held.{Held, ReadingBounds, fresh_within}
 use Rattle.trace_types.specs.text.Lines.{is_longer_than}
-use Rattle.line_protocol.specs.LineReading.{HasRead, GivesLine, Finds}
+use Rattle.line_protocol.specs.LineReading.{HasRead, GivesLine, Finds, Reads}
 use Rattle.line_protocol.specs.declared.line.Line.{Line}
 use Rattle.line_protocol.specs.declared.line.Line.TheVariants.{Whole, TooLong, End}
-use Rattle.line_protocol.specs.Source.{Given, HasToldEnd}
-use Rattle.line_protocol.proofs.LineReadingLemmas.{HasRead-start, HasRead-line, HasRead-end}
+use Rattle.line_protocol.specs.Source.{Given}
+use Rattle.line_protocol.proofs.LineReadingLemmas.{HasRead-start, HasRead-line, HasRead-end, HasRead-ended, has_told_end, told_once}
 use Rattle.trace_export.specs.declared.placed.Placed.{Placed}
 use Rattle.trace_export.specs.declared.reason.Reason.{Reason}
 use Rattle.trace_export.specs.declared.collected.Collected.{Collected}
@@ -21,11 +21,25 @@ use Rattle.trace_export.specs.Edges.{Placing}
 use Rattle.trace_export.specs.Graph.{IsKeptGraph}
 use Rattle.trace_export.specs.Heading.{AreParts, IsHeader, IsNoHeader, lines_ahead}
 use Rattle.trace_export.specs.Checked.{Judges, IsTextFound, IsJudged, IsJudgedAs}
+use Rattle.trace_export.specs.ReadTo.{WasReadTo, WasReadToEnd}
 use Rattle.trace_export.specs.Verdict.{AreRightAfter, IsRightNext, IsFaulty}
 
 -- the bounds of the lines of an export
 abbrev pub export_bounds : ReadingBounds
 export_bounds = record { bytes = 65536; reads = 2 ^ 30 }
+
+-- what is known of the end, a read since told
+pub was_read_to_end : {before after : Given} {held : Held} → Reads before after (fresh_within export_bounds) held 0 → IsTrue held.is_ended → WasReadToEnd before after
+was_read_to_end reads ended = (has_told_end reads ended, told_once reads ended)
+
+-- the last of the lines that were found was read to its end
+pub was_read_to : {held : Held} {found : List Text} (before after : Given) (read : HasRead before.bytes after.bytes held found) → (IsTrue held.is_ended → WasReadToEnd before after)
+    → WasReadTo (length found) read.came before after
+was_read_to {held} {found} before after read told = by held.is_ended refl
+  where
+    by : (b : Bool) → held.is_ended ≡ b → WasReadTo (length found) read.came before after
+    by true is = inr (told is)
+    by false is = inl (HasRead-ended read is)
 
 -- Since the reader had given `start`, these lines were found, each of them right.
 pub record FoundRight (start given : List ℕ) (held : Held) (header : Option Header) (placing : Placing) : Type 0 where
@@ -104,14 +118,14 @@ found_header {header = Some other} first before gives at_end headless empty is =
 found_header {header = None} {placing = placed ∷ placing} first before gives at_end headless empty is = absurd (cc empty)
 
 -- At the end of the input all lines are right.
-judges_yes : (before after : Given) (held : Held) (header : Option Header) (placing : Placing) → FoundRight before.bytes after.bytes held header placing → held.left ≡ [] → HasToldEnd after
+judges_yes : (before after : Given) (held : Held) (header : Option Header) (placing : Placing) → FoundRight before.bytes after.bytes held header placing → held.left ≡ [] → WasReadToEnd before after
     → Judges before after (Yes (length placing))
 judges_yes before after held header placing found none told = record {
   came = found.read.came;
   grows = found.read.grows;
   all = told;
   is_due = λ rest ends.
-      let all : lines (found.read.came ++ rest) ≡ found.found = ap (λ more. lines (found.read.came ++ more)) (ends told.0) ∙ ap lines (append-nil found.read.came) ∙ HasRead-end found.read none in
+      let all : lines (found.read.came ++ rest) ≡ found.found = ap (λ more. lines (found.read.came ++ more)) (ends told.0.0) ∙ ap lines (append-nil found.read.came) ∙ HasRead-end found.read none in
       record {
         header = header;
         events = found.events;
@@ -123,17 +137,19 @@ judges_yes before after held header placing found none told = record {
 -- A line that was read to its end is faulty.
 judges_no : (before after : Given) (given : List ℕ) (held held' : Held) (header : Option Header) (placing : Placing) (line : Text) (reason : Reason) (number : ℕ) → FoundRight before.bytes given held header placing
     → GivesLine given after.bytes held.left held'.left held'.is_ended line → (IsTrue held.is_ended → (after.bytes ≡ given) × IsTrue held'.is_ended)
-    → (IsTrue held'.is_ended → IsTrue after.has_ended) → IsNoFirstHeader header placing line → IsFaulty reason placing line → number ≡ lines_ahead header + suc (length placing)
+    → (IsTrue held'.is_ended → WasReadToEnd before after) → IsNoFirstHeader header placing line → IsFaulty reason placing line → number ≡ lines_ahead header + suc (length placing)
     → Judges before after (No number reason)
 judges_no before after given held held' header placing line reason number found gives at_end told none faulty counts =
     let read : HasRead before.bytes after.bytes held' (found.found ++ line ∷ []) = HasRead-line found.read gives at_end in
+    let counted : length (found.found ++ line ∷ []) ≡ number =
+    omega (arith, counts, parts_count header found.found found.events found.parts, found.counted, length-append found.found (line ∷ [])) in
     record {
       came = read.came;
       grows = read.grows;
-      all = tt;
+      all = subst (λ n. WasReadTo n read.came before after) counted (was_read_to before after read told);
       is_due = λ rest ends.
           let behind = lines (held'.left ++ rest) in
-          let all : lines (read.came ++ rest) ≡ found.found ++ line ∷ behind = read.so_far rest (λ ended. ends (told ended)) ∙ append_assoc found.found (line ∷ []) behind in
+          let all : lines (read.came ++ rest) ≡ found.found ++ line ∷ behind = read.so_far rest (λ ended. ends (told ended).0.0) ∙ append_assoc found.found (line ∷ []) behind in
           record {
             header = header;
             events = found.events ++ line ∷ behind;
@@ -165,13 +181,13 @@ pub record FindsOn (before middle after : Given) (held held' : Held) (collected 
   pub bounds : held'.bounds ≡ export_bounds
   pub finds : Finds middle.bytes after.bytes held held' found
   pub at_end : IsTrue held.is_ended → (after.bytes ≡ middle.bytes) × IsTrue held'.is_ended
-  pub told : IsTrue held'.is_ended → HasToldEnd after
+  pub told : IsTrue held'.is_ended → WasReadToEnd before after
 
 judges_as : {before middle after : Given} {held held' : Held} {old : Collected} {found : Line} (new : Collected) (verdict : Verdict) (text : Text) → FindsOn before middle after held held' old found
     → GivesLine middle.bytes after.bytes held.left held'.left held'.is_ended text → IsJudgedAs (Some verdict) old new text → Judges before after verdict
 judges_as new (Yes count) text on gives judged = absurd judged
 judges_as {before} {middle} {after} {held} {held'} {old} new (No number reason) text on gives judged =
-    judges_no before after middle.bytes held held' old.header old.graph.placed.items text reason number on.right gives on.at_end (λ ended. (on.told ended).0) judged.1.no_header judged.1.faulty judged.0
+    judges_no before after middle.bytes held held' old.header old.graph.placed.items text reason number on.right gives on.at_end on.told judged.1.no_header judged.1.faulty judged.0
 
 -- the verdict with which a check ends
 pub judges_over : (before middle after : Given) (held held' : Held) (old new : Collected) (found : Line) (verdict : Verdict) → FindsOn before middle after held held' old found

@@ -1,5 +1,5 @@
 -- Lines that were loaded, one more, and what loading answers.
-use Rattle.std.proofs.Common.{◌≡◌, ℕ, suc, ◌+◌, IsTrue, inl, inr, Option, Some, None, List, [], ◌∷◌, ◌++◌, length, refl, sym, ap, subst, ◌∙◌, arith, append_assoc}
+use Rattle.std.proofs.Common.{◌≡◌, ℕ, suc, ◌+◌, IsTrue, inl, inr, Option, Some, None, List, [], ◌∷◌, ◌++◌, length, refl, sym, ap, subst, ◌∙◌, arith, length-append, append_assoc}
 use Rattle.std.proofs.lemmas.List.{append-nil}
 use Rattle.trace_types.specs.tenant.Limits.{Limits}
 use Rattle.trace_types.specs.tenant.Tenant.{Tenant, fresh}
@@ -8,20 +8,21 @@ use Rattle.trace_types.specs.text.Name.{Text}
 use Rattle.trace_types.specs.declared.row.Row.{Row}
 use Rattle.line_protocol.specs.Held.{Held}
 use Rattle.line_protocol.specs.LineReading.{HasRead, GivesLine, Finds}
-use Rattle.line_protocol.specs.Source.{Given, HasToldEnd}
+use Rattle.line_protocol.specs.Source.{Given}
 use Rattle.line_protocol.specs.declared.line.Line.{Line}
 use Rattle.line_protocol.specs.declared.line.Line.TheVariants.{Whole, TooLong, End}
 use Rattle.line_protocol.proofs.LineReadingLemmas.{HasRead-start, HasRead-line, HasRead-end}
 use Rattle.trace_export.specs.Heading.{AreParts, IsHeader, IsNoHeader, lines_ahead}
 use Rattle.trace_export.specs.Loading.{AreLoadedAfter, IsFaultyAfter, IsLoadedNext, limits_under, tenant_with}
 use Rattle.trace_export.specs.Loads.{LoadsAs}
+use Rattle.trace_export.specs.ReadTo.{WasReadTo, WasReadToEnd}
 use Rattle.trace_export.specs.Rebuilding.{IsTaken, IsTakenAs, IsUnbegun}
 use Rattle.trace_export.specs.declared.header.Header.{Header}
 use Rattle.trace_export.specs.declared.loaded.Loaded.{Loaded}
 use Rattle.trace_export.specs.declared.loaded.Loaded.TheVariants.{Done, No}
 use Rattle.trace_export.specs.declared.reason.Reason.{Reason}
 use Rattle.trace_export.specs.declared.rebuilt.Rebuilt.{Rebuilt}
-use Rattle.trace_export.proofs.Judging.{export_bounds, no_texts, parts_more, text_found}
+use Rattle.trace_export.proofs.Judging.{export_bounds, no_texts, parts_count, parts_more, text_found, was_read_to}
 use Rattle.trace_export.proofs.Rerunning.{loaded_count}
 
 -- Since the reader had given `start`, these lines were found, each of them loaded, and they lead to this tenant.
@@ -95,14 +96,14 @@ found_begun {header = None} {tenant} {line} first before gives at_end headless e
 found_begun {header = Some other} first before gives at_end headless empty is = absurd (cc headless)
 
 -- At the end of the input all is done.
-loads_done : (before after : Given) (held : Held) (header : Option Header) (tenant : Tenant) → FoundLoaded before.bytes after.bytes held header tenant → held.left ≡ [] → HasToldEnd after
+loads_done : (before after : Given) (held : Held) (header : Option Header) (tenant : Tenant) → FoundLoaded before.bytes after.bytes held header tenant → held.left ≡ [] → WasReadToEnd before after
     → LoadsAs before after (Done (length tenant.rows)) tenant.rows
 loads_done before after held header tenant found none told = record {
   came = found.read.came;
   grows = found.read.grows;
   all = told;
   is_due = λ rest ends.
-      let all : lines (found.read.came ++ rest) ≡ found.found = ap (λ more. lines (found.read.came ++ more)) (ends told.0) ∙ ap lines (append-nil found.read.came) ∙ HasRead-end found.read none in
+      let all : lines (found.read.came ++ rest) ≡ found.found = ap (λ more. lines (found.read.came ++ more)) (ends told.0.0) ∙ ap lines (append-nil found.read.came) ∙ HasRead-end found.read none in
       record {
         header = header;
         events = found.events;
@@ -114,17 +115,19 @@ loads_done before after held header tenant found none told = record {
 -- A line that was read to its end is faulty.
 loads_no : (before after : Given) (given : List ℕ) (held held' : Held) (header : Option Header) (tenant : Tenant) (line : Text) (reason : Reason) (number : ℕ) (rows : List Row) → FoundLoaded before.bytes given held header tenant
     → GivesLine given after.bytes held.left held'.left held'.is_ended line → (IsTrue held.is_ended → (after.bytes ≡ given) × IsTrue held'.is_ended)
-    → (IsTrue held'.is_ended → IsTrue after.has_ended) → IsNoFirst header tenant line → IsFaultyAfter reason tenant.limits tenant.rows line → number ≡ lines_ahead header + suc (length tenant.rows)
+    → (IsTrue held'.is_ended → WasReadToEnd before after) → IsNoFirst header tenant line → IsFaultyAfter reason tenant.limits tenant.rows line → number ≡ lines_ahead header + suc (length tenant.rows)
     → LoadsAs before after (No number reason) rows
 loads_no before after given held held' header tenant line reason number rows found gives at_end told none faulty counts =
     let read : HasRead before.bytes after.bytes held' (found.found ++ line ∷ []) = HasRead-line found.read gives at_end in
+    let counted : length (found.found ++ line ∷ []) ≡ number =
+    omega (arith, counts, parts_count header found.found found.events found.parts, found_count found, length-append found.found (line ∷ [])) in
     record {
       came = read.came;
       grows = read.grows;
-      all = tt;
+      all = subst (λ n. WasReadTo n read.came before after) counted (was_read_to before after read told);
       is_due = λ rest ends.
           let behind = lines (held'.left ++ rest) in
-          let all : lines (read.came ++ rest) ≡ found.found ++ line ∷ behind = read.so_far rest (λ ended. ends (told ended)) ∙ append_assoc found.found (line ∷ []) behind in
+          let all : lines (read.came ++ rest) ≡ found.found ++ line ∷ behind = read.so_far rest (λ ended. ends (told ended).0.0) ∙ append_assoc found.found (line ∷ []) behind in
           record {
             header = header;
             events = found.events ++ line ∷ behind;
@@ -149,13 +152,13 @@ pub record LoadsOn (before middle after : Given) (held held' : Held) (rebuilt : 
   pub bounds : held'.bounds ≡ export_bounds
   pub finds : Finds middle.bytes after.bytes held held' found
   pub at_end : IsTrue held.is_ended → (after.bytes ≡ middle.bytes) × IsTrue held'.is_ended
-  pub told : IsTrue held'.is_ended → HasToldEnd after
+  pub told : IsTrue held'.is_ended → WasReadToEnd before after
 
 answered_as : {before middle after : Given} {held held' : Held} {old : Rebuilt} {found : Line} (new : Rebuilt) (loaded : Loaded) (text : Text) → LoadsOn before middle after held held' old found
     → GivesLine middle.bytes after.bytes held.left held'.left held'.is_ended text → IsTakenAs (Some loaded) old new text → LoadsAs before after loaded new.ledger.rows
 answered_as new (Done count) text on gives taken = absurd taken
 answered_as {before} {middle} {after} {held} {held'} {old} new (No number reason) text on gives taken =
-    loads_no before after middle.bytes held held' old.header old.ledger text reason number new.ledger.rows on.so_far gives on.at_end (λ ended. (on.told ended).0) taken.1.no_header taken.1.faulty taken.0
+    loads_no before after middle.bytes held held' old.header old.ledger text reason number new.ledger.rows on.so_far gives on.at_end on.told taken.1.no_header taken.1.faulty taken.0
 
 -- what is answered in the end
 pub answered_over : (before middle after : Given) (held held' : Held) (old new : Rebuilt) (found : Line) (loaded : Loaded) → LoadsOn before middle after held held' old found

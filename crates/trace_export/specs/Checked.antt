@@ -3,11 +3,12 @@ use Rattle.std.specs.Prelude.{◌≡◌, ℕ, suc, ◌+◌, ◌<◌, ◌≤◌, 
 use Rattle.trace_types.specs.text.Name.{Text}
 use Rattle.line_protocol.specs.declared.line.Line.{Line}
 use Rattle.line_protocol.specs.declared.line.Line.TheVariants.{Whole, TooLong as TooLongLine, End}
-use Rattle.line_protocol.specs.Source.{Given, HasToldEnd}
+use Rattle.line_protocol.specs.Source.{Given}
 use Rattle.line_protocol.specs.declared.read_fault.ReadFault.{ReadFault}
 use Rattle.line_protocol.specs.declared.read_fault.ReadFault.TheVariants as read_fault
 use Rattle.trace_export.specs.Graph.{IsKeptGraph}
 use Rattle.trace_export.specs.Heading.{IsHeader, IsNoHeader, lines_ahead}
+use Rattle.trace_export.specs.ReadTo.{WasReadTo, WasReadToEnd}
 use Rattle.trace_export.specs.Verdict.{IsVerdict, IsRightNext, IsFaulty}
 use Rattle.trace_export.specs.declared.collected.Collected.{Collected}
 use Rattle.trace_export.specs.declared.header.Header.{Header}
@@ -23,16 +24,16 @@ abbrev pub check_fault_of : ReadFault → CheckFault
 check_fault_of read_fault.Read = Read
 check_fault_of read_fault.TooLong = TooLong
 
--- the end was told, where it is answered that every line is right
-abbrev pub SawAll : Given → Verdict → Type 0
-SawAll after (Yes count) = HasToldEnd after
-SawAll after (No number reason) = Unit {0}
+-- All that the verdict speaks of was read: the input to its end, or the faulty line to its own.
+abbrev pub SawAll : (before after : Given) → (came : List ℕ) → Verdict → Type 0
+SawAll before after came (Yes count) = WasReadToEnd before after
+SawAll before after came (No number reason) = WasReadTo number came before after
 
--- The verdict on what the reader gave, and on all that it may give after it: a faulty line was read to its end.
+-- The verdict on what the reader gave, and on all that it may give after it.
 pub record Judges (before after : Given) (verdict : Verdict) : Type 0 where
   pub came : List ℕ
   pub grows : after.bytes ≡ before.bytes ++ came
-  pub all : SawAll after verdict
+  pub all : SawAll before after came verdict
   pub is_due : (rest : List ℕ) → (IsTrue after.has_ended → rest ≡ []) → IsVerdict (came ++ rest) verdict
 
 -- the text of a line that was found; of one that is too long it is not kept

@@ -9,5 +9,6 @@ pub mod Listing
 pub mod Loading
 pub mod Loads
 pub mod Rebuilding
+pub mod ReadTo
 pub mod Reasons
 pub mod Verdict

@@ -10,7 +10,7 @@ use Rattle.trace_types.specs.text.Name.{Text}
 use Rattle.trace_types.specs.declared.reply.Reply.TheVariants.{Accepted}
 use Rattle.trace_types.specs.declared.row.Row.{Row}
 use Rattle.line_protocol.specs.Sink.{Taken}
-use Rattle.line_protocol.specs.Source.{Given, HasToldEnd}
+use Rattle.line_protocol.specs.Source.{Given}
 use Rattle.line_protocol.specs.declared.read_fault.ReadFault.{ReadFault}
 use Rattle.line_protocol.specs.declared.read_fault.ReadFault.TheVariants as read_fault
 use Rattle.trace_export.specs.Export.{BreaksLines, WritesLines, listed_row}
@@ -18,6 +18,7 @@ use Rattle.trace_export.specs.Heading.{AreParts}
 use Rattle.trace_export.specs.Laws.{event_line}
 use Rattle.trace_export.specs.Listing.{ListsAs}
 use Rattle.trace_export.specs.Loading.{IsLoaded, limits_under, request_lines, row_request, tenant_with}
+use Rattle.trace_export.specs.ReadTo.{WasReadTo, WasReadToEnd}
 use Rattle.trace_export.specs.Verdict.{IsVerdict}
 use Rattle.trace_export.specs.declared.export_fault.ExportFault.{ExportFault}
 use Rattle.trace_export.specs.declared.export_fault.ExportFault.TheVariants as export
@@ -58,17 +59,16 @@ pub record IsExportOfRun (bytes : List ℕ) (count : ℕ) (rows : List Row) : Ty
   pub runs : RunsAnew (limits_under header) rows
   pub verdict : IsVerdict bytes (Yes count)
 
--- the end was told, where it is answered that all is done
-abbrev pub SawAllOf : Given → Loaded → Type 0
-SawAllOf after (Done count) = HasToldEnd after
-SawAllOf after (No number reason) = Unit {0}
+-- All that the answer speaks of was read: the input to its end, or the faulty line to its own.
+abbrev pub SawAllOf : (before after : Given) → (came : List ℕ) → Loaded → Type 0
+SawAllOf before after came (Done count) = WasReadToEnd before after
+SawAllOf before after came (No number reason) = WasReadTo number came before after
 
--- What the reader gave is loaded so, and with all that it may give after it: a faulty line was read to its end. Where none
--- is faulty these rows are left.
+-- What the reader gave is loaded so, with all that it may give after it. These rows are left if no line is faulty.
 pub record LoadsAs (before after : Given) (loaded : Loaded) (rows : List Row) : Type 0 where
   pub came : List ℕ
   pub grows : after.bytes ≡ before.bytes ++ came
-  pub all : SawAllOf after loaded
+  pub all : SawAllOf before after came loaded
   pub is_due : (rest : List ℕ) → (IsTrue after.has_ended → rest ≡ []) → IsLoaded (came ++ rest) loaded rows
 
 -- the bytes are the export of these rows, where all is done

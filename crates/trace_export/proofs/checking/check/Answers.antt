@@ -2,12 +2,12 @@ use Rattle.std.proofs.Common.{sym, ap, Option, Some, None, [], subst, arith}
 use Rattle.trace_types.specs.text.Name.{Text}
 use Rattle.line_protocol.specs.Held.{Held, ReadingBounds}
 use Rattle.line_protocol.specs.LineReading.{Reads}
-use Rattle.line_protocol.proofs.LineReadingLemmas.{Reads-none, Reads-on, has_told_end}
+use Rattle.line_protocol.proofs.LineReadingLemmas.{Reads-none, Reads-on}
 use Rattle.line_protocol.specs.Held.{fresh_within}
 use Rattle.trace_export.specs.Checked.{IsJudged}
 use Rattle.trace_export.specs.Edges.{Placing}
 use Rattle.trace_export.specs.declared.header.Header.{Header}
-use Rattle.trace_export.proofs.Judging.{FoundRight, FindsOn, export_bounds, found_none, judges_over, judged_right}
+use Rattle.trace_export.proofs.Judging.{FoundRight, FindsOn, export_bounds, found_none, judges_over, judged_right, was_read_to_end}
 use Rattle.trace_export.proofs.checking.check.Goals as goal
 use Rattle.trace_export.proofs.checking.check.Given.{Over}
 use Rattle.trace_export.proofs.checking.check.Goals.{After-judge}
@@ -24,7 +24,7 @@ found_on g c = record {
   bounds = (reads_so_far g c).bounds;
   finds = c.in_ok-found.ensures.finds.line;
   at_end = λ ended. (ap (λ source. (g.R.Source.seen source).bytes) (c.next_line.ensures.at_end ended).0, (c.next_line.ensures.at_end ended).1);
-  told = has_told_end (reads_so_far g c);
+  told = was_read_to_end (reads_so_far g c);
 }
 
 pub loop-collected-init : goal.loop-collected-init

@@ -2,9 +2,9 @@ use Rattle.std.proofs.Common.{ap, Some, None, subst, arith}
 use Rattle.trace_types.specs.text.Name.{Text}
 use Rattle.line_protocol.specs.Held.{Held, ReadingBounds, fresh_within}
 use Rattle.line_protocol.specs.LineReading.{Reads}
-use Rattle.line_protocol.proofs.LineReadingLemmas.{Reads-none, Reads-on, has_told_end}
+use Rattle.line_protocol.proofs.LineReadingLemmas.{Reads-none, Reads-on}
 use Rattle.trace_export.specs.Rebuilding.{IsTaken}
-use Rattle.trace_export.proofs.Judging.{export_bounds}
+use Rattle.trace_export.proofs.Judging.{export_bounds, was_read_to_end}
 use Rattle.trace_export.proofs.LoadedLines.{LoadsOn, answered_over, begins_loading, loaded_so_far}
 use Rattle.trace_export.proofs.loading.take_in.Goals as goal
 use Rattle.trace_export.proofs.loading.take_in.Given.{Over}
@@ -22,7 +22,7 @@ found_on g c = record {
   bounds = (reads_so_far g c).bounds;
   finds = c.in_ok-found.ensures.finds.line;
   at_end = λ ended. (ap (λ source. (g.R.Source.seen source).bytes) (c.next_line.ensures.at_end ended).0, (c.next_line.ensures.at_end ended).1);
-  told = has_told_end (reads_so_far g c);
+  told = was_read_to_end (reads_so_far g c);
 }
 
 pub loop-lines-init : goal.loop-lines-init

@@ -1,0 +1,12 @@
+-- How far a reader was read.
+use Rattle.std.specs.Prelude.{◌≡◌, ℕ, ◌+◌, ◌≤◌, ◌⊎◌, List}
+use Rattle.line_protocol.specs.Ends.{end_count}
+use Rattle.line_protocol.specs.Source.{Given, HasToldEnd}
+
+-- A read since told the end of the input, and by then all its bytes were given.
+abbrev pub WasReadToEnd : (before after : Given) → Type 0
+WasReadToEnd before after = HasToldEnd after × (after.ends ≡ before.ends + 1)
+
+-- The line of this number was read to its end: so many ends of line came, or a read since told the end.
+abbrev pub WasReadTo : (number : ℕ) → (came : List ℕ) → (before after : Given) → Type 0
+WasReadTo number came before after = (number ≤ end_count came) ⊎ WasReadToEnd before after
