@@ -6,10 +6,10 @@ use Rattle.std.proofs.KnownBytes.{Keeps-refl, Keeps-trans}
 use Rattle.trace_types.specs.text.Name.{Text}
 use Rattle.trace_types.specs.text.Lines.{lines, without_return, is_longer_than}
 use Rattle.line_protocol.specs.Held.{Held, ReadingBounds, fresh_within}
-use Rattle.line_protocol.specs.Source.{Given, HasToldEnd, StopsAtEnd, one_if}
+use Rattle.line_protocol.specs.Source.{Given, HasToldEnd, LastRead, StopsAtEnd, one_if}
 use Rattle.line_protocol.specs.declared.line.Line.TheVariants.{Whole, TooLong}
 use Rattle.line_protocol.specs.declared.read_fault.ReadFault.{ReadFault}
-use Rattle.line_protocol.specs.LineReading.{GivesLine, Finds, FindsNone, HasRead, Reads, ReadsUntil, AllWereMade, failed_reads_of}
+use Rattle.line_protocol.specs.LineReading.{GivesLine, Finds, FindsNone, HasRead, Reads, ReadsForLine, ReadsUntil, AllWereMade, failed_reads_of}
 use Rattle.line_protocol.specs.Ends.{HasNoEnd, end_count, EndsAt, Comes, Skipped, Skips, kind_of, last_line}
 use Rattle.line_protocol.proofs.EndsLemmas.{lines-ended, lines-last, HasNoEnd-append, length-lines-ended}
 use Rattle.line_protocol.proofs.SkipLemmas.{EndsAt-after}
@@ -204,6 +204,44 @@ FindsNone-skipped {given = given} {mid = mid} {old = old} comes no_end skipped g
   no_end = subst HasNoEnd (ap (λ bytes. bytes ++ skipped.skipped) comes.adds ∙ append_assoc old.left comes.gave skipped.skipped) (HasNoEnd-append mid skipped.skipped no_end skipped.no_end);
   goes_on = goes_on;
 }
+
+-- what holds then of the bytes, and what follows
+pub LastRead-map : {R : Type 0} {seen : R → Given} {source : R} {Holds Follows : List ℕ → Type 0} → LastRead seen source Holds → ((given : List ℕ) → Holds given → Follows given)
+    → LastRead seen source Follows
+LastRead-map {seen = seen} last follows = record {
+  earlier = last.earlier;
+  held = follows (seen last.earlier).bytes last.held;
+  once = last.once;
+}
+
+-- what came is no line yet
+FindsNone-came : {given given' left : List ℕ} {held : Held} → Comes given given' held.left left → HasNoEnd left → held.is_ended ≡ false → FindsNone given given' held
+FindsNone-came comes no_end goes_on = record {
+  gave = comes.gave;
+  grows = comes.grows;
+  no_end = subst HasNoEnd comes.adds no_end;
+  goes_on = goes_on;
+}
+
+-- a read was made, since what came is no line yet
+pub ReadsForLine-read : {R : Type 0} {held : Held} {left : List ℕ} (seen : R → Given) (source middle after : R) → Comes (seen source).bytes (seen middle).bytes held.left left → HasNoEnd left
+    → held.is_ended ≡ false → LastRead seen after (λ given. given ≡ (seen middle).bytes) → ReadsForLine seen source after held
+ReadsForLine-read {held = held} seen source middle after comes no_end goes_on last =
+    inr (LastRead-map last (λ given same. subst (λ bytes. FindsNone (seen source).bytes bytes held) (sym same) (FindsNone-came comes no_end goes_on)))
+
+-- more came after more
+pub Comes-more : {given given' given'' left left' left'' : List ℕ} → Comes given given' left left' → Comes given' given'' left' left'' → Comes given given'' left left''
+Comes-more {given = given} {left = left} first second = record {
+  gave = first.gave ++ second.gave;
+  grows = second.grows ∙ ap (λ bytes. bytes ++ second.gave) first.grows ∙ append_assoc given first.gave second.gave;
+  adds = second.adds ∙ ap (λ bytes. bytes ++ second.gave) first.adds ∙ append_assoc left first.gave second.gave;
+}
+
+-- nothing was added, so nothing came
+pub Comes-none : {given given' left left' : List ℕ} → Comes given given' left left' → left' ≡ left → given' ≡ given
+Comes-none {given = given} {left = left} comes same =
+    let none : comes.gave ≡ [] = append_cancel_left left comes.gave [] (sym comes.adds ∙ same ∙ sym (append-nil left)) in
+    comes.grows ∙ ap (λ bytes. given ++ bytes) none ∙ append-nil given
 
 -- For callers: nothing is read yet.
 pub HasRead-start : (start : List ℕ) (held : Held) → held.left ≡ [] → HasRead start start held []

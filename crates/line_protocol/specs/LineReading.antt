@@ -4,7 +4,7 @@ use Rattle.std.specs.Io.KnownBytes.{Keeps}
 use Rattle.trace_types.specs.text.Name.{Text}
 use Rattle.trace_types.specs.text.Lines.{lines, is_longer_than}
 use Rattle.line_protocol.specs.Held.{Held}
-use Rattle.line_protocol.specs.Source.{Given, HasToldEnd, one_if}
+use Rattle.line_protocol.specs.Source.{Given, HasToldEnd, LastRead, one_if}
 use Rattle.line_protocol.specs.Ends.{HasNoEnd, EndsAt, Skipped, Skips}
 use Rattle.line_protocol.specs.declared.line.Line.{Line}
 use Rattle.line_protocol.specs.declared.line.Line.TheVariants.{Whole, TooLong, End}
@@ -34,6 +34,11 @@ pub record FindsNone (given given' : List ℕ) (old : Held) : Type 0 where
   pub grows : given' ≡ given ++ gave
   pub no_end : HasNoEnd (old.left ++ gave)
   pub goes_on : old.is_ended ≡ false
+
+-- No read was made once the next line had its end: none was made, or the last one began with no line to be found.
+abbrev pub ReadsForLine : {R : Type 0} (seen : R → Given) (source source' : R) (held : Held) → Type 0
+ReadsForLine seen source source' held =
+    (source' ≡ source) ⊎ LastRead seen source' (λ given. FindsNone (seen source).bytes given held)
 
 -- More bytes than a line reader can still give: those that it holds, and 65538 for each read that it may make.
 abbrev pub work_left : Held → ℕ

@@ -90,6 +90,12 @@ pub record CountsRead (before after : Given) (failed : ℕ) (tells : Bool) : Typ
   pub whole : Keeps before.whole after.whole
   pub ended : IsTrue tells → HasToldEnd after
 
+-- The last read began when this held of the bytes that the source had given.
+pub record LastRead {R : Type 0} (seen : R → Given) (source : R) (Holds : List ℕ → Type 0) : Type 0 where
+  pub earlier : R
+  pub held : Holds (seen earlier).bytes
+  pub once : (seen source).reads ≡ (seen earlier).reads + 1
+
 -- Nothing was read after a read that told the end.
 abbrev pub StopsAtEnd : Given → Given → Type 0
 StopsAtEnd before after = (after.ends ≡ before.ends) ⊎ ((after.ends ≡ before.ends + 1) × IsTrue after.has_ended)

@@ -2,9 +2,9 @@
 ghost use Rattle.std.specs.Prelude.{◌≡◌, ◌↔◌, ◌+◌, ◌-◌, ◌≤◌, ◌<◌, ◌^◌, IsTrue, [], false, IfOk, OnOk, OnErr, length, take, drop, slice_range, position, ◌==◌};
 ghost use Rattle.trace_types.specs.text.Lines.{without_return};
 ghost use Rattle.line_protocol.specs.Held.{fresh_held, fresh_within};
-ghost use Rattle.line_protocol.specs.LineReading.{FindsNext, FindsEnd, SkipsLine, FillsOnce, NeedsRead, ReadsUntil, work_left};
-ghost use Rattle.line_protocol.specs.Ends.{IsEnd, Comes, kind_of, kind_of_length, last_line};
-ghost use Rattle.line_protocol.specs.Source.{CountsRead, failure_count, bytes_read, gives_none};
+ghost use Rattle.line_protocol.specs.LineReading.{FindsNext, FindsEnd, SkipsLine, FillsOnce, NeedsRead, ReadsForLine, ReadsUntil, work_left};
+ghost use Rattle.line_protocol.specs.Ends.{IsEnd, Comes, Skipped, kind_of, kind_of_length, last_line};
+ghost use Rattle.line_protocol.specs.Source.{CountsRead, LastRead, failure_count, bytes_read, gives_none};
 
 use crate::{Line, ReadFault, Source, Stop};
 use memchr::memchr_iter;
@@ -120,6 +120,7 @@ impl Buffer {
     /// Returns `Read` if a read failed, and `TooLong` if all the reads that may be made into this buffer were made.
     pub fn next_line<R: Source>(&mut self, source: &mut R) -> Result<Line, ReadFault>
         ensures finds { FindsNext (R.seen source.old) (R.seen source.new) self.old self.new result }
+        ensures last { OnOk result (ReadsForLine R.seen source.old source.new self.old) }
         ensures at_end { IsTrue self.old.is_ended → (source.new ≡ source.old) × IsTrue self.new.is_ended }
     {
         match self.find_end(source)? {
@@ -136,6 +137,7 @@ impl Buffer {
     fn find_end<R: Source>(&mut self, source: &mut R) -> Result<Option<usize>, ReadFault>
         ensures comes { Comes (R.seen source.old).bytes (R.seen source.new).bytes self.old.left self.new.left }
         ensures found { FindsEnd self.old self.new result }
+        ensures last { OnOk result (ReadsForLine R.seen source.old source.new self.old) }
         ensures reads { ReadsUntil (R.seen source.old) (R.seen source.new) self.old self.new result }
         ensures at_end { IsTrue self.old.is_ended → (source.new ≡ source.old) × (self.new ≡ self.old) }
     {
@@ -197,6 +199,7 @@ impl Buffer {
     fn skip_line<R: Source>(&mut self, source: &mut R) -> Result<(), ReadFault>
         requires { self.old.is_ended ≡ false }
         ensures skips { SkipsLine (R.seen source.old).bytes (R.seen source.new).bytes self.new result }
+        ensures last { OnOk result (LastRead R.seen source.new (Skipped (R.seen source.old).bytes)) }
         ensures less { work_left self.new + length self.old.left ≤ work_left self.old }
         ensures reads { ReadsUntil (R.seen source.old) (R.seen source.new) self.old self.new result }
     {
@@ -243,6 +246,7 @@ impl Buffer {
         ensures comes { Comes (R.seen source.old).bytes (R.seen source.new).bytes self.old.left self.new.left }
         ensures same { OnErr result (self.new.left ≡ self.old.left) }
         ensures progress { OnOk result (self.old.reads < self.new.reads) }
+        ensures last { OnOk result (LastRead R.seen source.new (λ given. given ≡ (R.seen source.old).bytes)) }
         ensures reads { ReadsUntil (R.seen source.old) (R.seen source.new) self.old self.new result }
     {
         while self.reads < self.most_reads {

@@ -20,8 +20,8 @@ use Rattle.trace_export.specs.declared.verdict.Verdict.TheVariants.{Yes, No}
 use Rattle.trace_export.specs.Edges.{Placing}
 use Rattle.trace_export.specs.Graph.{IsKeptGraph}
 use Rattle.trace_export.specs.Heading.{AreParts, IsHeader, IsNoHeader, lines_ahead}
-use Rattle.trace_export.specs.Checked.{Judges, IsTextFound, IsJudged, IsJudgedAs}
-use Rattle.trace_export.specs.ReadTo.{WasReadTo, WasReadToEnd}
+use Rattle.trace_export.specs.Checked.{Judges, IsTextFound, IsJudged, IsJudgedAs, StopsReading}
+use Rattle.trace_export.specs.ReadTo.{StopsAtLine, WasReadTo, WasReadToEnd}
 use Rattle.trace_export.specs.Verdict.{AreRightAfter, IsRightNext, IsFaulty}
 
 -- the bounds of the lines of an export
@@ -228,3 +228,51 @@ judged_right before middle after held held' old new Whole on judged =
 judged_right before middle after held held' old new TooLong on judged =
     let text = text_found held held' TooLong on.bounds on.finds (λ same. absurd (cc)) in
     right_on new text.0 on text.1 (judged text.0 text.2)
+
+-- how many lines were found that are kept as these
+abbrev pub line_count : Option Header → Placing → ℕ
+line_count header placing = lines_ahead header + length placing
+
+pub found_count : {start given : List ℕ} {held : Held} {header : Option Header} {placing : Placing} (right : FoundRight start given held header placing) → length right.found ≡ line_count header placing
+found_count {header = header} right = omega (arith, parts_count header right.found right.events right.parts, right.counted)
+
+counts_as : (old new : Collected) (text : Text) → IsJudgedAs None old new text
+    → line_count new.header new.graph.placed.items ≡ suc (line_count old.header old.graph.placed.items)
+counts_as old new text (inl headed) =
+    omega (arith, ap lines_ahead headed.headed, ap length headed.none, ap lines_ahead headed.first.0, ap length headed.first.1)
+counts_as old new text (inr kept) =
+    omega (arith, ap lines_ahead kept.same, ap length kept.more, length-append old.graph.placed.items (kept.placed ∷ []))
+
+-- a line that is right is one more
+pub counts_more : (before middle after : Given) (held held' : Held) (old new : Collected) (found : Line) → FindsOn before middle after held held' old found
+    → IsJudged found held'.line None old new → line_count new.header new.graph.placed.items ≡ suc (line_count old.header old.graph.placed.items)
+counts_more before middle after held held' old new End on judged = absurd (cc judged)
+counts_more before middle after held held' old new Whole on judged =
+    let text = text_found held held' Whole on.bounds on.finds (λ same. absurd (cc)) in
+    counts_as old new text.0 (judged text.0 text.2)
+counts_more before middle after held held' old new TooLong on judged =
+    let text = text_found held held' TooLong on.bounds on.finds (λ same. absurd (cc)) in
+    counts_as old new text.0 (judged text.0 text.2)
+
+module _ {R : Type 0} (seen : R → Given) (reader reader' : R) (old : Collected) where
+  abbrev pub StopsNext : Type 0
+  StopsNext = StopsAtLine seen (suc (line_count old.header old.graph.placed.items)) reader reader'
+
+  stops_as : (new : Collected) (verdict : Verdict) (text : Text) → StopsNext → IsJudgedAs (Some verdict) old new text → StopsReading seen reader reader' verdict
+  stops_as new (Yes count) text stops judged = absurd judged
+  stops_as new (No number reason) text stops judged =
+      let same : suc (line_count old.header old.graph.placed.items) ≡ number = omega (arith, judged.0) in
+      subst (λ n. StopsAtLine seen n reader reader') same stops
+
+  -- a check that ends asks for nothing behind the line
+  pub stops_over : (before middle after : Given) (held held' : Held) (new : Collected) (found : Line) (verdict : Verdict) → StopsNext → FindsOn before middle after held held' old found
+      → IsJudged found held'.line (Some verdict) old new → StopsReading seen reader reader' verdict
+  stops_over before middle after held held' new End verdict stops on judged =
+      let same : verdict ≡ Yes (length old.graph.placed.items) = cc judged in
+      subst (StopsReading seen reader reader') (sym same) tt
+  stops_over before middle after held held' new Whole verdict stops on judged =
+      let text = text_found held held' Whole on.bounds on.finds (λ same. absurd (cc)) in
+      stops_as new verdict text.0 stops (judged text.0 text.2)
+  stops_over before middle after held held' new TooLong verdict stops on judged =
+      let text = text_found held held' TooLong on.bounds on.finds (λ same. absurd (cc)) in
+      stops_as new verdict text.0 stops (judged text.0 text.2)

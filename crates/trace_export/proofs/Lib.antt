@@ -22,6 +22,7 @@ pub mod Remaking
 pub mod Rerunning
 pub mod SpelledTrees
 pub mod StampReplies
+pub mod Stopping
 pub mod WrittenLines
 pub mod WrittenRequests
 pub mod WrittenRows

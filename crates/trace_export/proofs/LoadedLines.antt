@@ -14,8 +14,8 @@ use Rattle.line_protocol.specs.declared.line.Line.TheVariants.{Whole, TooLong, E
 use Rattle.line_protocol.proofs.LineReadingLemmas.{HasRead-start, HasRead-line, HasRead-end}
 use Rattle.trace_export.specs.Heading.{AreParts, IsHeader, IsNoHeader, lines_ahead}
 use Rattle.trace_export.specs.Loading.{AreLoadedAfter, IsFaultyAfter, IsLoadedNext, limits_under, tenant_with}
-use Rattle.trace_export.specs.Loads.{LoadsAs}
-use Rattle.trace_export.specs.ReadTo.{WasReadTo, WasReadToEnd}
+use Rattle.trace_export.specs.Loads.{LoadsAs, StopsLoading}
+use Rattle.trace_export.specs.ReadTo.{StopsAtLine, WasReadTo, WasReadToEnd}
 use Rattle.trace_export.specs.Rebuilding.{IsTaken, IsTakenAs, IsUnbegun}
 use Rattle.trace_export.specs.declared.header.Header.{Header}
 use Rattle.trace_export.specs.declared.loaded.Loaded.{Loaded}
@@ -203,3 +203,50 @@ pub begins_loading : (start : List ℕ) (held : Held) (rebuilt : Rebuilt) → he
 begins_loading start held rebuilt none unbegun =
     subst (λ (header : Option Header). FoundLoaded start start held header rebuilt.ledger) (sym unbegun.0)
     (subst (λ (tenant : Tenant). FoundLoaded start start held None tenant) (sym unbegun.1) (found_none_loaded start held none))
+
+-- how many lines were found that lead to this tenant
+abbrev pub lines_loaded : Option Header → Tenant → ℕ
+lines_loaded header tenant = lines_ahead header + length tenant.rows
+
+pub found_lines_loaded : {start given : List ℕ} {held : Held} {header : Option Header} {tenant : Tenant} (so_far : FoundLoaded start given held header tenant) → length so_far.found ≡ lines_loaded header tenant
+found_lines_loaded {header = header} so_far = omega (arith, parts_count header so_far.found so_far.events so_far.parts, found_count so_far)
+
+counts_as : (old new : Rebuilt) (text : Text) → IsTakenAs None old new text → lines_loaded new.header new.ledger ≡ suc (lines_loaded old.header old.ledger)
+counts_as old new text (inl begun) =
+    omega (arith, ap lines_ahead begun.headed, ap (λ (tenant : Tenant). length tenant.rows) begun.ledger, ap lines_ahead begun.first.0, ap length begun.first.1)
+counts_as old new text (inr goes) =
+    omega (arith, ap lines_ahead goes.made.more.header, ap (λ (tenant : Tenant). length tenant.rows) goes.made.more.ledger, length-append old.ledger.rows (goes.made.row ∷ []))
+
+-- a line that is loaded is one more
+pub counts_more : (before middle after : Given) (held held' : Held) (old new : Rebuilt) (found : Line) → LoadsOn before middle after held held' old found
+    → IsTaken found held'.line None old new → lines_loaded new.header new.ledger ≡ suc (lines_loaded old.header old.ledger)
+counts_more before middle after held held' old new End on taken = absurd (cc taken.0)
+counts_more before middle after held held' old new Whole on taken =
+    let text = text_found held held' Whole on.bounds on.finds (λ same. absurd (cc)) in
+    counts_as old new text.0 (taken text.0 text.2)
+counts_more before middle after held held' old new TooLong on taken =
+    let text = text_found held held' TooLong on.bounds on.finds (λ same. absurd (cc)) in
+    counts_as old new text.0 (taken text.0 text.2)
+
+module _ {R : Type 0} (seen : R → Given) (reader reader' : R) (old : Rebuilt) where
+  abbrev pub StopsNext : Type 0
+  StopsNext = StopsAtLine seen (suc (lines_loaded old.header old.ledger)) reader reader'
+
+  stops_as : (new : Rebuilt) (loaded : Loaded) (text : Text) → StopsNext → IsTakenAs (Some loaded) old new text → StopsLoading seen reader reader' loaded
+  stops_as new (Done count) text stops taken = absurd taken
+  stops_as new (No number reason) text stops taken =
+      let same : suc (lines_loaded old.header old.ledger) ≡ number = omega (arith, taken.0) in
+      subst (λ n. StopsAtLine seen n reader reader') same stops
+
+  -- loading that ends asks for nothing behind the line
+  pub stops_over : (before middle after : Given) (held held' : Held) (new : Rebuilt) (found : Line) (loaded : Loaded) → StopsNext → LoadsOn before middle after held held' old found
+      → IsTaken found held'.line (Some loaded) old new → StopsLoading seen reader reader' loaded
+  stops_over before middle after held held' new End loaded stops on taken =
+      let same : loaded ≡ Done (length old.ledger.rows) = cc taken.0 in
+      subst (StopsLoading seen reader reader') (sym same) tt
+  stops_over before middle after held held' new Whole loaded stops on taken =
+      let text = text_found held held' Whole on.bounds on.finds (λ same. absurd (cc)) in
+      stops_as new loaded text.0 stops (taken text.0 text.2)
+  stops_over before middle after held held' new TooLong loaded stops on taken =
+      let text = text_found held held' TooLong on.bounds on.finds (λ same. absurd (cc)) in
+      stops_as new loaded text.0 stops (taken text.0 text.2)

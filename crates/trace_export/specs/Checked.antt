@@ -8,7 +8,7 @@ use Rattle.line_protocol.specs.declared.read_fault.ReadFault.{ReadFault}
 use Rattle.line_protocol.specs.declared.read_fault.ReadFault.TheVariants as read_fault
 use Rattle.trace_export.specs.Graph.{IsKeptGraph}
 use Rattle.trace_export.specs.Heading.{IsHeader, IsNoHeader, lines_ahead}
-use Rattle.trace_export.specs.ReadTo.{WasReadTo, WasReadToEnd}
+use Rattle.trace_export.specs.ReadTo.{StopsAtLine, WasReadTo, WasReadToEnd}
 use Rattle.trace_export.specs.Verdict.{IsVerdict, IsRightNext, IsFaulty}
 use Rattle.trace_export.specs.declared.collected.Collected.{Collected}
 use Rattle.trace_export.specs.declared.header.Header.{Header}
@@ -35,6 +35,11 @@ pub record Judges (before after : Given) (verdict : Verdict) : Type 0 where
   pub grows : after.bytes ≡ before.bytes ++ came
   pub all : SawAll before after came verdict
   pub is_due : (rest : List ℕ) → (IsTrue after.has_ended → rest ≡ []) → IsVerdict (came ++ rest) verdict
+
+-- Nothing behind the faulty line was asked for, if there is one.
+abbrev pub StopsReading : {R : Type 0} (seen : R → Given) (reader reader' : R) → Verdict → Type 0
+StopsReading seen reader reader' (Yes count) = Unit {0}
+StopsReading seen reader reader' (No number reason) = StopsAtLine seen number reader reader'
 
 -- the text of a line that was found; of one that is too long it is not kept
 abbrev pub IsTextFound : Line → Text → Text → Type 0

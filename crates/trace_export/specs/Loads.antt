@@ -18,7 +18,7 @@ use Rattle.trace_export.specs.Heading.{AreParts}
 use Rattle.trace_export.specs.Laws.{event_line}
 use Rattle.trace_export.specs.Listing.{ListsAs}
 use Rattle.trace_export.specs.Loading.{IsLoaded, limits_under, request_lines, row_request, tenant_with}
-use Rattle.trace_export.specs.ReadTo.{WasReadTo, WasReadToEnd}
+use Rattle.trace_export.specs.ReadTo.{StopsAtLine, WasReadTo, WasReadToEnd}
 use Rattle.trace_export.specs.Verdict.{IsVerdict}
 use Rattle.trace_export.specs.declared.export_fault.ExportFault.{ExportFault}
 use Rattle.trace_export.specs.declared.export_fault.ExportFault.TheVariants as export
@@ -70,6 +70,11 @@ pub record LoadsAs (before after : Given) (loaded : Loaded) (rows : List Row) : 
   pub grows : after.bytes ≡ before.bytes ++ came
   pub all : SawAllOf before after came loaded
   pub is_due : (rest : List ℕ) → (IsTrue after.has_ended → rest ≡ []) → IsLoaded (came ++ rest) loaded rows
+
+-- Nothing behind the faulty line was asked for, if there is one.
+abbrev pub StopsLoading : {R : Type 0} (seen : R → Given) (reader reader' : R) → Loaded → Type 0
+StopsLoading seen reader reader' (Done count) = Unit {0}
+StopsLoading seen reader reader' (No number reason) = StopsAtLine seen number reader reader'
 
 -- the bytes are the export of these rows, where all is done
 abbrev pub IsExportWhereDone : List ℕ → Loaded → List Row → Type 0

@@ -1,7 +1,7 @@
 //! Checks of exports.
 ghost use Rattle.std.specs.Prelude.{◌≡◌, ◌+◌, ◌<◌, ◌≤◌, ◌↔◌, ◌^◌, IfOk, IsErrOf, length};
 ghost use Rattle.line_protocol.specs.Source.{StopsAtEnd};
-ghost use Rattle.trace_export.specs.Checked.{Judges, IsJudged};
+ghost use Rattle.trace_export.specs.Checked.{Judges, IsJudged, StopsReading};
 ghost use Rattle.trace_export.specs.Graph.{IsKeptGraph};
 
 use crate::collected::Collected;
@@ -29,6 +29,7 @@ pub fn check<R: Source>(alloc: Global, reader: &mut R) -> Result<Verdict, CheckF
     // How much is read.
     ensures reads { (R.seen reader.new).reads ≤ (R.seen reader.old).reads + 2 ^ 30 }
     ensures ends { StopsAtEnd (R.seen reader.old) (R.seen reader.new) }
+    ensures stops { IfOk result (StopsReading R.seen reader.old reader.new) }
 
     // When each fault comes. A failed read is never passed over.
     ensures read { IsErrOf result CheckFault.Read ↔ ((R.seen reader.old).failures < (R.seen reader.new).failures) }

@@ -2,7 +2,7 @@
 ghost use Rattle.std.specs.Prelude.{◌≡◌, ◌≢◌, ◌+◌, ◌<◌, ◌≤◌, ◌↔◌, ◌^◌, IfErr, IfOk, IsErrOf, length};
 ghost use Rattle.line_protocol.specs.Source.{StopsAtEnd};
 ghost use Rattle.line_protocol.specs.Writing.{EndsInFault};
-ghost use Rattle.trace_export.specs.Loads.{BreaksLoading, Loads, LoadsAs};
+ghost use Rattle.trace_export.specs.Loads.{BreaksLoading, Loads, LoadsAs, StopsLoading};
 ghost use Rattle.trace_export.specs.Rebuilding.{IsTaken, IsUnbegun};
 
 use crate::checking::{MOST_BYTES, MOST_READS};
@@ -32,6 +32,7 @@ pub fn load<T, R: Source, W: Sink>(
     // How much is read.
     ensures reads { (R.seen reader.new).reads ≤ (R.seen reader.old).reads + 2 ^ 30 }
     ensures ends { StopsAtEnd (R.seen reader.old) (R.seen reader.new) }
+    ensures stops { IfOk result (StopsLoading R.seen reader.old reader.new) }
 
     // When each fault comes. A failed read or write is never passed over.
     ensures read { IsErrOf result LoadFault.Read ↔ ((R.seen reader.old).failures < (R.seen reader.new).failures) }
@@ -60,6 +61,7 @@ fn take_in<T, R: Source>(
     ensures loads { IfOk result (λ loaded. LoadsAs (R.seen reader.old) (R.seen reader.new) loaded rebuilt.new.ledger.rows) }
     ensures reads { (R.seen reader.new).reads ≤ (R.seen reader.old).reads + 2 ^ 30 }
     ensures ends { StopsAtEnd (R.seen reader.old) (R.seen reader.new) }
+    ensures stops { IfOk result (StopsLoading R.seen reader.old reader.new) }
     ensures read { IsErrOf result LoadFault.Read ↔ ((R.seen reader.old).failures < (R.seen reader.new).failures) }
     ensures too_long { IsErrOf result LoadFault.TooLong → (R.seen reader.new).reads ≡ (R.seen reader.old).reads + 2 ^ 30 }
     ensures no_write { IfErr result (λ fault. fault ≢ LoadFault.Write) }

@@ -1,11 +1,13 @@
-use Rattle.std.proofs.Common.{ap, Some, None, subst, arith}
+use Rattle.std.proofs.Common.{inl, suc, refl, sym, ap, Some, None, subst, arith}
 use Rattle.trace_types.specs.text.Name.{Text}
 use Rattle.line_protocol.specs.Held.{Held, ReadingBounds, fresh_within}
 use Rattle.line_protocol.specs.LineReading.{Reads}
 use Rattle.line_protocol.proofs.LineReadingLemmas.{Reads-none, Reads-on}
+use Rattle.trace_export.specs.ReadTo.{StopsAtLine}
 use Rattle.trace_export.specs.Rebuilding.{IsTaken}
 use Rattle.trace_export.proofs.Judging.{export_bounds, was_read_to_end}
-use Rattle.trace_export.proofs.LoadedLines.{LoadsOn, answered_over, begins_loading, loaded_so_far}
+use Rattle.trace_export.proofs.LoadedLines.{LoadsOn, answered_over, begins_loading, counts_more, found_lines_loaded, lines_loaded, loaded_so_far, stops_over}
+use Rattle.trace_export.proofs.Stopping.{stops_next}
 use Rattle.trace_export.proofs.loading.take_in.Goals as goal
 use Rattle.trace_export.proofs.loading.take_in.Given.{Over}
 use Rattle.trace_export.proofs.loading.take_in.Goals.{After-judge}
@@ -25,12 +27,20 @@ found_on g c = record {
   told = was_read_to_end (reads_so_far g c);
 }
 
+-- the line was looked for
+stops_so_far : (g : Over) (c : After-judge g)
+    → StopsAtLine g.R.Source.seen (suc (lines_loaded c.loop-lines.rebuilt.header c.loop-lines.rebuilt.ledger)) c.args.reader.now c.next_line.new.source
+stops_so_far g c =
+    stops_next g.R.Source.seen c.args.reader.now c.loop-lines.reader c.next_line.new.source _ c.loop-lines.invariant.so_far.read (found_lines_loaded c.loop-lines.invariant.so_far)
+    c.loop-lines.invariant.stops c.in_ok-found.ensures.last
+
 pub loop-lines-init : goal.loop-lines-init
 loop-lines-init g c =
     let held = c.in_ok-lines.ensures in
     record {
       so_far = begins_loading _ c.in_ok-lines.lines c.args.rebuilt.now (ap (λ (h : Held). h.left) held) c.requires;
       reads = rw held (Reads-none _ _);
+      stops = inl refl;
       most = rw held (omega arith);
     }
 
@@ -42,14 +52,26 @@ returns-in-Some-clause-loads g c =
     (subst (λ (line : Text). IsTaken c.in_ok-found.found line (Some c.in-Some.loaded) c.loop-lines.rebuilt c.judge.new.rebuilt) c.line.ensures
     (subst (λ loaded. IsTaken c.in_ok-found.found c.line.result.now loaded c.loop-lines.rebuilt c.judge.new.rebuilt) c.in-Some.is c.in_ok-loaded.ensures))
 
+pub returns-in-Some-clause-stops : goal.returns-in-Some-clause-stops
+returns-in-Some-clause-stops g c =
+    let at = goal.at.returns-in-Some-clause-stops g c in
+    stops_over g.R.Source.seen c.args.reader.now c.next_line.new.source c.loop-lines.rebuilt (g.R.Source.seen c.args.reader.now) (g.R.Source.seen c.loop-lines.reader) (g.R.Source.seen c.next_line.new.source) c.loop-lines.lines c.next_line.new.self c.judge.new.rebuilt
+    c.in_ok-found.found c.in-Some.loaded (stops_so_far g at.After-judge) (found_on g at.After-judge)
+    (subst (λ (line : Text). IsTaken c.in_ok-found.found line (Some c.in-Some.loaded) c.loop-lines.rebuilt c.judge.new.rebuilt) c.line.ensures
+    (subst (λ loaded. IsTaken c.in_ok-found.found c.line.result.now loaded c.loop-lines.rebuilt c.judge.new.rebuilt) c.in-Some.is c.in_ok-loaded.ensures))
+
 pub loop-lines-preserved : goal.loop-lines-preserved
 loop-lines-preserved g c =
     let at = goal.at.loop-lines-preserved g c in
+    let taken =
+    subst (λ (line : Text). IsTaken c.in_ok-found.found line None c.loop-lines.rebuilt c.judge.new.rebuilt) c.line.ensures
+    (subst (λ loaded. IsTaken c.in_ok-found.found c.line.result.now loaded c.loop-lines.rebuilt c.judge.new.rebuilt) c.in_default.is c.in_ok-loaded.ensures) in
+    let more = counts_more (g.R.Source.seen c.args.reader.now) (g.R.Source.seen c.loop-lines.reader) (g.R.Source.seen c.next_line.new.source) c.loop-lines.lines c.next_line.new.self c.loop-lines.rebuilt c.judge.new.rebuilt
+    c.in_ok-found.found (found_on g at.After-judge) taken in
     record {
       so_far = loaded_so_far (g.R.Source.seen c.args.reader.now) (g.R.Source.seen c.loop-lines.reader) (g.R.Source.seen c.next_line.new.source) c.loop-lines.lines c.next_line.new.self c.loop-lines.rebuilt c.judge.new.rebuilt
-          c.in_ok-found.found (found_on g at.After-judge)
-          (subst (λ (line : Text). IsTaken c.in_ok-found.found line None c.loop-lines.rebuilt c.judge.new.rebuilt) c.line.ensures
-          (subst (λ loaded. IsTaken c.in_ok-found.found c.line.result.now loaded c.loop-lines.rebuilt c.judge.new.rebuilt) c.in_default.is c.in_ok-loaded.ensures));
+          c.in_ok-found.found (found_on g at.After-judge) taken;
       reads = reads_so_far g at.After-judge;
+      stops = subst (λ n. StopsAtLine g.R.Source.seen n c.args.reader.now c.next_line.new.source) (sym more) (stops_so_far g at.After-judge);
       most = omega (arith, c.in_ok-found.ensures.finds.reads.most, ap (λ (b : ReadingBounds). b.reads) (reads_so_far g at.After-judge).bounds);
     }

@@ -1,5 +1,5 @@
 use Rattle.std.proofs.Common.{ℕ, Bool, Err, ◌≡◌, ◌≤◌, ◌⊎◌, IsTrue, inl, inr, refl, sym, ap, ◌∙◌, true, false}
-use Rattle.line_protocol.proofs.LineReadingLemmas.{FindsNone-skipped, ReadsUntil-more, ReadsUntil-fault}
+use Rattle.line_protocol.proofs.LineReadingLemmas.{FindsNone-skipped, LastRead-map, ReadsUntil-more, ReadsUntil-fault}
 use Rattle.line_protocol.proofs.NextLineLemmas.{FindsNext-at, FindsNext-rest, FindsNext-skipped, FindsNext-failed}
 use Rattle.line_protocol.proofs.buffer.Buffer.next_line.Given.{Over}
 use Rattle.line_protocol.proofs.buffer.Buffer.next_line.Goals.{After-skip_line}
@@ -36,6 +36,13 @@ returns-in_ok-skip_line-in-None-2-clause-finds g c =
     let found = rw c.in-None-2.is at c.in_ok-at.ensures.found in
     let skipped = c.in_ok-skip_line-in-None-2.ensures in
     FindsNext-skipped c.in_ok-at.ensures.comes found.0 c.in_ok-at.ensures.reads going (long _ _ _ going found.1) skipped.skips skipped.less skipped.reads
+
+pub returns-in_ok-skip_line-in-None-2-clause-last : goal.returns-in_ok-skip_line-in-None-2-clause-last
+returns-in_ok-skip_line-in-None-2-clause-last g c =
+    let going = going g (goal.at.returns-in_ok-skip_line-in-None-2-clause-last g c).After-skip_line in
+    let found = rw c.in-None-2.is at c.in_ok-at.ensures.found in
+    let unended = goes_on c.args.self.now.is_ended c.find_end.new.self.is_ended going (λ e. ap (λ held. held.is_ended) (c.in_ok-at.ensures.at_end e).1) in
+    inr (LastRead-map c.in_ok-skip_line-in-None-2.ensures.last (λ given skipped. FindsNone-skipped c.in_ok-at.ensures.comes found.0 skipped unended))
 
 pub returns-in_err-skip_line-in-None-2-clause-finds : goal.returns-in_err-skip_line-in-None-2-clause-finds
 returns-in_err-skip_line-in-None-2-clause-finds g c =
