@@ -56,7 +56,7 @@ pub record IsHeaded (old new : Collected) (text : Text) : Type 0 where
   pub none : new.graph.placed.items ≡ []
   pub kept : IsKeptGraph new.graph
 
--- A line with this text is right, and its event is kept. It is no header, where it may be one.
+-- A line with this text is right, and its event is kept. It is no header if it is the first one.
 pub record IsKept (old new : Collected) (text : Text) : Type 0 where
   pub placed : Placed
   pub no_header : old.header ≡ None → old.graph.placed.items ≡ [] → IsNoHeader text
@@ -65,7 +65,7 @@ pub record IsKept (old new : Collected) (text : Text) : Type 0 where
   pub more : new.graph.placed.items ≡ old.graph.placed.items ++ placed ∷ []
   pub kept : IsKeptGraph new.graph
 
--- A line with this text is faulty for this reason. It is no header, where it may be one.
+-- A line with this text is faulty for this reason. It is no header if it is the first one.
 pub record IsRefused (reason : Reason) (old : Collected) (text : Text) : Type 0 where
   pub no_header : old.header ≡ None → old.graph.placed.items ≡ [] → IsNoHeader text
   pub faulty : IsFaulty reason old.graph.placed.items text
@@ -77,7 +77,7 @@ IsJudgedAs (Some (Yes count)) old new text = ⊥
 IsJudgedAs (Some (No number reason)) old new text =
     (number ≡ lines_ahead old.header + suc (length old.graph.placed.items)) × IsRefused reason old text
 
--- What is answered where this was found: at the end that all lines were right.
+-- What is answered if this was found. At the end it is that all lines were right.
 abbrev pub IsJudged : Line → Text → Option Verdict → Collected → Collected → Type 0
 IsJudged End line verdict old new = verdict ≡ Some (Yes (length old.graph.placed.items))
 IsJudged found line verdict old new = (text : Text) → IsTextFound found line text → IsJudgedAs verdict old new text

@@ -117,13 +117,13 @@ pub record FailsToLoad (ahead : ℕ) (limits : Limits) (all : List Text) (number
   pub loaded : AreLoadedAfter limits [] before rows
   pub faulty : IsFaultyAfter reason limits rows line
 
--- what is answered to lines of events, which come after so many; where none is faulty they leave these rows
+-- what is answered to lines of events, which come after so many; they leave these rows if none is faulty
 abbrev pub IsLoadedFrom : ℕ → Limits → List Text → Loaded → List Row → Type 0
 IsLoadedFrom ahead limits events (Done count) rows = (count ≡ length events) × AreLoadedAfter limits [] events rows
 IsLoadedFrom ahead limits events (No number reason) rows = FailsToLoad ahead limits events number reason
 
--- What is answered to the bytes; where no line of an event is faulty they leave these rows. A first line that is no header
--- counts as one of these.
+-- What is answered to the bytes; they leave these rows if no line of an event is faulty. A first line that is no header
+-- counts as a line of an event.
 pub record IsLoaded (bytes : List ℕ) (loaded : Loaded) (rows : List Row) : Type 0 where
   pub header : Option Header
   pub events : List Text

@@ -76,12 +76,12 @@ abbrev pub StopsLoading : {R : Type 0} (seen : R → Given) (reader reader' : R)
 StopsLoading seen reader reader' (Done count) = Unit {0}
 StopsLoading seen reader reader' (No number reason) = StopsAtLine seen number reader reader'
 
--- the bytes are the export of these rows, where all is done
+-- the bytes are the export of these rows if all is done
 abbrev pub IsExportWhereDone : List ℕ → Loaded → List Row → Type 0
 IsExportWhereDone bytes (Done count) rows = IsExportOfRun bytes count rows
 IsExportWhereDone bytes (No number reason) rows = Unit {0}
 
--- the requests of these rows were written, where all is done, and nothing else was called
+-- The requests of these rows were written if all is done. Else the writer was not called.
 abbrev pub WritesWhereDone : Taken → Taken → Text → Loaded → List Row → Type 0
 WritesWhereDone taken taken' tenant (Done count) rows = WritesLines taken taken' (request_lines tenant rows)
 WritesWhereDone taken taken' tenant (No number reason) rows = taken' ≡ taken
@@ -93,8 +93,8 @@ pub record Loads (before after : Given) (taken taken' : Taken) (tenant : Text) (
   pub is_export : IsExportWhereDone loads.came loaded rows
   pub writes : WritesWhereDone taken taken' tenant loaded rows
 
--- All that the reader had was loaded, and of the requests to this tenant some whole lines were written, and of the next one
--- a front. Then this fault came.
+-- All that the reader had was loaded. Some whole lines of the requests to this tenant were written, and a prefix of the
+-- next one. Then this fault came.
 pub record LoadsInPart (fault : LoadFault) (before after : Given) (taken taken' : Taken) (tenant : Text) : Type 0 where
   pub cause : ExportFault
   pub told : fault ≡ load_fault_of_export cause

@@ -48,12 +48,12 @@ pub record IsBegun (old new : Rebuilt) (text : Text) : Type 0 where
   pub headed : new.header ≡ Some header
   pub ledger : new.ledger ≡ fresh header.limits
 
--- The line is no header, where it may be one, and its request was made.
+-- The line is no header if it is the first one, and its request was made.
 pub record GoesOn (old new : Rebuilt) (text : Text) : Type 0 where
   pub no_header : IsNoFirstLine old text
   pub made : IsLineMade old new text
 
--- The line is no header, where it may be one, and is faulty for this reason.
+-- The line is no header if it is the first one, and is faulty for this reason.
 pub record IsRejected (reason : Reason) (old : Rebuilt) (text : Text) : Type 0 where
   pub no_header : IsNoFirstLine old text
   pub faulty : IsFaultyAfter reason old.ledger.limits old.ledger.rows text
@@ -65,7 +65,7 @@ IsTakenAs (Some (Done count)) old new text = ⊥
 IsTakenAs (Some (No number reason)) old new text =
     (number ≡ lines_ahead old.header + suc (length old.ledger.rows)) × IsRejected reason old text
 
--- What is answered where this was found: at the end that all is done.
+-- What is answered if this was found. At the end it is that all is done.
 abbrev pub IsTaken : Line → Text → Option Loaded → Rebuilt → Rebuilt → Type 0
 IsTaken End line loaded old new = (loaded ≡ Some (Done (length old.ledger.rows))) × (new.ledger ≡ old.ledger)
 IsTaken found line loaded old new = (text : Text) → IsTextFound found line text → IsTakenAs loaded old new text

@@ -16,13 +16,13 @@ pub enum LoadFault {
     /// A read failed. Nothing was written.
     #[error("read fault")]
     Read,
-    /// A write failed, or 1048576 writes of a line were interrupted.
+    /// A write failed, or 1048576 writes of a line were interrupted. A prefix of the requests was written.
     #[error("write fault")]
     Write,
-    /// All the reads that one load may make were made. Nothing was written.
+    /// All the 2^30 reads that one load may make were made. Nothing was written.
     #[error("input too long")]
     TooLong,
-    /// A request for memory was refused.
+    /// The load ran out of memory. Some of the requests may be written, each whole.
     #[error("no memory")]
     Memory,
 }

@@ -5,8 +5,8 @@ use crate::Reason;
 /// What loading an export answers.
 #[derive(Clone, Copy, Debug, PartialEq, Eq)]
 pub enum Loaded {
-    /// The requests of so many events were written.
+    /// The requests of all events were written. The number counts the events, and so no header.
     Done(u64),
-    /// The first faulty line, from 1, and why it is. Nothing was written.
+    /// The first faulty line, from 1 with a header counted, and why it is faulty. Nothing was written.
     No(u64, Reason),
 }

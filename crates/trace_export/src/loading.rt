@@ -13,12 +13,16 @@ use line_protocol::{Buffer, Line, Sink, Source};
 use std::alloc::Global;
 use trace_types::{Memory, Name};
 
-/// Makes the requests again that an export lists, from nothing and under the limits of its header, or without one under the
-/// greatest. Where each of them is accepted, and leaves the predecessors and the stamp that are listed, they are written: a
-/// line to this tenant for each. Else nothing is written. It flushes nothing.
+/// Makes the requests again that an export lists, from nothing. The limits are those of its header, or the greatest if it
+/// has none. It writes the requests, a line to this tenant for each, if each is accepted and leaves the listed predecessors
+/// and stamp. Else it writes nothing. It flushes nothing.
 ///
-/// `Read` comes where a read failed, and `TooLong` where 2^30 reads were made; then nothing was written. `Write` comes where
-/// a write failed or 1048576 writes of one line were interrupted, and `Memory` where a request for memory was refused.
+/// It reads to the end, or to the end of the first faulty line. A line of more than 65536 bytes is faulty. An export has at
+/// most 16384 events.
+///
+/// Returns `Read` if a read failed, and `TooLong` if 2^30 reads were made; nothing is written then. Returns `Write` if a
+/// write failed or 1048576 writes of one line were interrupted, and `Memory` if it runs out of memory. Then a prefix of the
+/// requests may be written.
 pub fn load<T, R: Source, W: Sink>(
     rt: &T,
     alloc: Global,
@@ -75,7 +79,8 @@ fn take_in<T, R: Source>(
     }
 }
 
-/// Takes in a line, where it is right; else gives what loading answers, as at the end. A line that is too long has no text.
+/// Takes in a line if it is right, else gives what loading answers. It gives that at the end too. A line that is too long
+/// has no text.
 fn judge<T>(
     rt: &T,
     rebuilt: &mut Rebuilt,

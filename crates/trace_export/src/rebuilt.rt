@@ -28,7 +28,7 @@ pub(crate) struct Rebuilt {
 }
 
 impl Rebuilt {
-    /// Of no line, under the greatest limits.
+    /// What no line leads to, under the greatest limits.
     pub(crate) fn new(alloc: Global) -> Result<Rebuilt, Memory>
         ensures { IfOk result IsUnbegun }
     {
@@ -49,8 +49,8 @@ impl Rebuilt {
         }
     }
 
-    /// Begins under the header that the line is, where it is the first one, or makes the request of the event that it lists.
-    /// Else it tells why the line is faulty.
+    /// Begins under the header that the line is, if it is the first line. Else it makes the request of the event that the
+    /// line lists. It gives the reason if the line is faulty.
     pub(crate) fn add<T>(
         &mut self,
         rt: &T,
@@ -71,7 +71,7 @@ impl Rebuilt {
         }
     }
 
-    /// The header that the line is, where it is the first one.
+    /// The header that the line is, if it is the first line.
     fn first_header(&self, alloc: Global, line: &[u8]) -> Result<Option<Header>, Memory>
         requires short { length line.now ≤ 65536 }
         ensures header { IfOk result (λ header. IfSome header (λ header. (self.now.header ≡ None) × (self.now.ledger.rows ≡ [])
@@ -84,7 +84,7 @@ impl Rebuilt {
         read_header(alloc, line)
     }
 
-    /// Makes the request of the event that the line lists, where it may come next; else tells why the line is faulty.
+    /// Makes the request of the event that the line lists. It gives the reason if the line is faulty.
     fn add_line<T>(&mut self, rt: &T, alloc: Global, line: &[u8]) -> Result<Option<Reason>, Memory>
         requires short { length line.now ≤ 65536 }
         ensures right { IfOk result (λ fault. IfNone fault (IsLineMade self.old self.new line.now)) }
@@ -99,7 +99,7 @@ impl Rebuilt {
         }
     }
 
-    /// Makes the request of the listed event, where it may come next; else tells why it does not.
+    /// Makes the request of the listed event if it may come next. It gives the reason if the event does not come next.
     fn add_listed<T>(
         &mut self,
         rt: &T,
@@ -116,7 +116,7 @@ impl Rebuilt {
         }
     }
 
-    /// Makes the request of the listed event. It tells why the event does not come next, where it does not.
+    /// Makes the request of the listed event. It gives the reason if the event does not come next.
     fn make<T>(&mut self, rt: &T, listed: &EventLine<'_>) -> Result<Option<Reason>, Memory>
         requires may { MayFollow self.old.ledger.rows (listed_of listed.now) }
         ensures right { IfOk result (λ fault. IfNone fault (IsMade self.old self.new (listed_of listed.now))) }
@@ -178,7 +178,7 @@ fn greatest_limits() -> Limits
     }
 }
 
-/// Why the line of a request is faulty that was refused with this code, unless memory was.
+/// Why a line is faulty whose request was refused with this code. Returns `Memory` if the request ran out of memory.
 fn refused(code: Code) -> Result<Option<Reason>, Memory>
     ensures { IfOk result (λ reason. (reason ≡ Some Reason.Refused) × (code ≢ Code.NoMemory)) }
 {
