@@ -1,9 +1,10 @@
 -- What a replay did that writes an export in place of replies.
-use Rattle.std.specs.Prelude.{◌≡◌, ◌≢◌, ℕ, ◌⊎◌, Bool, IsTrue, List, ◌++◌, length, map, IfSome, Some, slice_get}
+use Rattle.std.specs.Prelude.{◌≡◌, ◌≢◌, ℕ, ◌⊎◌, Bool, IsTrue, List, ◌++◌, length, map, IfSome, Some, option_map, slice_get}
 use Rattle.std.specs.Io.KnownBytes.{Keeps}
 use Rattle.trace_types.specs.text.Name.{Text}
 use Rattle.trace_types.specs.text.Lines.{lines}
 use Rattle.trace_types.specs.tenant.Rows.{events, history_of}
+use Rattle.trace_types.specs.tenant.Tenant.{Tenant}
 use Rattle.trace_types.specs.clock.Stamps.{stamp_text_of}
 use Rattle.trace_types.specs.world.Interleaving.{Call, tenant_after}
 use Rattle.trace_types.specs.world.World.{World, IsAfter}
@@ -59,8 +60,12 @@ pub record TakesFirst (before after : Given) (old new : World) : Type 0 where
   pub none_lost : length found ≡ end_count first.came
   pub leads : LeadsThere old found marks new
 
+-- These are the rows that the tenant at this place has.
+abbrev pub AreRowsOf : World → ℕ → List Row → Type 0
+AreRowsOf world tenant rows = option_map (λ (one : Tenant). one.rows) (slice_get world.tenants tenant) ≡ Some rows
+
 -- These are the rows that the tenant's own requests among the lines leave, which are not marked, after its own calls that
--- led to the old world.
+-- led to the old world. Some calls led to each world, as `World::law` says (`IsLedTo`).
 abbrev pub AreRowsLeft : (old : World) (found : List Text) (marks : List Bool) (tenant : ℕ) (rows : List Row) → Type 0
 AreRowsLeft old found marks tenant rows = (calls : List Call) → IsAfter old calls
     → rows ≡ (tenant_after old.limits (calls ++ calls_by (entries old.names found marks)) tenant).rows
@@ -75,13 +80,14 @@ abbrev pub HoldsBack : Taken → Taken → Type 0
 HoldsBack before after = (after.bytes ≡ before.bytes) × GoesWrong before after × GivesUpFlushing before.calls after.calls
 
 -- All lines were done, and then the export of the rows was written that the tenant's requests among them leave, with the
--- tenant's header.
+-- tenant's header. The tenant has these rows.
 pub record Exports (before after : Given) (taken taken' : Taken) (old : World) (tenant count : ℕ) (new : World) : Type 0 where
   pub takes : TakesAll before after old new
   pub header : Header
   pub headed : IsHeaderOf old tenant header
   pub rows : List Row
   pub left : AreRowsLeft old (lines takes.came) takes.marks tenant rows
+  pub has : AreRowsOf new tenant rows
   pub counted : count ≡ length rows
   pub between : Taken
   pub writes : WritesLines taken between (export_of header rows)
@@ -106,6 +112,7 @@ pub record ExportsInPart (fault : ReplayFault) (before after : Given) (taken tak
   pub headed : IsHeaderOf old tenant header
   pub rows : List Row
   pub left : AreRowsLeft old (lines takes.came) takes.marks tenant rows
+  pub has : AreRowsOf new tenant rows
   pub stops : StopsExport fault taken taken' (export_of header rows)
 
 -- A fault came: while the lines were read, and then nothing was written, and for want of memory nothing was read or done

@@ -1,11 +1,12 @@
-use Rattle.std.proofs.Common.{◌≡◌, ◌<◌, ◌∙◌, ap, sym, subst, List, length, inr, rules}
+use Rattle.std.proofs.Common.{◌≡◌, ◌<◌, ◌∙◌, ap, sym, subst, List, length, inr, option_map, rules}
 use Rattle.std.specs.List.{concat}
+use Rattle.trace_types.specs.tenant.Tenant.{Tenant}
 use Rattle.trace_types.specs.declared.row.Row.{Row}
 use Rattle.trace_types.specs.text.Lines.{lines}
 use Rattle.trace_export.specs.Export.{AreReadAgain, BreaksLines, WritesLines}
 use Rattle.trace_export.specs.Verdict.{IsVerdict}
 use Rattle.trace_export.specs.declared.verdict.Verdict.TheVariants.{Yes}
-use Rattle.trace_world.specs.Exported.{AreRowsLeft, export_of, stamp_texts}
+use Rattle.trace_world.specs.Exported.{AreRowsLeft, AreRowsOf, export_of, stamp_texts}
 use Rattle.trace_world.proofs.Fronts.{IfErr-equal}
 use Rattle.trace_world.proofs.StampTexts.{length-stamp_texts}
 use Rattle.trace_world.proofs.TakingIn.{ends_held_back, of_ledger, rows_left, stops_export}
@@ -23,6 +24,10 @@ left g c =
     let within : c.args.tenant < length c.take_in.new.world.tenants = search rules in
     rows_left c.in_ok-take_in.ensures.ok c.args.tenant c.ledger-ledger.result.now within c.ledger-ledger.ensures
 
+-- the tenant has them
+has : (g : Over) (c : After-export_rows g) → AreRowsOf c.take_in.new.world c.args.tenant c.ledger-ledger.result.now.rows
+has g c = ap (option_map (λ (one : Tenant). one.rows)) c.ledger-ledger.ensures
+
 -- all of them were written
 wrote : (g : Over) (c : In_ok-count g) → WritesLines (g.W.Sink.seen c.args.writer.now) (g.W.Sink.seen c.export_rows.new.writer) (export_of c.header-header.result c.ledger-ledger.result.now.rows)
 wrote g c = of_ledger (WritesLines (g.W.Sink.seen c.args.writer.now) (g.W.Sink.seen c.export_rows.new.writer)) c.header-header.result c.rows.result.now c.ledger-ledger.result.now.rows c.rows.ensures.rows c.in_ok-count.ensures.whole
@@ -37,6 +42,7 @@ returns-in_err-count-clause-fault g c =
       headed = c.header-header.ensures;
       rows = c.ledger-ledger.result.now.rows;
       left = left g at.After-export_rows;
+      has = has g at.After-export_rows;
       stops = stops_export c.in_err-count.field-0.0
           (of_ledger (BreaksLines c.in_err-count.field-0.0 (g.W.Sink.seen c.args.writer.now) (g.W.Sink.seen c.export_rows.new.writer)) c.header-header.result c.rows.result.now c.ledger-ledger.result.now.rows c.rows.ensures.rows c.in_err-count.ensures.fault);
     }))
@@ -51,6 +57,7 @@ returns-in_err-flush-clause-fault g c =
       headed = c.header-header.ensures;
       rows = c.ledger-ledger.result.now.rows;
       left = left g at.After-export_rows;
+      has = has g at.After-export_rows;
       stops = inr (g.W.Sink.seen c.export_rows.new.writer, wrote g at.In_ok-count, c.in_err-flush.ensures);
     }))
 
@@ -68,6 +75,7 @@ returns-clause-ok g c =
       headed = c.header-header.ensures;
       rows = c.ledger-ledger.result.now.rows;
       left = left g at.After-export_rows;
+      has = has g at.After-export_rows;
       counted = c.in_ok-count.ensures.count ∙ ap length c.rows.ensures.rows;
       between = g.W.Sink.seen c.export_rows.new.writer;
       writes = wrote g at.In_ok-count;
