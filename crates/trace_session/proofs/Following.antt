@@ -14,7 +14,7 @@ use Rattle.trace_session.proofs.Writing.{Wrote, Wrote-none, Wrote-kept, Wrote-li
 use Rattle.trace_session.specs.Answers.{AnswersEach, AnswersLine, last_reply}
 use Rattle.trace_session.specs.Asking.{FindsAsked, is_quit, most_requests, request_in}
 use Rattle.trace_session.specs.Reading.{FindsNothing, ReadsLines}
-use Rattle.trace_session.specs.Sessions.{AnswersAsked, AnswersLate, AnswersRequest, Closes, EndsBy, Finishes, GoesOn, Session, WritesUntil, over_reply}
+use Rattle.trace_session.specs.Sessions.{AnswersAsked, AnswersLate, AnswersRequest, Closes, EndsBy, Finishes, BringsNoEnd, Session, WritesUntil, over_reply}
 use Rattle.trace_session.specs.Written.{HandsOnBefore, KeepsAll, StopsAt, reply_line}
 use Rattle.trace_session.specs.declared.asked.Asked.{Asked}
 use Rattle.trace_session.specs.declared.asked.Asked.TheVariants as asked
@@ -182,7 +182,7 @@ session_stopped {S = S} Does first now after start held held' taken mid taken' o
     asks : request ≡ request_in start.bounds.bytes text
     asks = subst (λ (bounds : ReadingBounds). request ≡ request_in bounds.bytes text) same finds.3
 
-    by : (late : Bool) → (count == most_requests) ≡ late → MatchBool late (AnswersLate between new mid taken' (Err fault)) (AnswersRequest {E = Option SessionEnd} Does request between new mid taken' (Err fault) × GoesOn (Err fault))
+    by : (late : Bool) → (count == most_requests) ≡ late → MatchBool late (AnswersLate between new mid taken' (Err fault)) (AnswersRequest {E = Option SessionEnd} Does request between new mid taken' (Err fault) × BringsNoEnd (Err fault))
         → Session Does first after start held' taken taken' old new (Err fault)
     by true late (new_is, stops, over) =
         session_closed Does first after start held' taken taken' old new (Err fault) follows.requests follows.answers text (over_reply ∷ []) (same_answered new_is follows.answered)
@@ -234,7 +234,7 @@ session_ended {S = S} Does first now after start held held' taken mid mid' taken
     no_quit : is_quit start.bounds.bytes text ≡ false
     no_quit = subst (λ (bounds : ReadingBounds). is_quit bounds.bytes text ≡ false) same finds.2
 
-    by : (late : Bool) → (count == most_requests) ≡ late → MatchBool late (AnswersLate between new mid mid' (Ok (Some end))) (AnswersRequest {E = Option SessionEnd} Does request between new mid mid' (Ok (Some end)) × GoesOn (Ok (Some end)))
+    by : (late : Bool) → (count == most_requests) ≡ late → MatchBool late (AnswersLate between new mid mid' (Ok (Some end))) (AnswersRequest {E = Option SessionEnd} Does request between new mid mid' (Ok (Some end)) × BringsNoEnd (Ok (Some end)))
         → Session Does first after start held' taken taken' old new result
     by true late (new_is, writes_line, over) =
         let end_is : end ≡ Over = cc in
@@ -265,7 +265,7 @@ Follows-line {S = S} Does first now after start held held' taken mid taken' old 
     asks : request ≡ request_in start.bounds.bytes text
     asks = subst (λ (bounds : ReadingBounds). request ≡ request_in bounds.bytes text) same finds.3
 
-    by : (late : Bool) → (count == most_requests) ≡ late → MatchBool late (AnswersLate between new mid taken' (Ok None)) (AnswersRequest {E = Option SessionEnd} Does request between new mid taken' (Ok None) × GoesOn (Ok None))
+    by : (late : Bool) → (count == most_requests) ≡ late → MatchBool late (AnswersLate between new mid taken' (Ok None)) (AnswersRequest {E = Option SessionEnd} Does request between new mid taken' (Ok None) × BringsNoEnd (Ok None))
         → Follows Does first after start held' taken taken' old new (count + 1) × (count < most_requests)
     by true late (new_is, writes_line, over) = absurd (cc)
     by false late (answer, goes) = (

@@ -46,7 +46,7 @@ TurnsAway code before after (Err TooLong) = ⊥
 TurnsAway code before after (Err Memory) = ⊥
 
 -- The session was refused with this code, and read nothing more.
-pub record IsRefused (code : Code) (before after : Given) (held held' : Held) (taken taken' : Taken) (result : Result SessionEnd SessionFault) : Type 0 where
+pub record IsTurnedAway (code : Code) (before after : Given) (held held' : Held) (taken taken' : Taken) (result : Result SessionEnd SessionFault) : Type 0 where
   pub refuses : TurnsAway code taken taken' result
   pub same_given : after ≡ before
   pub same_held : held' ≡ held
@@ -61,7 +61,7 @@ pub record IsHeld {S : Type 0} (IsSound : S → Type 0) (Does : S → Request �
 -- It was not there to be lent, and the session was refused with this code; or the session was held with it.
 abbrev pub Lends : {S : Type 0} → (S → Type 0) → (S → Request → Reply → S → Type 0) → Code → Given → Given → Held → Held → Taken → Taken → Result SessionEnd SessionFault → Type 0
 Lends IsSound Does code before after held held' taken taken' result =
-    IsRefused code before after held held' taken taken' result ⊎ IsHeld IsSound Does before after held held' taken taken' result
+    IsTurnedAway code before after held held' taken taken' result ⊎ IsHeld IsSound Does before after held held' taken taken' result
 
 -- The session asked for the desk of a tenant, or for a view.
 abbrev pub LendsTo : Lending → Given → Given → Held → Held → Taken → Taken → Result SessionEnd SessionFault → Type 0
@@ -71,11 +71,11 @@ LendsTo lending.View before after held held' taken taken' result = Lends IsSound
 -- What came of the first line, where the tenants have these names: one that opens nothing is refused, one that names no
 -- tenant is, and else what it asks for is lent, if it is there.
 abbrev pub Opens : List Text → Option Opening → Given → Given → Held → Held → Taken → Taken → Result SessionEnd SessionFault → Type 0
-Opens names None before after held held' taken taken' result = IsRefused Line before after held held' taken taken' result
+Opens names None before after held held' taken taken' result = IsTurnedAway Line before after held held' taken taken' result
 Opens names (Some opening) before after held held' taken taken' result =
     MatchBool (is_tenant names opening.tenant)
     (LendsTo opening.lending before after held held' taken taken' result)
-    (IsRefused NoTenant before after held held' taken taken' result)
+    (IsTurnedAway NoTenant before after held held' taken taken' result)
 
 -- The first line was read, and this came of it.
 pub record OpensBy (names : List Text) (before after : Given) (held held' : Held) (taken taken' : Taken) (result : Result SessionEnd SessionFault) : Type 0 where

@@ -83,15 +83,15 @@ pub record AnswersRequest {S E : Type 0} (Does : S → Request → Reply → S �
   pub put_out : PutsOut before after result (reply_line reply)
 
 -- The request was answered, and the session goes on unless there was a fault.
-abbrev pub GoesOn : Result (Option SessionEnd) SessionFault → Type 0
-GoesOn result = IfOk result (λ end. end ≡ None)
+abbrev pub BringsNoEnd : Result (Option SessionEnd) SessionFault → Type 0
+BringsNoEnd result = IfOk result (λ end. end ≡ None)
 
 -- What was asked after so many requests was answered.
 abbrev pub AnswersAsked : {S : Type 0} → (S → Request → Reply → S → Type 0) → Asked → ℕ → S → S → Taken → Taken → Result (Option SessionEnd) SessionFault → Type 0
 AnswersAsked Does asked.End requests old new before after result = (result ≡ Ok (Some EndOfInput)) × (new ≡ old) × (after ≡ before)
 AnswersAsked Does asked.Quit requests old new before after result = (result ≡ Ok (Some Quit)) × (new ≡ old) × (after ≡ before)
 AnswersAsked Does (asked.Request request) requests old new before after result =
-    MatchBool (requests == most_requests) (AnswersLate old new before after result) (AnswersRequest Does request old new before after result × GoesOn result)
+    MatchBool (requests == most_requests) (AnswersLate old new before after result) (AnswersRequest Does request old new before after result × BringsNoEnd result)
 
 -- All was handed on at this end, or a write fault came.
 abbrev pub Finishes : SessionEnd → Taken → Taken → Result SessionEnd SessionFault → Type 0
