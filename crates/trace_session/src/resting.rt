@@ -2,7 +2,9 @@
 ghost use Rattle.std.specs.Prelude.{◌≡◌, ◌<◌, ◌≤◌, ◌++◌, ◌∷◌, [], Some, None, IfNone, IfOk, IfSome, IsSomeAnd, length, vec_capacity, All};
 ghost use Rattle.std.specs.Option.{option_to_list};
 ghost use Rattle.trace_types.specs.tenant.Tenant.{fresh};
+ghost use Rattle.tenant_desk.specs.Views.{new_view};
 ghost use Rattle.trace_session.specs.Lent.{IsSoundDesk, IsSoundView};
+ghost use Rattle.trace_session.specs.Resting.{AreOfDesk};
 
 use std::alloc::Global;
 use std::marker::Model;
@@ -41,6 +43,7 @@ impl Resting {
     ) -> Result<Resting, Memory>
         ensures desk { IfOk result (λ resting. IsSomeAnd resting.desk (λ desk. desk.tenant ≡ fresh limits)) }
         ensures views { IfOk result (λ resting. length resting.views ≡ 8) }
+        ensures same { IfOk result (λ resting. AreOfDesk limits resting) }
     {
         let (desk, views) = desk_and_views(rt, alloc, limits, shared)?;
         match all_views(alloc, views) {
@@ -105,6 +108,7 @@ impl Resting {
 fn all_views(alloc: Global, mut views: Views) -> Result<Vec<View>, Memory>
     ensures count { IfOk result (λ all. length all.items ≡ views.left) }
     ensures sound { IfOk result (λ all. All IsSoundView all.items) }
+    ensures same { IfOk result (λ all. All (λ view. view ≡ new_view views.limits views.book) all.items) }
     ensures room { IfOk result (λ all. 8 ≤ vec_capacity all) }
 {
     let mut all = Vec::with_capacity(alloc, 8)?;
