@@ -14,7 +14,7 @@ use crate::{Gate, Hub, SessionEnd, SessionFault, report_lines, view_lines};
 use line_protocol::{Buffer, LineReader, Sink, Source};
 use std::alloc::Global;
 use std::sync::Wait;
-use trace_types::{Code, Reply};
+use trace_types::{Code, Name, Reply};
 
 /// Holds the session of this number on the hub.
 ///
@@ -98,21 +98,23 @@ fn open<T: Wait, R: Source, W: Sink, G: Gate>(
         return refuse(rt, writer, gate, number, Code::NoTenant);
     };
     match opening.lending {
-        Lending::Desk => report(rt, tenant, lines, writer, gate, number),
-        Lending::View => ask(rt, tenant, lines, writer, gate, number),
+        Lending::Desk => report(rt, &opening.tenant, tenant, lines, writer, gate, number),
+        Lending::View => ask(rt, &opening.tenant, tenant, lines, writer, gate, number),
     }
 }
 
-/// Holds a session with the desk of this tenant.
+/// Holds a session with the desk of this tenant, whose name was asked for.
 fn report<T: Wait, R: Source, W: Sink, G: Gate>(
     rt: &T,
+    _asked: &Name,
     tenant: &Tenant,
     lines: &mut LineReader<'_, R>,
     writer: &mut W,
     gate: &G,
     number: u64,
 ) -> Result<SessionEnd, SessionFault>
-    requires { lines.old.fault ≡ None }
+    requires open { lines.old.fault ≡ None }
+    requires named { tenant.now.name ≡ _asked.now }
     ensures same_source { lines.new.source.ghost_name ≡ lines.old.source.ghost_name }
     ensures lends { Lends IsSoundDesk TakesRequest Code.DeskTaken (R.seen lines.old.source.now) (R.seen lines.new.source.now)
         lines.old.buffer lines.new.buffer (W.seen writer.old) (W.seen writer.new) result }
@@ -131,16 +133,18 @@ fn report<T: Wait, R: Source, W: Sink, G: Gate>(
     result
 }
 
-/// Holds a session with a view of this tenant.
+/// Holds a session with a view of this tenant, whose name was asked for.
 fn ask<T: Wait, R: Source, W: Sink, G: Gate>(
     rt: &T,
+    _asked: &Name,
     tenant: &Tenant,
     lines: &mut LineReader<'_, R>,
     writer: &mut W,
     gate: &G,
     number: u64,
 ) -> Result<SessionEnd, SessionFault>
-    requires { lines.old.fault ≡ None }
+    requires open { lines.old.fault ≡ None }
+    requires named { tenant.now.name ≡ _asked.now }
     ensures same_source { lines.new.source.ghost_name ≡ lines.old.source.ghost_name }
     ensures lends { Lends IsSoundView AsksView Code.NoPlace (R.seen lines.old.source.now) (R.seen lines.new.source.now)
         lines.old.buffer lines.new.buffer (W.seen writer.old) (W.seen writer.new) result }
@@ -151,11 +155,11 @@ fn ask<T: Wait, R: Source, W: Sink, G: Gate>(
     ensures let_out { ((W.seen writer.new).bytes ≡ (W.seen writer.old).bytes) ⊎ G.lets_out gate.now number }
     ensures gate { IsErrOf result SessionFault.Gate → G.holds_back gate.now number }
 {
-    let Some(mut view) = tenant.take_view(rt) else {
+    let Some(mut lent) = tenant.take_view(rt) else {
         return refuse(rt, writer, gate, number, Code::NoPlace);
     };
-    let result = view_lines(rt, &mut view, lines, writer, gate, number);
-    tenant.put_view(rt, view);
+    let result = view_lines(rt, &mut lent.view, lines, writer, gate, number);
+    tenant.put_view(rt, lent);
     result
 }
 

@@ -17,9 +17,16 @@ use tenant_ledger::Shared;
 use trace_types::{Limits, Memory, Name, WorldFault};
 
 /// One tenant, with a lock over what no session has of it.
+///
+/// What lies under a lock is known by its type alone. So no clause says that what is put back is what is lent next.
 pub(crate) struct Tenant {
     name: Name,
     resting: Mutex<Resting>,
+}
+
+/// A view that is lent. It cannot be dropped, so whoever takes it has to put it back.
+pub(crate) struct LentView {
+    pub(crate) view: View,
 }
 
 impl Tenant {
@@ -46,19 +53,20 @@ impl Tenant {
     }
 
     /// Lends a view, if there is one that no session has.
-    pub(crate) fn take_view<R: Wait>(&self, rt: &R) -> Option<View>
-        ensures { IfSome result IsSoundView }
+    pub(crate) fn take_view<R: Wait>(&self, rt: &R) -> Option<LentView>
+        ensures { IfSome result (λ lent. IsSoundView lent.view) }
     {
         let mut resting = self.resting.lock(rt);
         let view = resting.take_view();
         MutexGuard::unlock(resting);
-        view
+        Some(LentView { view: view? })
     }
 
     /// Takes a view back that was lent.
-    pub(crate) fn put_view<R: Wait>(&self, rt: &R, view: View)
-        requires { IsSoundView view }
+    pub(crate) fn put_view<R: Wait>(&self, rt: &R, lent: LentView)
+        requires { IsSoundView lent.view }
     {
+        let LentView { view } = lent;
         let mut resting = self.resting.lock(rt);
         resting.put_view(view);
         MutexGuard::unlock(resting);
