@@ -3,7 +3,8 @@
  * BENT names the calls. `memory`: of the requests for memory, by any thread, number AT is refused, and a byte is written to
  * the open file number TOLD. `read`, of standard input, and `write`, on standard output, are bent as HOW says: `fails` that
  * call number AT of them fails; `none` that it moves nothing; `interrupted` that this one and those after it do, TIMES in
- * all, as by a signal; `one byte` that each moves one byte. It stands without headers, so that any C compiler makes it. */
+ * all, as by a signal; `one byte` that each moves one byte. `accept`: call number AT for a connection fails with the error
+ * number ERROR. It stands without headers, so that any C compiler makes it. */
 typedef __SIZE_TYPE__ size;
 typedef __PTRDIFF_TYPE__ count;
 
@@ -16,7 +17,7 @@ extern long strtol(const char *, char **, int);
 extern long syscall(long, ...);
 
 enum { INTERRUPTED = 4, INPUT_OUTPUT = 5, NO_MEMORY = 12 };
-enum { READ = 0, WRITE = 1 };
+enum { READ = 0, WRITE = 1, ACCEPT4 = 288 };
 
 static long calls;
 
@@ -78,4 +79,10 @@ count read(int file, void *bytes, size len) {
 
 count write(int file, const void *bytes, size len) {
     return moved(WRITE, "write", 1, file, (void *)bytes, len);
+}
+
+int accept4(int file, void *address, void *len, int flags) {
+    if (is("BENT", "accept") && counted() == number("AT") && fails((int)number("ERROR")))
+        return -1;
+    return (int)syscall(ACCEPT4, (long)file, address, len, (long)flags);
 }
