@@ -161,11 +161,13 @@ pub enum Asked {
 }
 
 /// Why the words are not followed.
-#[derive(Drop)]
+#[derive(Debug, Drop, thiserror::Error)]
 pub enum Refusal {
     /// The words are refused with this text, which may be empty.
+    #[error("{0}")]
     Words(String),
     /// The call ran out of memory.
+    #[error("no memory")]
     Memory,
 }
 
