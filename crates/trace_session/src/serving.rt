@@ -1,6 +1,6 @@
 //! Sessions at once, by workers that are handed connections.
 ghost use Rattle.std.specs.Prelude.{◌≡◌, ◌↔◌, ◌+◌, ◌<◌, ◌≤◌, ◌^◌, ◌⊎◌, IfOk, IsErrOf};
-ghost use Rattle.trace_session.specs.Serving.{IsWorkers};
+ghost use Rattle.trace_session.specs.Serving.{Accepts, IsWorkers};
 
 use crate::{Door, DoorFault, Gate, Hub, session};
 use crossbeam_channel::{Receiver, Sender, unbounded};
@@ -8,7 +8,7 @@ use line_protocol::{Sink, Source};
 use std::alloc::{AllocError, Global};
 use std::sync::{Mutex, Wait};
 use std::thread;
-use std::thread::{Threads, join_mut};
+use std::thread::{Scope, Threads};
 use thiserror::Error;
 
 /// The most workers.
@@ -72,29 +72,30 @@ struct Connection<A, B> {
 
 /// A place in which workers hold sessions.
 trait Hall<T> {
-    /// Holds the session of this number, and says whether it came to its end.
-    fn hold<R: Source, W: Sink, G: Gate>(
+    /// Holds the session of this connection, and says whether it came to its end.
+    fn hold<A: Source + Drop, B: Sink + Drop, G: Gate>(
         &self,
         rt: &T,
         alloc: Global,
-        reader: &mut R,
-        writer: &mut W,
+        connection: Connection<A, B>,
         gate: &G,
-        number: u64,
     ) -> bool;
 }
 
 impl<T: Wait> Hall<T> for Hub {
-    fn hold<R: Source, W: Sink, G: Gate>(
+    fn hold<A: Source + Drop, B: Sink + Drop, G: Gate>(
         &self,
         rt: &T,
         alloc: Global,
-        reader: &mut R,
-        writer: &mut W,
+        connection: Connection<A, B>,
         gate: &G,
-        number: u64,
     ) -> bool {
-        session(rt, alloc, self, reader, writer, gate, number).is_ok()
+        let Connection {
+            mut reader,
+            mut writer,
+            number,
+        } = connection;
+        session(rt, alloc, self, &mut reader, &mut writer, gate, number).is_ok()
     }
 }
 
@@ -109,49 +110,25 @@ struct Shop<'x, T, H, G, A, B> {
 }
 
 impl<'x, T: Wait, H: Hall<T>, G: Gate, A: Source + Drop, B: Sink + Drop> Shop<'x, T, H, G, A, B> {
-    /// Holds a session for each connection that comes, until no more can come.
+    /// Holds a session for each connection that comes, until no more can come, and counts those that end in a fault.
     fn work(&self) {
-        let mine = hold_all(self.rt, self.alloc, self.hall, &self.from, self.gate);
+        let mut mine = 0u64;
+        for connection in self.from.iter(self.rt) {
+            if !self.hall.hold(self.rt, self.alloc, connection, self.gate) {
+                mine = mine.saturating_add(1);
+            }
+        }
         let mut all = self.faults.lock(self.rt);
         *all = all.saturating_add(mine);
     }
 }
 
-/// Holds a session for each connection that comes, until no more can come, and counts those that end in a fault.
-fn hold_all<T: Wait, H: Hall<T>, G: Gate, A: Source + Drop, B: Sink + Drop>(
-    rt: &T,
-    alloc: Global,
-    hall: &H,
-    from: &Receiver<Connection<A, B>>,
-    gate: &G,
-) -> u64 {
-    let mut faults = 0u64;
-    for connection in from.iter(rt) {
-        if !hold_one(rt, alloc, hall, connection, gate) {
-            faults = faults.saturating_add(1);
-        }
-    }
-    faults
-}
-
-/// Holds the session of this connection, and says whether it came to its end.
-fn hold_one<T: Wait, H: Hall<T>, G: Gate, A: Source + Drop, B: Sink + Drop>(
-    rt: &T,
-    alloc: Global,
-    hall: &H,
-    connection: Connection<A, B>,
-    gate: &G,
-) -> bool {
-    let Connection {
-        mut reader,
-        mut writer,
-        number,
-    } = connection;
-    hall.hold(rt, alloc, &mut reader, &mut writer, gate, number)
-}
-
-/// Has this many workers hold sessions. The thread that calls is one of them.
-fn work_all<'x, T, H, G, A, B>(rt: &T, shop: &Shop<'x, T, H, G, A, B>, workers: usize)
+/// Starts this many workers. Returns that it ran out of memory if one cannot be started.
+fn start_all<'s, 'x, 'y, T, H, G, A, B>(
+    scope: &'s Scope<'s, &'y ()>,
+    shop: &'y Shop<'x, T, H, G, A, B>,
+    workers: usize,
+) -> Result<(), AllocError>
 where
     T: Threads + Wait + Sync,
     H: Hall<T> + Sync,
@@ -159,12 +136,10 @@ where
     A: Source + Drop + Send,
     B: Sink + Drop + Send,
 {
-    thread::scope(thread::scope_env(), rt, |scope| {
-        for _ in 1..workers {
-            let _ = scope.spawn(move || shop.work());
-        }
-        shop.work();
-    })
+    for _ in 0..workers {
+        scope.spawn(move || shop.work())?;
+    }
+    Ok(())
 }
 
 /// Hands on what the door gives, numbered from 1, until it closes, and counts it.
@@ -173,11 +148,7 @@ fn accept_all<T: Wait, D: Door>(
     door: &mut D,
     to: Sender<Connection<D::Reader, D::Writer>>,
 ) -> Result<u64, ServeFault>
-    ensures given { IfOk result (λ count. D.given door.new ≡ D.given door.old + count) }
-    ensures most { D.most door.new ≡ D.most door.old }
-    ensures closed { D.failures door.old ≡ 0 → IfOk result (λ count. (D.most door.old ≤ D.given door.new) ⊎ (count ≡ 2 ^ 32)) }
-    ensures failed { IsErrOf result ServeFault.Door ↔ (D.failures door.old < D.failures door.new) }
-    ensures workers { IsErrOf result ServeFault.Workers → ⊥ }
+    ensures { Accepts D.given D.failures D.most door.old door.new result }
 {
     let mut count = 0u64;
     for turn in 0..MOST_CONNECTIONS {
@@ -197,60 +168,77 @@ fn accept_all<T: Wait, D: Door>(
     Ok(count)
 }
 
-/// Does as [`accept_all`], but only once.
-fn accept_once<T: Wait, D: Door>(
-    rt: &T,
+/// Starts the workers, and accepts until the door closes. If a worker cannot be started, it takes no connection and returns
+/// `Memory`.
+fn start_and_accept<
+    's,
+    'x,
+    'y,
+    T: Threads + Wait + Sync,
+    H: Hall<T> + Sync,
+    D: Door,
+    G: Gate + Sync,
+>(
+    scope: &'s Scope<'s, &'y ()>,
+    shop: &'y Shop<'x, T, H, G, D::Reader, D::Writer>,
     door: &mut D,
-    to: &mut Option<Sender<Connection<D::Reader, D::Writer>>>,
+    workers: usize,
+    to: Sender<Connection<D::Reader, D::Writer>>,
 ) -> Result<u64, ServeFault>
-    ensures given { IfOk result (λ count. D.given door.new ≡ D.given door.old + count) }
-    ensures most { D.most door.new ≡ D.most door.old }
-    ensures closed { D.failures door.old ≡ 0 → IfOk result (λ count. (D.most door.old ≤ D.given door.new) ⊎ (count ≡ 2 ^ 32)) }
-    ensures failed { IsErrOf result ServeFault.Door ↔ (D.failures door.old < D.failures door.new) }
-    ensures workers { IsErrOf result ServeFault.Workers → ⊥ }
+    ensures { Accepts D.given D.failures D.most door.old door.new result }
 {
-    match to.take() {
-        Some(to) => accept_all(rt, door, to),
-        None => Err(ServeFault::Memory),
-    }
+    start_all(scope, shop, workers)?;
+    accept_all(shop.rt, door, to)
 }
 
-/// Starts the workers, accepts until the door closes, and returns once all workers have ended.
-fn run<'x, T: Threads + Wait + Sync, H: Hall<T> + Sync, D: Door, G: Gate + Sync>(
-    rt: &T,
+/// What came of serving at a door. It has the door, since a scope does not tell what became of what it borrows.
+struct Served<'d, D> {
+    door: &'d mut D,
+    sessions: Result<u64, ServeFault>,
+}
+
+/// Starts the workers, accepts until the door closes, and waits until all workers have ended.
+fn serve_in_scope<'x, 'd, T: Threads + Wait + Sync, H: Hall<T> + Sync, D: Door, G: Gate + Sync>(
+    shop: &Shop<'x, T, H, G, D::Reader, D::Writer>,
+    door: &'d mut D,
+    workers: usize,
+    to: Sender<Connection<D::Reader, D::Writer>>,
+) -> Served<'d, D>
+    ensures same_door { result.door.ghost_name ≡ door.entry.ghost_name }
+    ensures accepts { Accepts D.given D.failures D.most door.entry.now result.door.now result.sessions }
+{
+    thread::scope(
+        thread::scope_env(),
+        shop.rt,
+        move |scope| -> Served<'_, D>
+            ensures same_door { result.door.ghost_name ≡ door.entry.ghost_name }
+            ensures accepts { Accepts D.given D.failures D.most door.entry.now result.door.now result.sessions }
+        {
+            let sessions = start_and_accept(scope, shop, door, workers, to);
+            Served { door, sessions }
+        },
+    )
+}
+
+/// Does as [`serve_in_scope`], and lets the door go.
+fn serve_at<'x, T: Threads + Wait + Sync, H: Hall<T> + Sync, D: Door, G: Gate + Sync>(
     shop: &Shop<'x, T, H, G, D::Reader, D::Writer>,
     door: &mut D,
     workers: usize,
     to: Sender<Connection<D::Reader, D::Writer>>,
 ) -> Result<u64, ServeFault>
-    ensures given { IfOk result (λ count. D.given door.new ≡ D.given door.old + count) }
-    ensures most { D.most door.new ≡ D.most door.old }
-    ensures closed { D.failures door.old ≡ 0 → IfOk result (λ count. (D.most door.old ≤ D.given door.new) ⊎ (count ≡ 2 ^ 32)) }
-    ensures failed { IsErrOf result ServeFault.Door ↔ (D.failures door.old < D.failures door.new) }
-    ensures workers { IsErrOf result ServeFault.Workers → ⊥ }
+    ensures { Accepts D.given D.failures D.most door.old door.new result }
 {
-    let mut to = Some(to);
-    let (_, sessions) = join_mut(
-        rt,
-        &mut || work_all(rt, shop, workers),
-        &mut || -> Result<u64, ServeFault>
-            ensures given { IfOk result (λ count. D.given door.exit.now ≡ D.given door.entry.now + count) }
-            ensures most { D.most door.exit.now ≡ D.most door.entry.now }
-            ensures closed { D.failures door.entry.now ≡ 0 →
-                IfOk result (λ count. (D.most door.entry.now ≤ D.given door.exit.now) ⊎ (count ≡ 2 ^ 32)) }
-            ensures failed { IsErrOf result ServeFault.Door ↔ (D.failures door.entry.now < D.failures door.exit.now) }
-            ensures workers { IsErrOf result ServeFault.Workers → ⊥ }
-        { accept_once(rt, door, &mut to) },
-    );
-    drop(to);
+    let Served { door: _, sessions } = serve_in_scope(shop, door, workers, to);
     sessions
 }
 
 /// Accepts connections until the door closes, at most 2^32 of them, and has this many workers hold a session on the hub
 /// for each. Sessions are numbered from 1, in the order of their connections. It returns once all workers have ended.
 ///
-/// Returns `Workers` outside 1 to 32, `Door` if the door fails, and `Memory` if it runs out of memory. Sessions that were
-/// begun come to their end first.
+/// Returns `Workers` outside 1 to 32, `Door` if the door fails, and `Memory` if it runs out of memory. It also returns
+/// `Memory` if a worker cannot be started, and then no connection was taken. Sessions that were begun come to their end
+/// first.
 pub fn serve<T: Threads + Wait + Sync, D: Door, G: Gate + Sync>(
     rt: &T,
     alloc: Global,
@@ -266,39 +254,22 @@ pub fn serve<T: Threads + Wait + Sync, D: Door, G: Gate + Sync>(
     ensures workers { IsErrOf result ServeFault.Workers ↔ (IsWorkers workers → ⊥) }
     ensures door { IsErrOf result ServeFault.Door ↔ (D.failures door.old < D.failures door.new) }
     ensures none_taken { IsErrOf result ServeFault.Workers → door.new ≡ door.old }
+    // At `Memory` the door was not asked, or a connection was taken that could not be handed on.
+    ensures memory { IsErrOf result ServeFault.Memory → (door.new ≡ door.old) ⊎ (D.given door.old < D.given door.new) }
 {
     if workers == 0 || workers > MOST_WORKERS {
         return Err(ServeFault::Workers);
     }
-    serve_in(rt, alloc, hub, door, workers, gate)
-}
-
-/// Accepts connections, and has this many workers hold their sessions in the hall.
-fn serve_in<T: Threads + Wait + Sync, H: Hall<T> + Sync, D: Door, G: Gate + Sync>(
-    rt: &T,
-    alloc: Global,
-    hall: &H,
-    door: &mut D,
-    workers: usize,
-    gate: &G,
-) -> Result<ServeCounts, ServeFault>
-    ensures sessions { IfOk result (λ counts. D.given door.new ≡ D.given door.old + counts.sessions) }
-    ensures most { D.most door.new ≡ D.most door.old }
-    ensures closed { D.failures door.old ≡ 0 →
-        IfOk result (λ counts. (D.most door.old ≤ D.given door.new) ⊎ (counts.sessions ≡ 2 ^ 32)) }
-    ensures workers { IsErrOf result ServeFault.Workers → ⊥ }
-    ensures door { IsErrOf result ServeFault.Door ↔ (D.failures door.old < D.failures door.new) }
-{
     let (to, from) = unbounded(alloc)?;
     let shop = Shop {
         rt,
         alloc,
-        hall,
+        hall: hub,
         gate,
         from,
         faults: Mutex::new(0u64),
     };
-    let sessions = run(rt, &shop, door, workers, to);
+    let sessions = serve_at(&shop, door, workers, to);
     let Shop {
         rt: _,
         alloc: _,
