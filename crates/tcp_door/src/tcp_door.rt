@@ -9,6 +9,7 @@ use std::io::ErrorKind;
 use std::net::{Ipv4Addr, Net, TcpListener, TcpStream};
 use std::sync::atomic::AtomicU64;
 use std::sync::{Arc, Wait};
+use thiserror::Error;
 use trace_session::{Door, DoorFault};
 use trace_types::Memory;
 
@@ -19,11 +20,13 @@ const MOST_OPEN: u64 = 256;
 type Ends = (FromReader<Half>, Buffered<IntoWriter<Half>>);
 
 /// Why there is no door.
-#[derive(Clone, Copy, Debug, PartialEq, Eq)]
+#[derive(Clone, Copy, Debug, PartialEq, Eq, Error)]
 pub enum DoorRefusal {
     /// The port could not be bound.
+    #[error("port")]
     Port,
     /// It ran out of memory.
+    #[error("no memory")]
     Memory,
 }
 
