@@ -1,5 +1,5 @@
 -- What a session did.
-use Rattle.std.specs.Prelude.{◌≡◌, ℕ, ◌≤◌, false, IsTrue, Result, Ok, Err, List, [], ◌∷◌, ◌++◌, ◌⊎◌, ◌==◌, length, map, Option, Some, None, IfSome, IsSomeAnd, IfOk, MatchBool}
+use Rattle.std.specs.Prelude.{◌≡◌, ℕ, ◌≤◌, false, IsTrue, Result, Ok, Err, List, [], ◌∷◌, ◌++◌, ◌⊎◌, ◌==◌, length, map, Option, Some, None, IfSome, IsSomeAnd, IfOk, IsErrOf, MatchBool}
 use Rattle.std.specs.List.{AllByRecursion}
 use Rattle.std.specs.Option.{option_to_list}
 use Rattle.trace_types.specs.text.Name.{Text}
@@ -9,12 +9,13 @@ use Rattle.trace_types.specs.declared.reply.Reply.{Reply}
 use Rattle.trace_types.specs.declared.reply.Reply.TheVariants as reply
 use Rattle.line_protocol.specs.Ends.{HasNoEnd}
 use Rattle.line_protocol.specs.Held.{Held}
-use Rattle.line_protocol.specs.LineReading.{AllWereMade}
+use Rattle.line_protocol.specs.LineReading.{AllWereMade, Reads}
 use Rattle.line_protocol.specs.Sink.{Taken}
 use Rattle.line_protocol.specs.Source.{Given}
 use Rattle.line_protocol.specs.declared.read_fault.ReadFault.TheVariants as read
 use Rattle.trace_session.specs.Answers.{AnswersEach, AnswersLine, last_reply}
 use Rattle.trace_session.specs.Asking.{is_quit, most_requests, request_in}
+use Rattle.trace_session.specs.Faults.{failed_reads_in}
 use Rattle.trace_session.specs.Reading.{ReadsLines}
 use Rattle.trace_session.specs.Written.{HandsAllOn, PutsOut, StopsHandingOn, WritesAll, WritesLinesInPart, reply_line}
 use Rattle.trace_session.specs.declared.asked.Asked.{Asked}
@@ -97,3 +98,11 @@ AnswersAsked Does (asked.Request request) requests old new before after result =
 abbrev pub Finishes : SessionEnd → Taken → Taken → Result SessionEnd SessionFault → Type 0
 Finishes end before after (Ok other) = (other ≡ end) × HandsAllOn before after
 Finishes end before after (Err fault) = (fault ≡ Write) × StopsHandingOn before after
+
+-- How a session went, whatever was answered: how it read, and that it asked its source no more once that had told the end. It
+-- wrote nothing, or its gate let out a line; and it ended in the fault of its gate only if the gate held one back.
+pub record Goes {R : Type 0} (seen : R → Given) (source source' : R) (held held' : Held) (taken taken' : Taken) (lets_out holds_back : Type 0) (result : Result SessionEnd SessionFault) : Type 0 where
+  pub reads : Reads (seen source) (seen source') held held' (failed_reads_in result)
+  pub at_end : IsTrue held.is_ended → (source' ≡ source) × IsTrue held'.is_ended
+  pub let_out : (taken'.bytes ≡ taken.bytes) ⊎ lets_out
+  pub gate : IsErrOf result Gate → holds_back

@@ -6,11 +6,11 @@ ghost use Rattle.trace_session.specs.Answers.{AnswersLine};
 ghost use Rattle.trace_session.specs.Asking.{FindsAsked};
 ghost use Rattle.trace_session.specs.Faults.{failed_reads_in, read_fault_in, session_fault_of};
 ghost use Rattle.trace_session.specs.Reading.{FindsNothing};
-ghost use Rattle.trace_session.specs.Sessions.{AnswersAsked, AnswersRequest, Finishes, Session};
-ghost use Rattle.trace_session.specs.Written.{HandsOnBefore, KeepsAll, PutsOut, StopsHandingOn, reply_line};
+ghost use Rattle.trace_session.specs.Sessions.{AnswersAsked, Session};
+ghost use Rattle.trace_session.specs.Written.{HandsOnBefore, KeepsAll, StopsHandingOn};
 
 use crate::asked::{Asked, asked_by_line};
-use crate::leave::ask_leave;
+use crate::leave::{WayOut, finish};
 use crate::lent::Lent;
 use crate::{Gate, SessionEnd, SessionFault};
 use line_protocol::{Line, LineReader, ReadFault, Sink, Source, WriteFault, flush};
@@ -22,12 +22,10 @@ const MOST_REQUESTS: u64 = 1048576;
 
 /// Answers lines by what is lent, until the session ends.
 pub(crate) fn answer_lines<T: Wait, L: Lent, R: Source, W: Sink, G: Gate>(
-    rt: &T,
+    out: &WayOut<'_, T, G>,
     lent: &mut L,
     lines: &mut LineReader<'_, R>,
     writer: &mut W,
-    gate: &G,
-    number: u64,
 ) -> Result<SessionEnd, SessionFault>
     ensures same_source { lines.new.source.ghost_name ≡ lines.old.source.ghost_name }
     ensures session { IfNone lines.old.fault (Session L.does (R.seen lines.old.source.now) (R.seen lines.new.source.now)
@@ -37,8 +35,8 @@ pub(crate) fn answer_lines<T: Wait, L: Lent, R: Source, W: Sink, G: Gate>(
     ensures fault { IfNone lines.old.fault (lines.new.fault ≡ read_fault_in result) }
     ensures at_end { IsTrue lines.old.buffer.is_ended →
         (lines.new.source.now ≡ lines.old.source.now) × IsTrue lines.new.buffer.is_ended }
-    ensures let_out { ((W.seen writer.new).bytes ≡ (W.seen writer.old).bytes) ⊎ G.lets_out gate.now number }
-    ensures gate { IsErrOf result SessionFault.Gate → G.holds_back gate.now number }
+    ensures let_out { ((W.seen writer.new).bytes ≡ (W.seen writer.old).bytes) ⊎ G.lets_out out.now.gate.now out.now.number }
+    ensures gate { IsErrOf result SessionFault.Gate → G.holds_back out.now.gate.now out.now.number }
     ensures again { IfSome lines.old.fault (λ fault. (result ≡ Err (session_fault_of fault)) × (lines.new ≡ lines.old)
         × (writer.new ≡ writer.old) × (lent.new ≡ lent.old)) }
 {
@@ -48,7 +46,7 @@ pub(crate) fn answer_lines<T: Wait, L: Lent, R: Source, W: Sink, G: Gate>(
     let mut requests = 0u64;
     loop {
         let asked = next_asked(lines, writer)?;
-        if let Some(end) = answer_asked(rt, lent, asked, requests, writer, gate, number)? {
+        if let Some(end) = answer(out, lent, asked, requests, writer)? {
             return finish(writer, end);
         }
         requests += 1;
@@ -108,48 +106,30 @@ fn next_line<R: Source, W: Sink>(
 }
 
 /// Answers what is asked after `requests` requests, and gives the end that it brings.
-fn answer_asked<T: Wait, L: Lent, W: Sink, G: Gate>(
-    rt: &T,
+fn answer<T: Wait, L: Lent, W: Sink, G: Gate>(
+    out: &WayOut<'_, T, G>,
     lent: &mut L,
     asked: Asked,
     requests: u64,
     writer: &mut W,
-    gate: &G,
-    number: u64,
 ) -> Result<Option<SessionEnd>, SessionFault>
     ensures answers { AnswersAsked L.does asked requests lent.old lent.new (W.seen writer.old) (W.seen writer.new) result }
-    ensures let_out { ((W.seen writer.new).bytes ≡ (W.seen writer.old).bytes) ⊎ G.lets_out gate.now number }
-    ensures gate { IsErrOf result SessionFault.Gate → G.holds_back gate.now number }
+    ensures let_out { ((W.seen writer.new).bytes ≡ (W.seen writer.old).bytes) ⊎ G.lets_out out.now.gate.now out.now.number }
+    ensures gate { IsErrOf result SessionFault.Gate → G.holds_back out.now.gate.now out.now.number }
 {
     match asked {
         Asked::End => Ok(Some(SessionEnd::EndOfInput)),
         Asked::Quit => Ok(Some(SessionEnd::Quit)),
         Asked::Request(_) if requests == MOST_REQUESTS => {
-            put_out(rt, writer, gate, number, &Reply::Refused(Code::SessionOver))?;
+            out.put_out(writer, &Reply::Refused(Code::SessionOver))?;
             Ok(Some(SessionEnd::Over))
         }
         Asked::Request(request) => {
-            answer_request(rt, lent, &request, writer, gate, number)?;
+            let reply = reply_to(out.rt, lent, &request);
+            out.put_out(writer, &reply)?;
             Ok(None)
         }
     }
-}
-
-/// Answers a line that is a request, or spells none.
-fn answer_request<T: Wait, L: Lent, W: Sink, G: Gate>(
-    rt: &T,
-    lent: &mut L,
-    request: &Option<Request>,
-    writer: &mut W,
-    gate: &G,
-    number: u64,
-) -> Result<(), SessionFault>
-    ensures answers { AnswersRequest L.does request.now lent.old lent.new (W.seen writer.old) (W.seen writer.new) result }
-    ensures let_out { ((W.seen writer.new).bytes ≡ (W.seen writer.old).bytes) ⊎ G.lets_out gate.now number }
-    ensures gate { IsErrOf result SessionFault.Gate → G.holds_back gate.now number }
-{
-    let reply = reply_to(rt, lent, request);
-    put_out(rt, writer, gate, number, &reply)
 }
 
 /// The reply to a line that is a request, or spells none.
@@ -160,32 +140,4 @@ fn reply_to<T: Wait, L: Lent>(rt: &T, lent: &mut L, request: &Option<Request>) -
         Some(request) => lent.answer(rt, request),
         None => Reply::Refused(Code::Line),
     }
-}
-
-/// Writes the reply if the gate lets it out. Else it hands on what was written before.
-pub(crate) fn put_out<T: Wait, W: Sink, G: Gate>(
-    rt: &T,
-    writer: &mut W,
-    gate: &G,
-    number: u64,
-    reply: &Reply,
-) -> Result<(), SessionFault>
-    ensures put_out { PutsOut (W.seen writer.old) (W.seen writer.new) result (reply_line reply.now) }
-    ensures let_out { ((W.seen writer.new).bytes ≡ (W.seen writer.old).bytes) ⊎ G.lets_out gate.now number }
-    ensures gate { IsErrOf result SessionFault.Gate → G.holds_back gate.now number }
-{
-    let Some(leave) = ask_leave(rt, gate, number) else {
-        flush(writer)?;
-        return Err(SessionFault::Gate);
-    };
-    leave.write(writer, reply)?;
-    Ok(())
-}
-
-/// Ends the session so, once all is handed on.
-pub(crate) fn finish<W: Sink>(writer: &mut W, end: SessionEnd) -> Result<SessionEnd, SessionFault>
-    ensures { Finishes end (W.seen writer.old) (W.seen writer.new) result }
-{
-    flush(writer)?;
-    Ok(end)
 }

@@ -6,6 +6,7 @@ ghost use Rattle.trace_session.specs.Lent.{AsksView, IsSoundDesk, IsSoundView, T
 ghost use Rattle.trace_session.specs.Sessions.{Session};
 
 use crate::answering::answer_lines;
+use crate::leave::WayOut;
 use crate::{Gate, SessionEnd, SessionFault};
 use line_protocol::{LineReader, Sink, Source};
 use std::sync::Wait;
@@ -47,7 +48,8 @@ pub fn report_lines<T: Wait, R: Source, W: Sink, G: Gate>(
     ensures again { IfSome lines.old.fault (λ fault. (result ≡ Err (session_fault_of fault)) × (lines.new ≡ lines.old)
         × (writer.new ≡ writer.old) × (desk.new ≡ desk.old)) }
 {
-    answer_lines(rt, desk, lines, writer, gate, number)
+    let out = WayOut { rt, gate, number };
+    answer_lines(&out, desk, lines, writer)
 }
 
 /// Answers lines by the view, as [`report_lines`] does by a desk. A report is refused with 410, and a query with 422 if
@@ -79,5 +81,6 @@ pub fn view_lines<T: Wait, R: Source, W: Sink, G: Gate>(
     ensures again { IfSome lines.old.fault (λ fault. (result ≡ Err (session_fault_of fault)) × (lines.new ≡ lines.old)
         × (writer.new ≡ writer.old) × (view.new ≡ view.old)) }
 {
-    answer_lines(rt, view, lines, writer, gate, number)
+    let out = WayOut { rt, gate, number };
+    answer_lines(&out, view, lines, writer)
 }

@@ -31,7 +31,7 @@ pub returns-in_err-end-clause-session : goal.returns-in_err-end-clause-session
 returns-in_err-end-clause-session g c =
     IfNone-holds c.args.lines.now.fault
     (same_fault (λ result. Session g.L.Lent.does (g.R.Source.seen c.args.lines.now.source.now) (g.R.Source.seen c.next_asked.new.lines.source.now)
-    c.args.lines.now.buffer c.next_asked.new.lines.buffer (g.W.Sink.seen c.args.writer.now) (g.W.Sink.seen c.answer_asked.new.writer) c.args.lent.now c.answer_asked.new.lent result)
+    c.args.lines.now.buffer c.next_asked.new.lines.buffer (g.W.Sink.seen c.args.writer.now) (g.W.Sink.seen c.answer.new.writer) c.args.lent.now c.answer.new.lent result)
     c.from_residual-in_err-end.result c.in_err-end.field-0.0 c.from_residual-in_err-end.ensures.1
     (session_stopped g.L.Lent.does _ (g.R.Source.seen c.loop-asked.lines.source.now) _ _ c.loop-asked.lines.buffer _ _ (g.W.Sink.seen c.next_asked.new.writer) _ _ c.loop-asked.lent _ c.loop-asked.requests c.in_ok-asked.asked c.in_err-end.field-0.0
     (Follows-kept c.loop-asked.invariant.follows c.in_ok-asked.ensures.handed_on) c.loop-asked.invariant.few
@@ -41,11 +41,11 @@ returns-in_err-end-clause-session g c =
 pub returns-in-Some-2-clause-session : goal.returns-in-Some-2-clause-session
 returns-in-Some-2-clause-session g c =
     IfNone-holds c.args.lines.now.fault
-    (session_ended g.L.Lent.does _ (g.R.Source.seen c.loop-asked.lines.source.now) _ _ c.loop-asked.lines.buffer _ _ (g.W.Sink.seen c.next_asked.new.writer) (g.W.Sink.seen c.answer_asked.new.writer) _ _ c.loop-asked.lent _ c.loop-asked.requests c.in_ok-asked.asked c.in-Some-2.end c.finish.result
+    (session_ended g.L.Lent.does _ (g.R.Source.seen c.loop-asked.lines.source.now) _ _ c.loop-asked.lines.buffer _ _ (g.W.Sink.seen c.next_asked.new.writer) (g.W.Sink.seen c.answer.new.writer) _ _ c.loop-asked.lent _ c.loop-asked.requests c.in_ok-asked.asked c.in-Some-2.end c.finish.result
     (Follows-kept c.loop-asked.invariant.follows c.in_ok-asked.ensures.handed_on) c.loop-asked.invariant.few
     (c.next_asked.ensures.reads.bounds ∙ c.loop-asked.invariant.reads.bounds) c.in_ok-asked.ensures.asked
     (λ ended. (ap (λ source. (g.R.Source.seen source).bytes) (c.next_asked.ensures.at_end ended).0, (c.next_asked.ensures.at_end ended).1))
-    (subst (λ end. AnswersAsked g.L.Lent.does c.in_ok-asked.asked c.loop-asked.requests c.loop-asked.lent c.answer_asked.new.lent (g.W.Sink.seen c.next_asked.new.writer) (g.W.Sink.seen c.answer_asked.new.writer) (Ok end)) c.in-Some-2.is c.in_ok-end.ensures.answers)
+    (subst (λ end. AnswersAsked g.L.Lent.does c.in_ok-asked.asked c.loop-asked.requests c.loop-asked.lent c.answer.new.lent (g.W.Sink.seen c.next_asked.new.writer) (g.W.Sink.seen c.answer.new.writer) (Ok end)) c.in-Some-2.is c.in_ok-end.ensures.answers)
     c.finish.ensures)
 
 pub loop-asked-preserved : goal.loop-asked-preserved
@@ -56,7 +56,7 @@ loop-asked-preserved g c =
     Follows-line g.L.Lent.does _ (g.R.Source.seen c.loop-asked.lines.source.now) _ _ c.loop-asked.lines.buffer _ _ (g.W.Sink.seen c.next_asked.new.writer) _ _ c.loop-asked.lent _ c.loop-asked.requests c.in_ok-asked.asked
     (Follows-kept before.follows c.in_ok-asked.ensures.handed_on) before.few reads.bounds c.in_ok-asked.ensures.asked
     (λ ended. (ap (λ source. (g.R.Source.seen source).bytes) (c.next_asked.ensures.at_end ended).0, (c.next_asked.ensures.at_end ended).1))
-    (subst (λ end. AnswersAsked g.L.Lent.does c.in_ok-asked.asked c.loop-asked.requests c.loop-asked.lent c.answer_asked.new.lent (g.W.Sink.seen c.next_asked.new.writer) (g.W.Sink.seen c.answer_asked.new.writer) (Ok end)) c.in_default-2.is c.in_ok-end.ensures.answers) in
+    (subst (λ end. AnswersAsked g.L.Lent.does c.in_ok-asked.asked c.loop-asked.requests c.loop-asked.lent c.answer.new.lent (g.W.Sink.seen c.next_asked.new.writer) (g.W.Sink.seen c.answer.new.writer) (Ok end)) c.in_default-2.is c.in_ok-end.ensures.answers) in
     record {
       follows = line.0;
       few = omega (arith, line.1);
@@ -65,5 +65,5 @@ loop-asked-preserved g c =
       same_source = c.next_asked.ensures.same_source ∙ before.same_source;
       open_start = before.open_start;
       open_now = c.in_ok-asked.ensures.fault;
-      let_out = let_out_still before.let_out c.in_ok-asked.ensures.handed_on.0 c.answer_asked.ensures.let_out;
+      let_out = let_out_still before.let_out c.in_ok-asked.ensures.handed_on.0 c.answer.ensures.let_out;
     }

@@ -13,7 +13,7 @@ invariant-loop-asked g l = record {
   same_source : l.lines.source.ghost_name ≡ l.fn.lines.source.ghost_name;
   open_start : l.fn.lines.fault ≡ None;
   open_now : l.lines.fault ≡ None;
-  let_out : ((g.W.Sink.seen l.writer).bytes ≡ (g.W.Sink.seen l.fn.writer).bytes) ⊎ g.G.Gate.lets_out l.gate l.number;
+  let_out : ((g.W.Sink.seen l.writer).bytes ≡ (g.W.Sink.seen l.fn.writer).bytes) ⊎ g.G.Gate.lets_out l.out.gate.now l.out.number;
 }
 
 abbrev pub decreases-loop-asked : goal.decreases-loop-asked

@@ -16,5 +16,10 @@ returns-clause-converses g c =
     Converses-opened c.args.hub.now _ (g.R.Source.seen c.next.new.self.source.now) _ c.args.lines.now.buffer c.next.new.self.buffer _ _ _ c.in_ok-found.found c.in-Some.opening c.open.result
     (finds g c).line (finds g c).reads.reads.bounds (ap (opening_at c.in_ok-found.found) (sym c.line.ensures) ∙ sym c.opening_at.ensures ∙ c.in-Some.is) c.open.ensures.opens
 
-pub returns-clause-reads : goal.returns-clause-reads
-returns-clause-reads g c = Reads-on (finds g c).reads.reads (λ ended. ap g.R.Source.seen (c.open.ensures.at_end ended).0) c.open.ensures.reads
+pub returns-clause-goes : goal.returns-clause-goes
+returns-clause-goes g c = record {
+  reads = Reads-on (finds g c).reads.reads (λ ended. ap g.R.Source.seen (c.open.ensures.goes.at_end ended).0) c.open.ensures.goes.reads;
+  at_end = λ ended. let found = c.in_ok-found.ensures.at_end ended in let after = c.open.ensures.goes.at_end found.1 in (after.0 ∙ found.0, after.1);
+  let_out = c.open.ensures.goes.let_out;
+  gate = c.open.ensures.goes.gate;
+}

@@ -1,5 +1,5 @@
 use Rattle.trace_session.proofs.Refusing.{TurnsAway-stopped, TurnsAway-written}
-use Rattle.trace_session.proofs.conversing.refuse.Goals as goal
+use Rattle.trace_session.proofs.leave.WayOut.refuse.Goals as goal
 
 pub returns-in_err-put_out-clause-refuses : goal.returns-in_err-put_out-clause-refuses
 returns-in_err-put_out-clause-refuses g c =
