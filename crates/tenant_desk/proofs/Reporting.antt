@@ -78,8 +78,10 @@ module _ (home : List ℕ) (upcoming : Upcoming) (published : Published) (event 
       }
 
   -- and with it all of the tenant's events are published
-  pub shown_next : AllArePublished home (with_row upcoming.tenant (Some upcoming.row)) (with_next event published)
-  shown_next = record {
+  pub shown_next : AreLegal upcoming.tenant.limits (upcoming.tenant.rows ++ upcoming.row ∷ [])
+      → AllArePublished home (with_row upcoming.tenant (Some upcoming.row)) (with_next event published)
+  shown_next legal = record {
+    legal = legal;
     tenant = λ i. with_row (shown.tenant i) (Some (of.row i));
     rows = λ i. shown.rows i ++ of.row i ∷ [];
     home = shown.home;

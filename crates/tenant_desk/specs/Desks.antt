@@ -4,7 +4,7 @@ use Rattle.logbook.specs.Pages.{Book}
 use Rattle.trace_types.specs.clock.Clock.{tree_clock}
 use Rattle.trace_types.specs.clock.Stamps.{id_of, tree_of}
 use Rattle.trace_types.specs.tenant.Rows.{history_of}
-use Rattle.trace_types.specs.tenant.Tenant.{Tenant, with_row}
+use Rattle.trace_types.specs.tenant.Tenant.{Tenant, AreLegal, with_row}
 use Rattle.trace_types.specs.declared.code.Code.TheVariants.{NoMemory}
 use Rattle.trace_types.specs.declared.reply.Reply.{Reply}
 use Rattle.trace_types.specs.declared.reply.Reply.TheVariants.{Accepted, Refused}
@@ -29,8 +29,9 @@ no_desk = record {
   book = record { number = 0; log_name = 0; cells_name = 0 };
 }
 
--- All events of the desk's tenant are published, as kept at this place, and their rows are those of the log.
+-- All events of the desk's tenant are published, as kept at this place, and their rows are legal, and those of the log.
 pub record AllArePublished (place : List ℕ) (own : Tenant) (published : Published) : Type 0 where
+  pub legal : AreLegal own.limits own.rows
   pub tenant : published_tenant published.events ≡ own
   pub rows : published.front.rows ≡ own.rows
   pub home : published.events.home ≡ place

@@ -86,27 +86,12 @@ fn accept<R: Wait>(
 }
 
 impl Work {
-    /// Takes one request. A report can be written, so its row is legal.
-    fn call<R: Wait>(self, rt: &R, request: &Request) -> (Work, Reply)
-        ensures steps { Steps self.tenant request.now result.1 result.0.tenant }
-        ensures legal { AreLegal result.0.tenant.limits result.0.tenant.rows }
-        ensures published { result.0.published ≡ result.0.tenant.rows }
-        ensures book { result.0.book ≡ self.book }
-    {
-        let (work, reply) = if request.reported().is_some() {
-            self.report(rt, request)
-        } else {
-            let reply = self.ask(rt, request);
-            (self, reply)
-        };
-        let _ = work.ledger.rows();
-        (work, reply)
-    }
-
     /// Answers a query by the ledger.
     fn ask<R: Wait>(&self, rt: &R, request: &Request) -> Reply
         requires { is_report request.now ≡ false }
-        ensures { Steps self.now.tenant request.now result self.now.tenant }
+        ensures steps { Steps self.now.tenant request.now result self.now.tenant }
+        ensures legal { AreLegal self.now.tenant.limits self.now.tenant.rows }
+        ensures published { self.now.published ≡ self.now.tenant.rows }
     {
         match self.ledger.ask_briefly(rt, request) {
             Some(reply) => reply,
@@ -114,11 +99,13 @@ impl Work {
         }
     }
 
-    /// Takes a report. An accepted one is published before it is committed.
+    /// Takes a report. An accepted one is published before it is committed. The report can be written, so its row is legal.
     fn report<R: Wait>(self, rt: &R, request: &Request) -> (Work, Reply)
         requires report { is_report request.now ≡ true }
         requires written { CanBeWritten request.now }
         ensures steps { Steps self.tenant request.now result.1 result.0.tenant }
+        ensures legal { AreLegal result.0.tenant.limits result.0.tenant.rows }
+        ensures published { result.0.published ≡ result.0.tenant.rows }
         ensures book { result.0.book ≡ self.book }
     {
         let Work {
@@ -127,7 +114,6 @@ impl Work {
             publisher,
             alloc,
         } = self;
-        let _ = ledger.rows();
         let (ledger, publisher, reply) = match ledger.prepare(rt, request) {
             Ok(prepared) => accept(rt, alloc, &shared, prepared, publisher),
             Err((ledger, reply)) => (ledger, publisher, reply),
@@ -195,10 +181,39 @@ impl Desk {
         ensures published { self.new.published ≡ self.new.tenant.rows }
         ensures book { self.new.book ≡ self.old.book }
     {
+        if request.reported().is_some() {
+            self.report(rt, request)
+        } else {
+            self.ask(rt, request)
+        }
+    }
+
+    /// Answers a query from where the desk stands.
+    fn ask<R: Wait>(&self, rt: &R, request: &Request) -> Reply
+        requires { is_report request.now ≡ false }
+        ensures steps { Steps self.now.tenant request.now result self.now.tenant }
+        ensures legal { AreLegal self.now.tenant.limits self.now.tenant.rows }
+        ensures published { self.now.published ≡ self.now.tenant.rows }
+    {
+        let Some(work) = &self.work else {
+            unreachable!()
+        };
+        work.ask(rt, request)
+    }
+
+    /// Takes a report, which moves all that the desk works with.
+    fn report<R: Wait>(&mut self, rt: &R, request: &Request) -> Reply
+        requires report { is_report request.now ≡ true }
+        requires written { CanBeWritten request.now }
+        ensures steps { Steps self.old.tenant request.now result self.new.tenant }
+        ensures legal { AreLegal self.new.tenant.limits self.new.tenant.rows }
+        ensures published { self.new.published ≡ self.new.tenant.rows }
+        ensures book { self.new.book ≡ self.old.book }
+    {
         let Some(work) = self.work.take() else {
             unreachable!()
         };
-        let (work, reply) = work.call(rt, request);
+        let (work, reply) = work.report(rt, request);
         match self.work.replace(work) {
             None => {}
             Some(_) => unreachable!(),

@@ -4,8 +4,8 @@ use Rattle.tenant_ledger.proofs.keeping.Refused.{query_steps}
 use Rattle.tenant_desk.specs.Desks.{Desk}
 use Rattle.tenant_desk.proofs.desk.Work.ask.Goals as goal
 
-pub returns-in-None : goal.returns-in-None
-returns-in-None g c =
+pub returns-in-None-clause-steps : goal.returns-in-None-clause-steps
+returns-in-None-clause-steps g c =
     let request = c.args.request.now in
     let answered = subst (λ (desk : Desk). Answers desk.tenant request c.ask.result) c.self.view_is c.ask.ensures.answer in
     query_steps c.args.self.now.tenant request c.ask.result c.requires answered
