@@ -134,16 +134,16 @@ impl Events {
         }
     }
 
-    /// Keeps the first `before` events, and adds this one behind them. It needs no memory. Returns `Memory` if the event
-    /// is above the limit.
-    pub fn put(&mut self, before: usize, event: Event) -> Result<(), Memory>
+    /// Keeps the first `before` events, and adds this one behind them. It needs no memory. The event comes back if it is
+    /// above the limit.
+    pub fn put(&mut self, before: usize, event: Event) -> Result<(), Event>
         ensures room { IsOk result ↔ (before < self.old.limits.events) }
         ensures events { MatchResult result
             (λ _. self.new ≡ events_with event.row event.tree.value event.tree.home event.point event.start event.id.value (first_events before self.old))
-            (λ _. self.new ≡ self.old) }
+            (λ back. (back ≡ event) × (self.new ≡ self.old)) }
     {
         if before as u64 >= self.limits.events() {
-            return Err(Memory);
+            return Err(event);
         }
         if before == self.rows.len() {
             self.restore_index();

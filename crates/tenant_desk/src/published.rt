@@ -47,4 +47,26 @@ impl Absorb<Operation> for Published {
         self.front = operation.front.again();
         Ok(())
     }
+
+    fn absorb_second(&mut self, operation: Operation, _other: &Published) -> Result<(), Operation> {
+        let Operation {
+            before,
+            event,
+            front,
+        } = operation;
+        match event {
+            Some(event) => {
+                if let Err(event) = self.events.put(before, event) {
+                    return Err(Operation {
+                        before,
+                        event: Some(event),
+                        front,
+                    });
+                }
+            }
+            None => self.events.truncate(before),
+        }
+        self.front = front;
+        Ok(())
+    }
 }

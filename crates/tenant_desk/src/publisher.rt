@@ -55,8 +55,8 @@ impl Model for Publisher {
         × MayPublish p.writer.desk.shown.value (known_at p.writer.desk.place) (drop p.writer.behind p.writer.log.items) };
 }
 
-/// How many places there are to read from: one for each view, and some that are not used.
-const PLACES: usize = 32;
+/// How many views a desk has. Each has a place to read from.
+pub(crate) const VIEWS: usize = 8;
 
 /// Leaves the operation to the next publication, and says whether there was room for it.
 fn leave(writer: &mut DeskWriter, operation: Operation) -> bool
@@ -153,7 +153,7 @@ fn new_writer(
         events: Events::new(alloc, limits, home.again())?,
         front: front.again(),
     };
-    Ok(Writer::new(alloc, first, second, PLACES)?)
+    Ok(Writer::new(alloc, first, second, VIEWS)?)
 }
 
 impl Publisher {

@@ -4,16 +4,13 @@ ghost use Rattle.std.specs.Arc.{arc_value};
 ghost use Rattle.tenant_desk.specs.Views.{new_view};
 
 use crate::front::Front;
-use crate::publisher::Publisher;
+use crate::publisher::{Publisher, VIEWS};
 use crate::view::View;
 use std::alloc::Global;
 use std::marker::Model;
 use std::sync::Arc;
 use tenant_ledger::{Keep, Shared};
 use trace_types::{Limits, Memory};
-
-/// How many views a desk has.
-const VIEWS: usize = 8;
 
 /// The views of a tenant that were not handed out yet.
 ///
