@@ -1,6 +1,7 @@
 pub mod Steps
 pub mod Places
 pub mod Parts
+pub mod Depths
 pub mod Firsts
 pub mod Flats
 pub mod WalkIds

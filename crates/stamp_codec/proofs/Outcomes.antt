@@ -37,12 +37,28 @@ size_ends (TooLarge place) id tree is = is
 size_ends (NotNormal place) id tree is = absurd is
 size_ends Memory id tree is = is
 
-pub ends_in_id : (text first : List ℕ) (start : ℕ) (fault : StampFault) → first ≡ drop 1 text → start + length first ≡ length text → EndsId first start 0 fault →
-    (id : Id) (tree : Written) → SpellsStamp text id tree → WalksStamp (Err fault) id tree
-ends_in_id text first start fault first_is end ends id tree spells =
+pub size_in_id : (text first : List ℕ) (start : ℕ) (fault : StampFault) → first ≡ drop 1 text → start + length first ≡ length text → EndsId first start 0 fault →
+    (id : Id) (tree : Written) → SpellsStamp text id tree → IsSizeFault fault (IsTooLargeAt id tree)
+size_in_id text first start fault first_is end ends id tree spells =
     let a = at_id text first start id tree spells first_is end in
     let here : IsSizeFault fault (IsIdTooDeepAt 1 0 id) = rw (← a.1) (ends id _ a.0) in
-    size_ends fault id tree (ends_early fault _ _ (λ place other deep large. omega (arith, (deep_in 1 0 id place deep).1, (large_in (tree_start id) 0 0 tree other large).0)) here)
+    ends_early fault _ _ (λ place other deep large. omega (arith, (deep_in 1 0 id place deep).1, (large_in (tree_start id) 0 0 tree other large).0)) here
+
+pub ends_in_id : (text first : List ℕ) (start : ℕ) (fault : StampFault) → first ≡ drop 1 text → start + length first ≡ length text → EndsId first start 0 fault →
+    (id : Id) (tree : Written) → SpellsStamp text id tree → WalksStamp (Err fault) id tree
+ends_in_id text first start fault first_is end ends id tree spells = size_ends fault id tree (size_in_id text first start fault first_is end ends id tree spells)
+
+-- where a walk does not end early, no place is too large
+pub none_large : (text first found second end : List ℕ) (start second_start : ℕ) (id_built : Id) (tree_built : EventTree) (u0 u1 v1 u2 : Option ℕ) → first ≡ drop 1 text → start + length first ≡ length text →
+    WalksId first found start 0 id_built u0 u1 → second ≡ drop 1 found → second_start + length second ≡ length text → WalksTree second end second_start 0 0 tree_built v1 u2 →
+    (id : Id) (tree : Written) → SpellsStamp text id tree → (place : ℕ) → ¬ IsTooLargeAt id tree place
+none_large text first found second end start second_start id_built tree_built u0 u1 v1 u2 first_is first_end walks second_is second_end tree_walks id tree spells place is =
+    let a = at_id text first start id tree spells first_is first_end in
+    let one = walks id _ a.0 in
+    let b = at_tree text found second second_start id tree spells one.0 second_is second_end in
+    let deep : (place : ℕ) → ¬ IsIdTooDeepAt 1 0 id place = rw (← a.1) one.1 in
+    let large : (place : ℕ) → ¬ IsTreeTooLargeAt (tree_start id) 0 0 tree place = rw (← b.1) (tree_walks tree _ b.0).1 in
+    elim is [ inl i ↦ deep place i | inr t ↦ large place t ]
 
 -- a walk that does not end early
 pub record WalkedStamp (id_built : Id) (tree_built : EventTree) (first : Option ℕ) (id : Id) (tree : Written) : Type 0 where
@@ -59,12 +75,10 @@ walked text first found second end start second_start id_built tree_built u0 u1 
     let one = walks id _ a.0 in
     let b = at_tree text found second second_start id tree spells one.0 second_is second_end in
     let other = tree_walks tree _ b.0 in
-    let deep : (place : ℕ) → ¬ IsIdTooDeepAt 1 0 id place = rw (← a.1) one.1 in
-    let large : (place : ℕ) → ¬ IsTreeTooLargeAt (tree_start id) 0 0 tree place = rw (← b.1) other.1 in
     let ids : IsFirstWith None (IsIdNotNormalAt 1 id) u1 = rw (← none_yet, ← a.1) one.2 in
     let trees : IsFirstWith u1 (IsTreeNotNormalAt (tree_start id) tree) u2 = rw (← same, ← b.1) other.2 in
     record {
-      small = λ place is. elim is [ inl i ↦ deep place i | inr t ↦ large place t ];
+      small = none_large text first found second end start second_start id_built tree_built u0 u1 v1 u2 first_is first_end walks second_is second_end tree_walks id tree spells;
       uneven = first_alone _ _ u1 u2 ids trees;
       id_is = λ none. one.3 (none_before _ u1 u2 trees none);
       tree_is = other.3.1;

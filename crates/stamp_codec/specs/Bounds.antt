@@ -5,7 +5,7 @@ use Rattle.trace_types.specs.clock.Id.{Id, Zero, One, Pair}
 use Rattle.trace_types.specs.clock.Id as ids
 use Rattle.trace_types.specs.clock.EventTree.{EventTree, Leaf, Node, maximum, IsNormal}
 use Rattle.event_tree.specs.Height.{height}
-use Rattle.stamp_codec.specs.StampText.{Written, Number, Fork}
+use Rattle.stamp_codec.specs.StampText.{Written, Number, Fork, written_tree}
 use Rattle.stamp_codec.specs.Faults.{most_nested, greatest_sum}
 use Rattle.stamp_codec.specs.declared.stamp.Stamp.{Stamp}
 
@@ -14,6 +14,10 @@ abbrev pub id_height : Id → ℕ
 id_height Zero = 0
 id_height One = 0
 id_height (Pair left right) = max (id_height left) (id_height right) + 1
+
+-- how many parentheses are open at once in the text of a stamp, at the most
+abbrev pub nesting_of : Id → Written → ℕ
+nesting_of id tree = max (id_height id) (height (written_tree tree))
 
 -- a normal stamp that is nowhere nested too deep, and whose numbers nowhere sum too high
 pub record IsBounded (stamp : Stamp) : Type 0 where

@@ -1,5 +1,5 @@
 //! Cursors over the text of a stamp.
-ghost use Rattle.std.specs.Prelude.{◌≡◌, ℕ, ◌+◌, ◌^◌, ◌<◌, min, List, ◌∷◌, ◌++◌, length, drop, slice_index_or, None, IsTrue};
+ghost use Rattle.std.specs.Prelude.{◌≡◌, ℕ, ◌+◌, ◌^◌, ◌<◌, min, List, ◌∷◌, ◌++◌, length, drop, slice_index_or, None, Some, IsTrue};
 ghost use Rattle.stamp_codec.specs.StampText.{IsWrittenNumber, number_written};
 ghost use Rattle.stamp_codec.specs.Walks.{leading, greatest_number, IsFirstWith};
 
@@ -24,6 +24,19 @@ impl<'a> Cursor<'a> {
             rest: text,
             place: 0,
             uneven: None,
+        }
+    }
+
+    /// A cursor at the start of a text of which nothing is built. It counts the first byte as a node that is not normal.
+    pub fn building_nothing(text: &'a [u8]) -> Cursor<'a>
+        ensures rest { result.rest.now ≡ text.now }
+        ensures place { result.place ≡ 0 }
+        ensures uneven { result.uneven ≡ Some 0 }
+    {
+        Cursor {
+            rest: text,
+            place: 0,
+            uneven: Some(0),
         }
     }
 

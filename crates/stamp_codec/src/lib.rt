@@ -29,6 +29,7 @@ pub use stamp::Stamp;
 pub use writing::{write_parts, write_stamp};
 
 mod cursor;
+mod depth;
 mod fault;
 pub mod laws;
 mod reading;

@@ -1,15 +1,17 @@
 //! Reading of stamps.
-ghost use Rattle.std.specs.Prelude.{◌≡◌, ◌+◌, ◌^◌, ◌<◌, IfOk, IfErr};
+ghost use Rattle.std.specs.Prelude.{◌≡◌, ◌+◌, ◌^◌, ◌<◌, ◌≤◌, ℕ, IfOk, IfErr};
 ghost use Rattle.trace_types.specs.clock.Id.{Id};
 ghost use Rattle.trace_types.specs.clock.EventTree.{maximum};
-ghost use Rattle.stamp_codec.specs.StampText.{Written, SpellsStamp, written_tree, stamp_as_text};
-ghost use Rattle.stamp_codec.specs.Walks.{WalksStamp};
-ghost use Rattle.stamp_codec.specs.Bounds.{IsBounded};
+ghost use Rattle.stamp_codec.specs.StampText.{Written, SpellsStamp, IsShaped, written_tree, stamp_as_text};
+ghost use Rattle.stamp_codec.specs.Walks.{IsSizeFault, WalksStamp};
+ghost use Rattle.stamp_codec.specs.Faults.{most_nested, IsTooLargeAt};
+ghost use Rattle.stamp_codec.specs.Bounds.{IsBounded, nesting_of};
 ghost use Rattle.stamp_codec.specs.declared.stamp.Stamp.{Stamp};
 ghost use Rattle.stamp_codec.specs.Flat.{OpensNowhere};
 ghost use Rattle.stamp_codec.specs.Reading.{ReadsStamp, SpellsNormal, GivesStamp, IsNoMemory};
 
 use crate::cursor::Cursor;
+use crate::depth::is_too_deep;
 use crate::shape::shape_fault;
 use crate::walk::{read_id, read_tree};
 use crate::{Stamp, StampFault};
@@ -19,8 +21,8 @@ use std::alloc::Global;
 ///
 /// It looks first at the shape of the whole text, then at its size, and then at whether each node is normal. It tells the
 /// first fault of the first kind that it finds. The id and the tree may each be nested 2048 deep. The numbers on the way
-/// from the root to a node may have a sum of 2^63 - 1. One pass without recursion tells the shape before anything is
-/// built. Nothing is built below a place that is too large.
+/// from the root to a node may have a sum of 2^63 - 1. Two passes without recursion tell the shape and the nesting before
+/// anything is built. Nothing is built of a text that is nested too deep, and nothing below a number that is too great.
 ///
 /// Returns `Memory` if it runs out of memory, for a mark of each open parenthesis or for the stamp. `Memory` may come
 /// before any other fault.
@@ -44,6 +46,48 @@ pub fn read_stamp(alloc: Global, text: &[u8]) -> Result<Stamp, StampFault>
 
 /// What a text with the shape of a stamp spells.
 fn walk(alloc: Global, text: &[u8]) -> Result<Stamp, StampFault>
+    requires { IsShaped text.now }
+    ensures small { IfOk result (λ stamp. maximum stamp.tree < 2 ^ 64) }
+    ensures exact { (id : Id) (tree : Written) → SpellsStamp text.now id tree → WalksStamp result id tree }
+    ensures flat { OpensNowhere text.now → (id : Id) (tree : Written) → SpellsStamp text.now id tree
+        → IfErr result (λ fault. ¬ IsNoMemory fault) }
+{
+    if is_too_deep(text) {
+        return Err(size_fault(alloc, text));
+    }
+    build(alloc, text)
+}
+
+/// The first place that is too large, in a text with the shape of a stamp that is nested too deep.
+fn size_fault(alloc: Global, text: &[u8]) -> StampFault
+    requires shaped { IsShaped text.now }
+    requires deep { (id : Id) (tree : Written) → SpellsStamp text.now id tree → most_nested < nesting_of id tree }
+    ensures first { (id : Id) (tree : Written) → SpellsStamp text.now id tree → IsSizeFault result (IsTooLargeAt id tree) }
+    ensures nothing { ¬ IsNoMemory result }
+{
+    match look(alloc, text) {
+        Err(fault) => fault,
+        Ok(()) => unreachable!(),
+    }
+}
+
+/// Looks for the first place of the text that is too large. It builds nothing.
+fn look(alloc: Global, text: &[u8]) -> Result<(), StampFault>
+    ensures none { IfOk result (λ _. (id : Id) (tree : Written) → SpellsStamp text.now id tree → (place : ℕ) → ¬ IsTooLargeAt id tree place) }
+    ensures first { IfErr result (λ fault. (id : Id) (tree : Written) → SpellsStamp text.now id tree → IsSizeFault fault (IsTooLargeAt id tree)) }
+    ensures nothing { IfErr result (λ fault. ¬ IsNoMemory fault) }
+{
+    let mut cursor = Cursor::building_nothing(text);
+    cursor.skip();
+    read_id(alloc, &mut cursor, 0)?;
+    cursor.skip();
+    read_tree(alloc, &mut cursor, 0, 0)?;
+    Ok(())
+}
+
+/// The stamp that a text spells which is not nested too deep.
+fn build(alloc: Global, text: &[u8]) -> Result<Stamp, StampFault>
+    requires { (id : Id) (tree : Written) → SpellsStamp text.now id tree → nesting_of id tree ≤ most_nested }
     ensures small { IfOk result (λ stamp. maximum stamp.tree < 2 ^ 64) }
     ensures exact { (id : Id) (tree : Written) → SpellsStamp text.now id tree → WalksStamp result id tree }
     ensures flat { OpensNowhere text.now → (id : Id) (tree : Written) → SpellsStamp text.now id tree

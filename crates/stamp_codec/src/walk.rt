@@ -1,6 +1,6 @@
 //! The walk over a text with the shape of a stamp. It looks at the size of the text, builds the stamp, and finds the
 //! first node that is not normal.
-ghost use Rattle.std.specs.Prelude.{◌≡◌, ◌≢◌, ℕ, ◌+◌, ◌^◌, ◌<◌, ◌≤◌, ◌⊎◌, min, List, ◌++◌, length, slice_index, IfOk, IfErr, IsOk, IsTrue, ◌↔◌};
+ghost use Rattle.std.specs.Prelude.{◌≡◌, ◌≢◌, ℕ, ◌+◌, ◌^◌, ◌<◌, ◌≤◌, ◌⊎◌, min, None, List, ◌++◌, length, slice_index, IfOk, IfErr, IsOk, IsTrue, ◌↔◌};
 ghost use Rattle.trace_types.specs.clock.Id.{Id};
 ghost use Rattle.trace_types.specs.clock.EventTree.{minimum};
 ghost use Rattle.stamp_codec.specs.StampText.{Written, id_text};
@@ -15,7 +15,7 @@ use id_tree::IdTree;
 use std::alloc::Global;
 
 /// The most parentheses inside one another.
-const MOST_NESTED: usize = 2048;
+pub const MOST_NESTED: usize = 2048;
 
 /// The greatest sum of the numbers on the way from the root to a node.
 const GREATEST_SUM: u64 = 9_223_372_036_854_775_807;
@@ -28,6 +28,8 @@ pub fn read_id(alloc: Global, cursor: &mut Cursor, nested: usize) -> Result<IdTr
     ensures exact { (id : Id) (rest : List ℕ) → cursor.old.rest.now ≡ id_text id ++ rest
         → Walks result (IsIdBuilt cursor.new.uneven id) (IsIdTooDeepAt cursor.old.place nested id) (IsIdNotNormalAt cursor.old.place id)
         cursor.old.uneven cursor.new.uneven cursor.new.rest.now rest }
+    ensures known { IfOk result (λ _. cursor.new.uneven ≡ None → cursor.old.uneven ≡ None) }
+    ensures nothing { cursor.old.uneven ≢ None → IfErr result (λ fault. ¬ IsNoMemory fault) }
     ensures leaf { 48 ≤ slice_index cursor.old.rest.now 0 → slice_index cursor.old.rest.now 0 ≤ 49 → IsOk result }
 {
     let start = cursor.place;
@@ -77,6 +79,8 @@ pub fn read_tree(
     ensures exact { (tree : Written) (rest : List ℕ) → BeginsTree cursor.old.rest.now tree rest
         → Walks result (IsTreeBuilt cursor.new.uneven tree) (IsTreeTooLargeAt cursor.old.place nested sum tree) (IsTreeNotNormalAt cursor.old.place tree)
         cursor.old.uneven cursor.new.uneven cursor.new.rest.now rest }
+    ensures known { IfOk result (λ _. cursor.new.uneven ≡ None → cursor.old.uneven ≡ None) }
+    ensures nothing { cursor.old.uneven ≢ None → IfErr result (λ fault. ¬ IsNoMemory fault) }
     ensures number { slice_index cursor.old.rest.now 0 ≢ 40 → IfErr result (λ fault. ¬ IsNoMemory fault) }
 {
     let start = cursor.place;

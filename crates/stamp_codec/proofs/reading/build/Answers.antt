@@ -2,7 +2,7 @@ use Rattle.std.proofs.Common.{length, drop, ap, arith, ◌∙◌}
 use Rattle.std.proofs.lemmas.Result.{err_from_is_err_and}
 use Rattle.stamp_codec.proofs.Flats.{leaf_first, number_next}
 use Rattle.stamp_codec.proofs.Outcomes.{at_id, ends_in_id, walked}
-use Rattle.stamp_codec.proofs.reading.walk.Goals as goal
+use Rattle.stamp_codec.proofs.reading.build.Goals as goal
 
 pub returns-in_err-id-clause-exact : goal.returns-in_err-id-clause-exact
 returns-in_err-id-clause-exact c =
