@@ -11,24 +11,18 @@
 //! | `help`, `help replay`, `help serve`, `help check`, `help load` | Tells of all options |
 //!
 //! `main` hands its words and the standard streams to [`start`], and ends with the status that it answers. `start` runs
-//! what the words after the first ask. [`program::run`] says what comes of them, by the contracts of `replay` of
-//! `trace_world` and `check` of `trace_export`.
+//! what the words after the first ask. `run` of `collector` says what comes of them.
 #![tactic(auto)]
 
 ghost use Rattle.std.specs.Prelude.{◌≡◌, drop, map, IfOk, IfErr, string_bytes};
 ghost use Rattle.std.specs.IoError.{error_kind};
 ghost use Rattle.std.specs.Process.{exit_status};
-ghost use Rattle.itc_trace.specs.Fault.{fault_of_words, status_of};
-ghost use Rattle.itc_trace.specs.Program.{IsUntouched, TellsFault};
-ghost use Rattle.itc_trace.specs.Runs.{Runs};
+ghost use Rattle.collector.specs.Fault.{fault_of_words, status_of};
+ghost use Rattle.collector.specs.Program.{IsUntouched, TellsFault};
+ghost use Rattle.collector.specs.Runs.{Runs};
 
-mod fault;
-mod program;
-mod serving;
-
-use fault::Fault;
+use collector::{Fault, run};
 use line_protocol::{Buffered, FromReader, IntoWriter, Sink, Source};
-use program::run;
 use std::io::ErrorKind;
 use std::net::{Net, TcpListener, TcpStream};
 use std::process::ExitCode;
