@@ -73,10 +73,13 @@ pub record ExportsFreshInPart (fault : Fault) (name : Text) (limits : Limits) (n
 abbrev pub IsUntouched : {R W : Type 0} → R → R → W → W → Type 0
 IsUntouched reader reader' writer writer' = (reader' ≡ reader) × (writer' ≡ writer)
 
+-- No read and no write failed.
+abbrev pub NothingFails : (before after : Given) (taken taken' : Taken) → Type 0
+NothingFails before after taken taken' = (before.failures < after.failures → ⊥) × (taken.failures < taken'.failures → ⊥)
+
 -- No read or write failed, and what was written was handed on.
 abbrev pub GoesThrough : (before after : Given) (taken taken' : Taken) → Type 0
-GoesThrough before after taken taken' =
-    (before.failures < after.failures → ⊥) × (taken.failures < taken'.failures → ⊥) × IsTrue taken'.is_flushed
+GoesThrough before after taken taken' = NothingFails before after taken taken' × IsTrue taken'.is_flushed
 
 -- Why a run fails: by what is seen of the reader and the writer before and after it. Of ports and connections nothing is seen.
 abbrev pub IsFailure : (before after : Given) (taken taken' : Taken) → Fault → Type 0
@@ -99,16 +102,14 @@ ShowsSomeAll before after = (text : Text) × (0 < length text) × ShowsAll befor
 abbrev pub ShowsSome : Taken → Taken → Type 0
 ShowsSome before after = (text : Text) × (0 < length text) × Shows before after text
 
--- By whether the tenants are taken: those that are taken are not refused. Others are, unless the program runs out of memory
--- before, and then the line says so.
+-- By whether the tenants are taken: those that are taken are not refused. Others are, and the line says so.
 abbrev pub RefusesTenants : Bool → Taken → Taken → ℕ → Type 0
 RefusesTenants true before after status = status ≢ 2
-RefusesTenants false before after status = ((status ≡ 2) × TellsFault before after Tenants) ⊎ (status ≡ 4)
+RefusesTenants false before after status = (status ≡ 2) × TellsFault before after Tenants
 
 -- What a fault tells of whether the tenants are taken.
 abbrev pub TellsOfTenants : Fault → Bool → Type 0
 TellsOfTenants Tenants taken = taken ≡ false
-TellsOfTenants Memory taken = Unit {0}
 TellsOfTenants fault taken = taken ≡ true
 
 -- the line that tells a verdict

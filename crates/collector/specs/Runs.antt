@@ -6,7 +6,7 @@ use Rattle.line_protocol.specs.Sink.{Taken}
 use Rattle.command_line.specs.Demand.{Demand, asked_in}
 use Rattle.collector.specs.Taking.{is_taken}
 use Rattle.command_line.specs.Reading.{AsksForHelp, IsAskedBy, Loading, MayBeRefused, kinds_of, work_of}
-use Rattle.collector.specs.Program.{BreaksOff, Does, DoesInPart, GoesThrough, IsQuiet, IsUntouched, LacksMemory, RefusesTenants, ShowsSome, ShowsSomeAll, TellsFault, TellsNo}
+use Rattle.collector.specs.Program.{BreaksOff, Does, DoesInPart, GoesThrough, IsQuiet, IsUntouched, LacksMemory, NothingFails, RefusesTenants, ShowsSome, ShowsSomeAll, TellsFault, TellsNo}
 use Rattle.collector.specs.declared.fault.Fault.{Fault}
 use Rattle.collector.specs.declared.fault.Fault.TheVariants.{Memory, Write}
 
@@ -19,14 +19,18 @@ pub record Runs {R W E : Type 0} (given : R → Given) (taken : W → Taken) (to
   pub words_refused : status ≡ 2
       → MayBeRefused (kinds_of words) × IsUntouched reader reader' writer writer' × ShowsSome (told errors) (told errors')
   -- If the words ask for a replay, a service or a load, its tenants and the one to be exported alone decide whether they
-  -- are refused, and the line says so. Words that ask for a check are not refused.
-  pub tenants_refused : IfSome (asked_in words) (λ asked. RefusesTenants (is_taken asked) (told errors) (told errors') status)
-  -- Status 4: nothing was read, and nothing written on the output, or it is known what of the work was done. Of an export a
-  -- prefix was written, and of a service the first line. A check had read, and written no verdict. A load had read, and perhaps
-  -- written a prefix of the requests.
+  -- are refused, and the line says so. Words that ask for a check are not refused. Or the program ran out of memory before
+  -- it knew the tenants.
+  pub tenants_refused : IfSome (asked_in words) (λ asked. RefusesTenants (is_taken asked) (told errors) (told errors') status
+      ⊎ ((status ≡ 4) × IsUntouched reader reader' writer writer'))
+  -- Status 4: no read or write failed. Nothing was read, and nothing written on the output, or the tenants are taken and it is
+  -- known what of the work was done. Of an export a prefix was written, and of a service the first line. A check had read,
+  -- and written no verdict. A load had read, and perhaps written a prefix of the requests.
   pub memory : status ≡ 4 → TellsFault (told errors) (told errors') Memory
+      × NothingFails (given reader) (given reader') (taken writer) (taken writer')
       × (IsUntouched reader reader' writer writer'
-      ⊎ ((asked : Demand) × IsAskedBy words asked × LacksMemory given taken asked reader reader' writer writer'))
+      ⊎ ((asked : Demand) × IsAskedBy words asked × (is_taken asked ≡ true)
+      × LacksMemory given taken asked reader reader' writer writer'))
   -- Status 0 and 1: no read or write failed, and all that was written was handed on. Help was asked for and the whole of
   -- it shown, and nothing was read; or the words are taken, and what they ask for was done: all lines of these tenants were
   -- replayed, or the export of one of them was written, or programs were served, or a verdict was told, with status 1 if it

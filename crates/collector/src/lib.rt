@@ -21,6 +21,7 @@
 #![tactic(auto)]
 
 mod fault;
+mod names;
 mod program;
 mod serving;
 

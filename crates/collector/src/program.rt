@@ -6,19 +6,21 @@ ghost use Rattle.trace_types.specs.text.Name.{Text, is_name};
 ghost use Rattle.trace_types.specs.world.Replay.{place_of};
 ghost use Rattle.trace_types.specs.tenant.Limits.{Limits as Bounds, are_limits};
 ghost use Rattle.command_line.specs.Demand.{ToReplay};
-ghost use Rattle.collector.specs.Taking.{are_taken, can_export, is_taken};
+ghost use Rattle.collector.specs.Taking.{can_export, is_taken};
 ghost use Rattle.collector.specs.Fault.{status_of};
-ghost use Rattle.collector.specs.Program.{ChecksInPart, DoesReplay, DoesReplayInPart, ExportsFreshInPart, GoesThrough, IsExportPlace, IsFailure, IsUntouched, LoadsExport, LoadsExportInPart, LoadsToTell, RefusesTenants, ShowsSome, ShowsSomeAll, TellsFault, TellsNo, TellsVerdict, line_of_no, line_of_verdict, status_of_loaded, status_of_verdict};
+ghost use Rattle.collector.specs.Program.{ChecksInPart, DoesReplay, DoesReplayInPart, ExportsFreshInPart, GoesThrough, IsExportPlace, IsFailure, IsUntouched, LoadsExport, LoadsExportInPart, LoadsToTell, NothingFails, RefusesTenants, ShowsSome, ShowsSomeAll, TellsFault, TellsNo, TellsVerdict, line_of_no, line_of_verdict, status_of_loaded, status_of_verdict};
 ghost use Rattle.collector.specs.Showing.{Shows, ShowsAll};
 ghost use Rattle.command_line.specs.Reading.{wanted_of};
 ghost use Rattle.collector.specs.Runs.{Runs};
 
 use crate::fault::Fault;
+use crate::names::Names;
 use crate::serving::serve_programs;
 use command_line::{Asked, Refusal, Replay, read_words};
 use line_protocol::{Sink, Source, flush, write_bytes};
 use std::alloc::{AllocError, Global};
 use std::convert::AsStr;
+use std::mem::ManuallyDrop;
 use std::net::{Net, TcpListener, TcpStream};
 use std::sync::Wait;
 use std::thread::Threads;
@@ -129,9 +131,9 @@ fn replay_tenants<T: Wait, R: Source, W: Sink>(
     ensures refused { IfErr result (λ fault. status_of fault ≡ 2 → (fault ≡ Fault.Tenants) × (is_taken (ToReplay (wanted_of wanted.now)) ≡ false)) }
     ensures unchanged { IfErr result (λ fault. status_of fault ≡ 2 → (reader.new ≡ reader.old) × (writer.new ≡ writer.old)) }
     ensures memory { IfErr result (λ fault. status_of fault ≡ 4 → IsUntouched reader.old reader.new writer.old writer.new
-        ⊎ IsSomeAnd wanted.now.export (λ name. (are_taken (map string_bytes wanted.now.tenants.items) ≡ true)
-        × ExportsFreshInPart fault (string_bytes name) wanted.now.limits (map string_bytes wanted.now.tenants.items)
-        (R.seen reader.old) (R.seen reader.new) (W.seen writer.old) (W.seen writer.new))) }
+        ⊎ IsSomeAnd wanted.now.export (λ name. ExportsFreshInPart fault (string_bytes name) wanted.now.limits
+        (map string_bytes wanted.now.tenants.items) (R.seen reader.old) (R.seen reader.new) (W.seen writer.old) (W.seen writer.new))) }
+    ensures lacks { IfErr result (λ fault. status_of fault ≡ 4 → is_taken (ToReplay (wanted_of wanted.now)) ≡ true) }
     ensures in_part { IfErr result (λ fault. status_of fault ≡ 3 → (is_taken (ToReplay (wanted_of wanted.now)) ≡ true)
         × DoesReplayInPart (option_map string_bytes wanted.now.export) fault wanted.now.limits (map string_bytes wanted.now.tenants.items)
         (R.seen reader.old) (R.seen reader.new) (W.seen writer.old) (W.seen writer.new)) }
@@ -139,15 +141,19 @@ fn replay_tenants<T: Wait, R: Source, W: Sink>(
     ensures read_failed { (R.seen reader.old).failures < (R.seen reader.new).failures → IsErrAnd result (λ fault. status_of fault ≡ 3) }
     ensures write_failed { (W.seen writer.old).failures < (W.seen writer.new).failures → IsErrAnd result (λ fault. status_of fault ≡ 3) }
 {
-    let names = read_names(alloc, &wanted.tenants)?;
-    let exported = exported_place(&names, &wanted.export)?;
-    let mut world = World::new(alloc, &names, wanted.limits, wanted.cache)?;
+    let names = Names::read(&wanted.tenants)?;
+    let names = names.as_slice();
+    let exported = exported_place(names, &wanted.export)?;
+    let world = World::new(alloc, names, wanted.limits, wanted.cache)?;
+    // The process ends next and gives all memory back at once. To take the trees apart one by one would cost up to a third
+    // of the time.
+    let mut world = ManuallyDrop::new(world);
     match exported {
         Some(place) => {
-            replay_export(rt, alloc, &mut world, place, reader, writer)?;
+            replay_export(rt, alloc, &mut *world, place, reader, writer)?;
         }
         None => {
-            replay(rt, alloc, &mut world, reader, writer)?;
+            replay(rt, alloc, &mut *world, reader, writer)?;
         }
     }
     Ok(())
@@ -191,6 +197,7 @@ fn check_input<R: Source, W: Sink, E: Sink>(
         × TellsVerdict (R.seen reader.old) (R.seen reader.new) (W.seen writer.old) (W.seen writer.new) result }
     ensures taken { result ≢ 2 }
     ensures memory { result ≡ 4 → (writer.new ≡ writer.old) × TellsFault (E.seen errors.old) (E.seen errors.new) Fault.Memory }
+    ensures unfailed { result ≡ 4 → (R.seen reader.old).failures < (R.seen reader.new).failures → ⊥ }
     ensures broken_off { 2 < result → result ≢ 4 → (result ≡ 3) × (fault : Fault)
         × IsFailure (R.seen reader.old) (R.seen reader.new) (W.seen writer.old) (W.seen writer.new) fault
         × ChecksInPart fault (R.seen reader.old) (R.seen reader.new) (W.seen writer.old) (W.seen writer.new)
@@ -212,6 +219,7 @@ fn tell_verdict<R: Source, W: Sink>(
     ensures through { OnOk result (GoesThrough (R.seen reader.old) (R.seen reader.new) (W.seen writer.old) (W.seen writer.new)) }
     ensures taken { IfErr result (λ fault. status_of fault ≢ 2) }
     ensures memory { IsErrOf result Fault.Memory → writer.new ≡ writer.old }
+    ensures unfailed { IsErrOf result Fault.Memory → (R.seen reader.old).failures < (R.seen reader.new).failures → ⊥ }
     ensures in_part { IfErr result (λ fault. fault ≢ Fault.Memory →
         IsFailure (R.seen reader.old) (R.seen reader.new) (W.seen writer.old) (W.seen writer.new) fault
         × ChecksInPart fault (R.seen reader.old) (R.seen reader.new) (W.seen writer.old) (W.seen writer.new)) }
@@ -264,6 +272,7 @@ fn load_input<T, R: Source, W: Sink, E: Sink>(
         × LoadsExportInPart fault tenant.now (R.seen reader.old) (R.seen reader.new) (W.seen writer.old) (W.seen writer.new)
         × (status_of fault ≡ 3 → IsFailure (R.seen reader.old) (R.seen reader.new) (W.seen writer.old) (W.seen writer.new) fault)
         × TellsFault (E.seen errors.old) (E.seen errors.new) fault }
+    ensures unfailed { result ≡ 4 → NothingFails (R.seen reader.old) (R.seen reader.new) (W.seen writer.old) (W.seen writer.new) }
 {
     match load_export(rt, alloc, tenant, reader, writer) {
         Ok(None) => 0,
@@ -292,6 +301,7 @@ fn load_export<T, R: Source, W: Sink>(
     ensures in_part { IfErr result (λ fault. fault ≢ Fault.Tenants → IsTrue (is_name tenant.now)
         × LoadsExportInPart fault tenant.now (R.seen reader.old) (R.seen reader.new) (W.seen writer.old) (W.seen writer.new)
         × (status_of fault ≡ 3 → IsFailure (R.seen reader.old) (R.seen reader.new) (W.seen writer.old) (W.seen writer.new) fault)) }
+    ensures unfailed { IsErrOf result Fault.Memory → NothingFails (R.seen reader.old) (R.seen reader.new) (W.seen writer.old) (W.seen writer.new) }
 {
     let Some(name) = Name::read(tenant.as_bytes()) else {
         return Err(Fault::Tenants);
@@ -313,24 +323,6 @@ fn no_line(alloc: Global, line: u64, reason: Reason) -> Result<String, AllocErro
 {
     let reason = reason.number();
     format!(in alloc; "itc_trace: no {line} {reason}\n")
-}
-
-/// The tenants' names. Too many are refused before any memory is taken.
-pub(crate) fn read_names(alloc: Global, tenants: &[String]) -> Result<Vec<Name>, Fault>
-    ensures ok { IfOk result (λ names. (names.items ≡ map string_bytes tenants.now) × (list_all is_name (map string_bytes tenants.now) ≡ true)) }
-    ensures err { IfErr result (λ fault. ((fault ≡ Fault.Memory) × (length tenants.now ≤ 16)) ⊎ ((fault ≡ Fault.Tenants) × (are_taken (map string_bytes tenants.now) ≡ false))) }
-{
-    if tenants.len() > World::MOST_TENANTS {
-        return Err(Fault::Tenants);
-    }
-    let mut names = Vec::new(alloc);
-    for tenant in tenants {
-        let Some(name) = Name::read(tenant.as_bytes()) else {
-            return Err(Fault::Tenants);
-        };
-        names.push(name).map_err(|_| Fault::Memory)?;
-    }
-    Ok(names)
 }
 
 /// Writes a text, and hands it on.

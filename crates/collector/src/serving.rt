@@ -8,7 +8,8 @@ ghost use Rattle.collector.specs.Serving.{Serves, ServesInPart, line_of_counts, 
 ghost use Rattle.collector.specs.Taking.{is_taken};
 
 use crate::fault::Fault;
-use crate::program::{read_names, show};
+use crate::names::Names;
+use crate::program::show;
 use command_line::Serve;
 use line_protocol::Sink;
 use std::alloc::{AllocError, Global};
@@ -55,8 +56,8 @@ where
     ensures tenants { IfErr result (λ fault. TellsOfTenants fault (is_taken (ToServe (service_of wanted.now)))) }
     ensures refused { IfErr result (λ fault. status_of fault ≡ 2 → writer.new ≡ writer.old) }
 {
-    let names = read_names(alloc, &wanted.tenants)?;
-    let hub = Hub::new(rt, alloc, &names, wanted.limits, wanted.cache)?;
+    let names = Names::read(&wanted.tenants)?;
+    let hub = Hub::new(rt, alloc, names.as_slice(), wanted.limits, wanted.cache)?;
     let served = serve_hub(rt, alloc, &hub, wanted, writer);
     hub.close(rt);
     served

@@ -11,8 +11,8 @@ use Rattle.trace_types.specs.tenant.Tenant.{fresh}
 use Rattle.trace_types.specs.text.Name.{Text, is_same}
 use Rattle.trace_types.specs.world.Replay.{place_of}
 use Rattle.trace_types.specs.world.World.{World}
-use Rattle.trace_world.specs.Exported.{BreaksExport}
-use Rattle.trace_world.specs.Replayed.{ReplaysInPart}
+use Rattle.trace_world.specs.Exported.{BreaksExport, Exports}
+use Rattle.trace_world.specs.Replayed.{Replays, ReplaysInPart}
 use Rattle.trace_world.specs.declared.replay_fault.ReplayFault.{ReplayFault}
 use Rattle.trace_world.specs.declared.replay_fault.ReplayFault.TheVariants.{Read, Write, TooLong, Memory}
 use Rattle.command_line.specs.Demand.{ToReplay}
@@ -21,7 +21,6 @@ use Rattle.collector.specs.Fault.{fault_of_replay, status_of}
 use Rattle.collector.specs.Program.{DoesReplay, DoesReplayInPart, ExportsFresh, ExportsFreshInPart, IsExportPlace, IsFailure, IsUntouched, ReplaysFresh, fresh_world}
 use Rattle.collector.specs.declared.fault.Fault.{Fault}
 use Rattle.collector.proofs.program.replay_tenants.Goals as goal
-use Rattle.collector.proofs.program.replay_tenants.Goals.{in-Some+in_ok-replay_export-in-Some, in-None+in_ok-replay-in-None}
 
 some_same : {X : Type 0} {a b : X} → Some a ≡ Some b → a ≡ b
 some_same {X} {a} e = ap (λ o. unwrap_or o a) e
@@ -117,33 +116,34 @@ exported_in_part (Some other) name is result cause err limits cache tenants plac
 
 exported_lacks : {R W : Type 0} (reader reader' : R) (writer writer' : W) (export : Option (String Global)) (name : Text) → option_map string_bytes export ≡ Some name
     → (result : Result Unit Fault) (cause : ReplayFault) → result ≡ Err (fault_of_replay cause)
-    → (limits : Limits) (tenants : List Text) (before after : Given) (taken taken' : Taken) → are_taken tenants ≡ true
+    → (limits : Limits) (tenants : List Text) (before after : Given) (taken taken' : Taken)
     → ExportsFreshInPart (fault_of_replay cause) name limits tenants before after taken taken'
     → IfErr result (λ fault. status_of fault ≡ 4 → IsUntouched reader reader' writer writer'
-    ⊎ IsSomeAnd export (λ one. (are_taken tenants ≡ true) × ExportsFreshInPart fault (string_bytes one) limits tenants before after taken taken'))
-exported_lacks reader reader' writer writer' None name is result cause err limits tenants before after taken taken' names part = cc
-exported_lacks reader reader' writer writer' (Some one) name is result cause err limits tenants before after taken taken' names part =
+    ⊎ IsSomeAnd export (λ one. ExportsFreshInPart fault (string_bytes one) limits tenants before after taken taken'))
+exported_lacks reader reader' writer writer' None name is result cause err limits tenants before after taken taken' part = cc
+exported_lacks reader reader' writer writer' (Some one) name is result cause err limits tenants before after taken taken' part =
     subst (λ r. IfErr r (λ fault. status_of fault ≡ 4 → IsUntouched reader reader' writer writer'
-    ⊎ IsSomeAnd (Some one) (λ other. (are_taken tenants ≡ true) × ExportsFreshInPart fault (string_bytes other) limits tenants before after taken taken'))) (sym err)
-    (λ four. inr (names, subst (λ n. ExportsFreshInPart (fault_of_replay cause) n limits tenants before after taken taken') (sym (some_same is)) part))
+    ⊎ IsSomeAnd (Some one) (λ other. ExportsFreshInPart fault (string_bytes other) limits tenants before after taken taken'))) (sym err)
+    (λ four. inr (subst (λ n. ExportsFreshInPart (fault_of_replay cause) n limits tenants before after taken taken') (sym (some_same is)) part))
 
 pub replay_export-requires : goal.replay_export-requires
 replay_export-requires g c =
-    let found = there _ c.deref-2.result.now c.in_ok-exported.exported c.in-Some.place c.in_ok-exported.ensures.ok c.in-Some.is in
-    let within = place_within c.deref-2.result.now found.0 c.in-Some.place found.2 in
-    let tenants : c.in_ok-world.world.tenants ≡ map (λ name. fresh c.args.wanted.now.limits) c.deref-3.result.now = search rules in
-    let same : c.deref-3.result.now ≡ c.deref-2.result.now = search rules in
-    let count : length c.in_ok-world.world.tenants ≡ length c.deref-2.result.now = ap length tenants ∙ (length-map c.deref-3.result.now (λ name. fresh c.args.wanted.now.limits) ∙ ap length same) in
+    let found = there _ c.as_slice-names.result.now c.in_ok-exported.exported c.in-Some.place c.in_ok-exported.ensures.ok c.in-Some.is in
+    let within = place_within c.as_slice-names.result.now found.0 c.in-Some.place found.2 in
+    let tenants : c.deref_mut.result.now.tenants ≡ map (λ name. fresh c.args.wanted.now.limits) c.as_slice-names.result.now = search rules in
+    let count : length c.deref_mut.result.now.tenants ≡ length c.as_slice-names.result.now = ap length tenants ∙ length-map c.as_slice-names.result.now (λ name. fresh c.args.wanted.now.limits) in
     omega arith
 
 pub returns-in_err-replay-in-None-clause-in_part : goal.returns-in_err-replay-in-None-clause-in_part
 returns-in_err-replay-in-None-clause-in_part g c =
-    let none = nowhere _ c.deref-2.result.now c.in_ok-exported.exported c.in_ok-exported.ensures.ok c.in-None.is in
+    let none = nowhere _ c.as_slice-names.result.now c.in_ok-exported.exported c.in_ok-exported.ensures.ok c.in-None.is in
     let is : c.from_residual-in_err-replay-in-None.result ≡ Err (fault_of_replay c.in_err-replay-in-None.field-0.0) = search rules in
-    let given : c.deref-3.result.now ≡ map string_bytes c.args.wanted.now.tenants.items = search rules in
-    let world : c.in_ok-world.world ≡ fresh_world c.args.wanted.now.limits (map string_bytes c.args.wanted.now.tenants.items) = c.in_ok-world.ensures.world ∙ ap (fresh_world c.args.wanted.now.limits) given in
+    let given : c.as_slice-names.result.now ≡ map string_bytes c.args.wanted.now.tenants.items = search rules in
+    let world : c.deref_mut-in-None.result.now ≡ fresh_world c.args.wanted.now.limits (map string_bytes c.args.wanted.now.tenants.items) =
+    c.deref_mut-in-None.ensures.value ∙ (c.new-world.ensures ∙ (c.in_ok-world.ensures.world ∙ ap (fresh_world c.args.wanted.now.limits) given))
+    in
     let names : are_taken (map string_bytes c.args.wanted.now.tenants.items) ≡ true = search rules in
-    unexported _ none _ c.in_err-replay-in-None.field-0.0 is c.args.wanted.now.limits c.args.wanted.now.cache (map string_bytes c.args.wanted.now.tenants.items) _ _ _ _ c.in_ok-world.world c.replay.new.world
+    unexported _ none _ c.in_err-replay-in-None.field-0.0 is c.args.wanted.now.limits c.args.wanted.now.cache (map string_bytes c.args.wanted.now.tenants.items) _ _ _ _ c.deref_mut-in-None.result.now c.replay.new.world
     world names c.in_err-replay-in-None.ensures.fault
 
 pub returns-in_err-replay-in-None-clause-failed : goal.returns-in_err-replay-in-None-clause-failed
@@ -155,78 +155,76 @@ returns-in_err-replay-in-None-clause-failed g c =
 
 pub returns-in_err-replay_export-in-Some-clause-in_part : goal.returns-in_err-replay_export-in-Some-clause-in_part
 returns-in_err-replay_export-in-Some-clause-in_part g c =
-    let found = there _ c.deref-2.result.now c.in_ok-exported.exported c.in-Some.place c.in_ok-exported.ensures.ok c.in-Some.is in
-    let listed : c.deref-2.result.now ≡ map string_bytes c.args.wanted.now.tenants.items = search rules in
+    let found = there _ c.as_slice-names.result.now c.in_ok-exported.exported c.in-Some.place c.in_ok-exported.ensures.ok c.in-Some.is in
+    let listed : c.as_slice-names.result.now ≡ map string_bytes c.args.wanted.now.tenants.items = search rules in
     let at : place_of (map string_bytes c.args.wanted.now.tenants.items) found.0 ≡ Some c.in-Some.place = ap (λ list. place_of list found.0) (sym listed) ∙ found.2 in
-    let given : c.deref-3.result.now ≡ map string_bytes c.args.wanted.now.tenants.items = search rules in
-    let world : c.in_ok-world.world ≡ fresh_world c.args.wanted.now.limits (map string_bytes c.args.wanted.now.tenants.items) =
-    c.in_ok-world.ensures.world ∙ ap (fresh_world c.args.wanted.now.limits) given
+    let given : c.as_slice-names.result.now ≡ map string_bytes c.args.wanted.now.tenants.items = search rules in
+    let world : c.deref_mut.result.now ≡ fresh_world c.args.wanted.now.limits (map string_bytes c.args.wanted.now.tenants.items) =
+    c.deref_mut.ensures.value ∙ (c.new-world.ensures ∙ (c.in_ok-world.ensures.world ∙ ap (fresh_world c.args.wanted.now.limits) given))
     in
     let names : are_taken (map string_bytes c.args.wanted.now.tenants.items) ≡ true = search rules in
     let is : c.from_residual-in_err-replay_export-in-Some.result ≡ Err (fault_of_replay c.in_err-replay_export-in-Some.field-0.0) = search rules in
     let part = exports_part c.in_err-replay_export-in-Some.field-0.0 found.0 c.args.wanted.now.limits (map string_bytes c.args.wanted.now.tenants.items) c.in-Some.place
     (g.R.Source.seen c.args.reader.now) (g.R.Source.seen c.replay_export.new.reader) (g.W.Sink.seen c.args.writer.now) (g.W.Sink.seen c.replay_export.new.writer)
-    c.in_ok-world.world c.replay_export.new.world at world c.in_err-replay_export-in-Some.ensures.fault
+    c.deref_mut.result.now c.replay_export.new.world at world c.in_err-replay_export-in-Some.ensures.fault
     in
     exported_in_part _ found.0 found.1 c.from_residual-in_err-replay_export-in-Some.result c.in_err-replay_export-in-Some.field-0.0 is c.args.wanted.now.limits c.args.wanted.now.cache
     (map string_bytes c.args.wanted.now.tenants.items) c.in-Some.place _ _ _ _ at names part
 
 pub returns-in_err-replay_export-in-Some-clause-memory : goal.returns-in_err-replay_export-in-Some-clause-memory
 returns-in_err-replay_export-in-Some-clause-memory g c =
-    let found = there _ c.deref-2.result.now c.in_ok-exported.exported c.in-Some.place c.in_ok-exported.ensures.ok c.in-Some.is in
-    let listed : c.deref-2.result.now ≡ map string_bytes c.args.wanted.now.tenants.items = search rules in
+    let found = there _ c.as_slice-names.result.now c.in_ok-exported.exported c.in-Some.place c.in_ok-exported.ensures.ok c.in-Some.is in
+    let listed : c.as_slice-names.result.now ≡ map string_bytes c.args.wanted.now.tenants.items = search rules in
     let at : place_of (map string_bytes c.args.wanted.now.tenants.items) found.0 ≡ Some c.in-Some.place = ap (λ list. place_of list found.0) (sym listed) ∙ found.2 in
-    let given : c.deref-3.result.now ≡ map string_bytes c.args.wanted.now.tenants.items = search rules in
-    let world : c.in_ok-world.world ≡ fresh_world c.args.wanted.now.limits (map string_bytes c.args.wanted.now.tenants.items) =
-    c.in_ok-world.ensures.world ∙ ap (fresh_world c.args.wanted.now.limits) given
+    let given : c.as_slice-names.result.now ≡ map string_bytes c.args.wanted.now.tenants.items = search rules in
+    let world : c.deref_mut.result.now ≡ fresh_world c.args.wanted.now.limits (map string_bytes c.args.wanted.now.tenants.items) =
+    c.deref_mut.ensures.value ∙ (c.new-world.ensures ∙ (c.in_ok-world.ensures.world ∙ ap (fresh_world c.args.wanted.now.limits) given))
     in
-    let names : are_taken (map string_bytes c.args.wanted.now.tenants.items) ≡ true = search rules in
     let is : c.from_residual-in_err-replay_export-in-Some.result ≡ Err (fault_of_replay c.in_err-replay_export-in-Some.field-0.0) = search rules in
     let part = exports_part c.in_err-replay_export-in-Some.field-0.0 found.0 c.args.wanted.now.limits (map string_bytes c.args.wanted.now.tenants.items) c.in-Some.place
     (g.R.Source.seen c.args.reader.now) (g.R.Source.seen c.replay_export.new.reader) (g.W.Sink.seen c.args.writer.now) (g.W.Sink.seen c.replay_export.new.writer)
-    c.in_ok-world.world c.replay_export.new.world at world c.in_err-replay_export-in-Some.ensures.fault
+    c.deref_mut.result.now c.replay_export.new.world at world c.in_err-replay_export-in-Some.ensures.fault
     in
     exported_lacks c.args.reader.now c.replay_export.new.reader c.args.writer.now c.replay_export.new.writer c.args.wanted.now.export found.0 found.1
     c.from_residual-in_err-replay_export-in-Some.result c.in_err-replay_export-in-Some.field-0.0 is c.args.wanted.now.limits
-    (map string_bytes c.args.wanted.now.tenants.items) _ _ _ _ names part
+    (map string_bytes c.args.wanted.now.tenants.items) _ _ _ _ part
 
-pub returns-clause-taken : goal.returns-clause-taken
-returns-clause-taken g c =
-    let names : are_taken (map string_bytes c.args.wanted.now.tenants.items) ≡ true = search rules in
-    let same : c.deref-2.result.now ≡ map string_bytes c.args.wanted.now.tenants.items = search rules in
-    let found = found_can (option_map string_bytes c.args.wanted.now.export) c.deref-2.result.now c.in_ok-exported.exported c.in_ok-exported.ensures.ok in
-    and_from _ _ names (subst (λ list. can_export (option_map string_bytes c.args.wanted.now.export) list ≡ true) same found)
+pub returns-in_ok-replay_export-in-Some-clause-ok : goal.returns-in_ok-replay_export-in-Some-clause-ok
+returns-in_ok-replay_export-in-Some-clause-ok g c =
+    let names = map string_bytes c.args.wanted.now.tenants.items in
+    let found = there _ c.as_slice-names.result.now c.in_ok-exported.exported c.in-Some.place c.in_ok-exported.ensures.ok c.in-Some.is in
+    let listed : c.as_slice-names.result.now ≡ names = search rules in
+    let at : place_of names found.0 ≡ Some c.in-Some.place = ap (λ list. place_of list found.0) (sym listed) ∙ found.2 in
+    let given : c.as_slice-names.result.now ≡ map string_bytes c.args.wanted.now.tenants.items = search rules in
+    let world : c.deref_mut.result.now ≡ fresh_world c.args.wanted.now.limits names =
+    c.deref_mut.ensures.value ∙ (c.new-world.ensures ∙ (c.in_ok-world.ensures.world ∙ ap (fresh_world c.args.wanted.now.limits) given))
+    in
+    let exports : ExportsFresh found.0 c.args.wanted.now.limits names (g.R.Source.seen c.args.reader.now) (g.R.Source.seen c.replay_export.new.reader)
+    (g.W.Sink.seen c.args.writer.now) (g.W.Sink.seen c.replay_export.new.writer) = record {
+      place = c.in-Some.place;
+      there = at;
+      count = c.in_ok-replay_export-in-Some.field-0;
+      later = c.replay_export.new.world;
+      exports = subst (λ before. Exports (g.R.Source.seen c.args.reader.now) (g.R.Source.seen c.replay_export.new.reader) (g.W.Sink.seen c.args.writer.now)
+          (g.W.Sink.seen c.replay_export.new.writer) before c.in-Some.place c.in_ok-replay_export-in-Some.field-0 c.replay_export.new.world) world c.in_ok-replay_export-in-Some.ensures.ok;
+    } in
+    subst (λ export. DoesReplay export c.args.wanted.now.limits names (g.R.Source.seen c.args.reader.now) (g.R.Source.seen c.replay_export.new.reader)
+    (g.W.Sink.seen c.args.writer.now) (g.W.Sink.seen c.replay_export.new.writer)) (sym found.1) exports
 
-pub returns-clause-ok : goal.returns-clause-ok
-returns-clause-ok g c = elim c.match-exported.branch [
-  | in-Some+in_ok-replay_export-in-Some w ↦
-      let found = there _ c.deref-2.result.now c.in_ok-exported.exported w.in-Some.place c.in_ok-exported.ensures.ok w.in-Some.is in
-      let names : c.deref-2.result.now ≡ map string_bytes c.args.wanted.now.tenants.items = search rules in
-      let at : place_of (map string_bytes c.args.wanted.now.tenants.items) found.0 ≡ Some w.in-Some.place = ap (λ list. place_of list found.0) (sym names) ∙ found.2 in
-      let given : c.deref-3.result.now ≡ map string_bytes c.args.wanted.now.tenants.items = search rules in
-      let world : c.in_ok-world.world ≡ fresh_world c.args.wanted.now.limits (map string_bytes c.args.wanted.now.tenants.items) =
-      c.in_ok-world.ensures.world ∙ ap (fresh_world c.args.wanted.now.limits) given
-      in
-      let exports : ExportsFresh found.0 c.args.wanted.now.limits (map string_bytes c.args.wanted.now.tenants.items) (g.R.Source.seen c.args.reader.now) (g.R.Source.seen c.match-exported.reader)
-      (g.W.Sink.seen c.args.writer.now) (g.W.Sink.seen c.match-exported.writer) = record {
-        place = w.in-Some.place;
-        there = at;
-        count = w.in_ok-replay_export-in-Some.field-0;
-        later = w.replay_export.new.world;
-        exports = rw (w.reader-is, w.writer-is, ← world) w.in_ok-replay_export-in-Some.ensures.ok;
-      } in
-      subst (λ export. DoesReplay export c.args.wanted.now.limits (map string_bytes c.args.wanted.now.tenants.items) (g.R.Source.seen c.args.reader.now) (g.R.Source.seen c.match-exported.reader)
-      (g.W.Sink.seen c.args.writer.now) (g.W.Sink.seen c.match-exported.writer)) (sym found.1) exports
-  | in-None+in_ok-replay-in-None w ↦
-      let none = nowhere _ c.deref-2.result.now c.in_ok-exported.exported c.in_ok-exported.ensures.ok w.in-None.is in
-      let given : c.deref-3.result.now ≡ map string_bytes c.args.wanted.now.tenants.items = search rules in
-      let world : c.in_ok-world.world ≡ fresh_world c.args.wanted.now.limits (map string_bytes c.args.wanted.now.tenants.items) = c.in_ok-world.ensures.world ∙ ap (fresh_world c.args.wanted.now.limits) given in
-      let replays : ReplaysFresh c.args.wanted.now.limits (map string_bytes c.args.wanted.now.tenants.items) (g.R.Source.seen c.args.reader.now) (g.R.Source.seen c.match-exported.reader)
-      (g.W.Sink.seen c.args.writer.now) (g.W.Sink.seen c.match-exported.writer) = record {
-        counts = w.in_ok-replay-in-None.field-0;
-        later = w.replay.new.world;
-        replays = rw (w.reader-is, w.writer-is, ← world) w.in_ok-replay-in-None.ensures.ok;
-      } in
-      subst (λ export. DoesReplay export c.args.wanted.now.limits (map string_bytes c.args.wanted.now.tenants.items) (g.R.Source.seen c.args.reader.now) (g.R.Source.seen c.match-exported.reader)
-      (g.W.Sink.seen c.args.writer.now) (g.W.Sink.seen c.match-exported.writer)) (sym none) replays
-]
+pub returns-in_ok-replay-in-None-clause-ok : goal.returns-in_ok-replay-in-None-clause-ok
+returns-in_ok-replay-in-None-clause-ok g c =
+    let names = map string_bytes c.args.wanted.now.tenants.items in
+    let none = nowhere _ c.as_slice-names.result.now c.in_ok-exported.exported c.in_ok-exported.ensures.ok c.in-None.is in
+    let given : c.as_slice-names.result.now ≡ map string_bytes c.args.wanted.now.tenants.items = search rules in
+    let world : c.deref_mut-in-None.result.now ≡ fresh_world c.args.wanted.now.limits names =
+    c.deref_mut-in-None.ensures.value ∙ (c.new-world.ensures ∙ (c.in_ok-world.ensures.world ∙ ap (fresh_world c.args.wanted.now.limits) given))
+    in
+    let replays : ReplaysFresh c.args.wanted.now.limits names (g.R.Source.seen c.args.reader.now) (g.R.Source.seen c.replay.new.reader)
+    (g.W.Sink.seen c.args.writer.now) (g.W.Sink.seen c.replay.new.writer) = record {
+      counts = c.in_ok-replay-in-None.field-0;
+      later = c.replay.new.world;
+      replays = subst (λ before. Replays (g.R.Source.seen c.args.reader.now) (g.R.Source.seen c.replay.new.reader) (g.W.Sink.seen c.args.writer.now)
+          (g.W.Sink.seen c.replay.new.writer) before c.in_ok-replay-in-None.field-0 c.replay.new.world) world c.in_ok-replay-in-None.ensures.ok;
+    } in
+    subst (λ export. DoesReplay export c.args.wanted.now.limits names (g.R.Source.seen c.args.reader.now) (g.R.Source.seen c.replay.new.reader)
+    (g.W.Sink.seen c.args.writer.now) (g.W.Sink.seen c.replay.new.writer)) (sym none) replays

@@ -1,14 +1,14 @@
 use Rattle.std.proofs.Common.{rules, ℕ, ◌≡◌, ◌∙◌, ◌⊎◌, inl, inr, Bool, true, false, Option, Some, None, Result, Ok, Err, IfSome, IfErr, OnOk, ◌≢◌, ◌<◌, ◌≤◌, map, refl, sym, ap, subst, arith}
 use Rattle.command_line.specs.Demand.{Demand, ToReplay, ToServe, ToCheck, ToLoad}
-use Rattle.collector.specs.Taking.{are_taken, is_taken}
+use Rattle.collector.specs.Taking.{is_taken}
 use Rattle.collector.specs.Fault.{status_of}
-use Rattle.collector.specs.Program.{Does, DoesInPart, ExportsFreshInPart, GoesThrough, IsFailure, IsUntouched, LacksMemory, LoadsExport, LoadsExportInPart, RefusesTenants, ShowsSome, TellsFault}
+use Rattle.collector.specs.Program.{Does, DoesInPart, ExportsFreshInPart, GoesThrough, IsFailure, IsUntouched, LacksMemory, LoadsExport, LoadsExportInPart, NothingFails, RefusesTenants, ShowsSome, TellsFault}
 use Rattle.collector.specs.Serving.{Serves, ServesInPart}
 use Rattle.line_protocol.specs.Source.{Given}
 use Rattle.line_protocol.specs.Sink.{Taken}
 use Rattle.std.proofs.lemmas.Bool.{cases_eq}
 use Rattle.std.specs.Global.{Global}
-use Rattle.std.specs.Prelude.{String, option_map, unwrap_or, IsSomeAnd, IsTrue, List, string_bytes}
+use Rattle.std.specs.Prelude.{String, option_map, unwrap_or, IsErrAnd, IsSomeAnd, IsTrue, List, string_bytes}
 use Rattle.trace_types.specs.text.Name.{Text, is_between, is_name}
 use Rattle.command_line.specs.declared.wanted.Replay.{Replay as Replays}
 use Rattle.collector.specs.declared.fault.Fault.{Fault}
@@ -42,27 +42,23 @@ done_taken before after true is = λ e. omega arith
 done_taken before after false is = cc
 
 status_taken : (before after : Taken) (fault : Fault) (taken : Bool) → TellsFault before after fault → (status_of fault ≡ 2 → (fault ≡ Tenants) × (taken ≡ false)) → (status_of fault ≡ 3 → taken ≡ true)
-    → RefusesTenants taken before after (status_of fault)
-status_taken before after Words true told refused in_part = let no = (refused refl).1 in cc
-status_taken before after Words false told refused in_part = let no = (refused refl).0 in cc
-status_taken before after Tenants true told refused in_part = let no = (refused refl).1 in cc
-status_taken before after Tenants false told refused in_part = inl (refl, told)
-status_taken before after Port true told refused in_part = λ e. omega arith
-status_taken before after Port false told refused in_part = let no = in_part refl in cc
-status_taken before after Accept true told refused in_part = λ e. omega arith
-status_taken before after Accept false told refused in_part = let no = in_part refl in cc
-status_taken before after Read true told refused in_part = λ e. omega arith
-status_taken before after Read false told refused in_part = let no = in_part refl in cc
-status_taken before after Write true told refused in_part = λ e. omega arith
-status_taken before after Write false told refused in_part = let no = in_part refl in cc
-status_taken before after TooLong true told refused in_part = λ e. omega arith
-status_taken before after TooLong false told refused in_part = let no = in_part refl in cc
-status_taken before after Memory true told refused in_part = λ e. omega arith
-status_taken before after Memory false told refused in_part = inr refl
-
-memory_taken : (before after : Taken) (taken : Bool) → RefusesTenants taken before after 4
-memory_taken before after true = λ e. omega arith
-memory_taken before after false = inr refl
+    → (status_of fault ≡ 4 → taken ≡ true) → RefusesTenants taken before after (status_of fault)
+status_taken before after Words true told refused in_part lacks = let no = (refused refl).1 in cc
+status_taken before after Words false told refused in_part lacks = let no = (refused refl).0 in cc
+status_taken before after Tenants true told refused in_part lacks = let no = (refused refl).1 in cc
+status_taken before after Tenants false told refused in_part lacks = (refl, told)
+status_taken before after Port true told refused in_part lacks = λ e. omega arith
+status_taken before after Port false told refused in_part lacks = let no = in_part refl in cc
+status_taken before after Accept true told refused in_part lacks = λ e. omega arith
+status_taken before after Accept false told refused in_part lacks = let no = in_part refl in cc
+status_taken before after Read true told refused in_part lacks = λ e. omega arith
+status_taken before after Read false told refused in_part lacks = let no = in_part refl in cc
+status_taken before after Write true told refused in_part lacks = λ e. omega arith
+status_taken before after Write false told refused in_part lacks = let no = in_part refl in cc
+status_taken before after TooLong true told refused in_part lacks = λ e. omega arith
+status_taken before after TooLong false told refused in_part lacks = let no = in_part refl in cc
+status_taken before after Memory true told refused in_part lacks = λ e. omega arith
+status_taken before after Memory false told refused in_part lacks = let no = lacks refl in cc
 
 three_only : (fault : Fault) → 2 < status_of fault → status_of fault ≢ 4 → status_of fault ≡ 3
 three_only Words more four = absurd (omega arith)
@@ -118,28 +114,41 @@ asked_by words (Show text) demand is read ranges = cc
 
 -- what running out of memory leaves of a replay
 replay_lacks : {R W : Type 0} (given : R → Given) (taken : W → Taken) (words : List Text) (fault : Fault) (replay : Replays) (reader reader' : R) (writer writer' : W)
-    → fault ≡ Memory → IsAskedBy words (ToReplay (wanted_of replay))
-    → IsUntouched reader reader' writer writer' ⊎ IsSomeAnd replay.export (λ name. (are_taken (map string_bytes replay.tenants.items) ≡ true)
-    × ExportsFreshInPart fault (string_bytes name) replay.limits (map string_bytes replay.tenants.items) (given reader) (given reader') (taken writer) (taken writer'))
-    → IsUntouched reader reader' writer writer' ⊎ ((asked : Demand) × IsAskedBy words asked × LacksMemory given taken asked reader reader' writer writer')
-replay_lacks given taken words fault replay reader reader' writer writer' fault_is asked (inl untouched) = inl untouched
-replay_lacks given taken words fault replay reader reader' writer writer' fault_is asked (inr part) =
-    inr (ToReplay (wanted_of replay), asked, exported replay.export part)
+    → fault ≡ Memory → IsAskedBy words (ToReplay (wanted_of replay)) → is_taken (ToReplay (wanted_of replay)) ≡ true
+    → IsUntouched reader reader' writer writer' ⊎ IsSomeAnd replay.export (λ name.
+    ExportsFreshInPart fault (string_bytes name) replay.limits (map string_bytes replay.tenants.items) (given reader) (given reader') (taken writer) (taken writer'))
+    → IsUntouched reader reader' writer writer'
+    ⊎ ((asked : Demand) × IsAskedBy words asked × (is_taken asked ≡ true) × LacksMemory given taken asked reader reader' writer writer')
+replay_lacks given taken words fault replay reader reader' writer writer' fault_is asked names (inl untouched) = inl untouched
+replay_lacks given taken words fault replay reader reader' writer writer' fault_is asked names (inr part) =
+    inr (ToReplay (wanted_of replay), asked, names, exported replay.export part)
   where
-    exported : (export : Option (String Global)) → IsSomeAnd export (λ name. (are_taken (map string_bytes replay.tenants.items) ≡ true)
-        × ExportsFreshInPart fault (string_bytes name) replay.limits (map string_bytes replay.tenants.items) (given reader) (given reader') (taken writer) (taken writer'))
+    exported : (export : Option (String Global)) → IsSomeAnd export (λ name. ExportsFreshInPart fault (string_bytes name) replay.limits (map string_bytes replay.tenants.items) (given reader) (given reader') (taken writer) (taken writer'))
         → IsSomeAnd (option_map string_bytes export) (λ name. ExportsFreshInPart Memory name replay.limits (map string_bytes replay.tenants.items)
         (given reader) (given reader') (taken writer) (taken writer'))
     exported None part = part
     exported (Some name) part =
         subst (λ one. ExportsFreshInPart one (string_bytes name) replay.limits (map string_bytes replay.tenants.items) (given reader) (given reader') (taken writer) (taken writer'))
-        fault_is part.1
+        fault_is part
 
--- tenants that are not refused are taken, if memory did not lack
-taken_unless : (before after : Taken) (taken : Bool) (status : ℕ) → RefusesTenants taken before after status → status ≢ 2 → status ≢ 4 → taken ≡ true
-taken_unless before after true status refuses other_than_two other_than_four = refl
-taken_unless before after false status (inl refused) other_than_two other_than_four = absurd (other_than_two refused.0)
-taken_unless before after false status (inr lacks) other_than_two other_than_four = absurd (other_than_four lacks)
+-- tenants that are not refused are taken
+taken_unless : (before after : Taken) (taken : Bool) (status : ℕ) → RefusesTenants taken before after status → status ≢ 2 → taken ≡ true
+taken_unless before after true status refuses other = refl
+taken_unless before after false status refuses other = absurd (other refuses.0)
+
+-- a service that ran out of memory met no failed write
+service_unfailed : (port : ℕ) (given : Given) (taken taken' : Taken) → ServesInPart Memory port taken taken' → NothingFails given given taken taken'
+service_unfailed port given taken taken' (inl same) = (λ e. omega (arith, e), λ e. omega (arith, e, ap (λ (t : Taken). t.failures) same))
+service_unfailed port given taken taken' (inr all) = (λ e. omega (arith, e), λ e. omega (arith, e, all.2))
+
+-- what failed is told with status 3, so nothing did at status 4
+unfailed : {T : Type 0} (before after : Given) (taken taken' : Taken) (result : Result T Fault) (fault : Fault) → result ≡ Err fault → status_of fault ≡ 4
+    → (before.failures < after.failures → IsErrAnd result (λ one. status_of one ≡ 3)) → (taken.failures < taken'.failures → IsErrAnd result (λ one. status_of one ≡ 3))
+    → NothingFails before after taken taken'
+unfailed {T} before after taken taken' result fault is four read write = (λ e. other (read e), λ e. other (write e))
+  where
+    other : IsErrAnd result (λ one. status_of one ≡ 3) → ⊥
+    other three = let at : status_of fault ≡ 3 = subst (λ r. IsErrAnd r (λ one. status_of one ≡ 3)) is three in omega (arith, four, at)
 
 -- why serving was broken off
 serving_failed : (fault : Fault) (port : ℕ) (before after : Given) (taken taken' : Taken) → status_of fault ≡ 3 → ServesInPart fault port taken taken'
@@ -155,7 +164,7 @@ serving_failed Memory port before after taken taken' three part = cc
 
 -- what was served went through
 served_through : (port sessions : ℕ) (given : Given) (taken taken' : Taken) → Serves port sessions taken taken' → GoesThrough given given taken taken'
-served_through port sessions given taken taken' serves = (λ e. omega (arith, e), λ e. omega (arith, e, serves.lines.2), serves.lines.1)
+served_through port sessions given taken taken' serves = ((λ e. omega (arith, e), λ e. omega (arith, e, serves.lines.2)), serves.lines.1)
 
 -- some text was shown
 told_some : (before after : Taken) → TellsFault before after Tenants → ShowsSome before after
@@ -181,12 +190,19 @@ returns-in-Ok-Serve g c =
           let refused = c.serve_programs.ensures.refused two in
           (inl by.taken, (search rules, refused.0), told_some told told' refused.1);
       tenants_refused = on_asked _ (λ asked. asked ≡ asked_is) _ by.exact (λ asked is.
-          subst (λ one. RefusesTenants (is_taken one) told told' c.serve_programs.result) (sym is) c.serve_programs.ensures.taken);
+          inl (subst (λ one. RefusesTenants (is_taken one) told told' c.serve_programs.result) (sym is) c.serve_programs.ensures.taken));
       memory = λ four.
           let broken = c.serve_programs.ensures.broken_off (omega arith) in
-          let fault_is = four_only broken.0 (sym broken.1 ∙ four) in (
+          let fault_is = four_only broken.0 (sym broken.1 ∙ four) in
+          let part = subst (λ fault. ServesInPart fault port taken taken') fault_is broken.2 in (
             subst (λ fault. TellsFault told told' fault) fault_is broken.3,
-            inr (asked_is, by, (refl, subst (λ fault. ServesInPart fault port taken taken') fault_is broken.2)),
+            service_unfailed port given taken taken' part,
+            inr (
+              asked_is,
+              by,
+              taken_unless told told' (is_taken asked_is) c.serve_programs.result c.serve_programs.ensures.taken (λ e. omega (arith, four, e)),
+              (refl, part),
+            ),
           );
       done = λ few.
           let did = c.serve_programs.ensures.done few in (
@@ -195,7 +211,7 @@ returns-in-Ok-Serve g c =
             inr (
               asked_is,
               by,
-              taken_unless told told' (is_taken asked_is) c.serve_programs.result c.serve_programs.ensures.taken (λ e. omega (arith, did.0, e)) (λ e. omega (arith, did.0, e)),
+              taken_unless told told' (is_taken asked_is) c.serve_programs.result c.serve_programs.ensures.taken (λ e. omega (arith, did.0, e)),
               (did.0, refl, did.2),
             ),
           );
@@ -218,7 +234,7 @@ returns-in-Ok-Serve g c =
             inr (
               asked_is,
               by,
-              taken_unless told told' (is_taken asked_is) c.serve_programs.result c.serve_programs.ensures.taken (λ e. omega (arith, others.0, e)) others.1,
+              taken_unless told told' (is_taken asked_is) c.serve_programs.result c.serve_programs.ensures.taken (λ e. omega (arith, others.0, e)),
               (refl, broken.2),
             ),
           );
@@ -255,8 +271,11 @@ returns-in-Ok-Check g c =
     record {
       words_refused = λ two. absurd (c.check_input.ensures.taken two);
       tenants_refused = on_asked _ (λ asked. asked ≡ ToCheck) _ by.exact (λ asked is.
-          subst (λ one. RefusesTenants (is_taken one) told told' c.check_input.result) (sym is) c.check_input.ensures.taken);
-      memory = λ four. let lacked = c.check_input.ensures.memory four in (lacked.1, inr (ToCheck, by, lacked.0));
+          inl (subst (λ one. RefusesTenants (is_taken one) told told' c.check_input.result) (sym is) c.check_input.ensures.taken));
+      memory = λ four.
+          let lacked = c.check_input.ensures.memory four in
+          let same = ap (λ writer. (g.W.Sink.seen writer).failures) lacked.0 in
+          (lacked.1, (c.check_input.ensures.unfailed four, λ e. omega (arith, e, same)), inr (ToCheck, by, refl, lacked.0));
       done = λ few.
           let did = c.check_input.ensures.done few in
           ((λ loud. did.0), did.1, inr (ToCheck, by, refl, did.2));
@@ -296,15 +315,17 @@ returns-in-Ok-Load g c =
           let refused = c.load_input.ensures.refused two in
           (inl by.taken, refused.0, told_some told told' refused.1);
       tenants_refused = on_asked _ (λ asked. asked ≡ ToLoad tenant) _ by.exact (λ asked is.
-          subst (λ one. RefusesTenants (is_taken one) told told' c.load_input.result) (sym is)
-          (subst (λ name. RefusesTenants (is_name name) told told' c.load_input.result) same c.load_input.ensures.taken));
+          inl (subst (λ one. RefusesTenants (is_taken one) told told' c.load_input.result) (sym is)
+          (subst (λ name. RefusesTenants (is_name name) told told' c.load_input.result) same c.load_input.ensures.taken)));
       memory = λ four.
           let broken = c.load_input.ensures.broken_off (omega (arith, four)) in
           let fault_is = four_only broken.0 (sym broken.1 ∙ four) in (
             subst (λ fault. TellsFault told told' fault) fault_is broken.5,
+            c.load_input.ensures.unfailed four,
             inr (
               ToLoad tenant,
               by,
+              subst (λ name. is_name name ≡ true) same broken.2,
               subst (λ name. LoadsExportInPart Memory name given given' taken taken') same
                   (subst (λ fault. LoadsExportInPart fault c.as_str.result.now given given' taken taken') fault_is broken.3),
             ),
@@ -351,7 +372,7 @@ returns-in-Ok g c = record {
         let field : w.in-Ok-Replay.field-0 ≡ Replay w.in-Ok-Replay.wanted = search rules in
         let is : asked ≡ ToReplay (wanted_of w.in-Ok-Replay.wanted) = subst (λ one. ReadsWords asked (Ok one)) field read in
         let taken = at_ok w.replay_tenants-done.result c.in-Ok.field-0 _ (sym w.done-is ∙ c.in-Ok.is) w.replay_tenants-done.ensures.taken in
-        done_taken _ _ (is_taken asked) (ap is_taken is ∙ taken))
+        inl (done_taken _ _ (is_taken asked) (ap is_taken is ∙ taken)))
     | in-Ok-Show w ↦ on_asked _ (λ asked. ReadsWords asked (Ok w.in-Ok-Show.field-0)) _ w.in-Ok-Show.ensures.asked (λ asked read.
         let field : w.in-Ok-Show.field-0 ≡ Show w.in-Ok-Show.text = search rules in
         absurd (subst (λ one. ReadsWords asked (Ok one)) field read))
@@ -430,27 +451,46 @@ returns-in-Err g c = record {
         let err = sym w.done-is ∙ c.in-Err.is in
         let refused = at_err w.replay_tenants-done.result c.in-Err.fault _ err w.replay_tenants-done.ensures.refused in
         let in_part = at_err w.replay_tenants-done.result c.in-Err.fault _ err w.replay_tenants-done.ensures.in_part in
-        subst (λ status. RefusesTenants (is_taken asked) (g.E.Sink.seen c.args.errors.now) (g.E.Sink.seen c.tell.new.errors) status) (sym c.tell.ensures.status)
-        (status_taken _ _ c.in-Err.fault (is_taken asked) c.tell.ensures.told (λ two. ((refused two).0, same ∙ (refused two).1)) (λ three. same ∙ (in_part three).0)))
+        let lacks = at_err w.replay_tenants-done.result c.in-Err.fault _ err w.replay_tenants-done.ensures.lacks in
+        inl (subst (λ status. RefusesTenants (is_taken asked) (g.E.Sink.seen c.args.errors.now) (g.E.Sink.seen c.tell.new.errors) status) (sym c.tell.ensures.status)
+        (status_taken _ _ c.in-Err.fault (is_taken asked) c.tell.ensures.told (λ two. ((refused two).0, same ∙ (refused two).1)) (λ three. same ∙ (in_part three).0) (λ four. same ∙ lacks four))))
     | in-Ok-Show w ↦ on_asked _ (λ asked. ReadsWords asked (Ok w.in-Ok-Show.field-0)) _ w.in-Ok-Show.ensures.asked (λ asked read.
         let field : w.in-Ok-Show.field-0 ≡ Show w.in-Ok-Show.text = search rules in
         absurd (subst (λ one. ReadsWords asked (Ok one)) field read))
     | in-Err-Memory w ↦ on_asked _ (λ asked. ReadsWords asked (Err w.in-Err-Memory.field-0)) _ w.in-Err-Memory.ensures.asked (λ asked read.
         let fault_is = same_err c.match-read_words.done c.in-Err.fault Memory c.in-Err.is w.done-is in
-        subst (λ status. RefusesTenants (is_taken asked) (g.E.Sink.seen c.args.errors.now) (g.E.Sink.seen c.tell.new.errors) status) (sym (c.tell.ensures.status ∙ ap status_of fault_is)) (memory_taken _ _ (is_taken asked)))
+        let untouched : IsUntouched c.args.reader.now c.match-read_words.reader c.args.writer.now c.match-read_words.writer = search rules in
+        inr (c.tell.ensures.status ∙ ap status_of fault_is, untouched))
   ];
   memory = λ four. (
     search rules,
     elim c.match-read_words.branch [
       | in-Ok-Replay w ↦
+          let done = w.replay_tenants-done in
+          let fails = unfailed (g.R.Source.seen c.args.reader.now) (g.R.Source.seen c.match-read_words.reader)
+          (g.W.Sink.seen c.args.writer.now) (g.W.Sink.seen c.match-read_words.writer) done.result c.in-Err.fault (sym w.done-is ∙ c.in-Err.is) (sym c.tell.ensures.status ∙ four) in
+          fails (rw w.reader-is done.ensures.read_failed) (rw w.writer-is done.ensures.write_failed)
+      | in-Ok-Show w ↦
+          let fault = at_err w.show_help-done.result c.in-Err.fault _ (sym w.done-is ∙ c.in-Err.is) w.show_help-done.ensures.err in
+          let no : 3 ≡ 4 = sym (c.tell.ensures.status ∙ ap status_of fault.0) ∙ four in
+          absurd (omega arith)
+      | in-Err-Memory w ↦
+          let untouched : IsUntouched c.args.reader.now c.match-read_words.reader c.args.writer.now c.match-read_words.writer = search rules in
+          let read = ap (λ reader. (g.R.Source.seen reader).failures) untouched.0 in
+          let written = ap (λ writer. (g.W.Sink.seen writer).failures) untouched.1 in
+          (λ e. omega (arith, e, read), λ e. omega (arith, e, written))
+    ],
+    elim c.match-read_words.branch [
+      | in-Ok-Replay w ↦
           let words = map g.S.AsStr.text c.args.words.now in
           let field : w.in-Ok-Replay.field-0 ≡ Replay w.in-Ok-Replay.wanted = search rules in
           let lacked = at_err w.replay_tenants-done.result c.in-Err.fault _ (sym w.done-is ∙ c.in-Err.is) w.replay_tenants-done.ensures.memory (sym c.tell.ensures.status ∙ four) in
+          let names = at_err w.replay_tenants-done.result c.in-Err.fault _ (sym w.done-is ∙ c.in-Err.is) w.replay_tenants-done.ensures.lacks (sym c.tell.ensures.status ∙ four) in
           let ranges : IsInRange (ToReplay (wanted_of w.in-Ok-Replay.wanted)) = search rules in
           let read = subst (IsReadAs words) field (w.in-Ok-Replay.ensures.kinds, w.in-Ok-Replay.ensures.asked, w.in-Ok-Replay.ensures.found) in
           let by = asked_by words (Replay w.in-Ok-Replay.wanted) (ToReplay (wanted_of w.in-Ok-Replay.wanted)) refl read ranges in
           replay_lacks g.R.Source.seen g.W.Sink.seen words c.in-Err.fault w.in-Ok-Replay.wanted c.args.reader.now c.match-read_words.reader c.args.writer.now c.match-read_words.writer
-          (four_only c.in-Err.fault (sym c.tell.ensures.status ∙ four)) by (rw (w.reader-is, w.writer-is) lacked)
+          (four_only c.in-Err.fault (sym c.tell.ensures.status ∙ four)) by names (rw (w.reader-is, w.writer-is) lacked)
       | in-Ok-Show w ↦
           let fault = at_err w.show_help-done.result c.in-Err.fault _ (sym w.done-is ∙ c.in-Err.is) w.show_help-done.ensures.err in
           let no : 3 ≡ 4 = sym (c.tell.ensures.status ∙ ap status_of fault.0) ∙ four in
