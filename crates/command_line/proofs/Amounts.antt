@@ -4,13 +4,14 @@ use Rattle.std.specs.Prelude.{nat_lt, ◌==◌}
 use Rattle.std.specs.List.{list_all}
 use Rattle.std.specs.Char.{digit_value}
 use Rattle.std.specs.Str.Parse.{AllDigits, IsNumeral, ParsesUnsigned, digits_value, without_leading_plus}
-use Rattle.std.proofs.lemmas.Bool.{and_parts, and_from, leb-true, le-leb, lt-ltb, not_from_false, ne_eqb}
+use Rattle.std.proofs.lemmas.Bool.{and_parts, and_from, leb-true, le-leb, lt-ltb, ltb-true, not_from_false, ne_eqb}
 use Rattle.std.proofs.lemmas.Str.Parse.{IsDigitsTest, FoldsDigits, IsNumeralModel, numerals_by_fold, digits_value_short, without_leading_plus_none}
 use Rattle.clap.specs.Words.{ReadsOne}
 use Rattle.clap.specs.ValueTests.{is_unsigned_in}
 use Rattle.trace_types.specs.text.Name.{Text, is_between}
 use Rattle.trace_types.specs.text.Reading.{is_digit, number_onto, is_number, number_of}
 use Rattle.command_line.specs.Demand.{is_plain}
+use Rattle.command_line.specs.Reading.{amount_spelled}
 
 between : (low high n : ℕ) → is_between low high n ≡ true → (low ≤ n) × (n ≤ high)
 between low high n within = let parts = and_parts (leb low n) (leb n high) within in (leb-true low n parts.0, leb-true n high parts.1)
@@ -81,13 +82,54 @@ passes most word number is within =
     (and_from _ _ (and_from _ _ (lt-ltb 0 (length word) is.numeral.0) (all_digits word is.numeral.1))
     (and_from _ _ (lt-ltb number (2 ^ 64) large) within))
 
+-- an option's word that spells a number spells it in clap's way too
+pub is_amount : (word : Text) (number : ℕ) → number_of word ≡ Some number → amount_spelled word ≡ Some number
+is_amount word number of =
+    let is = spells word number of in
+    let small : number < 2 ^ 64 = omega (arith, is.small) in
+    let most : number ≤ 18446744073709551615 = omega (arith, is.small) in
+    let taken : is_unsigned_in 0 18446744073709551615 word ≡ true =
+    rw (is.no_plus, is.value)
+    (and_from _ _ (and_from _ _ (lt-ltb 0 (length word) is.numeral.0) (all_digits word is.numeral.1))
+    (and_from _ _ (lt-ltb number (2 ^ 64) small) (and_from (leb 0 number) (leb number 18446744073709551615) (le-leb 0 number (omega arith)) (le-leb number 18446744073709551615 most)))) in
+    rw taken (ap Some (ap (digits_value 10) is.no_plus ∙ is.value))
+
+-- what is known of a word that spells a number in clap's way
+record IsAmount (word : Text) (number : ℕ) : Type 0 where
+  numeral : IsNumeral 10 (without_leading_plus word)
+  value : digits_value 10 (without_leading_plus word) ≡ number
+  small : number < 2 ^ 64
+
+each_digit : (word : Text) → list_all (λ digit. nat_lt (digit_value digit) 10) word ≡ true → AllDigits 10 word
+each_digit [] all = tt
+each_digit (byte ∷ bytes) all =
+    let parts = and_parts (nat_lt (digit_value byte) 10) (list_all (λ digit. nat_lt (digit_value digit) 10) bytes) all in
+    (ltb-true (digit_value byte) 10 parts.0, each_digit bytes parts.1)
+
+amount : (word : Text) (number : ℕ) → amount_spelled word ≡ Some number → IsAmount word number
+amount word number of = go (is_unsigned_in 0 18446744073709551615 word) refl of
+  where
+    digits : Text
+    digits = without_leading_plus word
+
+    go : (b : Bool) → is_unsigned_in 0 18446744073709551615 word ≡ b → (if b then Some (digits_value 10 digits) else None) ≡ Some number → IsAmount word number
+    go true is e =
+        let n = digits_value 10 digits in
+        let parts = and_parts (nat_lt 0 (length digits) && list_all (λ digit. nat_lt (digit_value digit) 10) digits) (nat_lt n (2 ^ 64) && (leb 0 n && leb n 18446744073709551615)) is in
+        let numeral = and_parts (nat_lt 0 (length digits)) (list_all (λ digit. nat_lt (digit_value digit) 10) digits) parts.0 in
+        let range = and_parts (nat_lt n (2 ^ 64)) (leb 0 n && leb n 18446744073709551615) parts.1 in
+        let value : n ≡ number = ap (λ o. Rattle.std.specs.Prelude.unwrap_or o n) e in
+        record {
+          numeral = (ltb-true 0 (length digits) numeral.0, each_digit digits numeral.1);
+          value = value;
+          small = subst (λ m. m < 2 ^ 64) value (ltb-true n (2 ^ 64) range.0);
+        }
+    go false is e = cc
+
 -- and its number is read
 pub reads : (E : Type 0) (G : List ℕ → Result ℕ E → Type 0) (word : Text) (number : ℕ) (r : Option ℕ)
-    → Spells word number → ((t : List ℕ) (x : Result ℕ E) → G t x → ParsesUnsigned 64 10 t x) → ReadsOne G word r → r ≡ Some number
-reads E G word number (Some n) is only read = ap Some ((only word (Ok n) read).1 ∙ (ap (digits_value 10) is.no_plus ∙ is.value))
-reads E G word number None is only read =
-    let large : number < 2 ^ 64 = omega (arith, is.small) in
-    absurd (only word (Err read.0) read.1 (
-      subst (λ t. IsNumeral 10 t) (sym is.no_plus) is.numeral,
-      subst (λ n. n < 2 ^ 64) (sym (ap (digits_value 10) is.no_plus ∙ is.value)) large,
-    ))
+    → amount_spelled word ≡ Some number → ((t : List ℕ) (x : Result ℕ E) → G t x → ParsesUnsigned 64 10 t x) → ReadsOne G word r → r ≡ Some number
+reads E G word number (Some n) of only read = ap Some ((only word (Ok n) read).1 ∙ (amount word number of).value)
+reads E G word number None of only read =
+    let is = amount word number of in
+    absurd (only word (Err read.0) read.1 (is.numeral, subst (λ n. n < 2 ^ 64) (sym is.value) is.small))

@@ -14,7 +14,8 @@ use Rattle.trace_types.specs.tenant.Limits.{Limits, are_limits}
 use Rattle.trace_types.specs.text.Name.{Text, is_between, is_same}
 use Rattle.trace_types.specs.text.Reading.{number_of}
 use Rattle.command_line.specs.Demand.{AskedReplay, AskedService, Demand, ToReplay, ToServe, ToCheck, ToLoad, Role, Tenant, Events, Tasks, Messages, Cache, Export, Port, Workers, Sessions, Part, replay_asked_by, cache_by, asked_by_options, export_by, port_by, replay_asked_in, service_asked_by, service_asked_in, service_with, check_asked_in, load_asked_in, load_with, asked_in, asked_with, is_plain, is_role, limit_by, limits_by, limits_of, number_up_to, option_named, option_of, parts_after, words_for}
-use Rattle.command_line.specs.Reading.{Has, amount_in, cache_found, limits_found, limits_in, number_found, program_app, tenants_found, work_found, work_with, export_found}
+use Rattle.command_line.specs.Reading.{Has, amount_in, amount_spelled, cache_found, limits_found, limits_in, number_found, program_app, tenants_found, work_found, work_with, export_found}
+use Rattle.command_line.proofs.Amounts.{is_amount}
 use Rattle.command_line.proofs.CommandLine.{Fits, FitsOnce, PlainOnce, same_role, Verb, Replays, Serves, Loads, finds, has_option, has_role, have_roles, id_of, options_of, row_of, simple, spelled, spelled_with, takes_parts}
 use Rattle.command_line.proofs.Rows.{row_in}
 
@@ -143,12 +144,12 @@ limit_within default most (word ∷ other ∷ words) number fine e = cc
 amount_found : (role : Role) (default most : ℕ) (words : List Text) (number : ℕ) (rows : List Row) → row_in (id_of role) rows ≡ row_of role words
     → limit_by default most words ≡ Some number → amount_in (id_of role) default rows ≡ Some number
 amount_found role default most words number rows row e =
-    ap (λ found. Rattle.std.specs.Option.option_map_or number_of (option_and_then row_text found) (Some default)) row ∙ go words e
+    ap (λ found. Rattle.std.specs.Option.option_map_or amount_spelled (option_and_then row_text found) (Some default)) row ∙ go words e
   where
     go : (words : List Text) → limit_by default most words ≡ Some number
-        → Rattle.std.specs.Option.option_map_or number_of (option_and_then row_text (row_of role words)) (Some default) ≡ Some number
+        → Rattle.std.specs.Option.option_map_or amount_spelled (option_and_then row_text (row_of role words)) (Some default) ≡ Some number
     go [] e = e
-    go (word ∷ []) e = (in_range most word number e).0
+    go (word ∷ []) e = is_amount word number (in_range most word number e).0
     go (word ∷ other ∷ words) e = cc
 
 port_fits : (words : List Text) (port : ℕ) → port_by words ≡ Some port → FitsOnce 65535 words

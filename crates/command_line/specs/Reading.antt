@@ -1,16 +1,17 @@
 -- The command line as it is built, and what is read of it.
 use Rattle.std.specs.Prelude.{◌≡◌, ℕ, Bool, true, false, IsTrue, List, Option, Some, None, IfSome, Result, Ok, Err, ◌⊎◌, [], codes, ◌∷◌, option_map, option_and_then, if◌then◌else◌, map, string_bytes}
 use Rattle.std.specs.Option.{option_map_or}
+use Rattle.std.specs.Str.Parse.{digits_value, without_leading_plus}
 use Rattle.clap.specs.Words.{App, Row, Rule, Text, all_of, first_of, one_of, new_app, new_rule, subcommand_of, with_rule, with_subcommand}
 use Rattle.clap.specs.Faults.{fault_of}
 use Rattle.clap.specs.Kinds.{IsAmong}
+use Rattle.clap.specs.ValueTests.{is_unsigned_in}
 use Rattle.clap.specs.declared.error.kind.ErrorKind.{ErrorKind}
 use Rattle.clap.specs.declared.error.kind.ErrorKind.TheVariants.{DisplayHelp, DisplayVersion}
 use Rattle.clap.specs.declared.builder.ArgAction.TheVariants.{Append, Set}
 use Rattle.clap.specs.declared.builder.value_parser.ValueParser.TheVariants as parser
 use Rattle.trace_types.specs.tenant.Limits.{Limits, are_limits, default_limits}
 use Rattle.trace_types.specs.text.Name.{is_between, is_same}
-use Rattle.trace_types.specs.text.Reading.{number_of}
 use Rattle.command_line.specs.Demand.{AskedReplay as Wanted, AskedService, Demand, ToReplay, ToServe, ToCheck, ToLoad, asked_in, limits_of}
 use Rattle.command_line.specs.declared.words.Asked.{Asked}
 use Rattle.command_line.specs.declared.words.Asked.TheVariants.{Replay, Serve, Check, Load, Show}
@@ -159,9 +160,14 @@ tenants_found = option_and_then (λ found. all_of (codes "TENANT") found.1)
 abbrev pub FindsTenants : Option (Text × List Row) → List Text → Type 0
 FindsTenants found tenants = (names : List Text) → tenants_found found ≡ Some names → tenants ≡ names
 
+-- the number that the word of an option spells, as a number below 2^64 is read: digits, with a plus in front or none
+abbrev pub amount_spelled : Text → Option ℕ
+amount_spelled word =
+    if is_unsigned_in 0 18446744073709551615 word then Some (digits_value 10 (without_leading_plus word)) else None
+
 -- the number of the option of this name, and this one by default
 abbrev pub amount_in : Text → ℕ → List Row → Option ℕ
-amount_in name default rows = option_map_or number_of (one_of name rows) (Some default)
+amount_in name default rows = option_map_or amount_spelled (one_of name rows) (Some default)
 
 -- the limits among what was found, if they are in their ranges
 abbrev pub limits_in : List Row → Option Limits
