@@ -9,8 +9,9 @@ use Rattle.trace_types.specs.world.World.{World}
 use Rattle.line_protocol.specs.Source.{Given}
 use Rattle.line_protocol.specs.Sink.{Taken}
 use Rattle.line_protocol.specs.Writing.{EndsInFault}
-use Rattle.trace_export.specs.Checked.{Judges}
-use Rattle.trace_export.specs.Loads.{BreaksLoading, Loads, LoadsAs}
+use Rattle.trace_export.specs.Checked.{Judges, StopsReading}
+use Rattle.trace_export.specs.Loads.{BreaksLoading, Loads, LoadsAs, StopsLoading}
+use Rattle.trace_export.specs.ReadTo.{StopsAtLine}
 use Rattle.trace_export.specs.Reasons.{reason_number}
 use Rattle.trace_export.specs.declared.load_fault.LoadFault.{LoadFault}
 use Rattle.trace_export.specs.declared.loaded.Loaded.{Loaded}
@@ -122,26 +123,28 @@ abbrev pub status_of_verdict : Verdict → ℕ
 status_of_verdict (Yes events) = 0
 status_of_verdict (No line reason) = 1
 
--- A verdict on what the reader gave was told, by its line and by the status.
-pub record TellsVerdict (before after : Given) (taken taken' : Taken) (status : ℕ) : Type 0 where
+-- A verdict on what the reader gave was told, by its line and by the status. Nothing behind a faulty line was asked for.
+pub record TellsVerdict {R : Type 0} (given : R → Given) (reader reader' : R) (taken taken' : Taken) (status : ℕ) : Type 0 where
   pub verdict : Verdict
-  pub judges : Judges before after verdict
+  pub judges : Judges (given reader) (given reader') verdict
+  pub stops : StopsReading given reader reader' verdict
   pub line : ShowsAll taken taken' (line_of_verdict verdict)
   pub status_is : status ≡ status_of_verdict verdict
 
 -- A prefix of the line of such a verdict was written.
-pub record TellsFrontOfVerdict (before after : Given) (taken taken' : Taken) : Type 0 where
+pub record TellsFrontOfVerdict {R : Type 0} (given : R → Given) (reader reader' : R) (taken taken' : Taken) : Type 0 where
   pub verdict : Verdict
-  pub judges : Judges before after verdict
+  pub judges : Judges (given reader) (given reader') verdict
+  pub stops : StopsReading given reader reader' verdict
   pub line : ShowsFront taken.bytes taken'.bytes (line_of_verdict verdict)
 
 -- A check was broken off by this fault: nothing was written, unless the fault is one of writing.
-abbrev pub ChecksInPart : (fault : Fault) (before after : Given) (taken taken' : Taken) → Type 0
-ChecksInPart Read before after taken taken' = taken' ≡ taken
-ChecksInPart Write before after taken taken' = TellsFrontOfVerdict before after taken taken'
-ChecksInPart TooLong before after taken taken' = taken' ≡ taken
-ChecksInPart Memory before after taken taken' = taken' ≡ taken
-ChecksInPart fault before after taken taken' = ⊥
+abbrev pub ChecksInPart : {R : Type 0} (given : R → Given) (fault : Fault) (reader reader' : R) (taken taken' : Taken) → Type 0
+ChecksInPart given Read reader reader' taken taken' = taken' ≡ taken
+ChecksInPart given Write reader reader' taken taken' = TellsFrontOfVerdict given reader reader' taken taken'
+ChecksInPart given TooLong reader reader' taken taken' = taken' ≡ taken
+ChecksInPart given Memory reader reader' taken taken' = taken' ≡ taken
+ChecksInPart given fault reader reader' taken taken' = ⊥
 
 -- The replay was done, or, if the name of a tenant is given, its export.
 abbrev pub DoesReplay : (export : Option Text) (limits : Limits) (names : List Text) (before after : Given) (taken taken' : Taken) → Type 0
@@ -171,39 +174,43 @@ line_of_loaded (loaded.Done count) = None
 line_of_loaded (loaded.No line reason) = Some (line_of_no line reason)
 
 -- What the reader gave was loaded for this tenant, and what was written was handed on. If nothing was, this line is to tell
--- why.
-pub record LoadsToTell (line : Option Text) (tenant : Text) (before after : Given) (taken taken' : Taken) : Type 0 where
+-- why. Nothing behind a faulty line was asked for.
+pub record LoadsToTell {R : Type 0} (given : R → Given) (line : Option Text) (tenant : Text) (reader reader' : R) (taken taken' : Taken) : Type 0 where
   pub loaded : Loaded
   pub between : Taken
-  pub loads : Loads before after taken between tenant loaded
+  pub loads : Loads (given reader) (given reader') taken between tenant loaded
+  pub stops : StopsLoading given reader reader' loaded
   pub handed_on : taken'.bytes ≡ between.bytes
   pub line_is : line ≡ line_of_loaded loaded
 
--- Why what the reader gave is not loaded was told by a line on standard error.
-pub record TellsNo (before after : Given) (told told' : Taken) : Type 0 where
+-- Why what the reader gave is not loaded was told by a line on standard error. Nothing behind the faulty line was asked for.
+pub record TellsNo {R : Type 0} (given : R → Given) (reader reader' : R) (told told' : Taken) : Type 0 where
   pub number : ℕ
   pub reason : Reason
   pub rows : List Row
-  pub loads : LoadsAs before after (loaded.No number reason) rows
+  pub loads : LoadsAs (given reader) (given reader') (loaded.No number reason) rows
+  pub stops : StopsAtLine given number reader reader'
   pub line : Shows told told' (line_of_no number reason)
 
--- A line of what the reader gave is faulty, and nothing was written.
-abbrev pub FindsFaultyLine : (before after : Given) (taken taken' : Taken) → Type 0
-FindsFaultyLine before after taken taken' = (number : ℕ) × (reason : Reason) × (rows : List Row)
-    × LoadsAs before after (loaded.No number reason) rows × (taken'.bytes ≡ taken.bytes)
+-- A line of what the reader gave is faulty, nothing behind it was asked for, and nothing was written.
+abbrev pub FindsFaultyLine : {R : Type 0} (given : R → Given) (reader reader' : R) (taken taken' : Taken) → Type 0
+FindsFaultyLine given reader reader' taken taken' = (number : ℕ) × (reason : Reason) × (rows : List Row)
+    × LoadsAs (given reader) (given reader') (loaded.No number reason) rows × StopsAtLine given number reader reader'
+    × (taken'.bytes ≡ taken.bytes)
 
--- All was loaded, and what was written could not be handed on.
-abbrev pub LoadsUnflushed : (tenant : Text) (before after : Given) (taken taken' : Taken) → Type 0
-LoadsUnflushed tenant before after taken taken' = (loaded : Loaded) × (between : Taken)
-    × Loads before after taken between tenant loaded × (taken'.bytes ≡ between.bytes)
+-- All was loaded, or the faulty line found, and what was written could not be handed on.
+abbrev pub LoadsUnflushed : {R : Type 0} (given : R → Given) (tenant : Text) (reader reader' : R) (taken taken' : Taken) → Type 0
+LoadsUnflushed given tenant reader reader' taken taken' = (loaded : Loaded) × (between : Taken)
+    × Loads (given reader) (given reader') taken between tenant loaded × StopsLoading given reader reader' loaded
+    × (taken'.bytes ≡ between.bytes)
 
 -- Loading for this tenant was broken off by this fault; or its end could not be told: what was written could not be handed
 -- on, or there was no memory for the line that tells which line is faulty.
-abbrev pub LoadsExportInPart : (fault : Fault) (tenant : Text) (before after : Given) (taken taken' : Taken) → Type 0
-LoadsExportInPart fault tenant before after taken taken' =
-    ((cause : LoadFault) × (fault_of_load cause ≡ fault) × BreaksLoading cause before after taken taken' tenant)
-    ⊎ ((fault ≡ Write) × LoadsUnflushed tenant before after taken taken')
-    ⊎ ((fault ≡ Memory) × FindsFaultyLine before after taken taken')
+abbrev pub LoadsExportInPart : {R : Type 0} (given : R → Given) (fault : Fault) (tenant : Text) (reader reader' : R) (taken taken' : Taken) → Type 0
+LoadsExportInPart given fault tenant reader reader' taken taken' =
+    ((cause : LoadFault) × (fault_of_load cause ≡ fault) × BreaksLoading cause (given reader) (given reader') taken taken' tenant)
+    ⊎ ((fault ≡ Write) × LoadsUnflushed given tenant reader reader' taken taken')
+    ⊎ ((fault ≡ Memory) × FindsFaultyLine given reader reader' taken taken')
 
 -- It was broken off by this fault.
 abbrev pub DoesReplayInPart : (export : Option Text) (fault : Fault) (limits : Limits) (names : List Text) (before after : Given) (taken taken' : Taken) → Type 0
@@ -211,20 +218,21 @@ DoesReplayInPart None fault limits names before after taken taken' = ReplaysFres
 DoesReplayInPart (Some name) fault limits names before after taken taken' = ExportsFreshInPart fault name limits names before after taken taken'
 
 -- What is asked for was done, and this status tells it.
-abbrev pub Does : (asked : Demand) (before after : Given) (taken taken' : Taken) (status : ℕ) → Type 0
-Does (ToReplay asked) before after taken taken' status =
-    (status ≡ 0) × DoesReplay asked.export asked.limits asked.tenants before after taken taken'
-Does (ToServe asked) before after taken taken' status = (status ≡ 0) × (after ≡ before) × Serves asked.port asked.sessions taken taken'
-Does ToCheck before after taken taken' status = TellsVerdict before after taken taken' status
-Does (ToLoad tenant) before after taken taken' status = LoadsExport tenant before after taken taken' status
+abbrev pub Does : {R : Type 0} (given : R → Given) (asked : Demand) (reader reader' : R) (taken taken' : Taken) (status : ℕ) → Type 0
+Does given (ToReplay asked) reader reader' taken taken' status =
+    (status ≡ 0) × DoesReplay asked.export asked.limits asked.tenants (given reader) (given reader') taken taken'
+Does given (ToServe asked) reader reader' taken taken' status =
+    (status ≡ 0) × (reader' ≡ reader) × Serves asked.port asked.sessions taken taken'
+Does given ToCheck reader reader' taken taken' status = TellsVerdict given reader reader' taken taken' status
+Does given (ToLoad tenant) reader reader' taken taken' status = LoadsExport tenant (given reader) (given reader') taken taken' status
 
 -- What is asked for was broken off by this fault.
-abbrev pub DoesInPart : (asked : Demand) (fault : Fault) (before after : Given) (taken taken' : Taken) → Type 0
-DoesInPart (ToReplay asked) fault before after taken taken' =
-    DoesReplayInPart asked.export fault asked.limits asked.tenants before after taken taken'
-DoesInPart (ToServe asked) fault before after taken taken' = (after ≡ before) × ServesInPart fault asked.port taken taken'
-DoesInPart ToCheck fault before after taken taken' = ChecksInPart fault before after taken taken'
-DoesInPart (ToLoad tenant) fault before after taken taken' = LoadsExportInPart fault tenant before after taken taken'
+abbrev pub DoesInPart : {R : Type 0} (given : R → Given) (asked : Demand) (fault : Fault) (reader reader' : R) (taken taken' : Taken) → Type 0
+DoesInPart given (ToReplay asked) fault reader reader' taken taken' =
+    DoesReplayInPart asked.export fault asked.limits asked.tenants (given reader) (given reader') taken taken'
+DoesInPart given (ToServe asked) fault reader reader' taken taken' = (reader' ≡ reader) × ServesInPart fault asked.port taken taken'
+DoesInPart given ToCheck fault reader reader' taken taken' = ChecksInPart given fault reader reader' taken taken'
+DoesInPart given (ToLoad tenant) fault reader reader' taken taken' = LoadsExportInPart given fault tenant reader reader' taken taken'
 
 -- What running out of memory leaves of what was asked for. Only an export, a service, a check and a load can have begun then.
 abbrev pub LacksMemory : {R W : Type 0} (given : R → Given) (taken : W → Taken) (asked : Demand) → R → R → W → W → Type 0
@@ -234,13 +242,13 @@ LacksMemory given taken (ToServe asked) reader reader' writer writer' = (reader'
     × ServesInPart Memory asked.port (taken writer) (taken writer')
 LacksMemory given taken ToCheck reader reader' writer writer' = writer' ≡ writer
 LacksMemory given taken (ToLoad tenant) reader reader' writer writer' =
-    LoadsExportInPart Memory tenant (given reader) (given reader') (taken writer) (taken writer')
+    LoadsExportInPart given Memory tenant reader reader' (taken writer) (taken writer')
 
 -- nothing was told on standard error, but why an export is not loaded
 abbrev pub IsQuiet : {E : Type 0} → Work → ℕ → E → E → Type 0
 IsQuiet work status errors errors' = ((status ≡ 1) × (work ≡ Loading) → ⊥) → errors' ≡ errors
 
 -- What a run that fails leaves: the fault's cause, and in part what is asked for.
-abbrev pub BreaksOff : (before after : Given) (taken taken' : Taken) → Option Demand → Fault → Type 0
-BreaksOff before after taken taken' asked fault = IsFailure before after taken taken' fault
-    × IfSome asked (λ wanted. DoesInPart wanted fault before after taken taken')
+abbrev pub BreaksOff : {R : Type 0} (given : R → Given) (reader reader' : R) (taken taken' : Taken) → Option Demand → Fault → Type 0
+BreaksOff given reader reader' taken taken' asked fault = IsFailure (given reader) (given reader') taken taken' fault
+    × IfSome asked (λ wanted. DoesInPart given wanted fault reader reader' taken taken')

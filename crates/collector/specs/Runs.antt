@@ -39,17 +39,17 @@ pub record Runs {R W E : Type 0} (given : R → Given) (taken : W → Taken) (to
       × GoesThrough (given reader) (given reader') (taken writer) (taken writer')
       × (((status ≡ 0) × AsksForHelp (kinds_of words) × (reader' ≡ reader) × ShowsSomeAll (taken writer) (taken writer'))
       ⊎ ((asked : Demand) × IsAskedBy words asked × (is_taken asked ≡ true)
-      × Does asked (given reader) (given reader') (taken writer) (taken writer') status))
-  -- If an export is not loaded, a line tells why.
-  pub not_loaded : status ≡ 1 → work_of words ≡ Loading → TellsNo (given reader) (given reader') (told errors) (told errors')
+      × Does given asked reader reader' (taken writer) (taken writer') status))
+  -- If an export is not loaded, a line tells why. Nothing was asked for behind the faulty line.
+  pub not_loaded : status ≡ 1 → work_of words ≡ Loading → TellsNo given reader reader' (told errors) (told errors')
   -- If the words are a command with its options and tenants, and nothing else, that was done and no help shown.
   pub did : status < 2 → IfSome (asked_in words) (λ asked.
-      Does asked (given reader) (given reader') (taken writer) (taken writer') status)
+      Does given asked reader reader' (taken writer) (taken writer') status)
   -- Any other status is 3, and the fault that broke the run off is told. Help was asked for, nothing was read, and a
   -- write of the help failed; or the words are taken, and what they ask for was done in part.
   pub broken_off : (2 < status) × (status ≢ 4) → (status ≡ 3) × (fault : Fault)
-      × BreaksOff (given reader) (given reader') (taken writer) (taken writer') (asked_in words) fault
+      × BreaksOff given reader reader' (taken writer) (taken writer') (asked_in words) fault
       × TellsFault (told errors) (told errors') fault
       × ((AsksForHelp (kinds_of words) × (reader' ≡ reader) × (fault ≡ Write) × ShowsSome (taken writer) (taken writer'))
       ⊎ ((asked : Demand) × IsAskedBy words asked × (is_taken asked ≡ true)
-      × DoesInPart asked fault (given reader) (given reader') (taken writer) (taken writer')))
+      × DoesInPart given asked fault reader reader' (taken writer) (taken writer')))

@@ -6,6 +6,7 @@ ghost use Rattle.collector.specs.Taking.{are_taken};
 
 use crate::fault::Fault;
 use trace_types::Name;
+use trace_world::World;
 
 /// The names of at most 16 tenants, in place: tenants are refused before any memory is taken.
 #[derive(Drop)]
@@ -17,7 +18,7 @@ pub(crate) struct Names {
 
 impl Names {
     /// The most tenants of a world, and of a hub.
-    const MOST: usize = 16;
+    const MOST: usize = World::MOST_TENANTS;
 
     /// The names that these texts are. It is refused if one of them is no name, or if they are too many.
     pub(crate) fn read(texts: &[String]) -> Result<Names, Fault>

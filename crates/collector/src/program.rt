@@ -194,13 +194,13 @@ fn check_input<R: Source, W: Sink, E: Sink>(
 ) -> u8
     ensures done { result < 2 → (errors.new ≡ errors.old)
         × GoesThrough (R.seen reader.old) (R.seen reader.new) (W.seen writer.old) (W.seen writer.new)
-        × TellsVerdict (R.seen reader.old) (R.seen reader.new) (W.seen writer.old) (W.seen writer.new) result }
+        × TellsVerdict R.seen reader.old reader.new (W.seen writer.old) (W.seen writer.new) result }
     ensures taken { result ≢ 2 }
     ensures memory { result ≡ 4 → (writer.new ≡ writer.old) × TellsFault (E.seen errors.old) (E.seen errors.new) Fault.Memory }
     ensures unfailed { result ≡ 4 → (R.seen reader.old).failures < (R.seen reader.new).failures → ⊥ }
     ensures broken_off { 2 < result → result ≢ 4 → (result ≡ 3) × (fault : Fault)
         × IsFailure (R.seen reader.old) (R.seen reader.new) (W.seen writer.old) (W.seen writer.new) fault
-        × ChecksInPart fault (R.seen reader.old) (R.seen reader.new) (W.seen writer.old) (W.seen writer.new)
+        × ChecksInPart R.seen fault reader.old reader.new (W.seen writer.old) (W.seen writer.new)
         × TellsFault (E.seen errors.old) (E.seen errors.new) fault }
 {
     match tell_verdict(alloc, reader, writer) {
@@ -215,14 +215,14 @@ fn tell_verdict<R: Source, W: Sink>(
     reader: &mut R,
     writer: &mut W,
 ) -> Result<u8, Fault>
-    ensures told { IfOk result (TellsVerdict (R.seen reader.old) (R.seen reader.new) (W.seen writer.old) (W.seen writer.new)) }
+    ensures told { IfOk result (TellsVerdict R.seen reader.old reader.new (W.seen writer.old) (W.seen writer.new)) }
     ensures through { OnOk result (GoesThrough (R.seen reader.old) (R.seen reader.new) (W.seen writer.old) (W.seen writer.new)) }
     ensures taken { IfErr result (λ fault. status_of fault ≢ 2) }
     ensures memory { IsErrOf result Fault.Memory → writer.new ≡ writer.old }
     ensures unfailed { IsErrOf result Fault.Memory → (R.seen reader.old).failures < (R.seen reader.new).failures → ⊥ }
     ensures in_part { IfErr result (λ fault. fault ≢ Fault.Memory →
         IsFailure (R.seen reader.old) (R.seen reader.new) (W.seen writer.old) (W.seen writer.new) fault
-        × ChecksInPart fault (R.seen reader.old) (R.seen reader.new) (W.seen writer.old) (W.seen writer.new)) }
+        × ChecksInPart R.seen fault reader.old reader.new (W.seen writer.old) (W.seen writer.new)) }
 {
     let verdict = check(alloc, reader)?;
     let line = verdict_line(alloc, verdict).map_err(|_| Fault::Memory)?;
@@ -267,9 +267,9 @@ fn load_input<T, R: Source, W: Sink, E: Sink>(
     ensures done { result < 2 → GoesThrough (R.seen reader.old) (R.seen reader.new) (W.seen writer.old) (W.seen writer.new)
         × IsTrue (is_name tenant.now) × LoadsExport tenant.now (R.seen reader.old) (R.seen reader.new) (W.seen writer.old) (W.seen writer.new) result }
     ensures quiet { result ≡ 0 → errors.new ≡ errors.old }
-    ensures not_loaded { result ≡ 1 → TellsNo (R.seen reader.old) (R.seen reader.new) (E.seen errors.old) (E.seen errors.new) }
+    ensures not_loaded { result ≡ 1 → TellsNo R.seen reader.old reader.new (E.seen errors.old) (E.seen errors.new) }
     ensures broken_off { 2 < result → (fault : Fault) × (result ≡ status_of fault) × IsTrue (is_name tenant.now)
-        × LoadsExportInPart fault tenant.now (R.seen reader.old) (R.seen reader.new) (W.seen writer.old) (W.seen writer.new)
+        × LoadsExportInPart R.seen fault tenant.now reader.old reader.new (W.seen writer.old) (W.seen writer.new)
         × (status_of fault ≡ 3 → IsFailure (R.seen reader.old) (R.seen reader.new) (W.seen writer.old) (W.seen writer.new) fault)
         × TellsFault (E.seen errors.old) (E.seen errors.new) fault }
     ensures unfailed { result ≡ 4 → NothingFails (R.seen reader.old) (R.seen reader.new) (W.seen writer.old) (W.seen writer.new) }
@@ -293,13 +293,13 @@ fn load_export<T, R: Source, W: Sink>(
     reader: &mut R,
     writer: &mut W,
 ) -> Result<Option<String>, Fault>
-    ensures loads { IfOk result (λ line. LoadsToTell (option_map string_bytes line) tenant.now (R.seen reader.old) (R.seen reader.new) (W.seen writer.old) (W.seen writer.new)) }
+    ensures loads { IfOk result (λ line. LoadsToTell R.seen (option_map string_bytes line) tenant.now reader.old reader.new (W.seen writer.old) (W.seen writer.new)) }
     ensures through { OnOk result (GoesThrough (R.seen reader.old) (R.seen reader.new) (W.seen writer.old) (W.seen writer.new)) }
     ensures named { OnOk result (IsTrue (is_name tenant.now)) }
     ensures refused { IsErrOf result Fault.Tenants → (is_name tenant.now ≡ false) × IsUntouched reader.old reader.new writer.old writer.new }
     ensures words { IfErr result (λ fault. status_of fault ≡ 2 → fault ≡ Fault.Tenants) }
     ensures in_part { IfErr result (λ fault. fault ≢ Fault.Tenants → IsTrue (is_name tenant.now)
-        × LoadsExportInPart fault tenant.now (R.seen reader.old) (R.seen reader.new) (W.seen writer.old) (W.seen writer.new)
+        × LoadsExportInPart R.seen fault tenant.now reader.old reader.new (W.seen writer.old) (W.seen writer.new)
         × (status_of fault ≡ 3 → IsFailure (R.seen reader.old) (R.seen reader.new) (W.seen writer.old) (W.seen writer.new) fault)) }
     ensures unfailed { IsErrOf result Fault.Memory → NothingFails (R.seen reader.old) (R.seen reader.new) (W.seen writer.old) (W.seen writer.new) }
 {

@@ -219,7 +219,7 @@ returns-in-Ok-Serve g c =
       did = λ few.
           let did = c.serve_programs.ensures.done few in
           on_asked _ (λ asked. asked ≡ asked_is) _ by.exact (λ asked is.
-          subst (λ one. Does one given given taken taken' c.serve_programs.result) (sym is) (did.0, refl, did.2));
+          subst (λ one. Does g.R.Source.seen one c.args.reader.now c.args.reader.now taken taken' c.serve_programs.result) (sym is) (did.0, refl, did.2));
       broken_off = λ others.
           let broken = c.serve_programs.ensures.broken_off others.0 in
           let is = three_only broken.0 (subst (λ n. 2 < n) broken.1 others.0) (λ e. others.1 (broken.1 ∙ e)) in (
@@ -228,7 +228,7 @@ returns-in-Ok-Serve g c =
             (
               serving_failed broken.0 port given given taken taken' is broken.2,
               on_asked _ (λ asked. asked ≡ asked_is) _ by.exact (λ asked same.
-                  subst (λ one. DoesInPart one broken.0 given given taken taken') (sym same) (refl, broken.2)),
+                  subst (λ one. DoesInPart g.R.Source.seen one broken.0 c.args.reader.now c.args.reader.now taken taken') (sym same) (refl, broken.2)),
             ),
             broken.3,
             inr (
@@ -281,7 +281,7 @@ returns-in-Ok-Check g c =
           ((λ loud. did.0), did.1, inr (ToCheck, by, refl, did.2));
       not_loaded = λ one is. let differ : Checking ≡ Loading = sym by.work ∙ is in absurd (cc);
       did = λ few. on_asked _ (λ asked. asked ≡ ToCheck) _ by.exact (λ asked is.
-          subst (λ one. Does one given given' taken taken' c.check_input.result) (sym is) (c.check_input.ensures.done few).2);
+          subst (λ one. Does g.R.Source.seen one c.args.reader.now c.check_input.new.reader taken taken' c.check_input.result) (sym is) (c.check_input.ensures.done few).2);
       broken_off = λ others.
           let broken = c.check_input.ensures.broken_off others.0 others.1 in (
             broken.0,
@@ -289,7 +289,7 @@ returns-in-Ok-Check g c =
             (
               broken.2,
               on_asked _ (λ asked. asked ≡ ToCheck) _ by.exact (λ asked is.
-                  subst (λ one. DoesInPart one broken.1 given given' taken taken') (sym is) broken.3),
+                  subst (λ one. DoesInPart g.R.Source.seen one broken.1 c.args.reader.now c.check_input.new.reader taken taken') (sym is) broken.3),
             ),
             broken.4,
             inr (ToCheck, by, refl, broken.3),
@@ -326,8 +326,8 @@ returns-in-Ok-Load g c =
               ToLoad tenant,
               by,
               subst (λ name. is_name name ≡ true) same broken.2,
-              subst (λ name. LoadsExportInPart Memory name given given' taken taken') same
-                  (subst (λ fault. LoadsExportInPart fault c.as_str.result.now given given' taken taken') fault_is broken.3),
+              subst (λ name. LoadsExportInPart g.R.Source.seen Memory name c.args.reader.now c.load_input.new.reader taken taken') same
+                  (subst (λ fault. LoadsExportInPart g.R.Source.seen fault c.as_str.result.now c.args.reader.now c.load_input.new.reader taken taken') fault_is broken.3),
             ),
           );
       done = λ few.
@@ -346,18 +346,18 @@ returns-in-Ok-Load g c =
           );
       not_loaded = λ one is. c.load_input.ensures.not_loaded one;
       did = λ few. on_asked _ (λ asked. asked ≡ ToLoad tenant) _ by.exact (λ asked is.
-          subst (λ one. Does one given given' taken taken' c.load_input.result) (sym is)
+          subst (λ one. Does g.R.Source.seen one c.args.reader.now c.load_input.new.reader taken taken' c.load_input.result) (sym is)
           (subst (λ name. LoadsExport name given given' taken taken' c.load_input.result) same (c.load_input.ensures.done few).2));
       broken_off = λ others.
           let broken = c.load_input.ensures.broken_off others.0 in
           let three = three_only broken.0 (subst (λ n. 2 < n) broken.1 others.0) (λ e. others.1 (broken.1 ∙ e)) in
-          let part = subst (λ name. LoadsExportInPart broken.0 name given given' taken taken') same broken.3 in (
+          let part = subst (λ name. LoadsExportInPart g.R.Source.seen broken.0 name c.args.reader.now c.load_input.new.reader taken taken') same broken.3 in (
             broken.1 ∙ three,
             broken.0,
             (
               broken.4 three,
               on_asked _ (λ asked. asked ≡ ToLoad tenant) _ by.exact (λ asked is.
-                  subst (λ one. DoesInPart one broken.0 given given' taken taken') (sym is) part),
+                  subst (λ one. DoesInPart g.R.Source.seen one broken.0 c.args.reader.now c.load_input.new.reader taken taken') (sym is) part),
             ),
             broken.5,
             inr (ToLoad tenant, by, subst (λ name. is_name name ≡ true) same broken.2, part),
@@ -413,7 +413,7 @@ returns-in-Ok g c = record {
         let field : w.in-Ok-Replay.field-0 ≡ Replay w.in-Ok-Replay.wanted = search rules in
         let is : asked ≡ ToReplay (wanted_of w.in-Ok-Replay.wanted) = subst (λ one. ReadsWords asked (Ok one)) field read in
         let fresh = at_ok w.replay_tenants-done.result c.in-Ok.field-0 _ (sym w.done-is ∙ c.in-Ok.is) w.replay_tenants-done.ensures.ok in
-        subst (λ one. Does one (g.R.Source.seen c.args.reader.now) (g.R.Source.seen c.match-read_words.reader)
+        subst (λ one. Does g.R.Source.seen one c.args.reader.now c.match-read_words.reader
         (g.W.Sink.seen c.args.writer.now) (g.W.Sink.seen c.match-read_words.writer) 0) (sym is) (refl, rw (w.reader-is, w.writer-is) fresh))
     | in-Ok-Show w ↦ on_asked _ (λ asked. ReadsWords asked (Ok w.in-Ok-Show.field-0)) _ w.in-Ok-Show.ensures.asked (λ asked read.
         let field : w.in-Ok-Show.field-0 ≡ Show w.in-Ok-Show.text = search rules in
@@ -515,7 +515,7 @@ returns-in-Err g c = record {
                 let field : w.in-Ok-Replay.field-0 ≡ Replay w.in-Ok-Replay.wanted = search rules in
                 let is : asked ≡ ToReplay (wanted_of w.in-Ok-Replay.wanted) = subst (λ one. ReadsWords asked (Ok one)) field read in
                 let in_part = at_err w.replay_tenants-done.result c.in-Err.fault _ (sym w.done-is ∙ c.in-Err.is) w.replay_tenants-done.ensures.in_part in
-                subst (λ one. DoesInPart one c.in-Err.fault (g.R.Source.seen c.args.reader.now) (g.R.Source.seen c.match-read_words.reader)
+                subst (λ one. DoesInPart g.R.Source.seen one c.in-Err.fault c.args.reader.now c.match-read_words.reader
                 (g.W.Sink.seen c.args.writer.now) (g.W.Sink.seen c.match-read_words.writer)) (sym is)
                 (rw (w.reader-is, w.writer-is) (in_part (sym c.tell.ensures.status ∙ three)).1))
             | in-Ok-Show w ↦ on_asked _ (λ asked. ReadsWords asked (Ok w.in-Ok-Show.field-0)) _ w.in-Ok-Show.ensures.asked (λ asked read.
