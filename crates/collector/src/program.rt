@@ -1,14 +1,13 @@
 //! What the program does.
-ghost use Rattle.std.specs.Prelude.{◌≡◌, ◌≢◌, ◌<◌, ◌≤◌, ◌++◌, ◌⊎◌, List, [], length, map, true, false, IsTrue, OnOk, IfOk, IfErr, IfSome, IsErr, IsErrAnd, IsErrOf, IsSomeAnd, option_map, string_bytes};
+ghost use Rattle.std.specs.Prelude.{◌≡◌, ◌≢◌, ◌<◌, ◌≤◌, ◌⊎◌, map, true, false, IsTrue, OnOk, IfOk, IfErr, IsErr, IsErrAnd, IsErrOf, IsSomeAnd, option_map, string_bytes};
 ghost use Rattle.line_protocol.specs.Writing.{EndsInFault};
-ghost use Rattle.std.specs.List.{list_all};
-ghost use Rattle.trace_types.specs.text.Name.{Text, is_name};
+ghost use Rattle.trace_types.specs.text.Name.{is_name};
 ghost use Rattle.trace_types.specs.world.Replay.{place_of};
-ghost use Rattle.trace_types.specs.tenant.Limits.{Limits as Bounds, are_limits};
+ghost use Rattle.trace_types.specs.tenant.Limits.{are_limits};
 ghost use Rattle.command_line.specs.Demand.{ToReplay};
 ghost use Rattle.collector.specs.Taking.{can_export, is_taken};
 ghost use Rattle.collector.specs.Fault.{status_of};
-ghost use Rattle.collector.specs.Program.{ChecksInPart, DoesReplay, DoesReplayInPart, ExportsFreshInPart, GoesThrough, IsExportPlace, IsFailure, IsUntouched, LoadsExport, LoadsExportInPart, LoadsToTell, NothingFails, RefusesTenants, ShowsSome, ShowsSomeAll, TellsFault, TellsNo, TellsVerdict, line_of_no, line_of_verdict, status_of_loaded, status_of_verdict};
+ghost use Rattle.collector.specs.Program.{ChecksInPart, DoesReplay, DoesReplayInPart, ExportsFreshInPart, GoesThrough, IsExportPlace, IsFailure, IsUntouched, LoadsExport, LoadsExportInPart, LoadsToTell, NothingFails, RefusesTenants, ShowsSome, ShowsSomeAll, TellsFault, TellsNo, TellsVerdict, line_of_no, line_of_verdict, status_of_verdict};
 ghost use Rattle.collector.specs.Showing.{Shows, ShowsAll};
 ghost use Rattle.command_line.specs.Reading.{wanted_of};
 ghost use Rattle.collector.specs.Runs.{Runs};
@@ -28,7 +27,8 @@ use trace_export::{Loaded, Reason, Verdict, check, load};
 use trace_types::Name;
 use trace_world::{World, replay, replay_export};
 
-/// Does what the words after the program's name ask, and answers the status with which the program ends.
+/// Does what the words after the program's name ask, and answers the status with which the program ends. The memory of a
+/// replay's tenants is left to the end of the process.
 ///
 /// The words are one of these commands, with what follows it in any order. An option stands once at most. Tenants are 1
 /// to 16 names, none twice.
@@ -145,8 +145,8 @@ fn replay_tenants<T: Wait, R: Source, W: Sink>(
     let names = names.as_slice();
     let exported = exported_place(names, &wanted.export)?;
     let world = World::new(alloc, names, wanted.limits, wanted.cache)?;
-    // The process ends next and gives all memory back at once. To take the trees apart one by one would cost up to a third
-    // of the time.
+    // The program ends next, and the end of the process gives all memory back at once. To give the trees back one by one
+    // would only take time.
     let mut world = ManuallyDrop::new(world);
     match exported {
         Some(place) => {

@@ -1,9 +1,9 @@
 //! How programs that connect are served.
-ghost use Rattle.std.specs.Prelude.{◌≡◌, ◌≢◌, ◌<◌, true, IfErr, IfOk, OnOk, map, string_bytes};
+ghost use Rattle.std.specs.Prelude.{◌≡◌, ◌≢◌, ◌<◌, true, IfErr, IfOk, OnOk, string_bytes};
 ghost use Rattle.command_line.specs.Demand.{ToServe};
 ghost use Rattle.command_line.specs.Reading.{service_of};
 ghost use Rattle.collector.specs.Fault.{status_of};
-ghost use Rattle.collector.specs.Program.{RefusesTenants, ShowsSome, TellsFault, TellsOfTenants};
+ghost use Rattle.collector.specs.Program.{RefusesTenants, TellsFault, TellsOfTenants};
 ghost use Rattle.collector.specs.Serving.{Serves, ServesInPart, line_of_counts, line_of_port};
 ghost use Rattle.collector.specs.Taking.{is_taken};
 
