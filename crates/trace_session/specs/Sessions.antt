@@ -100,7 +100,7 @@ Finishes end before after (Ok other) = (other ≡ end) × HandsAllOn before afte
 Finishes end before after (Err fault) = (fault ≡ Write) × StopsHandingOn before after
 
 -- How a session went, whatever was answered: how it read, and that it asked its source no more once that had told the end. It
--- wrote nothing, or its gate let out a line; and it ended in the fault of its gate only if the gate held one back.
+-- wrote nothing, or its gate let out a line. It ended in the fault of its gate only if the gate held a line back.
 pub record Goes {R : Type 0} (seen : R → Given) (source source' : R) (held held' : Held) (taken taken' : Taken) (lets_out holds_back : Type 0) (result : Result SessionEnd SessionFault) : Type 0 where
   pub reads : Reads (seen source) (seen source') held held' (failed_reads_in result)
   pub at_end : IsTrue held.is_ended → (source' ≡ source) × IsTrue held'.is_ended
