@@ -5,29 +5,38 @@ ghost use Rattle.collector.specs.Program.{TellsFault};
 
 use line_protocol::{Sink, flush, write_bytes};
 use tcp_door::DoorRefusal;
+use thiserror::Error;
 use trace_export::{CheckFault, LoadFault};
 use trace_session::ServeFault;
 use trace_types::WorldFault;
 use trace_world::ReplayFault;
 
 /// Why the program does not do what it was asked.
-#[derive(Clone, Copy, Debug, PartialEq, Eq)]
+#[derive(Clone, Copy, Debug, PartialEq, Eq, Error)]
 pub enum Fault {
     /// The words are no text.
+    #[error("words")]
     Words,
     /// A tenant's name is no name, one stands twice, there are more than 16, or the one to be exported is none of them.
+    #[error("tenants")]
     Tenants,
     /// The port could not be bound.
+    #[error("port")]
     Port,
     /// No connection could be accepted.
+    #[error("accept fault")]
     Accept,
     /// A read failed.
+    #[error("read fault")]
     Read,
     /// A write or a flush failed.
+    #[error("write fault")]
     Write,
     /// The input needs more than 2^30 reads.
+    #[error("input too long")]
     TooLong,
     /// The program ran out of memory.
+    #[error("no memory")]
     Memory,
 }
 
