@@ -13,6 +13,6 @@ const MULTIPLIER: u64 = 0x9E37_79B9_7F4A_7C15;
 pub fn digest_of_both(first: u64, second: u64) -> u64
     ensures { result ≡ digest_of_both first second }
 {
-    let product = (first.rotate_left(32) ^ second).wrapping_mul(MULTIPLIER);
+    let product = (first.rotate_left(31) ^ second).wrapping_mul(MULTIPLIER);
     product ^ (product >> 32)
 }

@@ -12,5 +12,7 @@ multiplier = 11400714819323198485
 abbrev pub spread_out : ℕ → ℕ
 spread_out product = bit_xor product (product / 2 ^ 32)
 
+-- The first number is turned by 31 bits, one fewer than half: turned by half, two equal numbers would leave the same bits
+-- twice.
 abbrev pub digest_of_both : ℕ → ℕ → ℕ
-digest_of_both first second = spread_out ((bit_xor (rotate_left w64 first 32) second * multiplier) % 2 ^ 64)
+digest_of_both first second = spread_out ((bit_xor (rotate_left w64 first 31) second * multiplier) % 2 ^ 64)
