@@ -1,5 +1,6 @@
 //! Rows, which are accepted reports.
-ghost use Rattle.std.specs.Prelude.{◌≡◌};
+ghost use Rattle.std.specs.Prelude.{◌≡◌, ◌≤◌, length};
+ghost use Rattle.trace_types.specs.text.Text.{kind_text};
 
 use crate::{Name, Preds};
 
@@ -18,6 +19,23 @@ pub enum Kind {
     End,
     /// The task joined an ended one, which is named.
     Join,
+}
+
+impl Kind {
+    /// The word for the kind.
+    pub fn text(self) -> &'static str
+        ensures text { result.now ≡ kind_text self }
+        ensures short { length result.now ≤ 5 }
+    {
+        match self {
+            Kind::Local => "local",
+            Kind::Spawn => "spawn",
+            Kind::Send => "send",
+            Kind::Recv => "recv",
+            Kind::End => "end",
+            Kind::Join => "join",
+        }
+    }
 }
 
 /// An accepted report, which is one event. Event k is the k-th row of its tenant, from 1.
