@@ -1,6 +1,8 @@
 pub mod Interleaving
 pub mod Replay
 pub mod Names
+pub mod Places
+pub mod Distinct
 pub mod Chosen
 pub mod Reachability
 pub mod Cuts

@@ -34,6 +34,7 @@ mod reply;
 mod request;
 mod row;
 mod task_state;
+mod tenant_names;
 mod text;
 mod world_fault;
 
@@ -50,5 +51,6 @@ pub use reply::Reply;
 pub use request::{Reported, Request};
 pub use row::{Kind, Row};
 pub use task_state::TaskState;
+pub use tenant_names::TenantNames;
 pub use text::Text;
 pub use world_fault::WorldFault;
