@@ -1,4 +1,4 @@
-use Rattle.std.proofs.Common.{◌≡◌, length, ap, ◌∙◌}
+use Rattle.std.proofs.Common.{◌≡◌, ap, ◌∙◌}
 use Rattle.trace_types.specs.world.Replay.{place_of}
 use Rattle.trace_types.proofs.Places.{within_places}
 use Rattle.trace_types.proofs.Distinct.{stands_where_found}
