@@ -13,12 +13,12 @@ use Rattle.clap.specs.declared.builder.value_parser.ValueParser.TheVariants as p
 use Rattle.trace_types.specs.tenant.Limits.{Limits, are_limits, default_limits}
 use Rattle.trace_types.specs.text.Name.{is_between, is_same}
 use Rattle.command_line.specs.Demand.{AskedReplay as Wanted, AskedService, Demand, ToReplay, ToServe, ToCheck, ToLoad, asked_in, limits_of}
-use Rattle.command_line.specs.declared.words.Asked.{Asked}
-use Rattle.command_line.specs.declared.words.Asked.TheVariants.{Replay, Serve, Check, Load, Show}
-use Rattle.command_line.specs.declared.wanted.Replay.{Replay as Replays}
-use Rattle.command_line.specs.declared.wanted.Serve.{Serve as Serves}
-use Rattle.command_line.specs.declared.words.Refusal.{Refusal}
-use Rattle.command_line.specs.declared.words.Refusal.TheVariants.{Words, Memory}
+use Rattle.command_line.specs.declared.demand.Asked.{Asked}
+use Rattle.command_line.specs.declared.demand.Asked.TheVariants.{Replay, Serve, Check, Load, Show}
+use Rattle.command_line.specs.declared.demand.Replay.{Replay as Replays}
+use Rattle.command_line.specs.declared.demand.Serve.{Serve as Serves}
+use Rattle.command_line.specs.declared.parse.Refusal.{Refusal}
+use Rattle.command_line.specs.declared.parse.Refusal.TheVariants.{Words, Memory}
 
 -- the argument for tenants: one or more
 abbrev pub tenant_rule : Rule

@@ -19,8 +19,10 @@
 //! ```
 #![tactic(auto)]
 
-mod wanted;
-mod words;
+mod demand;
+mod help;
+mod options;
+mod parse;
 
-pub use wanted::{Replay, Serve};
-pub use words::{Asked, Refusal, read_words};
+pub use demand::{Asked, Replay, Serve};
+pub use parse::{Refusal, read_words};

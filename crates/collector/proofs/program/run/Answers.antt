@@ -10,14 +10,14 @@ use Rattle.std.proofs.lemmas.Bool.{cases_eq}
 use Rattle.std.specs.Global.{Global}
 use Rattle.std.specs.Prelude.{String, option_map, unwrap_or, IsErrAnd, IsSomeAnd, IsTrue, List, string_bytes}
 use Rattle.trace_types.specs.text.Name.{Text, is_between, is_name}
-use Rattle.command_line.specs.declared.wanted.Replay.{Replay as Replays}
+use Rattle.command_line.specs.declared.demand.Replay.{Replay as Replays}
 use Rattle.collector.specs.declared.fault.Fault.{Fault}
 use Rattle.collector.specs.declared.fault.Fault.TheVariants.{Words, Tenants, Port, Accept, Read, Write, TooLong, Memory}
 use Rattle.command_line.specs.Demand.{asked_in}
 use Rattle.command_line.specs.Reading.{Agrees, IsAnswer, IsAskedBy, IsInRange, ReadsWords, Serving, Checking, Loading, demand_of, found_in, kinds_of, service_of, wanted_of, work_of}
-use Rattle.command_line.specs.declared.words.Asked.{Asked}
-use Rattle.command_line.specs.declared.words.Asked.TheVariants.{Replay, Serve, Check, Load, Show}
-use Rattle.command_line.specs.declared.words.Refusal.TheVariants as refusal
+use Rattle.command_line.specs.declared.demand.Asked.{Asked}
+use Rattle.command_line.specs.declared.demand.Asked.TheVariants.{Replay, Serve, Check, Load, Show}
+use Rattle.command_line.specs.declared.parse.Refusal.TheVariants as refusal
 use Rattle.collector.proofs.program.run.Goals as goal
 use Rattle.collector.proofs.program.run.Goals.{in-Ok-Replay, in-Ok-Show, in-Err-Memory}
 

@@ -2,7 +2,7 @@ use Rattle.std.proofs.Common.{rules, ◌≡◌, ◌∙◌, ap, ap₂}
 use Rattle.std.proofs.lemmas.Result.{IfOk-weaker}
 use Rattle.clap.specs.Words.{app_of, with_subcommand}
 use Rattle.command_line.specs.Reading.{bare_app}
-use Rattle.command_line.proofs.words.command.Goals as goal
+use Rattle.command_line.proofs.options.command.Goals as goal
 
 pub returns : goal.returns
 returns c =

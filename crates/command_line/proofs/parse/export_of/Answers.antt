@@ -2,7 +2,7 @@ use Rattle.std.proofs.Common.{rules, ◌≡◌, ◌∙◌, ap, List, Option, Som
 use Rattle.clap.specs.Words.{Row, Text, first_of, first_value, found_of, rows_of, subcommand_rows_of}
 use Rattle.clap.proofs.WalkLemmas.{first_value-rows}
 use Rattle.command_line.specs.Reading.{export_found}
-use Rattle.command_line.proofs.words.export_of.Goals as goal
+use Rattle.command_line.proofs.parse.export_of.Goals as goal
 
 -- the name in the rows of the subcommand that was found
 in_rows : (found : Option (Text × List Row)) (rows : List Row) → Some rows ≡ option_map (λ named. named.1) found

@@ -5,7 +5,7 @@ use Rattle.clap.specs.Words.{found_of, one_text}
 use Rattle.clap.proofs.WalkLemmas.{one_text-rows}
 use Rattle.command_line.specs.Reading.{amount_spelled}
 use Rattle.command_line.proofs.Amounts.{reads}
-use Rattle.command_line.proofs.words.amount_of.Goals as goal
+use Rattle.command_line.proofs.parse.amount_of.Goals as goal
 
 pub returns : goal.returns
 returns c number amount = go (one_text (found_of c.args.replay.now) c.args.name.now) refl

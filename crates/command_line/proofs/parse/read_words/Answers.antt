@@ -6,12 +6,12 @@ use Rattle.clap.specs.Kinds.{IsAmong, Kinds}
 use Rattle.clap.specs.declared.error.kind.ErrorKind.{ErrorKind}
 use Rattle.clap.specs.declared.error.kind.ErrorKind.TheVariants.{OutOfMemory}
 use Rattle.command_line.specs.Reading.{Agrees, IsAnswer, IsToldOf, Work, demand_of, kinds_of, program_app, work_found, work_of}
-use Rattle.command_line.specs.declared.words.Asked.{Asked}
-use Rattle.command_line.specs.declared.words.Asked.TheVariants.{Replay, Serve, Check, Load, Show}
-use Rattle.command_line.specs.declared.words.Refusal.{Refusal}
-use Rattle.command_line.specs.declared.words.Refusal.TheVariants.{Words, Memory}
+use Rattle.command_line.specs.declared.demand.Asked.{Asked}
+use Rattle.command_line.specs.declared.demand.Asked.TheVariants.{Replay, Serve, Check, Load, Show}
+use Rattle.command_line.specs.declared.parse.Refusal.{Refusal}
+use Rattle.command_line.specs.declared.parse.Refusal.TheVariants.{Words, Memory}
 use Rattle.command_line.proofs.Asking.{asks, found_is, has_asked, takes_asked}
-use Rattle.command_line.proofs.words.read_words.Goals as goal
+use Rattle.command_line.proofs.parse.read_words.Goals as goal
 
 free : (app : App) → app ≡ program_app → is_simple_and_free app ≡ true
 free app is = ap is_simple_and_free is ∙ refl

@@ -3,9 +3,9 @@ use Rattle.clap.specs.Words.{Row, subcommand_rows_of}
 use Rattle.trace_types.specs.text.Name.{Text}
 use Rattle.command_line.specs.Demand.{AskedService, Demand, ToReplay, ToServe, ToCheck, ToLoad}
 use Rattle.command_line.specs.Reading.{Has, Loading, ReadsWords, Serving, is_found, work_found, work_with}
-use Rattle.command_line.specs.declared.words.Asked.{Asked}
-use Rattle.command_line.specs.declared.words.Refusal.{Refusal}
-use Rattle.command_line.proofs.words.asked_of.Goals as goal
+use Rattle.command_line.specs.declared.demand.Asked.{Asked}
+use Rattle.command_line.specs.declared.parse.Refusal.{Refusal}
+use Rattle.command_line.proofs.parse.asked_of.Goals as goal
 
 loading : (found : Option (Text × List Row)) → is_found (codes "check") found ≡ false → is_found (codes "load") found ≡ true → work_found found ≡ Loading
 loading found no_check loads = rw (no_check, loads) refl

@@ -2,7 +2,7 @@ use Rattle.std.proofs.Common.{rules, ◌≡◌, ◌∙◌, Bor, map, ap, List, O
 use Rattle.std.proofs.lemmas.Result.{IfOk-weaker}
 use Rattle.clap.specs.Words.{Row, Text, subcommand_rows_of, all_of, found_of, rows_of}
 use Rattle.clap.proofs.WalkLemmas.{raw_values-rows}
-use Rattle.command_line.proofs.words.tenants_of.Goals as goal
+use Rattle.command_line.proofs.parse.tenants_of.Goals as goal
 
 -- the tenants in the rows of the subcommand that was found
 in_rows : (found : Option (Text × List Row)) (rows : List Row) (names : List Text) → Some rows ≡ option_map (λ named. named.1) found

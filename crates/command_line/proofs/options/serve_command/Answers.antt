@@ -3,7 +3,7 @@ use Rattle.std.proofs.lemmas.Result.{IfOk-weaker}
 use Rattle.clap.specs.Words.{app_of, with_rule, new_app}
 use Rattle.clap.specs.Simple.{app_of_fields}
 use Rattle.clap.specs.declared.builder.Command.TheViews.{out-Command}
-use Rattle.command_line.proofs.words.serve_command.Goals as goal
+use Rattle.command_line.proofs.options.serve_command.Goals as goal
 
 pub returns : goal.returns
 returns c =

@@ -3,7 +3,7 @@ use Rattle.clap.specs.Words.{Row, Text, subcommand_rows_of, found_of, rows_of}
 use Rattle.trace_types.specs.tenant.Limits.{Limits, are_limits}
 use Rattle.command_line.specs.Reading.{limits_in}
 use Rattle.command_line.proofs.Asking.{amounts}
-use Rattle.command_line.proofs.words.limits_of.Goals as goal
+use Rattle.command_line.proofs.parse.limits_of.Goals as goal
 
 -- the limits in the rows of the subcommand that was found
 in_rows : (found : Option (Text × List Row)) (rows : List Row) (limits : Limits) → Some rows ≡ option_map (λ named. named.1) found

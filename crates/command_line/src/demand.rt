@@ -1,8 +1,23 @@
-//! What replays and services are asked for.
+//! What can be asked for.
 ghost use Rattle.std.specs.Prelude.{IsTrue};
 ghost use Rattle.trace_types.specs.text.Name.{is_between};
 
 use trace_types::Limits;
+
+/// What the words ask for.
+#[derive(Drop)]
+pub enum Asked {
+    /// To replay lines, or to write an export after them.
+    Replay(Replay),
+    /// To serve programs that connect.
+    Serve(Serve),
+    /// The check of an export.
+    Check,
+    /// To load an export, with its requests to this tenant.
+    Load(String),
+    /// To show this text, which is help or the version.
+    Show(String),
+}
 
 /// A replay that is asked for.
 #[derive(Drop)]
