@@ -5,7 +5,6 @@ use Rattle.trace_types.specs.clock.Grow.{Cost}
 use Rattle.trace_types.specs.clock.EventTree.{EventTree}
 use Rattle.trace_types.specs.clock.Grow.{cost, grown}
 use Rattle.trace_types.specs.clock.Event.{normalised}
-use Rattle.event_tree.specs.declared.ev_tree.growth.Grown.{Grown}
 
 -- it costs exactly the price
 abbrev pub costs : Cost → Option Cost → Bool
@@ -15,8 +14,3 @@ costs price (Some amount) = (price.expansions == amount.expansions) && (price.st
 -- the grown tree in normal form, if it costs exactly the price
 abbrev pub grown_for : Cost → Id → EventTree → Option EventTree
 grown_for price id tree = if costs price (cost id tree) then Some (normalised (grown id tree)) else None
-
--- the tree of what grew
-abbrev pub tree_grown : Option Grown → Option EventTree
-tree_grown None = None
-tree_grown (Some found) = Some found.tree

@@ -4,7 +4,7 @@ ghost use Rattle.trace_types.specs.clock.Id.{Zero, One, Pair};
 ghost use Rattle.trace_types.specs.clock.EventTree.{Leaf, value, maximum, IsNormal};
 ghost use Rattle.trace_types.specs.clock.Grow.{root_number, left_of, right_of, expansion, is_less, is_cheaper, cheaper, dearer, cost, grown};
 ghost use Rattle.trace_types.specs.clock.Event.{normalised};
-ghost use Rattle.event_tree.specs.GrownFor.{grown_for, tree_grown};
+ghost use Rattle.event_tree.specs.GrownFor.{grown_for};
 ghost use Rattle.event_tree.specs.Height.{height};
 ghost use Rattle.event_tree.specs.Grew.{GrewAt};
 ghost use Rattle.event_tree.specs.Risen.{IsRaisedAt};
@@ -104,25 +104,22 @@ struct Place {
 const WITH_ROOM: u128 = 1 << 127;
 
 impl Place {
-    /// This place of one half, 0 for left and 1 for right, as a place of the node with the number `root`.
-    fn in_half(self, half: u128, root: u64) -> Place
-        requires half { half ≤ 1 }
-        requires fits { root + self.value < 2 ^ 64 }
-        ensures halves { result.halves ≡ 2 * (self.halves % 2 ^ 127) + half }
-        ensures value { result.value ≡ root + self.value }
-    {
-        Place {
-            halves: 2 * (self.halves % WITH_ROOM) + half,
-            value: root + self.value,
-        }
-    }
-}
+    /// The root of a tree whose greatest value is 0.
+    const ROOT: Place = Place {
+        halves: 0,
+        value: 0,
+    };
 
-/// A grown tree, and where it grew.
-#[derive(Drop)]
-struct Grown {
-    tree: EvTree,
-    place: Place,
+    /// Makes this place of one half, 0 for left and 1 for right, a place of the node with the number `root`.
+    fn lift(&mut self, half: u128, root: u64)
+        requires half { half ≤ 1 }
+        requires fits { root + self.old.value < 2 ^ 64 }
+        ensures halves { self.new.halves ≡ 2 * (self.old.halves % 2 ^ 127) + half }
+        ensures value { self.new.value ≡ root + self.old.value }
+    {
+        self.halves = 2 * (self.halves % WITH_ROOM) + half;
+        self.value += root;
+    }
 }
 
 /// A tree as a node. A number counts as a node over 0 and 0, and takes an expansion.
@@ -215,50 +212,51 @@ impl EvTree {
         let Some(price) = self.growth_cost(id, &zero)? else {
             unreachable!();
         };
-        let Some(grown) = self.grown_for(alloc, id, price, &zero)? else {
+        let mut place = Place::ROOT;
+        let Some(tree) = self.grown_for(alloc, id, price, &zero, &mut place)? else {
             unreachable!();
         };
         let raised = if price.steps <= LEVELS {
             Some(RaisedPoint {
-                point: Point::of(grown.place.halves),
-                value: grown.place.value,
+                point: Point::of(place.halves),
+                value: place.value,
             })
         } else {
             None
         };
-        Ok((grown.tree, raised))
+        Ok((tree, raised))
     }
 
-    /// The tree grown at its root, below an id that owns everything.
-    fn grown_whole(&self) -> Grown
+    /// The tree grown at its root, below an id that owns everything. It grew at `place`.
+    fn grown_whole(&self, place: &mut Place) -> EvTree
         requires { maximum self.now + 1 < 2 ^ 64 }
-        ensures tree { result.tree ≡ Leaf (maximum self.now + 1) }
-        ensures place { GrewAt 0 self.now result.tree result.place }
+        ensures tree { result ≡ Leaf (maximum self.now + 1) }
+        ensures place { GrewAt 0 self.now result place.new }
     {
         let value = self.max() + 1;
-        Grown {
-            tree: EvTree::leaf(value),
-            place: Place { halves: 0, value },
-        }
+        *place = Place { halves: 0, value };
+        EvTree::leaf(value)
     }
 
-    /// The grown tree in normal form, if it costs exactly `price`. There is none for less. `zero` stands below a number.
+    /// The grown tree in normal form, if it costs exactly `price`. Then it grew at `place`. There is none for less. `zero`
+    /// stands below a number.
     fn grown_for(
         &self,
         alloc: Global,
         id: &IdTree,
         price: Cost,
         zero: &EvTree,
-    ) -> Result<Option<Grown>, Memory>
+        place: &mut Place,
+    ) -> Result<Option<EvTree>, Memory>
         requires least { is_cheaper (cost id.now self.now) (Some price) ≡ false }
         requires fits { maximum self.now + 1 < 2 ^ 64 }
         requires zero { zero.now ≡ Leaf 0 }
-        ensures exact { IfOk result (λ found. tree_grown found ≡ grown_for price id.now self.now) }
-        ensures place { IfOk result (λ found. IfSome found (λ grown. GrewAt price.steps self.now grown.tree grown.place)) }
+        ensures exact { IfOk result (λ found. found ≡ grown_for price id.now self.now) }
+        ensures place { IfOk result (λ found. IfSome found (λ tree. GrewAt price.steps self.now tree place.new)) }
         ensures whole { id.now ≡ One → IsOk result }
     {
         let (left_id, right_id) = match id.parts() {
-            IdParts::One if price.is_nothing() => return Ok(Some(self.grown_whole())),
+            IdParts::One if price.is_nothing() => return Ok(Some(self.grown_whole(place))),
             IdParts::Zero | IdParts::One => return Ok(None),
             IdParts::Pair(left_id, right_id) => (left_id, right_id),
         };
@@ -266,20 +264,16 @@ impl EvTree {
         let Some(price) = price.after_step(opened.expansion) else {
             return Ok(None);
         };
-        if let Some(right) = opened.right.grown_for(alloc, right_id, price, zero)? {
+        if let Some(right) = opened.right.grown_for(alloc, right_id, price, zero, place)? {
+            place.lift(1, opened.root);
             let left = opened.left.share(alloc)?;
-            return Ok(Some(Grown {
-                tree: EvTree::fork(alloc, opened.root, left, right.tree)?,
-                place: right.place.in_half(1, opened.root),
-            }));
+            return Ok(Some(EvTree::fork(alloc, opened.root, left, right)?));
         }
-        let Some(left) = opened.left.grown_for(alloc, left_id, price, zero)? else {
+        let Some(left) = opened.left.grown_for(alloc, left_id, price, zero, place)? else {
             return Ok(None);
         };
+        place.lift(0, opened.root);
         let right = opened.right.share(alloc)?;
-        Ok(Some(Grown {
-            tree: EvTree::fork(alloc, opened.root, left.tree, right)?,
-            place: left.place.in_half(0, opened.root),
-        }))
+        Ok(Some(EvTree::fork(alloc, opened.root, left, right)?))
     }
 }

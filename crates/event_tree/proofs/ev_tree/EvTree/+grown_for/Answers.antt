@@ -2,7 +2,6 @@ use Rattle.std.proofs.Common.{ap, sym, ◌∙◌, arith}
 use Rattle.id_tree.specs.IdCode.{pair_count}
 use Rattle.trace_types.specs.clock.Points.{Left, Right}
 use Rattle.trace_types.specs.clock.EventTree.{maximum}
-use Rattle.event_tree.specs.GrownFor.{tree_grown}
 use Rattle.event_tree.proofs.Growing.{grew_above}
 use Rattle.event_tree.proofs.Grown.{maximum-opened, normal_left_of, normal_right_of}
 use Rattle.event_tree.proofs.Pricing.{maximum-grown_for, least_left, least_right, found_right, found_left, found_none, normal-grown_for, spent_none}
@@ -23,19 +22,19 @@ grown_for-requires t c =
 
 pub fork-requires : goal.fork-requires
 fork-requires t c =
-    let found = rw c.opened-opened.ensures.right at (sym c.in_ok-right.ensures.exact ∙ ap tree_grown c.in-Some-2.is) in
+    let found = rw c.opened-opened.ensures.right at (sym c.in_ok-right.ensures.exact ∙ c.in-Some-2.is) in
     let left = ap maximum (c.in_ok-left.ensures.exact ∙ c.opened-opened.ensures.left) in
-    omega (arith, left, maximum-opened c.args.self.now, maximum-grown_for c.in-Some.price c.in-Pair.right_id.now _ c.in-Some-2.right.tree found)
+    omega (arith, left, maximum-opened c.args.self.now, maximum-grown_for c.in-Some.price c.in-Pair.right_id.now _ c.in-Some-2.right found)
 
 pub returns-in-Some-2-clause-exact : goal.returns-in-Some-2-clause-exact
 returns-in-Some-2-clause-exact t c =
     let least = rw (← c.in-Pair.ensures.exact) at c.requires.least in
     let expansions = rw c.opened-opened.ensures.expansion at c.in-Some.ensures.left.0 in
-    let found = rw c.opened-opened.ensures.right at (sym c.in_ok-right.ensures.exact ∙ ap tree_grown c.in-Some-2.is) in
+    let found = rw c.opened-opened.ensures.right at (sym c.in_ok-right.ensures.exact ∙ c.in-Some-2.is) in
     let normal = normal_left_of c.args.self.now c.opened-opened.ensures.normal in
     let left = c.in_ok-left.ensures.exact ∙ c.opened-opened.ensures.left in
     rw (← c.in-Pair.ensures.exact, c.in_ok-fork.ensures.exact, c.opened-opened.ensures.root, left)
-    (found_right c.in-Pair.left_id.now c.in-Pair.right_id.now c.args.self.now c.args.price c.in-Some.price expansions c.in-Some.ensures.left.1 least c.in-Some-2.right.tree normal found)
+    (found_right c.in-Pair.left_id.now c.in-Pair.right_id.now c.args.self.now c.args.price c.in-Some.price expansions c.in-Some.ensures.left.1 least c.in-Some-2.right normal found)
 
 pub grown_for-requires-2 : goal.grown_for-requires-2
 grown_for-requires-2 t c =
@@ -49,36 +48,36 @@ pub returns-in_default-3-clause-exact : goal.returns-in_default-3-clause-exact
 returns-in_default-3-clause-exact t c =
     let least = rw (← c.in-Pair.ensures.exact) at c.requires.least in
     let expansions = rw c.opened-opened.ensures.expansion at c.in-Some.ensures.left.0 in
-    let not_right = rw c.opened-opened.ensures.right at (sym c.in_ok-right.ensures.exact ∙ ap tree_grown c.in_default-2.is) in
-    let not_left = rw c.opened-opened.ensures.left at (sym c.in_ok-left-2.ensures.exact ∙ ap tree_grown c.in_default-3.is) in
+    let not_right = rw c.opened-opened.ensures.right at (sym c.in_ok-right.ensures.exact ∙ c.in_default-2.is) in
+    let not_left = rw c.opened-opened.ensures.left at (sym c.in_ok-left-2.ensures.exact ∙ c.in_default-3.is) in
     rw (← c.in-Pair.ensures.exact)
     (found_none c.in-Pair.left_id.now c.in-Pair.right_id.now c.args.self.now c.args.price c.in-Some.price expansions c.in-Some.ensures.left.1 least not_right not_left)
 
 pub fork-requires-2 : goal.fork-requires-2
 fork-requires-2 t c =
-    let found = rw c.opened-opened.ensures.left at (sym c.in_ok-left-2.ensures.exact ∙ ap tree_grown c.in-Some-3.is) in
+    let found = rw c.opened-opened.ensures.left at (sym c.in_ok-left-2.ensures.exact ∙ c.in-Some-3.is) in
     let right = ap maximum (c.in_ok-right-2.ensures.exact ∙ c.opened-opened.ensures.right) in
-    omega (arith, right, maximum-opened c.args.self.now, maximum-grown_for c.in-Some.price c.in-Pair.left_id.now _ c.in-Some-3.left.tree found)
+    omega (arith, right, maximum-opened c.args.self.now, maximum-grown_for c.in-Some.price c.in-Pair.left_id.now _ c.in-Some-3.left found)
 
 pub returns-clause-exact : goal.returns-clause-exact
 returns-clause-exact t c =
     let least = rw (← c.in-Pair.ensures.exact) at c.requires.least in
     let expansions = rw c.opened-opened.ensures.expansion at c.in-Some.ensures.left.0 in
-    let not_right = rw c.opened-opened.ensures.right at (sym c.in_ok-right.ensures.exact ∙ ap tree_grown c.in_default-2.is) in
-    let found = rw c.opened-opened.ensures.left at (sym c.in_ok-left-2.ensures.exact ∙ ap tree_grown c.in-Some-3.is) in
+    let not_right = rw c.opened-opened.ensures.right at (sym c.in_ok-right.ensures.exact ∙ c.in_default-2.is) in
+    let found = rw c.opened-opened.ensures.left at (sym c.in_ok-left-2.ensures.exact ∙ c.in-Some-3.is) in
     let normal = normal_right_of c.args.self.now c.opened-opened.ensures.normal in
     let right = c.in_ok-right-2.ensures.exact ∙ c.opened-opened.ensures.right in
     rw (← c.in-Pair.ensures.exact, c.in_ok-fork-2.ensures.exact, c.opened-opened.ensures.root, right)
-    (found_left c.in-Pair.left_id.now c.in-Pair.right_id.now c.args.self.now c.args.price c.in-Some.price expansions c.in-Some.ensures.left.1 least c.in-Some-3.left.tree normal not_right found)
+    (found_left c.in-Pair.left_id.now c.in-Pair.right_id.now c.args.self.now c.args.price c.in-Some.price expansions c.in-Some.ensures.left.1 least c.in-Some-3.left normal not_right found)
 
-pub in_half-requires-clause-fits : goal.in_half-requires-clause-fits
-in_half-requires-clause-fits t c =
+pub lift-requires-clause-fits : goal.lift-requires-clause-fits
+lift-requires-clause-fits t c =
     let grew = rw c.in-Some-2.is at c.in_ok-right.ensures.place in
     let bounded = rw c.opened-opened.ensures.right at grew.bounded in
     rw c.opened-opened.ensures.root (omega (arith, bounded, maximum-opened c.args.self.now))
 
-pub in_half-requires-2-clause-fits : goal.in_half-requires-2-clause-fits
-in_half-requires-2-clause-fits t c =
+pub lift-requires-2-clause-fits : goal.lift-requires-2-clause-fits
+lift-requires-2-clause-fits t c =
     let grew = rw c.in-Some-3.is at c.in_ok-left-2.ensures.place in
     let bounded = rw c.opened-opened.ensures.left at grew.bounded in
     rw c.opened-opened.ensures.root (omega (arith, bounded, maximum-opened c.args.self.now))
@@ -86,19 +85,19 @@ in_half-requires-2-clause-fits t c =
 pub returns-in-Some-2-clause-place : goal.returns-in-Some-2-clause-place
 returns-in-Some-2-clause-place t c =
     let grew = rw (c.in-Some-2.is, c.opened-opened.ensures.right) at c.in_ok-right.ensures.place in
-    let found = rw c.opened-opened.ensures.right at (sym c.in_ok-right.ensures.exact ∙ ap tree_grown c.in-Some-2.is) in
-    let normal = normal-grown_for c.in-Some.price c.in-Pair.right_id.now _ c.in-Some-2.right.tree found in
+    let found = rw c.opened-opened.ensures.right at (sym c.in_ok-right.ensures.exact ∙ c.in-Some-2.is) in
+    let normal = normal-grown_for c.in-Some.price c.in-Pair.right_id.now _ c.in-Some-2.right found in
     let left = c.in_ok-left.ensures.exact ∙ c.opened-opened.ensures.left in
     rw (c.in_ok-fork.ensures.exact, c.opened-opened.ensures.root, left, c.in-Some.ensures.left.1)
-    (grew_above Right c.in-Some.price.steps c.args.self.now c.in-Some-2.right.tree c.in-Some-2.right.place c.in_half.result
-    c.opened-opened.ensures.normal normal grew c.in_half.ensures.halves (rw c.opened-opened.ensures.root at c.in_half.ensures.value))
+    (grew_above Right c.in-Some.price.steps c.args.self.now c.in-Some-2.right c.grown_for.new.place c.lift.new.self
+    c.opened-opened.ensures.normal normal grew c.lift.ensures.halves (rw c.opened-opened.ensures.root at c.lift.ensures.value))
 
 pub returns-clause-place : goal.returns-clause-place
 returns-clause-place t c =
     let grew = rw (c.in-Some-3.is, c.opened-opened.ensures.left) at c.in_ok-left-2.ensures.place in
-    let found = rw c.opened-opened.ensures.left at (sym c.in_ok-left-2.ensures.exact ∙ ap tree_grown c.in-Some-3.is) in
-    let normal = normal-grown_for c.in-Some.price c.in-Pair.left_id.now _ c.in-Some-3.left.tree found in
+    let found = rw c.opened-opened.ensures.left at (sym c.in_ok-left-2.ensures.exact ∙ c.in-Some-3.is) in
+    let normal = normal-grown_for c.in-Some.price c.in-Pair.left_id.now _ c.in-Some-3.left found in
     let right = c.in_ok-right-2.ensures.exact ∙ c.opened-opened.ensures.right in
     rw (c.in_ok-fork-2.ensures.exact, c.opened-opened.ensures.root, right, c.in-Some.ensures.left.1)
-    (grew_above Left c.in-Some.price.steps c.args.self.now c.in-Some-3.left.tree c.in-Some-3.left.place c.in_half-2.result
-    c.opened-opened.ensures.normal normal grew c.in_half-2.ensures.halves (rw c.opened-opened.ensures.root at c.in_half-2.ensures.value))
+    (grew_above Left c.in-Some.price.steps c.args.self.now c.in-Some-3.left c.grown_for-2.new.place c.lift-2.new.self
+    c.opened-opened.ensures.normal normal grew c.lift-2.ensures.halves (rw c.opened-opened.ensures.root at c.lift-2.ensures.value))

@@ -21,13 +21,13 @@ returns-clause-raised c =
           let raises = raises_grown c.args.id.now c.args.self.now c.each_tree_is_normal.ensures c.requires.some in
           let price = sym c.in-Some.is ∙ c.in_ok-price.ensures.exact in
           let made = grown_for-cost c.in-Some.price c.args.id.now c.args.self.now price in
-          let found = rw c.in-Some-2.is at c.in_ok-grown.ensures.exact in
-          let tree : c.in-Some-2.grown.tree ≡ normalised (grown c.args.id.now c.args.self.now) = cc in
+          let found = rw c.in-Some-2.is at c.in_ok-tree.ensures.exact in
+          let tree : c.in-Some-2.tree ≡ normalised (grown c.args.id.now c.args.self.now) = cc in
           let few : c.in-Some.price.steps ≤ 128 = rw (← c.price.view_is) (omega (arith, w.if-price-le-LEVELS.true)) in
-          let grew = rw c.in-Some-2.is at c.in_ok-grown.ensures.place in
+          let grew = rw c.in-Some-2.is at c.in_ok-tree.ensures.place in
           let told = grew.told few in
           rw (w.raised-is, w.of.ensures)
-          (raised_at c.args.id.now c.args.self.now c.in-Some-2.grown.tree (rw tree raises.raised.outside) _
+          (raised_at c.args.id.now c.args.self.now c.in-Some-2.tree (rw tree raises.raised.outside) _
           (omega (arith, told.raised 128 few, told.reached 128 few)))
       | else-price-le-LEVELS w ↦ rw w.raised-is tt
     ]
