@@ -1,41 +1,31 @@
 -- The answers of the queries, step by step.
-use Rattle.std.proofs.Common.{◌≡◌, ◌≢◌, ℕ, zero, suc, ◌+◌, ◌-◌, ◌<◌, ◌≤◌, ◌↔◌, Bool, true, false, ◌&&◌, cond, List, [], ◌∷◌, ◌++◌, length, get_or, take, map, IsTrue, Some, option_map, Result, Ok, Err, IsErrAnd, refl, sym, ap, subst, ◌∙◌, inl, inr, arith}
+use Rattle.std.proofs.Common.{◌≡◌, ◌≢◌, ℕ, zero, suc, ◌+◌, ◌-◌, ◌<◌, ◌≤◌, ◌↔◌, Bool, true, false, ◌&&◌, cond, List, [], ◌∷◌, ◌++◌, length, get_or, take, map, IsTrue, Result, Ok, Err, IsErrAnd, refl, sym, ap, subst, ◌∙◌, inl, inr, arith, rules}
 use Rattle.std.specs.Global.{Vec}
 use Rattle.std.specs.List.{filter, range_with_len}
 use Rattle.std.proofs.Math.Path.{transport}
 use Rattle.std.proofs.lemmas.Bool.{false≢true, and_from, cases_Bool, cond-true, cond-false}
-use Rattle.std.proofs.lemmas.Option.{get_or_from_slice_get, slice_get-map, slice_get_within}
 use Rattle.std.proofs.lemmas.List.{get_or-map, length-map, take_all, append-nil}
 use Rattle.std.proofs.lemmas.List.Elements.{filter_more}
 use Rattle.std.proofs.lemmas.List.FromFn.{length-range_with_len, get_or-range_with_len}
-use denote.Enum.Bare.{sameb}
+use denote.Enum.Bare.{sameb, same_true, true_same}
 use Rattle.trace_types.specs.contracts.order.Order.{the_type}
 use Rattle.trace_types.specs.declared.order.Order.{Order}
-use Rattle.trace_types.specs.declared.order.Order.TheVariants.{Same, Before, After, Concurrent}
 use Rattle.trace_types.specs.clock.EventTree.{EventTree, Leaf}
 use Rattle.event_tree.specs.Comparison.{StandsAs}
 use Rattle.event_tree.proofs.Standing.{stand_one_way}
-use Rattle.trace_query.specs.Compared.{tree_order, is_order}
-use Rattle.trace_query.specs.Queries.{has_tree, events_of, kept_at, tree_at, order_between, is_other_standing, others_standing, order_due, ListsExactly}
+use Rattle.trace_query.specs.Compared.{tree_order}
+use Rattle.trace_query.specs.Queries.{has_tree, events_of, tree_at, order_between, is_other_standing, others_standing, order_due, ListsExactly}
 use Rattle.trace_query.specs.declared.query_fault.QueryFault.{QueryFault}
 use Rattle.trace_query.specs.declared.query_fault.QueryFault.TheVariants.{Unknown, Memory}
-use Rattle.trace_query.proofs.ComparedTrees.{stands_as_compared, is_order_iff}
+use Rattle.trace_query.proofs.ComparedTrees.{stands_as_compared}
 use Rattle.trace_query.proofs.Listed.{event_from_bounds, is_other_standing_iff, others_are_exact}
 
--- the test for an order is that of the program
-is_order-test : (order : Order) → sameb the_type order Concurrent ≡ is_order Concurrent order
-is_order-test Same = refl
-is_order-test Before = refl
-is_order-test After = refl
-is_order-test Concurrent = refl
-
--- two trees that stand in this way, tested for being concurrent
-pub tested : (order : Order) (e f : EventTree) (found : Bool) → StandsAs order e f → found ≡ sameb the_type order Concurrent → IsTrue found ↔ StandsAs Concurrent e f
-tested order e f found stands is =
-    let told : found ≡ is_order Concurrent order = is ∙ is_order-test order in (
-      λ passes. subst (λ (o : Order). StandsAs o e f) (sym ((is_order_iff Concurrent order).0 (sym told ∙ passes))) stands,
-      λ apart. told ∙ (is_order_iff Concurrent order).1 (stand_one_way e f Concurrent order apart stands),
-    )
+-- two trees that stand in this way, tested for the way that is wanted
+pub tested : (wanted order : Order) (e f : EventTree) (found : Bool) → StandsAs order e f → found ≡ sameb the_type order wanted → IsTrue found ↔ StandsAs wanted e f
+tested wanted order e f found stands is = (
+  λ passes. subst (λ (o : Order). StandsAs o e f) (same_true the_type (search rules) order wanted (sym is ∙ passes)) stands,
+  λ asked. is ∙ true_same the_type order wanted (stand_one_way e f order wanted stands asked),
+)
 
 -- one event more
 more : (test : ℕ → Bool) (n place : ℕ) → place < n → filter test (take (place + 1) (range_with_len 1 n)) ≡ filter test (take place (range_with_len 1 n)) ++ cond (test (place + 1)) ((place + 1) ∷ []) []
@@ -61,38 +51,12 @@ gathered_none test n place events within so_far fails =
     ∙ sym (more test n place within ∙ ap (λ list. filter test (take place (range_with_len 1 n)) ++ list) (cond-false (test (place + 1)) ((place + 1) ∷ []) [] fails) ∙ append-nil (filter test (take place (range_with_len 1 n))))
 
 -- the order of two events that there are
-ordered : (trees : List EventTree) (first second : ℕ) (one other : EventTree) (order : Order) → has_tree trees first ≡ true → has_tree trees second ≡ true
+pub ordered : (trees : List EventTree) (first second : ℕ) (one other : EventTree) (order : Order) → has_tree trees first ≡ true → has_tree trees second ≡ true
     → one ≡ tree_at trees first → other ≡ tree_at trees second → StandsAs order one other → Ok order ≡ order_due trees first second
 ordered trees first second one other order is_first is_second is_one is_other stands =
     let both : (has_tree trees first && has_tree trees second) ≡ true = and_from (has_tree trees first) (has_tree trees second) is_first is_second in
     let told : order ≡ order_between trees first second = stands_as_compared order one other stands ∙ ap (λ e. tree_order e other) is_one ∙ ap (tree_order (tree_at trees first)) is_other in
     ap Ok told ∙ sym (cond-true (has_tree trees first && has_tree trees second) (Ok (order_between trees first second)) (Err Unknown) both)
-
--- what is kept for an event stands for the tree of the event, and there is such an event
-pub kept_there : {K : Type 0} (tree : K → EventTree) (kept : List K) (event : ℕ) (one : K) → kept_at kept event ≡ Some one
-    → (has_tree (map tree kept) event ≡ true) × (tree one ≡ tree_at (map tree kept) event)
-kept_there tree kept zero one is = cc
-kept_there tree kept (suc place) one is =
-    let within : place < length kept = slice_get_within kept place one is in
-    let back : place ≡ suc place - 1 = omega arith in (
-      event_from_bounds (map tree kept) (suc place) (omega arith) (omega (arith, within, length-map kept tree)),
-      sym (get_or_from_slice_get (map tree kept) place (tree one) (Leaf 0) (slice_get-map tree kept place ∙ ap (option_map tree) is))
-          ∙ ap (λ at. get_or (map tree kept) at (Leaf 0)) back,
-    )
-
--- the order of two events, from what is kept for them
-pub ordered_pair : {K : Type 0} (tree : K → EventTree) (kept : List K) (first second : ℕ) (one other : K) (order : Order)
-    → kept_at kept first ≡ Some one → kept_at kept second ≡ Some other → StandsAs order (tree one) (tree other) → Ok order ≡ order_due (map tree kept) first second
-ordered_pair tree kept first second one other order is_first is_second stands =
-    let one_there = kept_there tree kept first one is_first in
-    let other_there = kept_there tree kept second other is_second in
-    ordered (map tree kept) first second (tree one) (tree other) order one_there.0 other_there.0 one_there.1 other_there.1 stands
-
--- and why there is none
-pub unknown_pair : (trees : List EventTree) (first second : ℕ) (fault : QueryFault) → fault ≡ Unknown → (has_tree trees first && has_tree trees second) ≡ false
-    → Err fault ≡ order_due trees first second
-unknown_pair trees first second fault is nowhere =
-    ap Err is ∙ sym (cond-false (has_tree trees first && has_tree trees second) (Ok (order_between trees first second)) (Err Unknown) nowhere)
 
 -- of trees of which none more passes the events are all there
 pub passed_over : (test : ℕ → Bool) (n place left : ℕ) → place + left ≡ n → ((later : ℕ) → place < later → later ≤ n → test later ≡ false)

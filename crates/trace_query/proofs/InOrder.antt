@@ -1,19 +1,19 @@
 -- Trees that stand in the order of their events need one look at each pair.
-use Rattle.std.proofs.Common.{◌≡◌, ◌↔◌, ℕ, zero, suc, ◌+◌, ◌-◌, ◌<◌, Bool, true, not, ◌&&◌, IsTrue, Option, Some, List, [], ◌∷◌, length, get_or, take, map, Ok, sym, ap, ◌∙◌, arith, length-take-le, get_or-take}
+use Rattle.std.proofs.Common.{◌≡◌, ◌↔◌, ℕ, zero, suc, ◌+◌, ◌-◌, ◌<◌, Bool, true, not, ◌&&◌, IsTrue, Option, List, [], ◌∷◌, length, get_or, take, map, Ok, sym, ◌∙◌, arith, length-take-le, get_or-take}
 use Rattle.std.specs.Global.{Vec}
 use Rattle.std.proofs.lemmas.Bool.{false≢true, and_parts, not-true, not_from_false}
 use Rattle.std.proofs.lemmas.List.{length-map}
 use Rattle.std.proofs.Math.Path.{transport}
-use Rattle.trace_types.specs.declared.order.Order.TheVariants.{Same, Before, Concurrent}
-use Rattle.trace_types.specs.clock.EventTree.{EventTree, Leaf, value}
-use Rattle.event_tree.specs.Comparison.{IsBelow, StandsAs}
+use Rattle.trace_types.specs.declared.order.Order.TheVariants.{Before, Concurrent}
+use Rattle.trace_types.specs.clock.EventTree.{EventTree, Leaf}
+use Rattle.event_tree.specs.Comparison.{IsBelow}
 use Rattle.trace_query.specs.Compared.{is_below}
 use Rattle.trace_query.specs.Deciding.{IsDecidedBy, DecideInOrder, point_in}
-use Rattle.trace_query.specs.Queries.{has_tree, kept_at, tree_at, StandInOrder, trees_before, ListsExactly}
+use Rattle.trace_query.specs.Queries.{has_tree, tree_at, StandInOrder, trees_before, ListsExactly}
 use Rattle.trace_query.specs.declared.deciding.Deciding.{Deciding}
 use Rattle.trace_query.proofs.ComparedTrees.{is_below_iff}
 use Rattle.trace_query.proofs.Listed.{event_bounds, event_from_bounds}
-use Rattle.trace_query.proofs.Gathered.{kept_there, refuted, refuted_by, listed_to, unlisted, found_before, ArePlaced, IsOtherStanding, here, tree_in_place}
+use Rattle.trace_query.proofs.Gathered.{refuted, refuted_by, listed_to, unlisted, found_before, ArePlaced, IsOtherStanding, here, tree_in_place}
 
 -- no later event is in the past, so the list is that of the earlier ones
 pub found_earlier : (trees : List EventTree) (event place : ℕ) (events : Vec ℕ) → StandInOrder trees → IsTrue (has_tree trees event) → place ≡ event - 1
@@ -87,29 +87,6 @@ module _ {K : Type 0} {tree : K → EventTree} {kept : List K} {event place : �
   pub decided_later : event < place + 1 → IsDecidedBy (point_in points (event - 1)) (tree one) (tree other)
   decided_later later =
       transport (λ i. IsDecidedBy (point_in points (event - 1)) (sym placed.one_is i) (sym (tree_in_place placed) i)) (decided event (place + 1) placed.event_is (here placed) later)
-
--- two events, and what is kept for them
-module _ {K : Type 0} (tree : K → EventTree) (kept : List K) (first second : ℕ) (one other : K) (is_first : kept_at kept first ≡ Some one) (is_second : kept_at kept second ≡ Some other) where
-  -- trees that are kept for one event stand as such
-  pub same_stands : first ≡ second → StandsAs Same (tree one) (tree other)
-  same_stands same =
-      let is : tree one ≡ tree other = (kept_there tree kept first one is_first).1 ∙ ap (tree_at (map tree kept)) same ∙ sym (kept_there tree kept second other is_second).1 in
-      ((λ point. omega (arith, ap (λ e. value e point) is)), (λ point. omega (arith, ap (λ e. value e point) is)))
-
-  -- of a later event the tree is not below
-  pub later_refuted : StandInOrder (map tree kept) → first < second → ¬ IsBelow (tree other) (tree one)
-  later_refuted in_order earlier below =
-      let there = kept_there tree kept first one is_first in
-      let later_there = kept_there tree kept second other is_second in
-      in_order first second there.0 later_there.0 earlier (transport (λ i. IsBelow (later_there.1 i) (there.1 i)) below)
-
-  -- the point of the earlier one decides whether its tree is below that of the other
-  pub decided_pair : (points : List (Option Deciding)) → DecideInOrder (map tree kept) points → first < second
-      → IsDecidedBy (point_in points (first - 1)) (tree one) (tree other)
-  decided_pair points decided earlier =
-      let there = kept_there tree kept first one is_first in
-      let later_there = kept_there tree kept second other is_second in
-      transport (λ i. IsDecidedBy (point_in points (first - 1)) (sym there.1 i) (sym later_there.1 i)) (decided first second there.0 later_there.0 earlier)
 
 -- whether none of these trees is below the first, computed
 abbrev none_below : EventTree → List EventTree → Bool

@@ -1,5 +1,5 @@
 -- What queries about the order of events are due, from the list of the events' trees: event k has the k-th, from 1.
-use Rattle.std.specs.Prelude.{◌≡◌, ℕ, zero, suc, ◌-◌, ◌<◌, ◌≤◌, Bool, not, ◌&&◌, IsTrue, List, [], length, slice_get, ◌==◌, nat_lt, if◌then◌else◌, Option, None, Result, Ok, Err, IfOk, IfErr}
+use Rattle.std.specs.Prelude.{◌≡◌, ℕ, suc, ◌-◌, ◌<◌, ◌≤◌, Bool, not, ◌&&◌, IsTrue, List, [], length, ◌==◌, nat_lt, if◌then◌else◌, Result, Ok, Err, IfOk, IfErr}
 use Rattle.std.specs.Global.{Vec}
 use Rattle.std.specs.List.{slice_index_or, filter, list_any, range_with_len}
 use Rattle.trace_types.specs.clock.EventTree.{EventTree, Leaf}
@@ -21,11 +21,6 @@ events_of trees = range_with_len 1 (length trees)
 -- the tree of the event; of no event it is not asked
 abbrev pub tree_at : List EventTree → ℕ → EventTree
 tree_at trees event = slice_index_or trees (event - 1) (Leaf 0)
-
--- what is kept for the event, where there is such an event
-abbrev pub kept_at : {K : Type 0} → List K → ℕ → Option K
-kept_at kept zero = None
-kept_at kept (suc place) = slice_get kept place
 
 -- the trees stand in the order of the events: no later event's tree is below an earlier one's
 abbrev pub StandInOrder : List EventTree → Type 0

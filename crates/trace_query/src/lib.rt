@@ -4,11 +4,12 @@
 //! that [`cut`] takes the number of each event's task.
 //!
 //! The contract that carries it: [`order`], [`past`], [`concurrent_with`] and [`cut`] give exactly what
-//! `specs/Queries.antt` defines over the list of trees. Two faster ways give the same. [`order_in_order`],
-//! [`past_in_order`] and [`concurrent_in_order`] look once at each pair, if no later event's tree is below an earlier
-//! one's. [`order_by_points`], [`past_by_points`], [`concurrent_by_points`] and [`cut_by_points`] look at one value for
-//! each pair, if events have points that decide (`specs/Deciding.antt`). A [`Compare`] compares kept trees, as
-//! `specs/Compared.antt` defines. [`laws`] says what the definitions mean.
+//! `specs/Queries.antt` defines over the list of trees, whatever trees they are. A [`Compare`] orders kept trees for
+//! them: [`Plain`] by their values, and [`Cached`] by what a cache remembers.
+//!
+//! [`past_by_points`], [`concurrent_by_points`] and [`cut_by_points`] give the same, if no later event's tree is below an
+//! earlier one's. They look at one value for each pair, if events have points that decide (`specs/Deciding.antt`).
+//! [`laws`] says what the definitions mean.
 //!
 //! ```
 //! use event_tree::EvTree;
@@ -26,22 +27,21 @@
 //! ```
 #![tactic(auto)]
 
+mod cached;
+mod causal;
 mod compare;
 mod deciding;
-mod last_events;
 pub mod laws;
 mod meant;
 mod plain;
 mod queries;
 mod query_fault;
 
+pub use cached::Cached;
+pub use causal::{concurrent_by_points, cut_by_points, past_by_points};
 pub use compare::Compare;
 pub use deciding::Deciding;
-pub use last_events::{cut, cut_by_points};
 pub use meant::Meant;
 pub use plain::Plain;
-pub use queries::{
-    concurrent_by_points, concurrent_in_order, concurrent_with, order, order_by_points,
-    order_in_order, pair_of, past, past_by_points, past_in_order,
-};
+pub use queries::{concurrent_with, cut, order, past};
 pub use query_fault::QueryFault;

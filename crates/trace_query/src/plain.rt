@@ -1,25 +1,16 @@
-//! Comparisons of trees that are kept as they are.
+//! Comparisons of kept trees by their values.
 
-use crate::{Compare, Deciding};
-use event_tree::EvTree;
+use crate::{Compare, Meant};
 use trace_types::Order;
 
-/// Compares the trees themselves. It holds nothing and never waits.
+/// Compares any two kept trees by their values. It holds nothing and never waits.
 #[derive(Clone, Copy, Debug)]
 pub struct Plain;
 
-impl Compare for Plain {
-    type Kept = EvTree;
+impl<K: Meant> Compare<K> for Plain {
+    ghost admits = { λ _ _. Unit {0} };
 
-    fn order(&self, first: &EvTree, second: &EvTree) -> Order {
-        first.order(second)
-    }
-
-    fn is_below(&self, first: &EvTree, second: &EvTree) -> bool {
-        first.leq(second)
-    }
-
-    fn is_below_at(&self, _first: &EvTree, deciding: &Deciding, second: &EvTree) -> bool {
-        second.is_at_least(&deciding.point, deciding.value)
+    fn order(&self, first: &K, second: &K) -> Order {
+        first.tree_value().order(second.tree_value())
     }
 }

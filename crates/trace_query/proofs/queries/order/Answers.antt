@@ -1,6 +1,17 @@
-use Rattle.trace_query.proofs.Gathered.{ordered_pair}
+use Rattle.std.proofs.Common.{map}
+use Rattle.std.proofs.lemmas.List.Elements.{All-contains}
+use Rattle.trace_query.proofs.Gathered.{ordered}
 use Rattle.trace_query.proofs.queries.order.Goals as goal
+
+pub order-requires : goal.order-requires
+order-requires g c =
+    let admits = g.C.Compare.admits c.args.compare.now in
+    record {
+      first = All-contains admits c.args.kept.now _ c.requires c.in_ok-first.ensures.kept;
+      second = All-contains admits c.args.kept.now _ c.requires c.in_ok-second.ensures.kept;
+    }
 
 pub returns : goal.returns
 returns g c =
-    ordered_pair g.C.Kept.Meant.tree c.args.kept.now c.args.first c.args.second _ _ c.order.result c.in_ok-first.ensures.first c.in_ok-first.ensures.second c.order.ensures
+    ordered (map g.K.Meant.tree c.args.kept.now) c.args.first c.args.second _ _ c.order.result c.in_ok-first.ensures.known c.in_ok-second.ensures.known
+    c.in_ok-first.ensures.tree c.in_ok-second.ensures.tree c.order.ensures

@@ -2,15 +2,15 @@ use Rattle.std.proofs.Common.{◌≡◌, ◌+◌, ◌-◌, ◌<◌, true, map, a
 use Rattle.trace_types.specs.declared.order.Order.TheVariants.{Before}
 use Rattle.trace_query.proofs.Gathered.{ArePlaced, refuted_by, listed_one, listed_none, refused_one}
 use Rattle.trace_query.proofs.InOrder.{found_earlier, earlier_many, placed_earlier, earlier_before, decided_earlier}
-use Rattle.trace_query.proofs.queries.past_by_points.Given.{Over}
-use Rattle.trace_query.proofs.queries.past_by_points.Goals.{After-index-earlier-place, then-is_below_later+in_ok-map_err, else-is_below_later}
-use Rattle.trace_query.proofs.queries.past_by_points.Goals as goal
+use Rattle.trace_query.proofs.causal.past_by_points.Given.{Over}
+use Rattle.trace_query.proofs.causal.past_by_points.Goals.{After-index-earlier-place, then-is_below_later+in_ok-map_err, else-is_below_later}
+use Rattle.trace_query.proofs.causal.past_by_points.Goals as goal
 
 -- what is compared, an earlier event's tree with that of the event
 placed : (g : Over) (c : After-index-earlier-place g) → (c.loop-place.place + 1 < c.args.event)
-    × ArePlaced g.C.Kept.Meant.tree c.args.kept.now c.args.event c.loop-place.place c.index-earlier-place.result c.in_ok-tree.tree.now
+    × ArePlaced g.K.Meant.tree c.args.kept.now c.args.event c.loop-place.place c.index-earlier-place.result c.in_ok-tree.tree.now
 placed g c =
-    placed_earlier g.C.Kept.Meant.tree c.args.kept.now c.args.event c.in_ok-tree.ensures.known c.loop-place.place c.index-earlier-place.result c.in_ok-tree.tree.now
+    placed_earlier g.K.Meant.tree c.args.kept.now c.args.event c.in_ok-tree.ensures.known c.loop-place.place c.index-earlier-place.result c.in_ok-tree.tree.now
     c.index-earlier-place.is c.in_ok-tree.ensures.tree c.loop-place-test.true
 
 pub loop-place-preserved : goal.loop-place-preserved
@@ -31,8 +31,8 @@ loop-place-preserved g c =
 
 pub returns : goal.returns
 returns g c =
-    let trees = map g.C.Kept.Meant.tree c.args.kept.now in
-    let many = earlier_many g.C.Kept.Meant.tree c.args.kept.now c.args.event c.in_ok-tree.ensures.known in
+    let trees = map g.K.Meant.tree c.args.kept.now in
+    let many = earlier_many g.K.Meant.tree c.args.kept.now c.args.event c.in_ok-tree.ensures.known in
     let last : c.loop-place.place ≡ c.args.event - 1 = omega (arith, many, c.loop-place-test.false, c.loop-place.auto.place-end) in
     found_earlier trees c.args.event c.loop-place.place c.loop-place.events c.requires.in_order c.in_ok-tree.ensures.known last c.loop-place.invariant
 
