@@ -1,12 +1,11 @@
 -- The answers of the queries, step by step.
-use Rattle.std.proofs.Common.{◌≡◌, ◌≢◌, ℕ, zero, suc, ◌+◌, ◌-◌, ◌<◌, ◌≤◌, ◌↔◌, Bool, true, false, ◌&&◌, cond, List, [], ◌∷◌, ◌++◌, length, get_or, take, map, IsTrue, Result, Ok, Err, IsErrAnd, refl, sym, ap, subst, ◌∙◌, inl, inr, arith, rules}
+use Rattle.std.proofs.Common.{◌≡◌, ◌≢◌, ℕ, zero, suc, ◌+◌, ◌-◌, ◌<◌, ◌≤◌, ◌↔◌, Bool, true, false, ◌&&◌, cond, List, [], ◌∷◌, ◌++◌, length, get_or, map, IsTrue, Result, Ok, Err, IsErrAnd, refl, sym, ap, subst, ◌∙◌, inl, inr, arith, rules}
 use Rattle.std.specs.Global.{Vec}
 use Rattle.std.specs.List.{filter, range_with_len}
 use Rattle.std.proofs.Math.Path.{transport}
 use Rattle.std.proofs.lemmas.Bool.{false≢true, and_from, cases_Bool, cond-true, cond-false}
-use Rattle.std.proofs.lemmas.List.{get_or-map, length-map, take_all, append-nil}
-use Rattle.std.proofs.lemmas.List.Elements.{filter_more}
-use Rattle.std.proofs.lemmas.List.FromFn.{length-range_with_len, get_or-range_with_len}
+use Rattle.std.proofs.lemmas.List.{get_or-map, length-map, map-id, append-nil}
+use Rattle.std.proofs.lemmas.List.FromFn.{filter_of_map_range_with_len_more}
 use denote.Enum.Bare.{sameb, same_true, true_same}
 use Rattle.trace_types.specs.contracts.order.Order.{the_type}
 use Rattle.trace_types.specs.declared.order.Order.{Order}
@@ -14,7 +13,7 @@ use Rattle.trace_types.specs.clock.EventTree.{EventTree, Leaf}
 use Rattle.event_tree.specs.Comparison.{StandsAs}
 use Rattle.event_tree.proofs.Standing.{stand_one_way}
 use Rattle.trace_query.specs.Compared.{tree_order}
-use Rattle.trace_query.specs.Queries.{has_tree, events_of, tree_at, order_between, is_other_standing, others_standing, order_due, ListsExactly}
+use Rattle.trace_query.specs.Queries.{has_tree, tree_at, order_between, is_other_standing, others_standing, order_due, ListsExactly}
 use Rattle.trace_query.specs.declared.query_fault.QueryFault.{QueryFault}
 use Rattle.trace_query.specs.declared.query_fault.QueryFault.TheVariants.{Unknown, Memory}
 use Rattle.trace_query.proofs.ComparedTrees.{stands_as_compared}
@@ -28,27 +27,25 @@ tested wanted order e f found stands is = (
 )
 
 -- one event more
-more : (test : ℕ → Bool) (n place : ℕ) → place < n → filter test (take (place + 1) (range_with_len 1 n)) ≡ filter test (take place (range_with_len 1 n)) ++ cond (test (place + 1)) ((place + 1) ∷ []) []
-more test n place within =
-    let long : length (range_with_len 1 n) ≡ n = length-range_with_len 1 n in
-    let at : get_or (range_with_len 1 n) place 0 ≡ place + 1 = get_or-range_with_len 1 n place 0 within ∙ (let turned : 1 + place ≡ place + 1 = omega arith in turned) in
-    subst
-    (λ (event : ℕ). filter test (take (place + 1) (range_with_len 1 n)) ≡ filter test (take place (range_with_len 1 n)) ++ cond (test event) (event ∷ []) [])
-    at (filter_more test (range_with_len 1 n) place 0 (omega arith))
+more : (test : ℕ → Bool) (place : ℕ) → filter test (range_with_len 1 (place + 1)) ≡ filter test (range_with_len 1 place) ++ cond (test (place + 1)) ((place + 1) ∷ []) []
+more test place =
+    let all : filter test (map (λ (event : ℕ). event) (range_with_len 1 (place + 1))) ≡ filter test (map (λ (event : ℕ). event) (range_with_len 1 place)) ++ cond (test (place + 1)) ((place + 1) ∷ []) [] =
+    filter_of_map_range_with_len_more test (λ (event : ℕ). event) 1 place (place + 1) (omega arith) in
+    rw (map-id (range_with_len 1 (place + 1)), map-id (range_with_len 1 place)) at all
 
 -- an event that passes is added
-pub gathered_one : (test : ℕ → Bool) (n place : ℕ) (events : List ℕ) → place < n → events ≡ filter test (take place (range_with_len 1 n)) → test (place + 1) ≡ true
-    → events ++ (place + 1) ∷ [] ≡ filter test (take (place + 1) (range_with_len 1 n))
-gathered_one test n place events within so_far passes =
+gathered_one : (test : ℕ → Bool) (place : ℕ) (events : List ℕ) → events ≡ filter test (range_with_len 1 place) → test (place + 1) ≡ true
+    → events ++ (place + 1) ∷ [] ≡ filter test (range_with_len 1 (place + 1))
+gathered_one test place events so_far passes =
     ap (λ list. list ++ (place + 1) ∷ []) so_far
-    ∙ sym (more test n place within ∙ ap (λ list. filter test (take place (range_with_len 1 n)) ++ list) (cond-true (test (place + 1)) ((place + 1) ∷ []) [] passes))
+    ∙ sym (more test place ∙ ap (λ list. filter test (range_with_len 1 place) ++ list) (cond-true (test (place + 1)) ((place + 1) ∷ []) [] passes))
 
 -- another one is passed over
-pub gathered_none : (test : ℕ → Bool) (n place : ℕ) (events : List ℕ) → place < n → events ≡ filter test (take place (range_with_len 1 n)) → test (place + 1) ≡ false
-    → events ≡ filter test (take (place + 1) (range_with_len 1 n))
-gathered_none test n place events within so_far fails =
+gathered_none : (test : ℕ → Bool) (place : ℕ) (events : List ℕ) → events ≡ filter test (range_with_len 1 place) → test (place + 1) ≡ false
+    → events ≡ filter test (range_with_len 1 (place + 1))
+gathered_none test place events so_far fails =
     so_far
-    ∙ sym (more test n place within ∙ ap (λ list. filter test (take place (range_with_len 1 n)) ++ list) (cond-false (test (place + 1)) ((place + 1) ∷ []) [] fails) ∙ append-nil (filter test (take place (range_with_len 1 n))))
+    ∙ sym (more test place ∙ ap (λ list. filter test (range_with_len 1 place) ++ list) (cond-false (test (place + 1)) ((place + 1) ∷ []) [] fails) ∙ append-nil (filter test (range_with_len 1 place)))
 
 -- the order of two events that there are
 pub ordered : (trees : List EventTree) (first second : ℕ) (one other : EventTree) (order : Order) → has_tree trees first ≡ true → has_tree trees second ≡ true
@@ -59,13 +56,11 @@ ordered trees first second one other order is_first is_second is_one is_other st
     ap Ok told ∙ sym (cond-true (has_tree trees first && has_tree trees second) (Ok (order_between trees first second)) (Err Unknown) both)
 
 -- of trees of which none more passes the events are all there
-pub passed_over : (test : ℕ → Bool) (n place left : ℕ) → place + left ≡ n → ((later : ℕ) → place < later → later ≤ n → test later ≡ false)
-    → filter test (take place (range_with_len 1 n)) ≡ filter test (range_with_len 1 n)
-passed_over test n place zero whole none =
-    let wide : length (range_with_len 1 n) ≡ n = length-range_with_len 1 n in
-    ap (filter test) (take_all place (range_with_len 1 n) (omega arith))
+passed_over : (test : ℕ → Bool) (n place left : ℕ) → place + left ≡ n → ((later : ℕ) → place < later → later ≤ n → test later ≡ false)
+    → filter test (range_with_len 1 place) ≡ filter test (range_with_len 1 n)
+passed_over test n place zero whole none = let all : place ≡ n = omega (arith, whole) in ap (λ many. filter test (range_with_len 1 many)) all
 passed_over test n place (suc left) whole none =
-    gathered_none test n place (filter test (take place (range_with_len 1 n))) (omega arith) refl (none (place + 1) (omega arith) (omega arith))
+    gathered_none test place (filter test (range_with_len 1 place)) refl (none (place + 1) (omega arith) (omega arith))
     ∙ passed_over test n (place + 1) left (omega arith) (λ later above within. none later (omega (arith, above)) within)
 
 -- what was tested and is not
@@ -82,7 +77,7 @@ module _ (wanted : Order) (trees : List EventTree) (event : ℕ) where
 
   -- the events up to this place that are listed
   abbrev pub listed_to : ℕ → List ℕ
-  listed_to place = filter is_listed (take place (events_of trees))
+  listed_to place = filter is_listed (range_with_len 1 place)
 
   -- an event is passed over where it is no other one that stands so
   pub unlisted : (number : ℕ) → (number ≢ event → ¬ StandsAs wanted (tree_at trees number) (tree_at trees event)) → is_listed number ≡ false
@@ -115,12 +110,9 @@ abbrev pub IsOtherStanding : {K : Type 0} → Order → (K → EventTree) → �
 IsOtherStanding wanted tree event place other one = (place + 1 ≢ event) × StandsAs wanted (tree other) (tree one)
 
 module _ {K : Type 0} {tree : K → EventTree} {kept : List K} {event place : ℕ} {other one : K} (placed : ArePlaced tree kept event place other one) where
-  many : place < length (map tree kept)
-  many = omega (arith, placed.within, length-map kept tree)
-
   -- there is an event in the place
   pub here : IsTrue (has_tree (map tree kept) (place + 1))
-  here = event_from_bounds (map tree kept) (place + 1) (omega arith) (omega (arith, many))
+  here = event_from_bounds (map tree kept) (place + 1) (omega arith) (omega (arith, placed.within, length-map kept tree))
 
   -- what is kept there is its tree
   pub tree_in_place : tree other ≡ tree_at (map tree kept) (place + 1)
@@ -138,13 +130,13 @@ module _ {K : Type 0} {tree : K → EventTree} {kept : List K} {event place : �
   pub listed_one : (wanted : Order) (events : List ℕ) → events ≡ listed_to wanted (map tree kept) event place → IsOtherStanding wanted tree event place other one
       → (next : List ℕ) → next ≡ events ++ (place + 1) ∷ [] → next ≡ listed_to wanted (map tree kept) event (place + 1)
   listed_one wanted events so_far stands next is_next =
-      is_next ∙ gathered_one (is_listed wanted (map tree kept) event) (length (map tree kept)) place events many so_far ((listed_iff wanted).1 stands)
+      is_next ∙ gathered_one (is_listed wanted (map tree kept) event) place events so_far ((listed_iff wanted).1 stands)
 
   -- any other one is passed over
   pub listed_none : (wanted : Order) (events : List ℕ) → events ≡ listed_to wanted (map tree kept) event place → ¬ IsOtherStanding wanted tree event place other one
       → events ≡ listed_to wanted (map tree kept) event (place + 1)
   listed_none wanted events so_far refutes =
-      gathered_none (is_listed wanted (map tree kept) event) (length (map tree kept)) place events many so_far (refuted _ (listed_iff wanted).0 refutes)
+      gathered_none (is_listed wanted (map tree kept) event) place events so_far (refuted _ (listed_iff wanted).0 refutes)
 
   -- for a list that has it memory may be wanting
   pub refused_one : (wanted : Order) → IsOtherStanding wanted tree event place other one → (result : Result (Vec ℕ) QueryFault) → IsErrAnd result (λ fault. fault ≡ Memory)

@@ -1,15 +1,6 @@
 use Rattle.std.proofs.Common.{map}
-use Rattle.std.proofs.lemmas.List.Elements.{All-contains}
 use Rattle.trace_query.proofs.Gathered.{ordered}
 use Rattle.trace_query.proofs.queries.order.Goals as goal
-
-pub order-requires : goal.order-requires
-order-requires g c =
-    let admits = g.C.Compare.admits c.args.compare.now in
-    record {
-      first = All-contains admits c.args.kept.now _ c.requires c.in_ok-first.ensures.kept;
-      second = All-contains admits c.args.kept.now _ c.requires c.in_ok-second.ensures.kept;
-    }
 
 pub returns : goal.returns
 returns g c =
