@@ -151,8 +151,20 @@ task_in_place : (tasks : List ℕ) (place : ℕ) → get_or tasks place 0 ≡ ta
 task_in_place tasks place = let back : place ≡ (place + 1) - 1 = omega arith in ap (λ (k : ℕ). get_or tasks k 0) back
 
 -- the number of a task fits the marks
-pub task_before : (tasks : List ℕ) (place : ℕ) → ComeBefore tasks → place < length tasks → get_or tasks place 0 < place + 1
+task_before : (tasks : List ℕ) (place : ℕ) → ComeBefore tasks → place < length tasks → get_or tasks place 0 < place + 1
 task_before tasks place earlier within = omega (arith, task_in_place tasks place, earlier (place + 1) (omega arith) (omega (arith, within)))
+
+-- The place before this one is there, and the number of its task is below the bound.
+pub record IsInside (trees : List EventTree) (tasks : List ℕ) (behind bound : ℕ) : Type 0 where
+  pub behind_is : behind ≡ (behind - 1) + 1
+  pub listed : behind - 1 < length trees
+  pub room : get_or tasks (behind - 1) 0 < bound
+
+pub inside : (trees : List EventTree) (tasks : List ℕ) (behind bound : ℕ) → ComeBefore tasks → length tasks ≡ length trees → 0 < behind → behind ≤ bound → behind ≤ length trees
+    → IsInside trees tasks behind bound
+inside trees tasks behind bound earlier long positive low high =
+    let before = task_before tasks (behind - 1) earlier (omega (arith, positive, high, long)) in
+    record { behind_is = omega (arith, positive); listed = omega (arith, positive, high); room = omega (arith, before, positive, low) }
 
 -- The events behind the place that are in the cut, from the last to the first, and for each task whether one is among them.
 pub record IsGathered (trees : List EventTree) (tasks : List ℕ) (event place : ℕ) (is_listed : List Bool) (events : List ℕ) : Type 0 where

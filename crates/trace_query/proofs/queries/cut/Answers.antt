@@ -1,29 +1,17 @@
-use Rattle.std.proofs.Common.{◌≡◌, ◌+◌, ◌-◌, ◌<◌, true, map, length, get_or, ap, sym, ◌∙◌, is_ok, arith}
+use Rattle.std.proofs.Common.{◌≡◌, ◌-◌, true, map, length, ap, sym, ◌∙◌, is_ok, arith}
 use Rattle.std.proofs.lemmas.List.{length-map}
 use Rattle.trace_query.proofs.Gathered.{ArePlaced, refuted_by}
-use Rattle.trace_query.proofs.LastEvents.{refused, task_before, gathered_none, passed_marked, passed_apart, listed_one, under_place, gathered_all}
+use Rattle.trace_query.proofs.LastEvents.{refused, IsInside, inside, gathered_none, passed_marked, passed_apart, listed_one, under_place, gathered_all}
 use Rattle.trace_query.proofs.queries.cut.Given.{Over}
 use Rattle.trace_query.proofs.queries.cut.Goals.{After-index, else-not-index-via-then-not-index+else-is_below, else-not-index-via-else-not-index}
 use Rattle.trace_query.proofs.queries.cut.Goals as goal
 
 -- the place is there, and the marks have the task of its event
-record IsInside (g : Over) (c : After-index g) : Type 0 where
-  behind : c.loop-place.place ≡ (c.loop-place.place - 1) + 1
-  within : c.loop-place.place - 1 < length c.args.kept.now
-  listed : c.loop-place.place - 1 < length (map g.K.Meant.tree c.args.kept.now)
-  room : get_or c.args.tasks.now (c.loop-place.place - 1) 0 < length c.loop-place.is_listed.items
-
-inside : (g : Over) (c : After-index g) → IsInside g c
-inside g c =
-    let place = c.loop-place.place - 1 in
-    let within : place < length c.args.kept.now = omega arith in
-    let before = task_before c.args.tasks.now place c.requires.earlier (omega (arith, within, c.requires.tasks)) in
-    record {
-      behind = omega arith;
-      within = within;
-      listed = omega (arith, within, length-map c.args.kept.now g.K.Meant.tree);
-      room = omega (arith, before, within, c.loop-place.invariant.0, c.loop-place.is_listed.ok.0);
-    }
+seen : (g : Over) (c : After-index g) → IsInside (map g.K.Meant.tree c.args.kept.now) c.args.tasks.now c.loop-place.place (length c.loop-place.is_listed.items)
+seen g c =
+    let all = length-map c.args.kept.now g.K.Meant.tree in
+    inside (map g.K.Meant.tree c.args.kept.now) c.args.tasks.now c.loop-place.place (length c.loop-place.is_listed.items) c.requires.earlier (c.requires.tasks ∙ sym all) (omega arith)
+    (omega (arith, c.loop-place.invariant.0, c.loop-place.is_listed.ok.0)) (omega (arith, all))
 
 pub returns-in_err-is_listed : goal.returns-in_err-is_listed
 returns-in_err-is_listed g c =
@@ -45,26 +33,26 @@ returns-in_err-map_err g c =
 
 pub loop-place-preserved-then-is_below : goal.loop-place-preserved-then-is_below
 loop-place-preserved-then-is_below g c =
-    let seen = inside g (goal.at.loop-place-preserved-then-is_below g c).After-index in
+    let there = seen g (goal.at.loop-place-preserved-then-is_below g c).After-index in
     let placed : ArePlaced g.K.Meant.tree c.args.kept.now c.args.event (c.loop-place.place - 1) c.index-kept-place.result c.in_ok-tree.tree.now =
-    record { other_is = c.index-kept-place.is; one_is = c.in_ok-tree.ensures.tree; within = seen.within; event_is = c.in_ok-tree.ensures.known } in
+    record { other_is = c.index-kept-place.is; one_is = c.in_ok-tree.ensures.tree; within = omega (arith, there.listed, length-map c.args.kept.now g.K.Meant.tree); event_is = c.in_ok-tree.ensures.known } in
     let ok : is_ok c.push.result ≡ true = sym c.map_err.ensures.variant ∙ ap is_ok c.in_ok-map_err.was in (
       c.loop-place.invariant.0,
-      listed_one seen.listed seen.behind c.loop-place.invariant.1 c.index.result.now (sym c.index.ensures ∙ c.if-not-index.true) seen.room
+      listed_one there.listed there.behind_is c.loop-place.invariant.1 c.index.result.now (sym c.index.ensures ∙ c.if-not-index.true) there.room
           ((under_place placed).0 (c.is_below.ensures.0 c.if-is_below.true)) c.push.new.self.items (rw ok at c.push.ensures.items),
     )
 
 pub loop-place-preserved : goal.loop-place-preserved
 loop-place-preserved g c =
-    let seen = inside g (goal.at.loop-place-preserved g c).After-index in (
+    let there = seen g (goal.at.loop-place-preserved g c).After-index in (
       c.loop-place.invariant.0,
       elim c.else-not-index.branch [
         | else-not-index-via-then-not-index+else-is_below w ↦ (
             let placed : ArePlaced g.K.Meant.tree c.args.kept.now c.args.event (c.loop-place.place - 1) w.index-kept-place.result c.in_ok-tree.tree.now =
-            record { other_is = w.index-kept-place.is; one_is = c.in_ok-tree.ensures.tree; within = seen.within; event_is = c.in_ok-tree.ensures.known } in
-            passed_apart seen.listed seen.behind c.loop-place.invariant.1 (λ below. refuted_by w.is_below.ensures w.if-is_below.false ((under_place placed).1 below))
+            record { other_is = w.index-kept-place.is; one_is = c.in_ok-tree.ensures.tree; within = omega (arith, there.listed, length-map c.args.kept.now g.K.Meant.tree); event_is = c.in_ok-tree.ensures.known } in
+            passed_apart there.listed there.behind_is c.loop-place.invariant.1 (λ below. refuted_by w.is_below.ensures w.if-is_below.false ((under_place placed).1 below))
             )
-        | else-not-index-via-else-not-index w ↦ passed_marked seen.listed seen.behind c.loop-place.invariant.1 c.index.result.now (sym c.index.ensures ∙ w.if-not-index.false) seen.room
+        | else-not-index-via-else-not-index w ↦ passed_marked there.listed there.behind_is c.loop-place.invariant.1 c.index.result.now (sym c.index.ensures ∙ w.if-not-index.false) there.room
       ],
     )
 
