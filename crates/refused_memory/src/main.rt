@@ -16,7 +16,7 @@ use run::RUN;
 use std::alloc::Global;
 use std::io;
 use std::io::Write;
-use tenant_ledger::{Ledger, PlainShare};
+use tenant_ledger::Ledger;
 use trace_types::{Code, Limits, Memory, Reply, Request};
 
 fn main(rt: HostRuntime) -> io::Result<()> {
@@ -97,7 +97,7 @@ fn answered<R>(rt: &R, ledger: Ledger, request: &Request) -> (Ledger, Reply) {
 
 fn answered_once<R>(rt: &R, ledger: Ledger, request: &Request) -> (Ledger, Reply) {
     if !request.is_report() {
-        let reply = ledger.ask(&PlainShare, request);
+        let reply = ledger.answer(request);
         return (ledger, reply);
     }
     match ledger.prepare(rt, request) {

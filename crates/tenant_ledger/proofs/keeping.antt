@@ -8,3 +8,4 @@ pub mod Report
 pub mod Starts
 pub mod Refused
 pub mod Told
+pub mod Answered

@@ -1,3 +1,4 @@
+pub mod Answers
 pub mod ClockLaws
 pub mod Legal
 pub mod Invariant

@@ -1,35 +1,34 @@
 //! What a ledger keeps.
-ghost use Rattle.std.specs.Prelude.{◌≡◌, ◌-◌, ◌<◌, ◌≤◌, true, IsTrue, IfOk, OnOk, IfErr, IfSome, is_some, Some, None, All, length, if◌then◌else◌, slice_get, map};
+ghost use Rattle.std.specs.Prelude.{◌≡◌, ◌-◌, ◌<◌, ◌≤◌, true, IsTrue, IfOk, IfErr, IfSome, is_some, Some, None, length, slice_get};
 ghost use Rattle.trace_types.specs.tenant.Limits.{are_limits};
-ghost use Rattle.trace_types.specs.tenant.Rows.{row_of, is_event};
+ghost use Rattle.trace_types.specs.tenant.Rows.{is_event};
 ghost use Rattle.trace_types.specs.clock.Clock.{tree_clock};
 ghost use Rattle.trace_types.specs.clock.Size.{inner_of_id, inner_of_tree};
-ghost use Rattle.trace_types.specs.clock.Stamps.{stamp_of, stamp_text_of, tree_of};
+ghost use Rattle.trace_types.specs.clock.Stamps.{stamp_of, tree_of};
 ghost use Rattle.trace_types.specs.tenant.Tenant.{fresh};
-ghost use Rattle.message_book.specs.Book.{entry_of};
-ghost use Rattle.tenant_ledger.specs.Ledger.{IsKept, history_in, task_in, tenant_of};
+ghost use Rattle.tenant_ledger.specs.Ledger.{IsKept, history_in, id_after, task_in, tenant_of};
 ghost use Rattle.tenant_ledger.specs.Size.{spawns_up_to};
 
 mod commit;
 mod draft;
 mod ids;
+mod records;
 mod report;
 mod task;
 
-use crate::share::Keep;
+use crate::share::{Keep, MeantId};
 pub(crate) use draft::Draft;
 use event_tree::EvTree;
 use id_tree::IdTree;
 use ids::Ids;
 use indexmap::IndexMap;
-use message_book::{Entry, MessageBook};
+use message_book::MessageBook;
 use report::Report;
-use stamp_codec::write_parts;
 use std::alloc::Global;
 use std::marker::Model;
 pub(crate) use task::Task;
-use trace_query::Deciding;
-use trace_types::{Code, Limits, Memory, Name, Row, TaskState, Text};
+use trace_query::{Deciding, Meant};
+use trace_types::{Code, Limits, Memory, Name, Row, TaskState};
 
 /// The rows, and what is kept beside them.
 ///
@@ -132,25 +131,6 @@ impl<S: Keep> Book<S> {
         self.limits
     }
 
-    /// The accepted rows, the oldest first.
-    pub(crate) fn rows(&self) -> &[Row]
-        ensures { result.now ≡ self.now.rows }
-    {
-        &self.rows
-    }
-
-    /// The row of the event, if there is such an event.
-    pub(crate) fn row(&self, event: u64) -> Option<&Row>
-        ensures some { IfSome result (λ row. row_of (history_in self.now) event ≡ Some row.now) }
-        ensures there { is_some result ≡ is_event (history_in self.now) event }
-    {
-        if self.is_event(event) {
-            Some(&self.rows[event as usize - 1])
-        } else {
-            None
-        }
-    }
-
     /// Whether there is such an event.
     fn is_event(&self, event: u64) -> bool
         ensures { result ≡ is_event (history_in self.now) event }
@@ -158,24 +138,10 @@ impl<S: Keep> Book<S> {
         0 < event && event <= self.event_count()
     }
 
-    pub(crate) fn event_count(&self) -> u64
+    fn event_count(&self) -> u64
         ensures { result ≡ length self.now.rows }
     {
         self.rows.len() as u64
-    }
-
-    /// How many tasks there ever were.
-    pub(crate) fn task_count(&self) -> u64
-        ensures { result ≡ length self.now.tasks }
-    {
-        self.tasks.len() as u64
-    }
-
-    /// How many messages there are.
-    pub(crate) fn message_count(&self) -> u64
-        ensures { result ≡ length self.now.messages.messages }
-    {
-        self.messages.message_count()
     }
 
     /// What keeps the trees and the ids.
@@ -183,33 +149,6 @@ impl<S: Keep> Book<S> {
         ensures { S.home result.now ≡ self.now.home }
     {
         &self.share
-    }
-
-    /// What each event knows, in the order of the events, as the share keeps it.
-    pub(crate) fn trees(&self) -> &[S::Kept]
-        ensures trees { map S.Kept.tree result.now ≡ self.now.trees }
-        ensures home { All (λ kept. S.home_of kept ≡ self.now.home) result.now }
-    {
-        &self.trees
-    }
-
-    /// A point that each event raised, with the value there, in the order of the events. Some events have none.
-    pub(crate) fn points(&self) -> &[Option<Deciding>]
-        ensures { result.now ≡ self.now.points }
-    {
-        &self.points
-    }
-
-    /// The event that started each event's task, or 0, in the order of the events.
-    pub(crate) fn starts(&self) -> &[u64]
-        ensures { result.now ≡ self.now.starts }
-    {
-        &self.starts
-    }
-
-    /// What the book allocates from.
-    pub(crate) fn alloc(&self) -> Global {
-        self.alloc
     }
 
     /// What the event knows, as it is kept. It is `None` if there is no such event.
@@ -234,10 +173,19 @@ impl<S: Keep> Book<S> {
         ensures size { IfSome result (λ kept. inner_of_id (S.Id.id kept.now) ≤ spawns_up_to self.now.rows event) }
     {
         if self.is_event(event) {
-            Some(self.id_at(self.place(event)))
+            Some(self.event_id(event))
         } else {
             None
         }
+    }
+
+    /// The id that the event's task has after it, as it is kept.
+    fn event_id(&self, event: u64) -> &S::Id
+        requires kept { IsKept self.now }
+        requires event { is_event (history_in self.now) event ≡ true }
+        ensures { S.Id.id result.now ≡ id_after (history_in self.now) event }
+    {
+        self.id_at(self.place(event))
     }
 
     /// What is kept of the event's tree.
@@ -253,7 +201,7 @@ impl<S: Keep> Book<S> {
         requires { (0 < event) × (event ≤ length self.now.trees) }
         ensures { slice_get self.now.trees (event - 1) ≡ Some result.now }
     {
-        S::tree_value(self.tree_at(event))
+        self.tree_at(event).tree_value()
     }
 
     /// The place of the id of the event's task after it.
@@ -279,7 +227,7 @@ impl<S: Keep> Book<S> {
         requires seeded { 0 < self.now.kept_ids }
         ensures { slice_get self.now.ids place ≡ Some result.now }
     {
-        S::id_value(self.id_at(place))
+        self.id_at(place).id_value()
     }
 
     /// How many ids are kept.
@@ -291,41 +239,14 @@ impl<S: Keep> Book<S> {
         self.ids.len()
     }
 
-    /// The text of the event's stamp. Returns `NoEvent` if there is no such event, else `NoMemory` if it runs out of
-    /// memory.
-    pub(crate) fn stamp_text(&self, event: u64) -> Result<Text, Code>
-        requires { IsKept self.now }
-        ensures there { OnOk result (is_event (history_in self.now) event ≡ true) }
-        ensures text { IfOk result (λ text. text ≡ stamp_text_of (history_in self.now) event) }
-        ensures err { IfErr result (λ code. code ≡ (if is_event (history_in self.now) event then Code.NoMemory else Code.NoEvent)) }
-    {
-        if !self.is_event(event) {
-            return Err(Code::NoEvent);
-        }
-        let id = self.id(self.place(event));
-        let text = write_parts(self.alloc, id, self.tree(event))?;
-        Ok(Text::from(text))
-    }
-
     /// The task of this name, or `NoTask` if there is none.
-    pub(crate) fn task(&self, name: &Name) -> Result<Task, Code>
+    fn known_task(&self, name: &Name) -> Result<Task, Code>
         ensures ok { IfOk result (λ task. task_in self.now name.now ≡ Some task) }
         ensures err { IfErr result (λ code. (code ≡ Code.NoTask) × (task_in self.now name.now ≡ None)) }
     {
         match self.tasks.get(name) {
             Some(task) => Ok(*task),
             None => Err(Code::NoTask),
-        }
-    }
-
-    /// What is kept of the message of this name, or `NoMessage` if none was sent.
-    pub(crate) fn message(&self, name: &Name) -> Result<&Entry, Code>
-        ensures ok { IfOk result (λ entry. entry_of self.now.messages.messages name.now ≡ Some entry.now) }
-        ensures err { IfErr result (λ code. (code ≡ Code.NoMessage) × (entry_of self.now.messages.messages name.now ≡ None)) }
-    {
-        match self.messages.find(name) {
-            Some(entry) => Ok(entry),
-            None => Err(Code::NoMessage),
         }
     }
 }

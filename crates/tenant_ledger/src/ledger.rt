@@ -5,26 +5,24 @@ ghost use Rattle.trace_types.specs.tenant.Reachability.{order_of};
 ghost use Rattle.trace_types.specs.clock.Clock.{tree_clock};
 ghost use Rattle.trace_types.specs.clock.Size.{inner_of_id, inner_of_tree};
 ghost use Rattle.trace_types.specs.clock.Stamps.{stamp_of, tree_of};
-ghost use Rattle.trace_types.specs.tenant.Tenant.{fresh, step, Steps, Answers, AreLegal, is_report, reply_to_view, with_row};
+ghost use Rattle.trace_types.specs.tenant.Tenant.{fresh, step, Steps, Answers, AreLegal, is_report, with_row};
 ghost use Rattle.event_tree.specs.Comparison.{StandsAs};
-ghost use Rattle.tenant_ledger.specs.Ledger.{code_of, is_brief};
+ghost use Rattle.tenant_ledger.specs.Ledger.{is_brief};
 ghost use Rattle.tenant_ledger.specs.Size.{AreShort, AreSized, HaveShortParts, IsShort, NestBySpawns, spawns_up_to};
 
+use crate::answers::{Records, answer, count, order};
 use crate::book::Book;
-use crate::share::{Keep, MeantId, Share, Through};
+use crate::share::{Keep, MeantId, Own, Share};
 use crate::{PlainShare, Prepared, laws};
 use std::alloc::Global;
 use std::marker::Model;
-use trace_query::{
-    Compare, Meant, QueryFault, concurrent_by_points, cut_by_points, order_in_order, pair_of,
-    past_by_points,
-};
-use trace_types::{Code, Limits, Memory, Name, Numbers, Reply, Request, Row};
+use trace_query::{Compare, Meant};
+use trace_types::{Limits, Memory, Reply, Request, Row};
 
 /// What one tenant has reported. The ledger owns a share, which keeps its ids and trees.
 #[derive(Drop)]
 pub struct Ledger<S: Keep = PlainShare> {
-    pub(crate) book: Book<S>,
+    pub(crate) book: Box<Book<S>>,
 }
 
 impl<S: Keep> Model for Ledger<S> {
@@ -33,9 +31,9 @@ impl<S: Keep> Model for Ledger<S> {
 
     ghost Value = { Tenant };
 
-    ghost view = { λ l. tenant_of l.book };
+    ghost view = { λ l. tenant_of l.book.value };
 
-    ghost invariant = { λ l. IsKept l.book };
+    ghost invariant = { λ l. IsKept l.book.value };
 }
 
 impl Ledger {
@@ -55,7 +53,7 @@ impl<S: Keep> Ledger<S> {
         ensures ledger { IfOk result (λ ledger. ledger ≡ fresh limits) }
     {
         Ok(Ledger {
-            book: Book::new(alloc, limits, share)?,
+            book: Box::new(alloc, Book::new(alloc, limits, share)?)?,
         })
     }
 
@@ -152,7 +150,7 @@ impl<S: Keep> Ledger<S> {
     {
         let book = &mut self.book;
         if !request.is_report() {
-            return self.answer(rt, request);
+            return self.answer(request);
         }
         match book.prepare(rt, request) {
             Ok(draft) => Reply::Accepted(book.commit(draft)),
@@ -163,15 +161,14 @@ impl<S: Keep> Ledger<S> {
     /// Answers `order` and `count`, whose answers are short, as [`Ledger::report`] does. Returns `None` for any other
     /// request. It takes no memory.
     #[inline(always)]
-    pub fn ask_briefly<R>(&self, rt: &R, request: &Request) -> Option<Reply>
-    where
-        S: Share<R>,
+    pub fn ask_briefly(&self, request: &Request) -> Option<Reply>
         ensures steps { IfSome result (λ reply. Steps self.now request.now reply self.now) }
         ensures brief { is_some result ≡ is_brief request.now }
     {
+        let book = &*self.book;
         match *request {
-            Request::Order(first, second) => Some(self.order_kept(rt, first, second)),
-            Request::Count => Some(self.count()),
+            Request::Order(first, second) => Some(order(book, &Own(book.share()), first, second)),
+            Request::Count => Some(count(book)),
             _ => None,
         }
     }
@@ -201,181 +198,23 @@ impl<S: Keep> Ledger<S> {
     /// `past`, `concurrent`, `cut`, `stamp` and `message` are refused with `NoMemory` (507) if they run out of memory.
     /// The others take none.
     #[tactic(auto, using(crate::proofs::size::Replies::short_answer))]
-    pub fn ask<C: Compare<Kept = S::Kept>>(&self, compare: &C, request: &Request) -> Reply
+    pub fn answer(&self, request: &Request) -> Reply
         ensures answer { Answers self.now request.now result }
         ensures short { IsShort self.now.rows request.now result }
     {
         self.size();
-        self.look_up(compare, request)
+        let book = &*self.book;
+        answer(book, &Own(book.share()), request)
     }
 
-    /// The same, by itself.
-    #[inline(always)]
-    fn look_up<C: Compare<Kept = S::Kept>>(&self, compare: &C, request: &Request) -> Reply
-        ensures { Answers self.now request.now result }
+    /// Answers as [`Ledger::answer`] does, and compares kept trees by this comparer.
+    #[tactic(auto, using(crate::proofs::size::Replies::short_answer))]
+    pub fn ask<C: Compare<S::Kept>>(&self, compare: &C, request: &Request) -> Reply
+        requires { (kept : S.Kept) → C.admits compare.now kept }
+        ensures answer { Answers self.now request.now result }
+        ensures short { IsShort self.now.rows request.now result }
     {
-        match *request {
-            Request::Local(_)
-            | Request::Spawn(..)
-            | Request::Send(..)
-            | Request::Recv(..)
-            | Request::End(_)
-            | Request::Join(..) => Reply::Refused(Code::ViewOnly),
-            Request::Order(first, second) => self.order(compare, first, second),
-            Request::Past(event) => self.past(compare, event),
-            Request::Concurrent(event) => self.concurrent_with(compare, event),
-            Request::Cut(event) => self.cut(compare, event),
-            Request::Event(event) => self.event(event),
-            Request::Stamp(event) => self.stamp(event),
-            Request::Task(name) => self.task(&name),
-            Request::Message(name) => self.message(&name),
-            Request::Count => self.count(),
-        }
-    }
-
-    /// Answers a query by the ledger's own share.
-    fn answer<R>(&self, rt: &R, request: &Request) -> Reply
-    where
-        S: Share<R>,
-        ensures { Answers self.now request.now result }
-    {
-        let share = self.book.share();
-        match *request {
-            Request::Order(first, second) => self.order_kept(rt, first, second),
-            _ => self.look_up(&Through { rt, share }, request),
-        }
-    }
-
-    /// How many events, tasks ever and messages there are.
-    #[inline(always)]
-    fn count(&self) -> Reply
-        ensures { result ≡ reply_to_view self.now Request.Count }
-    {
-        Reply::Count(
-            self.book.event_count(),
-            self.book.task_count(),
-            self.book.message_count(),
-        )
-    }
-
-    /// How the first event stands to the second, by the trees kept for them.
-    #[inline(always)]
-    fn order<C: Compare<Kept = S::Kept>>(&self, compare: &C, first: u64, second: u64) -> Reply
-        ensures { result ≡ reply_to_view self.now (Request.Order first second) }
-    {
-        match order_in_order(compare, self.book.trees(), first, second) {
-            Ok(order) => Reply::Ordering(order),
-            Err(fault) => Reply::Refused(code_of(fault)),
-        }
-    }
-
-    /// How the first event stands to the second, by the ledger's own share.
-    #[inline(always)]
-    fn order_kept<R>(&self, rt: &R, first: u64, second: u64) -> Reply
-    where
-        S: Share<R>,
-        ensures { result ≡ reply_to_view self.now (Request.Order first second) }
-    {
-        match pair_of(self.book.trees(), first, second) {
-            Ok((first, second)) => {
-                Reply::Ordering(self.book.share().order_kept(rt, first, second))
-            }
-            Err(fault) => Reply::Refused(code_of(fault)),
-        }
-    }
-
-    /// The other events that reach the event, by the trees and the points kept for them.
-    fn past<C: Compare<Kept = S::Kept>>(&self, compare: &C, event: u64) -> Reply
-        ensures { Answers self.now (Request.Past event) result }
-    {
-        let book = &self.book;
-        listed(past_by_points(compare, book.alloc(), book.trees(), book.points(), event))
-    }
-
-    /// The events that neither reach the event nor are reached from it, by the trees and the points kept for them.
-    fn concurrent_with<C: Compare<Kept = S::Kept>>(&self, compare: &C, event: u64) -> Reply
-        ensures { Answers self.now (Request.Concurrent event) result }
-    {
-        let book = &self.book;
-        listed(concurrent_by_points(compare, book.alloc(), book.trees(), book.points(), event))
-    }
-
-    /// The last event of each task that reaches the event, by the trees and the points kept for them.
-    fn cut<C: Compare<Kept = S::Kept>>(&self, compare: &C, event: u64) -> Reply
-        ensures { Answers self.now (Request.Cut event) result }
-    {
-        let book = &self.book;
-        listed(cut_by_points(
-            compare,
-            book.alloc(),
-            book.trees(),
-            book.points(),
-            book.starts(),
-            event,
-        ))
-    }
-
-    /// The row of the event.
-    fn event(&self, event: u64) -> Reply
-        ensures { result ≡ reply_to_view self.now (Request.Event event) }
-    {
-        match self.book.row(event) {
-            Some(row) => Reply::Event(row.share()),
-            None => Reply::Refused(Code::NoEvent),
-        }
-    }
-
-    /// The stamp of the event.
-    fn stamp(&self, event: u64) -> Reply
-        ensures { Answers self.now (Request.Stamp event) result }
-    {
-        match self.book.stamp_text(event) {
-            Ok(text) => Reply::Stamp(text),
-            Err(code) => Reply::Refused(code),
-        }
-    }
-
-    /// The state and the last event of the task.
-    fn task(&self, name: &Name) -> Reply
-        ensures { result ≡ reply_to_view self.now (Request.Task name.now) }
-    {
-        match self.book.task(name) {
-            Ok(task) => Reply::Task(task.state, task.last),
-            Err(code) => Reply::Refused(code),
-        }
-    }
-
-    /// The send and the receipts of the message.
-    fn message(&self, name: &Name) -> Reply
-        ensures { Answers self.now (Request.Message name.now) result }
-    {
-        match self.book.message(name) {
-            Ok(entry) => match entry.receipts().share() {
-                Ok(receipts) => Reply::Message(entry.sent(), receipts),
-                Err(Memory) => Reply::Refused(Code::NoMemory),
-            },
-            Err(code) => Reply::Refused(code),
-        }
-    }
-}
-
-/// The reply that gives these events.
-fn listed(found: Result<Vec<u64>, QueryFault>) -> Reply
-    ensures events { IfOk found (λ events. result ≡ Reply.List events.items) }
-    ensures fault { IfErr found (λ fault. result ≡ Reply.Refused (code_of fault)) }
-{
-    match found {
-        Ok(events) => Reply::List(Numbers::from(events)),
-        Err(fault) => Reply::Refused(code_of(fault)),
-    }
-}
-
-/// The code with which a query about events is refused.
-fn code_of(fault: QueryFault) -> Code
-    ensures { result ≡ code_of fault }
-{
-    match fault {
-        QueryFault::Unknown => Code::NoEvent,
-        QueryFault::Memory => Code::NoMemory,
+        self.size();
+        answer(&*self.book, compare, request)
     }
 }

@@ -25,6 +25,7 @@
 //! ```
 #![tactic(auto)]
 
+mod answers;
 mod book;
 pub mod laws;
 mod ledger;
@@ -33,8 +34,9 @@ mod prepared;
 mod share;
 mod shared;
 
+pub use answers::{Records, answer};
 pub use ledger::Ledger;
 pub use plain_share::PlainShare;
 pub use prepared::Prepared;
-pub use share::{Keep, MeantId, Share};
+pub use share::{Keep, MeantId, Own, Share};
 pub use shared::Shared;

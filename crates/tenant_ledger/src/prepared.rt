@@ -19,7 +19,7 @@ use trace_types::{Reply, Row};
 ///
 /// Contracts see the tenant as it is before the report, and the row of the report.
 pub struct Prepared<S: Keep = PlainShare> {
-    pub(crate) book: Book<S>,
+    pub(crate) book: Box<Book<S>>,
     pub(crate) draft: Draft<S>,
 }
 
@@ -29,9 +29,9 @@ impl<S: Keep> Model for Prepared<S> {
 
     ghost Value = { Upcoming };
 
-    ghost view = { λ p. record { tenant = tenant_of p.book; row = p.draft.row } };
+    ghost view = { λ p. record { tenant = tenant_of p.book.value; row = p.draft.row } };
 
-    ghost invariant = { λ p. IsReady p.book p.draft };
+    ghost invariant = { λ p. IsReady p.book.value p.draft };
 }
 
 impl<S: Keep> Prepared<S> {

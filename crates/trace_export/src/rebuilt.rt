@@ -15,7 +15,7 @@ use crate::json_line::read_json;
 use crate::requests::request_for;
 use crate::{Header, Reason};
 use std::alloc::Global;
-use tenant_ledger::{Ledger, PlainShare};
+use tenant_ledger::Ledger;
 use trace_types::{Code, Limits, Memory, Reply, Request};
 
 /// What the lines so far lead to, which are right.
@@ -155,7 +155,7 @@ impl Rebuilt {
         requires event { (0 < number) × (number ≤ length self.now.ledger.rows) }
         ensures { IfOk result (λ is. IsTrue is ↔ (stamp_text_of (history_of self.now.ledger.rows) number ≡ stamp.now)) }
     {
-        match self.ledger.ask(&PlainShare, &Request::Stamp(number)) {
+        match self.ledger.answer(&Request::Stamp(number)) {
             Reply::Stamp(text) => Ok(text.as_bytes() == stamp.as_bytes()),
             Reply::Refused(Code::NoMemory) => Err(Memory),
             _ => unreachable!(),

@@ -7,7 +7,8 @@ use Rattle.trace_types.specs.declared.request.Request.TheVariants as request
 use Rattle.trace_query.specs.Deciding.{DecideInOrder, DecidesBelow, IsDecidedBy, point_in}
 use Rattle.trace_query.specs.Queries as query
 use Rattle.trace_query.specs.Laws.{Tells, TellsReach, TellsTasks, cut_by}
-use Rattle.trace_query.specs.Queries.{ComeBefore}
+use Rattle.trace_query.specs.Queries.{ComeBefore, Lists, ListsExactly}
+use Rattle.std.specs.Global.{Vec}
 use Rattle.trace_query.proofs.ComparedTrees.{tree_order_stands}
 use Rattle.trace_query.proofs.Told.{told_by_orders, told_by_reach}
 use Rattle.trace_types.proofs.Reachability.{reaches_newest, reaches_earlier}
@@ -168,43 +169,42 @@ module _ (tenant : Tenant) (trees : List EventTree) (legal : AreLegal tenant.lim
         told_by_reach trees starts (reaches history) (are_of_one_task history) trees_reach starts_tell event event_is
         ∙ ap (λ n. cut_by (reaches history) (are_of_one_task history) (range_with_len 1 n) event) as_many
 
-  module _ (event : ℕ) {V : Type 0} (items : V → List ℕ) (answer : Reply) where
-    -- a search through the trees that found this list, or a fault, was answered
-    abbrev IsAnswered : Request → List ℕ → Result V QueryFault → Type 0
-    IsAnswered asked list found = IfOk found (λ _. query.has_tree trees event ≡ true) → IfErr found (λ refusal. refusal ≡ fault_due trees event)
-        → IfOk found (λ value. answer ≡ reply.List (items value)) → IfErr found (λ refusal. answer ≡ reply.Refused (code_of refusal))
-        → IfOk found (λ value. items value ≡ list) → Answers tenant asked answer
+  module _ (event : ℕ) (answer : Reply) where
+    -- a search through the trees for this list was answered
+    abbrev IsAnswered : Request → Lists → Result (Vec ℕ) QueryFault → Type 0
+    IsAnswered asked list_of found = ListsExactly list_of trees event found
+        → IfOk found (λ events. answer ≡ reply.List events.items) → IfErr found (λ refusal. answer ≡ reply.Refused (code_of refusal)) → Answers tenant asked answer
 
     -- a list of events that is told by the trees is answered as it is due
-    list_answered : (asked : Request) (graph list : List ℕ) → (is_event history event ≡ true → list ≡ graph)
+    list_answered : (asked : Request) (graph : List ℕ) (list_of : Lists) → (is_event history event ≡ true → list_of trees event ≡ graph)
         → (is_event history event ≡ true → (reply.List graph ≡ reply_to_view tenant asked) × IsTrue (not (is_report asked)) × MayLackMemory tenant asked)
-        → (is_event history event ≡ false → reply.Refused NoEvent ≡ reply_to_view tenant asked) → (found : Result V QueryFault) → IsAnswered asked list found
-    list_answered asked graph list same due none (Ok value) known fault listed refused events =
-        let there = sym (same_events event) ∙ known in inl (listed ∙ ap reply.List (events ∙ same there) ∙ (due there).0)
-    list_answered asked graph list same due none (Err refusal) known fault listed refused events = elim (cases_Bool (query.has_tree trees event)) [
+        → (is_event history event ≡ false → reply.Refused NoEvent ≡ reply_to_view tenant asked) → (found : Result (Vec ℕ) QueryFault) → IsAnswered asked list_of found
+    list_answered asked graph list_of same due none (Ok events) exact listed refused =
+        let there = sym (same_events event) ∙ exact.known in inl (listed ∙ ap reply.List (exact.events ∙ same there) ∙ (due there).0)
+    list_answered asked graph list_of same due none (Err refusal) exact listed refused = elim (cases_Bool (query.has_tree trees event)) [
       | inl there ↦
           let given = due (sym (same_events event) ∙ there) in
-          inr (given.1, given.2, refused ∙ ap (λ f. reply.Refused (code_of f)) (fault ∙ cond-true (query.has_tree trees event) _ _ there))
+          inr (given.1, given.2, refused ∙ ap (λ f. reply.Refused (code_of f)) (exact.fault ∙ cond-true (query.has_tree trees event) _ _ there))
       | inr nowhere ↦
-          inl (refused ∙ ap (λ f. reply.Refused (code_of f)) (fault ∙ cond-false (query.has_tree trees event) _ _ nowhere) ∙ none (sym (same_events event) ∙ nowhere))
+          inl (refused ∙ ap (λ f. reply.Refused (code_of f)) (exact.fault ∙ cond-false (query.has_tree trees event) _ _ nowhere) ∙ none (sym (same_events event) ∙ nowhere))
     ]
 
-    pub past_answered : (found : Result V QueryFault) → IsAnswered (request.Past event) (query.trees_before trees event) found
+    pub past_answered : (found : Result (Vec ℕ) QueryFault) → IsAnswered (request.Past event) query.trees_before found
     past_answered =
-        list_answered (request.Past event) (past_of history event) (query.trees_before trees event)
+        list_answered (request.Past event) (past_of history event) query.trees_before
         (λ there. past_told event (same_events event ∙ there))
         (λ there. (rw there refl, refl, (refl, rw there refl))) (λ nowhere. rw nowhere refl)
 
-    pub concurrent_answered : (found : Result V QueryFault) → IsAnswered (request.Concurrent event) (query.concurrent_of trees event) found
+    pub concurrent_answered : (found : Result (Vec ℕ) QueryFault) → IsAnswered (request.Concurrent event) query.concurrent_of found
     concurrent_answered =
-        list_answered (request.Concurrent event) (concurrent_with history event) (query.concurrent_of trees event)
+        list_answered (request.Concurrent event) (concurrent_with history event) query.concurrent_of
         (λ there. concurrent_told event (same_events event ∙ there))
         (λ there. (rw there refl, refl, (refl, rw there refl))) (λ nowhere. rw nowhere refl)
 
-    pub cut_answered : (starts : List ℕ) → starts ≡ of_each start_of history → (found : Result V QueryFault)
-        → IsAnswered (request.Cut event) (query.cut_by_trees trees starts event) found
+    pub cut_answered : (starts : List ℕ) → starts ≡ of_each start_of history → (found : Result (Vec ℕ) QueryFault)
+        → IsAnswered (request.Cut event) (λ trees event. query.cut_by_trees trees starts event) found
     cut_answered starts starts_are =
-        list_answered (request.Cut event) (cut_of history event) (query.cut_by_trees trees starts event)
+        list_answered (request.Cut event) (cut_of history event) (λ trees event. query.cut_by_trees trees starts event)
         (λ there. cut_told starts starts_are event (same_events event ∙ there))
         (λ there. (rw there refl, refl, (refl, rw there refl))) (λ nowhere. rw nowhere refl)
 

@@ -22,7 +22,7 @@ impl<S: Keep> Book<S> {
     {
         match draft.first_id() {
             Some(id) => id,
-            None => &self.ids[draft.acting.id],
+            None => self.id_at(draft.acting.id),
         }
     }
 

@@ -76,7 +76,7 @@ impl<S: Keep> Book<S> {
         ensures task { IfOk result (λ task. task_in self.now name.now ≡ Some task) }
         ensures decides { Decides (refusals_of_task (history_in self.now) name.now) result }
     {
-        let task = self.task(name)?;
+        let task = self.known_task(name)?;
         match task.state {
             TaskState::Live => Ok(task),
             TaskState::Ended | TaskState::Joined => Err(Code::TaskEnded),
@@ -89,7 +89,7 @@ impl<S: Keep> Book<S> {
         ensures task { IfOk result (λ task. task_in self.now name.now ≡ Some task) }
         ensures decides { Decides (refusals_of_joined (history_in self.now) name.now) result }
     {
-        let task = self.task(name)?;
+        let task = self.known_task(name)?;
         match task.state {
             TaskState::Live => Err(Code::NotEnded),
             TaskState::Ended => Ok(task),
@@ -102,9 +102,9 @@ impl<S: Keep> Book<S> {
         requires { IsKept self.now }
         ensures decides { Decides (refusals_of_child self.now.limits (history_in self.now) name.now) result }
     {
-        match self.task(name) {
+        match self.known_task(name) {
             Ok(_) => Err(Code::TaskExists),
-            Err(_) if self.task_count() >= self.limits.tasks() => Err(Code::TasksFull),
+            Err(_) if self.tasks.len() as u64 >= self.limits.tasks() => Err(Code::TasksFull),
             Err(_) => Ok(()),
         }
     }

@@ -6,7 +6,7 @@ use Rattle.tenant_ledger.proofs.prepared.Prepared.point.Goals as goal
 
 pub returns : goal.returns
 returns g c =
-    let book = c.self.inside.book in
+    let book = c.self.inside.book.value in
     let event = c.self.inside.draft in
     let history = history_in book in
     let are = subst (λ h. ArePoints h (book.points ++ event.point ∷ [])) (reverse-append book.rows (event.row ∷ [])) c.self.invariant.next.points in

@@ -6,7 +6,7 @@ use Rattle.tenant_ledger.proofs.prepared.Prepared.start.Goals as goal
 
 pub returns : goal.returns
 returns g c =
-    let book = c.self.inside.book in
+    let book = c.self.inside.book.value in
     let event = c.self.inside.draft in
     let history = history_in book in
     let task = event.row.task in

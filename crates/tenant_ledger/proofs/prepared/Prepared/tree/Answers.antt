@@ -9,7 +9,7 @@ use Rattle.tenant_ledger.proofs.prepared.Prepared.tree.Goals as goal
 
 pub returns-clause-size : goal.returns-clause-size
 returns-clause-size g c =
-    let book = c.self.inside.book in
+    let book = c.self.inside.book.value in
     let event = c.self.inside.draft in
     let history = event.row ∷ history_in book in
     subst (λ (upcoming : Upcoming). inner_of_tree (g.S.Kept.Meant.tree c.tree.result.now) ≤ spawn_count (upcoming.row ∷ history_of upcoming.tenant.rows)) c.self.view_is

@@ -1,0 +1,22 @@
+use Rattle.std.proofs.Common.{map, ◌∙◌}
+use Rattle.std.proofs.lemmas.List.{length-map}
+use Rattle.tenant_ledger.proofs.keeping.Told.{as_many_starts, cut_answered, starts_before}
+use Rattle.tenant_ledger.proofs.answers.cut.Goals as goal
+
+pub cut_by_points-requires-clause-tasks : goal.cut_by_points-requires-clause-tasks
+cut_by_points-requires-clause-tasks g c =
+    let records = c.args.records.now in
+    as_many_starts (g.R.Records.tenant records) (map g.R.Kept.Meant.tree c.trees_and_points.result.0.now) (g.met.R.Records.legal records c.requires) c.trees_and_points.ensures.trees c.starts.result.now c.starts.ensures
+    ∙ length-map c.trees_and_points.result.0.now g.R.Kept.Meant.tree
+
+pub cut_by_points-requires-clause-earlier : goal.cut_by_points-requires-clause-earlier
+cut_by_points-requires-clause-earlier g c =
+    let records = c.args.records.now in
+    starts_before (g.R.Records.tenant records) (map g.R.Kept.Meant.tree c.trees_and_points.result.0.now) (g.met.R.Records.legal records c.requires) c.trees_and_points.ensures.trees c.starts.result.now c.starts.ensures
+
+pub returns : goal.returns
+returns g c =
+    let records = c.args.records.now in
+    let listed = c.listed.ensures in
+    cut_answered (g.R.Records.tenant records) (map g.R.Kept.Meant.tree c.trees_and_points.result.0.now) (g.met.R.Records.legal records c.requires) c.trees_and_points.ensures.trees
+    c.args.event c.listed.result c.starts.result.now c.starts.ensures c.cut_by_points.result c.cut_by_points.ensures listed.events listed.fault
