@@ -1,8 +1,14 @@
--- What is answered from what is kept under a name.
-use Rattle.std.specs.Prelude.{ℕ, List, Option, Some, None, if◌then◌else◌}
+-- What is answered from what is kept, and which answers are short.
+use Rattle.std.specs.Prelude.{ℕ, Bool, true, false, List, Option, Some, None, if◌then◌else◌}
 use Rattle.trace_types.specs.text.Name.{Text}
 use Rattle.trace_types.specs.tenant.Rows.{History, is_known, state_of, last_event, is_sent, send_event, receipts}
+use Rattle.trace_types.specs.declared.code.Code.{Code}
+use Rattle.trace_types.specs.declared.code.Code.TheVariants.{NoEvent, NoMemory}
+use Rattle.trace_types.specs.declared.request.Request.{Request}
+use Rattle.trace_types.specs.declared.request.Request.TheVariants.{Order, Count}
 use Rattle.trace_types.specs.declared.task_state.TaskState.{TaskState}
+use Rattle.trace_query.specs.declared.query_fault.QueryFault.{QueryFault}
+use Rattle.trace_query.specs.declared.query_fault.QueryFault.TheVariants.{Unknown, Memory}
 
 -- how far the task has come and its last event, where there is such a task
 abbrev pub task_due : History → Text → Option (TaskState × ℕ)
@@ -11,3 +17,14 @@ task_due history task = if is_known history task then Some (state_of history tas
 -- the send of the message and its receipts, where there is such a message
 abbrev pub message_due : History → Text → Option (ℕ × List ℕ)
 message_due history message = if is_sent history message then Some (send_event history message, receipts history message) else None
+
+-- the code with which a query about events is refused
+abbrev pub code_of : QueryFault → Code
+code_of Unknown = NoEvent
+code_of Memory = NoMemory
+
+-- the request is one whose answer is short
+abbrev pub is_brief : Request → Bool
+is_brief (Order first second) = true
+is_brief Count = true
+is_brief other = false

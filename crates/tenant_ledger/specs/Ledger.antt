@@ -20,12 +20,9 @@ use Rattle.trace_types.specs.declared.row.Kind.TheVariants.{Spawn, Send, Recv, E
 use Rattle.trace_types.specs.declared.reply.Reply.TheVariants as reply
 use Rattle.trace_types.specs.declared.request.Reported.{Reported}
 use Rattle.trace_types.specs.declared.request.Request.{Request}
-use Rattle.trace_types.specs.declared.request.Request.TheVariants as request
-use Rattle.trace_types.specs.declared.code.Code.TheVariants.{NoTask, TaskExists, TaskEnded, NoMessage, MessageExists, AlreadyReceived, NotEnded, AlreadyJoined, EventsFull, TasksFull, MessagesFull, NoEvent, NoMemory}
+use Rattle.trace_types.specs.declared.code.Code.TheVariants.{NoTask, TaskExists, TaskEnded, NoMessage, MessageExists, AlreadyReceived, NotEnded, AlreadyJoined, EventsFull, TasksFull, MessagesFull}
 use Rattle.trace_query.specs.Deciding.{point_in}
 use Rattle.trace_query.specs.declared.deciding.Deciding.{Deciding}
-use Rattle.trace_query.specs.declared.query_fault.QueryFault.{QueryFault}
-use Rattle.trace_query.specs.declared.query_fault.QueryFault.TheVariants as fault
 use Rattle.tenant_ledger.specs.Laws.{IsRaisedBy}
 use Rattle.tenant_ledger.specs.declared.book.task.Task.{Task}
 use Rattle.tenant_ledger.specs.declared.book.report.Report.{Report}
@@ -356,14 +353,3 @@ Prepares (Ok event) old request new =
     × (step (tenant_of old) request ≡ (reply.Accepted (suc (length old.rows)), with_row (tenant_of old) (Some event.row)))
 Prepares (Err code) old request new =
     IsKept new × (tenant_of new ≡ tenant_of old) × Steps (tenant_of old) request (reply.Refused code) (tenant_of old)
-
--- the code with which a query about events is refused
-abbrev pub code_of : QueryFault → Code
-code_of fault.Unknown = NoEvent
-code_of fault.Memory = NoMemory
-
--- the request is one whose answer is short
-abbrev pub is_brief : Request → Bool
-is_brief (request.Order first second) = true
-is_brief request.Count = true
-is_brief other = false

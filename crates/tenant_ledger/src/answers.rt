@@ -6,8 +6,8 @@ ghost use Rattle.trace_types.specs.clock.Clock.{tree_clock};
 ghost use Rattle.trace_types.specs.clock.Stamps.{tree_of};
 ghost use Rattle.trace_types.specs.tenant.Rows.{history_of, is_event, is_sent, message_count, task_count};
 ghost use Rattle.trace_types.specs.tenant.Tenant.{Answers, AreLegal, Tenant, reply_to_view};
-ghost use Rattle.tenant_ledger.specs.Answers.{message_due, task_due};
-ghost use Rattle.tenant_ledger.specs.Ledger.{ArePoints, code_of, id_after, of_each, start_of};
+ghost use Rattle.tenant_ledger.specs.Answers.{code_of, message_due, task_due};
+ghost use Rattle.tenant_ledger.specs.Ledger.{ArePoints, id_after, of_each, start_of};
 
 use id_tree::IdTree;
 use stamp_codec::write_parts;

@@ -18,7 +18,6 @@ mod task;
 
 use crate::share::{Keep, MeantId};
 pub(crate) use draft::Draft;
-use event_tree::EvTree;
 use id_tree::IdTree;
 use ids::Ids;
 use indexmap::IndexMap;
@@ -27,7 +26,7 @@ use report::Report;
 use std::alloc::Global;
 use std::marker::Model;
 pub(crate) use task::Task;
-use trace_query::{Deciding, Meant};
+use trace_query::Deciding;
 use trace_types::{Code, Limits, Memory, Name, Row, TaskState};
 
 /// The rows, and what is kept beside them.
@@ -194,14 +193,6 @@ impl<S: Keep> Book<S> {
         ensures { slice_get self.now.trees (event - 1) ≡ Some (S.Kept.tree result.now) }
     {
         &self.trees[event as usize - 1]
-    }
-
-    /// The tree that is kept of the event.
-    fn tree(&self, event: u64) -> &EvTree
-        requires { (0 < event) × (event ≤ length self.now.trees) }
-        ensures { slice_get self.now.trees (event - 1) ≡ Some result.now }
-    {
-        self.tree_at(event).tree_value()
     }
 
     /// The place of the id of the event's task after it.

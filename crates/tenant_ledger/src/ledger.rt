@@ -7,7 +7,7 @@ ghost use Rattle.trace_types.specs.clock.Size.{inner_of_id, inner_of_tree};
 ghost use Rattle.trace_types.specs.clock.Stamps.{stamp_of, tree_of};
 ghost use Rattle.trace_types.specs.tenant.Tenant.{fresh, step, Steps, Answers, AreLegal, is_report, with_row};
 ghost use Rattle.event_tree.specs.Comparison.{StandsAs};
-ghost use Rattle.tenant_ledger.specs.Ledger.{is_brief};
+ghost use Rattle.tenant_ledger.specs.Answers.{is_brief};
 ghost use Rattle.tenant_ledger.specs.Size.{AreShort, AreSized, HaveShortParts, IsShort, NestBySpawns, spawns_up_to};
 
 use crate::answers::{Records, answer, count, order};
@@ -93,7 +93,7 @@ impl<S: Keep> Ledger<S> {
             (tree_of tree_clock (history_of self.now.rows) first) (tree_of tree_clock (history_of self.now.rows) second) }
     {
         let _ = (first, second);
-        self.legal();
+        let _ = self.rows();
         laws::clock();
     }
 
@@ -108,16 +108,10 @@ impl<S: Keep> Ledger<S> {
         ensures nesting { NestBySpawns self.now.rows }
     {
         let _ = self.book.limits();
-        self.legal();
+        let _ = self.rows();
         laws::size();
         laws::text_size();
         laws::nesting();
-    }
-
-    fn legal(&self)
-        ensures { AreLegal self.now.limits self.now.rows }
-    {
-        let _ = &self.book;
     }
 
     /// Takes one request: an accepted report is the tenant's next event, and a query is answered.
@@ -135,23 +129,11 @@ impl<S: Keep> Ledger<S> {
         ensures short { IsShort self.old.rows request.now result }
     {
         self.size();
-        let reply = self.take(rt, request);
-        self.size();
-        reply
-    }
-
-    /// The same, by itself.
-    #[inline(always)]
-    fn take<R>(&mut self, rt: &R, request: &Request) -> Reply
-    where
-        S: Share<R>,
-        ensures steps { Steps self.old request.now result self.new }
-        ensures legal { AreLegal self.new.limits self.new.rows }
-    {
-        let book = &mut self.book;
+        laws::size();
         if !request.is_report() {
             return self.answer(request);
         }
+        let book = &mut self.book;
         match book.prepare(rt, request) {
             Ok(draft) => Reply::Accepted(book.commit(draft)),
             Err(code) => Reply::Refused(code),

@@ -16,7 +16,7 @@ use event_tree::EvTree;
 use id_tree::IdTree;
 use std::alloc::Global;
 use std::marker::Model;
-use trace_query::Deciding;
+use trace_query::{Deciding, Meant};
 use trace_types::{Code, Kind, Memory, Name, Preds, Request, Row};
 
 /// What is to be kept of an event.
@@ -177,7 +177,11 @@ impl<S: Keep> Book<S> {
         requires start { start.now ≡ Leaf 0 }
         ensures { result.now ≡ tree_of tree_clock (history_in self.now) event }
     {
-        if event == 0 { start } else { self.tree(event) }
+        if event == 0 {
+            start
+        } else {
+            self.tree_at(event).tree_value()
+        }
     }
 
     /// Notes the message that the next event, of this task, sends or receives.
