@@ -11,8 +11,8 @@ pub use Rattle.message_book.specs.Book.{entry_of, entry_with_receipt, has_receip
 pub use Rattle.tenant_ledger.specs.Answers.{code_of}
 pub use Rattle.tenant_ledger.specs.ClockLaws.{ClockLaws, OwnsSome, Raises}
 pub use Rattle.tenant_ledger.specs.Invariant.{EventsHavePrivatePoints, HasPrivatePoint, HolderIsAhead, holds, Invariant, IsPrivate, OneHolder, TreesRise, value_of}
-pub use Rattle.tenant_ledger.specs.Ledger.{acting_after, AreMessages, ArePoints, Contents, count_with, count_with_some, Decides, Event, event_of, HasRoom, history_in, id_after, id_for, id_left, ids_made, IsKept, IsKeptWith, IsMessage, IsReady, IsReport, IsTask, joined_by, made_ids, MayHavePoint, MayRaise, named_after, Notes, of_each, Prepares, receipts_by_task, refusals_of_named, refusals_of_received, refusals_of_report, refusals_of_room, row_of_report, start_of, task_count_with, task_in, task_with, task_with_some, tasks_with, tenant_of, tree_of_report, with_event, with_seed}
-pub use Rattle.tenant_ledger.specs.Legal.{Allows, AllowsNamed, AllowsReceipt, IsLegal, IsLive}
+pub use Rattle.tenant_ledger.specs.Ledger.{acting_after, AreMessages, ArePoints, Contents, count_with, count_with_some, Decides, Event, event_of, HasRoom, history_in, id_after, id_for, id_left, ids_made, IsKept, IsKeptWith, IsMessage, IsReady, IsReport, IsTask, joined_by, made_ids, MayHavePoint, MayRaise, named_after, Notes, of_each, Prepares, receipts_by_task, refusals_of_named, refusals_of_received, refusals_of_report, refusals_of_room, row_of_report, start_of, task_count_with, task_in, task_with, task_with_some, tasks_with, tenant_of, with_event, with_seed}
+pub use Rattle.tenant_ledger.specs.Legal.{Allows, AllowsNamed, IsLegal, IsLive}
 pub use Rattle.tenant_ledger.specs.declared.book.report.Report.{Report}
 pub use Rattle.tenant_ledger.specs.declared.book.task.Task.{Task}
 pub use Rattle.trace_query.specs.Queries.{concurrent_of, cut_by_trees, fault_due, has_tree, order_between, order_due, others_standing, StandInOrder, tree_at, trees_before}
@@ -35,7 +35,7 @@ pub use Rattle.trace_types.specs.tenant.Limits.{Limits}
 pub use Rattle.trace_types.specs.tenant.Reachability.{are_of_one_task, concurrent_with, cut_of, event_or_none, increasing, order_of, past_of, predecessors, reaches, second_event}
 pub use Rattle.trace_types.specs.tenant.Refusal.{first_code, refusal_of, refusals}
 pub use Rattle.trace_types.specs.tenant.Reported.{reported}
-pub use Rattle.trace_types.specs.tenant.Rows.{ends, ends_task, events, History, history_of, is_ended, is_event, is_joined, is_known, is_of, has_received, is_sent, joins, joins_task, last_event, message_count, names, newest, receipts, receives, receives_by, receives_message, row_of, send_event, sends, sends_message, start_event, starts, starts_task, state_of, task_count}
+pub use Rattle.trace_types.specs.tenant.Rows.{ends, ends_task, events, History, history_of, is_ended, is_event, is_joined, is_known, is_of, has_received, is_sent, joins, joins_task, last_event, message_count, names, newest, receipts, receives, receives_message, row_of, send_event, sends, sends_message, start_event, starts, starts_task, state_of, task_count}
 pub use Rattle.trace_types.specs.tenant.Tenant.{accepted, after, answer_to, Answers, AreLegal, fresh, is_report, may_lack_memory, MayLackMemory, reply_to_view, row_after, step, step_unless, Steps, Tenant, with_row}
 pub use Rattle.trace_types.specs.text.Name.{is_same, root, Text}
 pub use Rattle.trace_types.specs.declared.reply.Reply.TheVariants.{Accepted, Ordering, Refused}

@@ -199,7 +199,7 @@ fn stamp<R: Records>(records: &R, event: u64) -> Reply
 }
 
 /// The place of the event in the lists, if there is such an event.
-fn place_of<R: Records>(records: &R, event: u64) -> Option<usize>
+pub(crate) fn place_of<R: Records>(records: &R, event: u64) -> Option<usize>
     requires { R.is_sound records.now }
     ensures there { is_some result ≡ is_event (history_of (R.tenant records.now).rows) event }
     ensures place { IfSome result (λ place. (event ≡ suc place) × (place < length (R.tenant records.now).rows)) }

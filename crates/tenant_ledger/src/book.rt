@@ -1,13 +1,9 @@
 //! What a ledger keeps.
-ghost use Rattle.std.specs.Prelude.{◌≡◌, ◌-◌, ◌<◌, ◌≤◌, true, IsTrue, IfOk, IfErr, IfSome, is_some, Some, None, length, slice_get};
+ghost use Rattle.std.specs.Prelude.{◌≡◌, ◌-◌, ◌<◌, ◌≤◌, true, IsTrue, IfOk, IfErr, Some, None, length, slice_get};
 ghost use Rattle.trace_types.specs.tenant.Limits.{are_limits};
 ghost use Rattle.trace_types.specs.tenant.Rows.{is_event};
-ghost use Rattle.trace_types.specs.clock.Clock.{tree_clock};
-ghost use Rattle.trace_types.specs.clock.Size.{inner_of_id, inner_of_tree};
-ghost use Rattle.trace_types.specs.clock.Stamps.{stamp_of, tree_of};
 ghost use Rattle.trace_types.specs.tenant.Tenant.{fresh};
 ghost use Rattle.tenant_ledger.specs.Ledger.{IsKept, history_in, id_after, task_in, tenant_of};
-ghost use Rattle.tenant_ledger.specs.Size.{spawns_up_to};
 
 mod commit;
 mod draft;
@@ -130,13 +126,6 @@ impl<S: Keep> Book<S> {
         self.limits
     }
 
-    /// Whether there is such an event.
-    fn is_event(&self, event: u64) -> bool
-        ensures { result ≡ is_event (history_in self.now) event }
-    {
-        0 < event && event <= self.event_count()
-    }
-
     fn event_count(&self) -> u64
         ensures { result ≡ length self.now.rows }
     {
@@ -150,36 +139,8 @@ impl<S: Keep> Book<S> {
         &self.share
     }
 
-    /// What the event knows, as it is kept. It is `None` if there is no such event.
-    pub(crate) fn kept_tree(&self, event: u64) -> Option<&S::Kept>
-        requires { IsKept self.now }
-        ensures known { is_some result ≡ is_event (history_in self.now) event }
-        ensures tree { IfSome result (λ kept. S.Kept.tree kept.now ≡ tree_of tree_clock (history_in self.now) event) }
-        ensures size { IfSome result (λ kept. inner_of_tree (S.Kept.tree kept.now) ≤ spawns_up_to self.now.rows event) }
-    {
-        if self.is_event(event) {
-            Some(self.tree_at(event))
-        } else {
-            None
-        }
-    }
-
-    /// The id that the event's task has after it, as it is kept. It is `None` if there is no such event.
-    pub(crate) fn kept_id(&self, event: u64) -> Option<&S::Id>
-        requires { IsKept self.now }
-        ensures known { is_some result ≡ is_event (history_in self.now) event }
-        ensures id { IfSome result (λ kept. S.Id.id kept.now ≡ (stamp_of tree_clock (history_in self.now) event).0) }
-        ensures size { IfSome result (λ kept. inner_of_id (S.Id.id kept.now) ≤ spawns_up_to self.now.rows event) }
-    {
-        if self.is_event(event) {
-            Some(self.event_id(event))
-        } else {
-            None
-        }
-    }
-
     /// The id that the event's task has after it, as it is kept.
-    fn event_id(&self, event: u64) -> &S::Id
+    pub(crate) fn event_id(&self, event: u64) -> &S::Id
         requires kept { IsKept self.now }
         requires event { is_event (history_in self.now) event ≡ true }
         ensures { S.Id.id result.now ≡ id_after (history_in self.now) event }

@@ -10,7 +10,7 @@ ghost use Rattle.event_tree.specs.Comparison.{StandsAs};
 ghost use Rattle.tenant_ledger.specs.Answers.{is_brief};
 ghost use Rattle.tenant_ledger.specs.Size.{AreShort, AreSized, HaveShortParts, IsShort, NestBySpawns, spawns_up_to};
 
-use crate::answers::{Records, answer, count, order};
+use crate::answers::{Records, answer, count, order, place_of};
 use crate::book::Book;
 use crate::share::{Keep, MeantId, Own, Share};
 use crate::{PlainShare, Prepared, laws};
@@ -71,7 +71,9 @@ impl<S: Keep> Ledger<S> {
         ensures tree { IfSome result (λ kept. S.Kept.tree kept.now ≡ tree_of tree_clock (history_of self.now.rows) event) }
         ensures size { IfSome result (λ kept. inner_of_tree (S.Kept.tree kept.now) ≤ spawns_up_to self.now.rows event) }
     {
-        self.book.kept_tree(event)
+        let book = &*self.book;
+        let place = place_of(book, event)?;
+        Some(&book.trees()[place])
     }
 
     /// The id that the event's task has after it, as the ledger keeps it. It is `None` if there is no such event.
@@ -80,7 +82,9 @@ impl<S: Keep> Ledger<S> {
         ensures id { IfSome result (λ kept. S.Id.id kept.now ≡ (stamp_of tree_clock (history_of self.now.rows) event).0) }
         ensures size { IfSome result (λ kept. inner_of_id (S.Id.id kept.now) ≤ spawns_up_to self.now.rows event) }
     {
-        self.book.kept_id(event)
+        let book = &*self.book;
+        place_of(book, event)?;
+        Some(book.event_id(event))
     }
 
     /// The law by which an order is answered: the trees kept for two events stand to each other as the events do.

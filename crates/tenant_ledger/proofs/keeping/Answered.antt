@@ -1,7 +1,6 @@
 -- What is kept of an event, or under a name, is answered as it is due.
-use Rattle.std.proofs.Common.{◌≡◌, ℕ, suc, ◌-◌, ◌<◌, Bool, true, false, cond, List, length, get_or, map, slice_get, Option, Some, None, option_map, refl, sym, ap, ◌∙◌, inl, arith}
-use Rattle.tenant_ledger.proofs.Words.{length-map, same_Some, slice_get-map, slice_get_read, of_each, Answers, reply_to_view, Tenant, Row, Id, EventTree, Text, tree_clock, tree_of, stamp_of, id_after, History, history_of, is_event, is_sent, send_event, receipts}
-use Rattle.trace_types.specs.clock.Stamps.{stamp_text_of}
+use Rattle.std.proofs.Common.{◌≡◌, ℕ, suc, ◌-◌, ◌<◌, true, List, length, get_or, map, slice_get, option_map, refl, sym, ap, ◌∙◌, inl, arith}
+use Rattle.tenant_ledger.proofs.Words.{length-map, same_Some, slice_get-map, slice_get_read, of_each, Answers, reply_to_view, Tenant, Row, Id, EventTree, Text, tree_clock, tree_of, id_after, history_of, is_event}
 use Rattle.trace_types.specs.text.StampText.{stamp_text}
 use Rattle.trace_types.specs.declared.reply.Reply.TheVariants as reply
 use Rattle.trace_types.specs.declared.request.Request.TheVariants as request

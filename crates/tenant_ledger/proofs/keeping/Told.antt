@@ -1,7 +1,7 @@
 -- The lists that are told by comparing the kept trees are those of the graph, and so is the row of an event.
 use Rattle.std.proofs.Common.{◌≡◌, ℕ, suc, ◌-◌, ◌<◌, ◌≤◌, Bool, true, false, cond, not, ◌&&◌, IsTrue, eqb, ltb, List, [], ◌∷◌, ◌++◌, length, get_or, slice_get, reverse, map, option_map, Option, Some, None, Result, Ok, Err, IfOk, IfErr, refl, sym, ap, ◌∙◌, subst, inl, inr, arith}
 use Rattle.trace_query.specs.Compared.{is_order}
-use Rattle.tenant_ledger.proofs.Words.{transport, filter, range_with_len, cases_Bool, eq-eqb, eqb-true, cond-true, cond-false, nat_tests, length-reverse, map-append, reverse-append, reverse-reverse, get_or_from_slice_get, same_Some, slice_get-map, slice_get_read, of_each, start_of, tree_at, StandInOrder, order_between, others_standing, fault_due, History, history_of, is_event, row_of, events, reaches, order_of, past_of, concurrent_with, cut_of, are_of_one_task, EventTree, Leaf, tree_clock, tree_of, stamp_of, Order, Same, Before, After, Concurrent, Row, is_report, MayLackMemory, Answers, reply_to_view, NoEvent, Reply, Request, IsBelow, Tenant, AreLegal, ArePoints, IsLegal, MayHavePoint, value, code_of}
+use Rattle.tenant_ledger.proofs.Words.{transport, filter, range_with_len, cases_Bool, eq-eqb, eqb-true, cond-true, cond-false, nat_tests, length-reverse, map-append, reverse-append, reverse-reverse, get_or_from_slice_get, same_Some, slice_get-map, slice_get_read, of_each, start_of, tree_at, StandInOrder, order_between, others_standing, History, history_of, is_event, row_of, events, reaches, order_of, past_of, concurrent_with, cut_of, are_of_one_task, EventTree, Leaf, tree_clock, tree_of, stamp_of, Order, Same, Before, After, Concurrent, Row, is_report, MayLackMemory, Answers, reply_to_view, NoEvent, Reply, Request, IsBelow, Tenant, AreLegal, ArePoints, IsLegal, MayHavePoint, value, code_of}
 use Rattle.trace_types.specs.declared.reply.Reply.TheVariants as reply
 use Rattle.trace_types.specs.declared.request.Request.TheVariants as request
 use Rattle.trace_query.specs.Deciding.{DecideInOrder, DecidesBelow, IsDecidedBy, point_in}
