@@ -7,7 +7,7 @@ ghost use Rattle.serde_json.specs.Read.{max_depth};
 ghost use Rattle.serde_json.specs.View.{view, items_view};
 ghost use Rattle.serde_json.specs.Written.{compact_text, has_float};
 ghost use Rattle.trace_types.specs.text.Name.{is_name};
-ghost use Rattle.trace_types.specs.text.Text.{kind_text, name_text};
+ghost use Rattle.trace_types.specs.text.Text.{name_text};
 ghost use Rattle.trace_export.specs.Export.{export_lines, listed_row, stamp_at, AreReadAgain, WritesLines, BreaksLines};
 ghost use Rattle.trace_export.specs.Heading.{header_line, header_text, IsHeader, IsHeaderJson};
 ghost use Rattle.trace_export.specs.Listing.{listed_json, listed_line, numbers_json, IsReadAgain, IsReadAs};
@@ -17,7 +17,7 @@ use crate::{ExportFault, Header, StampTexts};
 use line_protocol::{Sink, write_bytes};
 use serde_json::{Map, Value, put};
 use std::alloc::Global;
-use trace_types::{Kind, Memory, Name, Preds, Row};
+use trace_types::{Memory, Name, Preds, Row};
 
 /// Writes the export of these rows, whose stamps have these texts: the header and a line for each row, each with its end.
 /// It gives the number of rows, and flushes nothing. A check reads each line again as what it lists.
@@ -140,7 +140,7 @@ fn json_of(alloc: Global, event: u64, row: &Row, stamp: String) -> Result<Value,
         &mut members,
         alloc,
         "kind",
-        Value::try_from_str(alloc, kind_word(row.kind))?,
+        Value::try_from_str(alloc, row.kind.text())?,
     )?;
     put(
         &mut members,
@@ -173,20 +173,6 @@ fn preds_json(alloc: Global, preds: &Preds) -> Result<Vec<Value>, Memory>
         items.push(Value::from(*event))?;
     }
     Ok(items)
-}
-
-/// The word for the kind of a report.
-pub(crate) fn kind_word(kind: Kind) -> &'static str
-    ensures { result.now ≡ kind_text kind }
-{
-    match kind {
-        Kind::Local => "local",
-        Kind::Spawn => "spawn",
-        Kind::Send => "send",
-        Kind::Recv => "recv",
-        Kind::End => "end",
-        Kind::Join => "join",
-    }
 }
 
 /// The name, or `-` if there is none.

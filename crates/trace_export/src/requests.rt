@@ -7,7 +7,6 @@ ghost use Rattle.trace_export.specs.Listing.{FitsKind};
 ghost use Rattle.trace_export.specs.Loading.{request_for, request_line, request_lines};
 
 use crate::ExportFault;
-use crate::exporting::kind_word;
 use line_protocol::{Sink, write_bytes};
 use std::alloc::Global;
 use trace_types::{Kind, Memory, Name, Request, Row};
@@ -83,7 +82,7 @@ fn line_alone(alloc: Global, tenant: &Name, kind: Kind, task: &Name) -> Result<V
     let mut line = Vec::with_capacity(alloc, LINE_BYTES)?;
     line.extend_from_slice(tenant.as_bytes())?;
     line.push(b' ')?;
-    line.extend_from_slice(kind_word(kind).as_bytes())?;
+    line.extend_from_slice(kind.text().as_bytes())?;
     line.push(b' ')?;
     line.extend_from_slice(task.as_bytes())?;
     line.push(b'\n')?;
@@ -103,7 +102,7 @@ fn line_naming(
     let mut line = Vec::with_capacity(alloc, LINE_BYTES)?;
     line.extend_from_slice(tenant.as_bytes())?;
     line.push(b' ')?;
-    line.extend_from_slice(kind_word(kind).as_bytes())?;
+    line.extend_from_slice(kind.text().as_bytes())?;
     line.push(b' ')?;
     line.extend_from_slice(task.as_bytes())?;
     line.push(b' ')?;
