@@ -5,8 +5,12 @@ use Rattle.std.proofs.Math.Seq.{take-append_seam}
 use Rattle.std.proofs.KnownBytes.{Keeps-refl, Keeps-trans}
 use Rattle.trace_types.specs.text.Name.{Text}
 use Rattle.trace_types.specs.text.Lines.{lines, without_return, is_longer_than}
+use Rattle.line_protocol.specs.HandingOn.{FindsBehind, failed_reads_in}
+use Rattle.line_protocol.specs.declared.line_fault.LineFault.{LineFault}
+use Rattle.line_protocol.specs.declared.line_fault.LineFault.TheVariants.{Read, Write}
 use Rattle.line_protocol.specs.Held.{Held, ReadingBounds, fresh_within}
 use Rattle.line_protocol.specs.Source.{Given, HasToldEnd, LastRead, StopsAtEnd, one_if}
+use Rattle.line_protocol.specs.declared.line.Line.{Line}
 use Rattle.line_protocol.specs.declared.line.Line.TheVariants.{Whole, TooLong}
 use Rattle.line_protocol.specs.declared.read_fault.ReadFault.{ReadFault}
 use Rattle.line_protocol.specs.LineReading.{GivesLine, Finds, FindsNone, HasRead, Reads, ReadsForLine, ReadsUntil, AllWereMade, failed_reads_of}
@@ -290,3 +294,10 @@ HasRead-none {held = held} {found = found} read none =
     let last : length (lines (held.left ++ more)) ≡ 1 =
     ap (λ bytes. length (lines bytes)) (sym (append_assoc held.left none.gave (10 ∷ []))) ∙ ap length (lines-ended (held.left ++ none.gave) [] none.no_end) in
     omega (arith, all, ap length split, length-append found (lines (held.left ++ more)), last)
+
+-- For callers: how many reads were made, where what was written is flushed before them.
+pub Reads-behind : {R : Type 0} (seen : R → Given) (source source' : R) (old new : Held) (result : Result Line LineFault) → FindsBehind seen source source' old new result
+    → Reads (seen source) (seen source') old new (failed_reads_in result)
+Reads-behind seen source source' old new (Ok line) finds = finds.reads.reads
+Reads-behind seen source source' old new (Err (Read fault)) finds = finds.reads.reads
+Reads-behind seen source source' old new (Err Write) (source_is, new_is) = rw (source_is, new_is) (Reads-none (seen source) old)

@@ -10,5 +10,6 @@ pub mod LineReading
 pub mod Ends
 pub mod Words
 pub mod Writing
+pub mod HandingOn
 pub mod TextsInTurn
 pub mod Answer

@@ -56,11 +56,19 @@ WritesBoth before after (Err fault) first second =
     WritesPart before after first
     ⊎ ((between : Taken) × WritesWhole before between first × WritesPart between after second)
 
+-- What was written was handed on.
+abbrev pub HandsAllOn : Taken → Taken → Type 0
+HandsAllOn before after =
+    (after.bytes ≡ before.bytes) × IsTrue after.is_flushed × GoesWell before after × FlushesPatiently before.calls after.calls
+
+-- A fault came while it was handed on.
+abbrev pub StopsHandingOn : Taken → Taken → Type 0
+StopsHandingOn before after = (after.bytes ≡ before.bytes) × GoesWrong before after × GivesUpFlushing before.calls after.calls
+
 -- What was written was handed on, unless a fault came.
 abbrev pub Flushes : {A E : Type 0} → Taken → Taken → Result A E → Type 0
-Flushes before after (Ok done) =
-    (after.bytes ≡ before.bytes) × IsTrue after.is_flushed × GoesWell before after × FlushesPatiently before.calls after.calls
-Flushes before after (Err fault) = (after.bytes ≡ before.bytes) × GoesWrong before after × GivesUpFlushing before.calls after.calls
+Flushes before after (Ok done) = HandsAllOn before after
+Flushes before after (Err fault) = StopsHandingOn before after
 
 -- The text was written, or at a fault a front of it, whatever patience it took.
 abbrev pub WritesText : {A E : Type 0} → Taken → Taken → Result A E → Text → Type 0

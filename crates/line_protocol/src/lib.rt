@@ -26,10 +26,12 @@
 
 mod buffer;
 mod buffered;
+mod flushing;
 mod from_reader;
 mod gather;
 mod into_writer;
 mod line;
+mod line_fault;
 mod line_reader;
 mod log;
 mod pieces;
@@ -47,6 +49,7 @@ pub use buffered::Buffered;
 pub use from_reader::FromReader;
 pub use into_writer::IntoWriter;
 pub use line::Line;
+pub use line_fault::LineFault;
 pub use line_reader::LineReader;
 pub use read_fault::ReadFault;
 pub use reply::{flush, write_answer, write_bytes, write_prefix, write_reply};

@@ -1,11 +1,12 @@
 //! Line readers, which remember their fault.
 ghost use Rattle.std.specs.Prelude.{◌≡◌, ◌≤◌, ◌^◌, ◌↔◌, IsTrue, [], false, None, Err, IfOk, IfSome, IfNone};
 ghost use Rattle.std.specs.Result.{result_err};
+ghost use Rattle.line_protocol.specs.HandingOn.{FindsBehind, HandsOnBefore, read_fault_in};
 ghost use Rattle.line_protocol.specs.Held.{fresh_held, fresh_within};
 ghost use Rattle.line_protocol.specs.LineReading.{FindsNext, NeedsRead};
 
 use crate::buffer::Buffer;
-use crate::{Line, ReadFault, Source};
+use crate::{Line, LineFault, ReadFault, Sink, Source};
 use std::alloc::Global;
 use trace_types::Memory;
 
@@ -96,6 +97,34 @@ impl<'a, R: Source> LineReader<'a, R> {
         }
         let found = self.buffer.next_line(self.source);
         if let Err(fault) = found {
+            self.fault = Some(fault);
+        }
+        found
+    }
+
+    /// Finds the next line, as [`LineReader::next`] does. It flushes the writer first if that line needs a read, so
+    /// nothing is held back while the source is waited for.
+    ///
+    /// Returns `Write` if the flush failed, and then reads nothing. It may be called again after that fault.
+    pub fn next_flushing<W: Sink>(&mut self, writer: &mut W) -> Result<Line, LineFault>
+        ensures same_source { self.new.source.ghost_name ≡ self.old.source.ghost_name }
+        ensures finds { IfNone self.old.fault
+            (FindsBehind R.seen self.old.source.now self.new.source.now self.old.buffer self.new.buffer result) }
+        ensures handed_on { IfNone self.old.fault
+            (HandsOnBefore self.old.buffer result (W.seen writer.old) (W.seen writer.new)) }
+        // A fault of reading is answered again, and then nothing changes.
+        ensures fault { self.new.fault ≡ read_fault_in result }
+        ensures again { IfSome self.old.fault (λ fault. (result ≡ Err (LineFault.Read fault)) × (writer.new ≡ writer.old)
+            × (self.new.source.now ≡ self.old.source.now) × (self.new.buffer ≡ self.old.buffer)) }
+        // Once the source has told the end, it is read no more.
+        ensures at_end { IsTrue self.old.buffer.is_ended →
+            (self.new.source.now ≡ self.old.source.now) × IsTrue self.new.buffer.is_ended }
+    {
+        if let Some(fault) = self.fault {
+            return Err(LineFault::Read(fault));
+        }
+        let found = self.buffer.next_line_flushing(self.source, writer);
+        if let Err(LineFault::Read(fault)) = found {
             self.fault = Some(fault);
         }
         found
