@@ -37,6 +37,7 @@ mod log;
 mod pieces;
 mod read_fault;
 mod reply;
+mod reply_head;
 mod reply_text;
 mod request;
 mod sink;

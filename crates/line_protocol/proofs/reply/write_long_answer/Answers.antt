@@ -1,7 +1,7 @@
 use Rattle.std.proofs.Common.{◌++◌, codes}
 use Rattle.trace_types.specs.text.Text.{reply_text}
 use Rattle.line_protocol.proofs.PatientTexts.{WritesBoth-second}
-use Rattle.line_protocol.proofs.reply.write_apart.Goals as goal
+use Rattle.line_protocol.proofs.reply.write_long_answer.Goals as goal
 
 pub returns : goal.returns
 returns g c =
