@@ -1,13 +1,14 @@
 //! Buffers, in which lines lie as they were read.
-ghost use Rattle.std.specs.Prelude.{◌≡◌, ◌↔◌, ◌+◌, ◌-◌, ◌≤◌, ◌<◌, ◌^◌, IsTrue, [], false, IfOk, OnOk, OnErr, length, take, drop, slice_range, position, ◌==◌};
+ghost use Rattle.std.specs.Prelude.{◌≡◌, ◌↔◌, ◌+◌, ◌-◌, ◌≤◌, ◌<◌, ◌^◌, IsTrue, [], false, IfOk, OnOk, OnErr, length, take, drop};
 ghost use Rattle.trace_types.specs.text.Lines.{without_return};
 ghost use Rattle.line_protocol.specs.Held.{fresh_held, fresh_within};
 ghost use Rattle.line_protocol.specs.LineReading.{FindsNext, FindsEnd, SkipsLine, FillsOnce, NeedsRead, ReadsForLine, ReadsUntil, work_left};
-ghost use Rattle.line_protocol.specs.Ends.{IsEnd, Comes, Skipped, kind_of, kind_of_length, last_line};
-ghost use Rattle.line_protocol.specs.Source.{CountsRead, LastRead, failure_count, bytes_read, gives_none};
+ghost use Rattle.line_protocol.specs.Ends.{IsEnd, Comes, Skipped, kind_of, last_line};
+ghost use Rattle.line_protocol.specs.Source.{CountsRead, LastRead, failure_count};
 
+use crate::ends::{first_end, kind_of, length_without_return};
+use crate::source::refill;
 use crate::{Line, ReadFault, Source, Stop};
-use memchr::memchr_iter;
 use std::alloc::Global;
 use std::marker::Model;
 use trace_types::Memory;
@@ -281,55 +282,5 @@ impl Buffer {
         self.line_feed = first_end(&self.bytes[..self.end]);
         self.is_ended = count == 0;
         Ok(())
-    }
-}
-
-/// Moves the bytes from `start` to `end` to the front, and makes one read into all the room behind them.
-fn refill<R: Source>(
-    bytes: &mut [u8],
-    start: usize,
-    end: usize,
-    source: &mut R,
-) -> Result<usize, Stop>
-    requires from { start ≤ end }
-    requires to { end ≤ length bytes.old }
-    requires room { end - start < length bytes.old }
-    ensures bound { IfOk result (λ n. end - start + n ≤ length bytes.old) }
-    ensures comes { Comes (R.seen source.old).bytes (R.seen source.new).bytes (slice_range bytes.old start end)
-        (take (end - start + bytes_read result) bytes.new) }
-    ensures read { CountsRead (R.seen source.old) (R.seen source.new) (failure_count result) (gives_none result) }
-{
-    bytes.copy_within(start..end, 0);
-    source.read_some(&mut bytes[end - start..])
-}
-
-/// The place of the first end of line in the bytes.
-fn first_end(bytes: &[u8]) -> Option<usize>
-    ensures { result ≡ position (λ byte. byte == 10) bytes.now }
-{
-    memchr_iter(b'\n', bytes).next()
-}
-
-/// How many bytes the piece has without one carriage return at its end.
-fn length_without_return(piece: &[u8]) -> usize
-    ensures taken { take result piece.now ≡ without_return piece.now }
-    ensures within { result ≤ length piece.now }
-{
-    let len = piece.len();
-    if len > 0 && piece[len - 1] == b'\r' {
-        len - 1
-    } else {
-        len
-    }
-}
-
-/// What a line of this length is, if it may have at most `most` bytes.
-fn kind_of(len: usize, most: usize) -> Line
-    ensures { result ≡ kind_of_length most len }
-{
-    if len > most {
-        Line::TooLong
-    } else {
-        Line::Whole
     }
 }

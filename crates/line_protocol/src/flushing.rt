@@ -11,6 +11,7 @@ impl Buffer {
     /// read, so nothing is held back while the source is waited for.
     ///
     /// Returns `Write` if the flush failed, and then reads nothing.
+    #[inline]
     pub fn next_line_flushing<R: Source, W: Sink>(
         &mut self,
         source: &mut R,
@@ -29,6 +30,7 @@ impl Buffer {
     }
 
     /// Flushes what was written, if the next line needs a read.
+    #[inline]
     fn flush_before_read<W: Sink>(&self, writer: &mut W) -> Result<(), WriteFault>
         ensures kept { ¬ NeedsRead self.now → W.seen writer.new ≡ W.seen writer.old }
         ensures flushed { OnOk result (NeedsRead self.now → IsTrue (W.seen writer.new).is_flushed) }

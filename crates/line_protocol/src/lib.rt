@@ -26,6 +26,7 @@
 
 mod buffer;
 mod buffered;
+mod ends;
 mod flushing;
 mod from_reader;
 mod gather;

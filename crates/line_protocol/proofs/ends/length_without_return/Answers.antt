@@ -1,8 +1,8 @@
 use Rattle.std.proofs.Common.{arith, ◌≡◌, ◌-◌, ◌≤◌, length, suc, ◌∙◌}
 use Rattle.std.proofs.Math.Seq.{take-length}
 use Rattle.line_protocol.proofs.EndsLemmas.{without_return-last, without_return-none}
-use Rattle.line_protocol.proofs.buffer.length_without_return.Goals as goal
-use Rattle.line_protocol.proofs.buffer.length_without_return.Goals.{else-len-gt0-via-then-len-gt0+else-piece-len-eq13, else-len-gt0-via-else-len-gt0}
+use Rattle.line_protocol.proofs.ends.length_without_return.Goals as goal
+use Rattle.line_protocol.proofs.ends.length_without_return.Goals.{else-len-gt0-via-then-len-gt0+else-piece-len-eq13, else-len-gt0-via-else-len-gt0}
 
 pub returns-then-piece-len-eq13-clause-taken : goal.returns-then-piece-len-eq13-clause-taken
 returns-then-piece-len-eq13-clause-taken c =

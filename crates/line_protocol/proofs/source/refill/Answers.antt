@@ -2,7 +2,7 @@ use Rattle.std.proofs.Common.{ℕ, ◌≤◌, Result, Ok, Err, IfOk, List, lengt
 use Rattle.line_protocol.specs.declared.stop.Stop.{Stop}
 use Rattle.line_protocol.specs.Source.{bytes_read}
 use Rattle.line_protocol.proofs.RefillLemmas.{refilled}
-use Rattle.line_protocol.proofs.buffer.refill.Goals as goal
+use Rattle.line_protocol.proofs.source.refill.Goals as goal
 
 fits : (r : Result ℕ Stop) (buffer : List ℕ) → IfOk r (λ n. n ≤ length buffer) → bytes_read r ≤ length buffer
 fits (Ok n) buffer h = h
