@@ -3,17 +3,16 @@ use Rattle.std.proofs.Common.{◌≡◌, true, false, List, inr, refl, sym, subs
 use Rattle.std.specs.Prelude.{ℕ, Option, Some, None, IfNone}
 use Rattle.trace_types.specs.text.Name.{Text}
 use Rattle.trace_types.specs.text.Lines.{is_longer_than}
-use Rattle.line_protocol.specs.Held.{Held, ReadingBounds}
+use Rattle.line_protocol.specs.Held.{ReadingBounds}
 use Rattle.line_protocol.specs.LineReading.{Finds}
-use Rattle.line_protocol.specs.Sink.{Taken}
-use Rattle.line_protocol.specs.Source.{Given}
 use Rattle.line_protocol.specs.declared.line.Line.{Line}
 use Rattle.line_protocol.specs.declared.line.Line.TheVariants as line
 use Rattle.trace_session.specs.Conversations.{Converses, Opens}
 use Rattle.trace_session.specs.Openings.{opening_at, opening_in, opening_of}
-use Rattle.trace_session.specs.declared.opening.Opening.{Opening}
-use Rattle.trace_session.specs.declared.session_end.SessionEnd.{SessionEnd}
-use Rattle.trace_session.specs.declared.session_fault.SessionFault.{SessionFault}
+use Rattle.trace_session.specs.State.{State}
+use Rattle.trace_session.specs.declared.conversation.Opening.{Opening}
+use Rattle.trace_session.specs.declared.end.SessionEnd.{SessionEnd}
+use Rattle.trace_session.specs.declared.end.SessionFault.{SessionFault}
 
 opening_too_long : (most : ℕ) (text : Text) → is_longer_than most text ≡ true → opening_in most text ≡ None
 opening_too_long most text long = rw long refl
@@ -22,31 +21,32 @@ opening_whole : (most : ℕ) (text : Text) → is_longer_than most text ≡ fals
 opening_whole most text fits = rw fits refl
 
 -- the first line was found, and what it opens
-pub Converses-opened : (names : List Text) (before mid after : Given) (held found_in held' : Held) (taken taken' : Taken) (found : Line) (opening : Option Opening) (result : Result SessionEnd SessionFault)
-    → Finds before.bytes mid.bytes held found_in found → found_in.bounds ≡ held.bounds → opening_at found found_in.line ≡ Some opening
-    → Opens names opening mid after found_in held' taken taken' result → Converses names before after held held' taken taken' result
-Converses-opened names before mid after held found_in held' taken taken' line.End opening result finds same is opens = absurd (cc)
-Converses-opened names before mid after held found_in held' taken taken' line.TooLong opening result (text, gives, long) same is opens =
+pub Converses-opened : (names : List Text) (before between after : State) (found : Line) (opening : Option Opening) (result : Result SessionEnd SessionFault)
+    → Finds before.given.bytes between.given.bytes before.held between.held found → between.held.bounds ≡ before.held.bounds → between.taken ≡ before.taken
+    → opening_at found between.held.line ≡ Some opening → Opens names opening between after result → Converses names before after result
+Converses-opened names before between after line.End opening result finds same silent is opens = absurd (cc)
+Converses-opened names before between after line.TooLong opening result (text, gives, long) same silent is opens =
     let none : None ≡ opening = cc in
-    let here : is_longer_than held.bounds.bytes text ≡ true = subst (λ (bounds : ReadingBounds). is_longer_than bounds.bytes text ≡ true) same long in
+    let here : is_longer_than before.held.bounds.bytes text ≡ true = subst (λ (bounds : ReadingBounds). is_longer_than bounds.bytes text ≡ true) same long in
     inr (record {
       text = text;
-      between = mid;
-      mid = found_in;
+      between = between;
       gives = gives;
       bounds = same;
-      opens = subst (λ one. Opens names one mid after found_in held' taken taken' result) (sym none ∙ sym (opening_too_long held.bounds.bytes text here)) opens;
+      nothing_written = silent;
+      opens = subst (λ one. Opens names one between after result) (sym none ∙ sym (opening_too_long before.held.bounds.bytes text here)) opens;
     })
-Converses-opened names before mid after held found_in held' taken taken' line.Whole opening result (gives, fits) same is opens =
-    let read : opening_of found_in.line ≡ opening = cc in
-    let here : is_longer_than held.bounds.bytes found_in.line ≡ false = subst (λ (bounds : ReadingBounds). is_longer_than bounds.bytes found_in.line ≡ false) same fits in
+Converses-opened names before between after line.Whole opening result (gives, fits) same silent is opens =
+    let text = between.held.line in
+    let read : opening_of text ≡ opening = cc in
+    let here : is_longer_than before.held.bounds.bytes text ≡ false = subst (λ (bounds : ReadingBounds). is_longer_than bounds.bytes text ≡ false) same fits in
     inr (record {
-      text = found_in.line;
-      between = mid;
-      mid = found_in;
+      text = text;
+      between = between;
       gives = gives;
       bounds = same;
-      opens = subst (λ one. Opens names one mid after found_in held' taken taken' result) (sym read ∙ sym (opening_whole held.bounds.bytes found_in.line here)) opens;
+      nothing_written = silent;
+      opens = subst (λ one. Opens names one between after result) (sym read ∙ sym (opening_whole before.held.bounds.bytes text here)) opens;
     })
 
 -- what holds where there was no fault, where there was none

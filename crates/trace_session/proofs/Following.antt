@@ -15,13 +15,14 @@ use Rattle.trace_session.specs.Answers.{AnswersEach, AnswersLine, last_reply}
 use Rattle.trace_session.specs.Asking.{FindsAsked, is_quit, most_requests, request_in}
 use Rattle.trace_session.specs.Reading.{FindsNothing, ReadsLines}
 use Rattle.trace_session.specs.Sessions.{AnswersAsked, AnswersLate, AnswersRequest, Closes, EndsBy, Finishes, BringsNoEnd, Session, WritesUntil, over_reply}
+use Rattle.trace_session.specs.State.{State, state}
 use Rattle.trace_session.specs.Written.{HandsOnBefore, KeepsAll, StopsAt, reply_line}
-use Rattle.trace_session.specs.declared.asked.Asked.{Asked}
-use Rattle.trace_session.specs.declared.asked.Asked.TheVariants as asked
-use Rattle.trace_session.specs.declared.session_end.SessionEnd.{SessionEnd}
-use Rattle.trace_session.specs.declared.session_end.SessionEnd.TheVariants.{Quit, EndOfInput, Over}
-use Rattle.trace_session.specs.declared.session_fault.SessionFault.{SessionFault}
-use Rattle.trace_session.specs.declared.session_fault.SessionFault.TheVariants.{Read, Write, TooLong, Memory, Gate}
+use Rattle.trace_session.specs.declared.lines.Asked.{Asked}
+use Rattle.trace_session.specs.declared.lines.Asked.TheVariants as asked
+use Rattle.trace_session.specs.declared.end.SessionEnd.{SessionEnd}
+use Rattle.trace_session.specs.declared.end.SessionEnd.TheVariants.{Quit, EndOfInput, Over}
+use Rattle.trace_session.specs.declared.end.SessionFault.{SessionFault}
+use Rattle.trace_session.specs.declared.end.SessionFault.TheVariants.{Read, Write, TooLong, Memory, Gate}
 
 -- These lines are requests, and were answered so, where lines have at most so many bytes.
 pub record Answered {S : Type 0} (Does : S → Request → Reply → S → Type 0) (most : ℕ) (old new : S) (requests : List Text) (answers : List Reply) : Type 0 where
@@ -29,22 +30,22 @@ pub record Answered {S : Type 0} (Does : S → Request → Reply → S → Type 
   pub each : AnswersEach Does old (map (request_in most) requests) answers new
 
 -- So many lines were read and answered.
-pub record Follows {S : Type 0} (Does : S → Request → Reply → S → Type 0) (first now : Given) (start held : Held) (taken taken' : Taken) (old new : S) (count : ℕ) : Type 0 where
+pub record Follows {S : Type 0} (Does : S → Request → Reply → S → Type 0) (start now : State) (old new : S) (count : ℕ) : Type 0 where
   pub requests : List Text
   pub answers : List Reply
-  pub read : ReadsLines first.bytes now.bytes start.left held.left held.is_ended requests
+  pub read : ReadsLines start.given.bytes now.given.bytes start.held.left now.held.left now.held.is_ended requests
   pub counted : length requests ≡ count
-  pub answered : Answered Does start.bounds.bytes old new requests answers
-  pub wrote : Wrote taken taken' answers
+  pub answered : Answered Does start.held.bounds.bytes old new requests answers
+  pub wrote : Wrote start.taken now.taken answers
 
-pub Follows-none : {S : Type 0} (Does : S → Request → Reply → S → Type 0) (given : Given) (held : Held) (taken : Taken) (lent : S) → Follows Does given given held held taken taken lent lent 0
-Follows-none Does given held taken lent = record {
+pub Follows-none : {S : Type 0} (Does : S → Request → Reply → S → Type 0) (start : State) (lent : S) → Follows Does start start lent lent 0
+Follows-none Does start lent = record {
   requests = [];
   answers = [];
-  read = ReadsLines-none given.bytes held.left held.is_ended;
+  read = ReadsLines-none start.given.bytes start.held.left start.held.is_ended;
   counted = refl;
   answered = record { none_quits = tt; each = refl };
-  wrote = Wrote-none taken;
+  wrote = Wrote-none start.taken;
 }
 
 -- one more answered
@@ -70,12 +71,11 @@ Answered-line {Does = Does} {most = most} {old = old} {mid = mid} {new = new} {r
 }
 
 -- no line came behind the requests
-session_alone : {S : Type 0} (Does : S → Request → Reply → S → Type 0) (before after : Given) (held held' : Held) (taken taken' : Taken) (old new : S) (result : Result SessionEnd SessionFault)
-    (requests : List Text) (answers : List Reply) (left : List ℕ) → Answered Does held.bounds.bytes old new requests answers
-    → ReadsLines before.bytes after.bytes held.left left held'.is_ended requests → length requests ≤ most_requests
-    → EndsBy result held.bounds.bytes None left held' → WritesUntil result taken taken' answers
-    → Session Does before after held held' taken taken' old new result
-session_alone Does before after held held' taken taken' old new result requests answers left answered reads few ends writes = record {
+session_alone : {S : Type 0} (Does : S → Request → Reply → S → Type 0) (start after : State) (old new : S) (result : Result SessionEnd SessionFault) (requests : List Text) (answers : List Reply) (left : List ℕ)
+    → Answered Does start.held.bounds.bytes old new requests answers → ReadsLines start.given.bytes after.given.bytes start.held.left left after.held.is_ended requests
+    → length requests ≤ most_requests → EndsBy result start.held.bounds.bytes None left after.held → WritesUntil result start.taken after.taken answers
+    → Session Does old new start after result
+session_alone Does start after old new result requests answers left answered reads few ends writes = record {
   requests = requests;
   last = None;
   answers = answers;
@@ -86,51 +86,45 @@ session_alone Does before after held held' taken taken' old new result requests 
   closes = tt;
   answered = answered.each;
   ends = ends;
-  writes = subst (WritesUntil result taken taken') (sym (append-nil answers)) writes;
+  writes = subst (WritesUntil result start.taken after.taken) (sym (append-nil answers)) writes;
 }
 
 -- one line came behind them
-session_closed : {S : Type 0} (Does : S → Request → Reply → S → Type 0) (before after : Given) (held held' : Held) (taken taken' : Taken) (old new : S) (result : Result SessionEnd SessionFault)
-    (requests : List Text) (answers : List Reply) (text : Text) (more : List Reply) → Answered Does held.bounds.bytes old new requests answers
-    → ReadsLines before.bytes after.bytes held.left held'.left held'.is_ended (requests ++ text ∷ []) → length requests ≤ most_requests
-    → Closes held.bounds.bytes (length requests) (Some text) → EndsBy result held.bounds.bytes (Some text) held'.left held'
-    → last_reply held.bounds.bytes (Some text) ≡ more → WritesUntil result taken taken' (answers ++ more)
-    → Session Does before after held held' taken taken' old new result
-session_closed Does before after held held' taken taken' old new result requests answers text more answered reads few closes ends replies writes = record {
+session_closed : {S : Type 0} (Does : S → Request → Reply → S → Type 0) (start after : State) (old new : S) (result : Result SessionEnd SessionFault) (requests : List Text) (answers : List Reply) (text : Text) (more : List Reply)
+    → Answered Does start.held.bounds.bytes old new requests answers → ReadsLines start.given.bytes after.given.bytes start.held.left after.held.left after.held.is_ended (requests ++ text ∷ [])
+    → length requests ≤ most_requests → Closes start.held.bounds.bytes (length requests) (Some text) → last_reply start.held.bounds.bytes (Some text) ≡ more
+    → EndsBy result start.held.bounds.bytes (Some text) after.held.left after.held → WritesUntil result start.taken after.taken (answers ++ more)
+    → Session Does old new start after result
+session_closed Does start after old new result requests answers text more answered reads few closes replies ends writes = record {
   requests = requests;
   last = Some text;
   answers = answers;
-  left = held'.left;
+  left = after.held.left;
   reads = reads;
   none_quits = answered.none_quits;
   at_most = few;
   closes = closes;
   answered = answered.each;
   ends = ends;
-  writes = subst (λ last. WritesUntil result taken taken' (answers ++ last)) (sym replies) writes;
+  writes = subst (λ last. WritesUntil result start.taken after.taken (answers ++ last)) (sym replies) writes;
 }
 
--- What is behind the end of the input is nothing.
-abbrev EndsOnce : Given → Given → Held → Held → Type 0
-EndsOnce given given' held held' = IsTrue held.is_ended → (given'.bytes ≡ given.bytes) × IsTrue held'.is_ended
-
 -- no line was found any more
-pub session_unread : {S : Type 0} (A : Type 0) (Does : S → Request → Reply → S → Type 0) (first now after : Given) (start held held' : Held) (taken mid taken' : Taken) (old new : S) (count : ℕ) (fault : SessionFault)
-    → Follows Does first now start held taken mid old new count → count ≤ most_requests → FindsNothing fault now after held held' → HandsOnBefore {A = A} (Err fault) mid taken'
-    → Session Does first after start held' taken taken' old new (Err fault)
-session_unread A Does first now after start held held' taken mid taken' old new count Read follows few none hands =
-    session_alone Does first after start held' taken taken' old new (Err Read) follows.requests follows.answers (held.left ++ none.gave) follows.answered
-    (ReadsLines-more held'.is_ended none.gave follows.read none.grows none.goes_on) (omega (arith, follows.counted, few)) (refl, none.no_end) (WritesAll-from follows.wrote hands)
-session_unread A Does first now after start held held' taken mid taken' old new count TooLong follows few (none, all) hands =
-    session_alone Does first after start held' taken taken' old new (Err TooLong) follows.requests follows.answers (held.left ++ none.gave) follows.answered
-    (ReadsLines-more held'.is_ended none.gave follows.read none.grows none.goes_on) (omega (arith, follows.counted, few)) (refl, none.no_end, all) (WritesAll-from follows.wrote hands)
-session_unread A Does first now after start held held' taken mid taken' old new count Write follows few (given_is, held_is) hands =
-    session_alone Does first after start held' taken taken' old new (Err Write) follows.requests follows.answers held'.left follows.answered
+pub session_unread : {S : Type 0} (A : Type 0) (Does : S → Request → Reply → S → Type 0) (start now after : State) (old new : S) (count : ℕ) (fault : SessionFault)
+    → Follows Does start now old new count → count ≤ most_requests → FindsNothing fault now.given after.given now.held after.held → HandsOnBefore {A = A} (Err fault) now.taken after.taken
+    → Session Does old new start after (Err fault)
+session_unread A Does start now after old new count Read follows few none hands =
+    session_alone Does start after old new (Err Read) follows.requests follows.answers (now.held.left ++ none.gave) follows.answered
+    (ReadsLines-more after.held.is_ended none.gave follows.read none.grows none.goes_on) (omega (arith, follows.counted, few)) (refl, none.no_end) (WritesAll-from follows.wrote hands)
+session_unread A Does start now after old new count TooLong follows few (none, all) hands =
+    session_alone Does start after old new (Err TooLong) follows.requests follows.answers (now.held.left ++ none.gave) follows.answered
+    (ReadsLines-more after.held.is_ended none.gave follows.read none.grows none.goes_on) (omega (arith, follows.counted, few)) (refl, none.no_end, all) (WritesAll-from follows.wrote hands)
+session_unread A Does start now after old new count Write follows few (given_is, held_is) hands =
+    session_alone Does start after old new (Err Write) follows.requests follows.answers after.held.left follows.answered
     (ReadsLines-same follows.read (ap (λ (given : Given). given.bytes) given_is) (ap (λ (h : Held). h.left) held_is) (λ ended. ap (λ (h : Held). h.is_ended) held_is ∙ ended))
     (omega (arith, follows.counted, few)) refl
-    (subst (λ replies. WritesUntil (Err Write) taken taken' replies) (append-nil follows.answers) (WritesLinesInPart-held [] (omega arith) follows.wrote hands))
-session_unread A Does first now after start held held' taken mid taken' old new count Memory follows few none hands = absurd none
-session_unread A Does first now after start held held' taken mid taken' old new count Gate follows few none hands = absurd none
+    (subst (λ replies. WritesUntil (Err Write) start.taken after.taken replies) (append-nil follows.answers) (WritesLinesInPart-held [] (omega arith) follows.wrote hands))
+session_unread A Does start now after old new count fault follows few none hands = absurd none
 
 -- the writes up to a reply that was not written whole
 stopped_writes : {taken mid : Taken} (taken' : Taken) {answers : List Reply} (fault : SessionFault) (reply : Reply) → Wrote taken mid answers → StopsAt fault mid taken' (reply_line reply)
@@ -138,17 +132,13 @@ stopped_writes : {taken mid : Taken} (taken' : Taken) {answers : List Reply} (fa
 stopped_writes taken' Write reply wrote (inl part) = WritesLinesInPart-line reply wrote part
 stopped_writes taken' Write reply wrote (inr stops) = WritesLinesInPart-held (reply ∷ []) (omega arith) wrote stops
 stopped_writes taken' {answers = answers} Gate reply wrote hands = (answers, reply, refl, WritesAll-from wrote hands)
-stopped_writes taken' Read reply wrote stops = absurd stops
-stopped_writes taken' TooLong reply wrote stops = absurd stops
-stopped_writes taken' Memory reply wrote stops = absurd stops
+stopped_writes taken' fault reply wrote stops = absurd stops
 
 stopped_ends : (mid taken' : Taken) (line : Text) (fault : SessionFault) (most : ℕ) (last : Option Text) (held : Held) → StopsAt fault mid taken' line → IfSome last (λ text. is_quit most text ≡ false)
     → EndsBy (Err fault) most last held.left held
 stopped_ends mid taken' line Write most last held stops no_quit = refl
 stopped_ends mid taken' line Gate most last held stops no_quit = (no_quit, refl)
-stopped_ends mid taken' line Read most last held stops no_quit = absurd stops
-stopped_ends mid taken' line TooLong most last held stops no_quit = absurd stops
-stopped_ends mid taken' line Memory most last held stops no_quit = absurd stops
+stopped_ends mid taken' line fault most last held stops no_quit = absurd stops
 
 -- fewer than the most
 fewer : (count : ℕ) → count ≤ most_requests → (count == most_requests) ≡ false → count < most_requests
@@ -163,37 +153,6 @@ late_reply most text no_quit = rw no_quit refl
 quit_reply : (most : ℕ) (text : Text) → IsTrue (is_quit most text) → last_reply most (Some text) ≡ []
 quit_reply most text quit = rw quit refl
 
--- the reply to a line was not written whole
-pub session_stopped : {S : Type 0} (Does : S → Request → Reply → S → Type 0) (first now after : Given) (start held held' : Held) (taken mid taken' : Taken) (old between new : S) (count : ℕ) (asks : Asked) (fault : SessionFault)
-    → Follows Does first now start held taken mid old between count → count ≤ most_requests → held'.bounds ≡ start.bounds
-    → FindsAsked now.bytes after.bytes held held' asks → EndsOnce now after held held' → AnswersAsked Does asks count between new mid taken' (Err fault)
-    → Session Does first after start held' taken taken' old new (Err fault)
-session_stopped Does first now after start held held' taken mid taken' old between new count asked.End fault follows few same finds at_end answers = absurd (let no = answers.0 in cc)
-session_stopped Does first now after start held held' taken mid taken' old between new count asked.Quit fault follows few same finds at_end answers = absurd (let no = answers.0 in cc)
-session_stopped {S = S} Does first now after start held held' taken mid taken' old between new count (asked.Request request) fault follows few same finds at_end answers =
-    by (count == most_requests) refl answers
-  where
-    text : Text
-    text = finds.0
-
-    no_quit : is_quit start.bounds.bytes text ≡ false
-    no_quit = subst (λ (bounds : ReadingBounds). is_quit bounds.bytes text ≡ false) same finds.2
-
-    asks : request ≡ request_in start.bounds.bytes text
-    asks = subst (λ (bounds : ReadingBounds). request ≡ request_in bounds.bytes text) same finds.3
-
-    by : (late : Bool) → (count == most_requests) ≡ late → MatchBool late (AnswersLate between new mid taken' (Err fault)) (AnswersRequest {E = Option SessionEnd} Does request between new mid taken' (Err fault) × BringsNoEnd (Err fault))
-        → Session Does first after start held' taken taken' old new (Err fault)
-    by true late (new_is, stops, over) =
-        session_closed Does first after start held' taken taken' old new (Err fault) follows.requests follows.answers text (over_reply ∷ []) (same_answered new_is follows.answered)
-        (ReadsLines-line follows.read finds.1 at_end) (omega (arith, follows.counted, few)) (inr (follows.counted ∙ eqb-true count most_requests late))
-        (stopped_ends mid taken' (reply_line over_reply) fault start.bounds.bytes (Some text) held' stops no_quit) (late_reply start.bounds.bytes text no_quit) (stopped_writes taken' fault over_reply follows.wrote stops)
-    by false late (answer, goes) =
-        session_alone Does first after start held' taken taken' old new (Err fault) (follows.requests ++ text ∷ []) (follows.answers ++ answer.reply ∷ []) held'.left
-        (Answered-line text request answer.reply follows.answered no_quit asks answer.answered)
-        (ReadsLines-line follows.read finds.1 at_end) (omega (arith, follows.counted, fewer count few late, length-append follows.requests (text ∷ [])))
-        (stopped_ends mid taken' (reply_line answer.reply) fault start.bounds.bytes None held' answer.put_out tt) (stopped_writes taken' fault answer.reply follows.wrote answer.put_out)
-
 -- all is handed on at this end, or not
 finished : {taken mid taken' : Taken} {replies : List Reply} (end : SessionEnd) (result : Result SessionEnd SessionFault) (Ends Holds : Result SessionEnd SessionFault → Type 0)
     → ((one : Result SessionEnd SessionFault) → Ends one → WritesUntil one taken taken' replies → Holds one) → Ends (Ok end) → Ends (Err Write)
@@ -204,71 +163,71 @@ finished {taken = taken} {taken' = taken'} {replies = replies} end (Err fault) E
     subst (λ one. Holds (Err one)) (sym finishes.0)
     (make (Err Write) failed (subst (λ all. WritesUntil (Err Write) taken taken' all) (append-nil replies) (WritesLinesInPart-held [] (omega arith) wrote finishes.1)))
 
--- the session has come to its end
-pub session_ended : {S : Type 0} (Does : S → Request → Reply → S → Type 0) (first now after : Given) (start held held' : Held) (taken mid mid' taken' : Taken) (old between new : S) (count : ℕ) (asks : Asked) (end : SessionEnd) (result : Result SessionEnd SessionFault)
-    → Follows Does first now start held taken mid old between count → count ≤ most_requests → held'.bounds ≡ start.bounds
-    → FindsAsked now.bytes after.bytes held held' asks → EndsOnce now after held held' → AnswersAsked Does asks count between new mid mid' (Ok (Some end)) → Finishes end mid' taken' result
-    → Session Does first after start held' taken taken' old new result
-session_ended Does first now after start held held' taken mid mid' taken' old between new count asked.End end result follows few same finds at_end answers finishes =
-    let end_is : end ≡ EndOfInput = let is = answers.0 in cc in
-    finished end result (λ one. EndsBy one start.bounds.bytes None held'.left held') (λ one. Session Does first after start held' taken taken' old new one)
-    (λ one ends writes. session_alone Does first after start held' taken taken' old new one follows.requests follows.answers held'.left (same_answered answers.1 follows.answered)
+-- What came of a line after so many: one line more was answered, or the session is over once all is handed on, or it has come
+-- to a fault.
+abbrev pub Comes : {S : Type 0} → (S → Request → Reply → S → Type 0) → State → State → S → S → ℕ → Result (Option SessionEnd) SessionFault → Type 0
+Comes Does start after old new count (Ok None) = Follows Does start after old new (count + 1) × (count < most_requests)
+Comes Does start after old new count (Ok (Some end)) =
+    (taken : Taken) (result : Result SessionEnd SessionFault) → Finishes end after.taken taken result → Session Does old new start (state after.given after.held taken) result
+Comes Does start after old new count (Err fault) = Session Does old new start after (Err fault)
+
+-- one line was read, and what it asks was answered
+pub Comes-of : {S : Type 0} (Does : S → Request → Reply → S → Type 0) (start now after : State) (old between new : S) (count : ℕ) (asks : Asked) (result : Result (Option SessionEnd) SessionFault)
+    → Follows Does start now old between count → count ≤ most_requests → after.held.bounds ≡ start.held.bounds → FindsAsked now.given.bytes after.given.bytes now.held after.held asks
+    → (IsTrue now.held.is_ended → (after.given.bytes ≡ now.given.bytes) × IsTrue after.held.is_ended) → AnswersAsked Does asks count between new now.taken after.taken result
+    → Comes Does start after old new count result
+Comes-of Does start now after old between new count asked.End result follows few same finds at_end (is, new_is, silent) =
+    subst (Comes Does start after old new count) (sym is)
+    (λ taken last finishes.
+    finished EndOfInput last (λ one. EndsBy one start.held.bounds.bytes None after.held.left after.held) (λ one. Session Does old new start (state after.given after.held taken) one)
+    (λ one ends writes. session_alone Does start (state after.given after.held taken) old new one follows.requests follows.answers after.held.left (same_answered new_is follows.answered)
     (ReadsLines-same follows.read finds.0 (finds.2 ∙ sym finds.1) (λ ended. (at_end ended).1)) (omega (arith, follows.counted, few)) ends writes)
-    (subst (λ one. EndsBy (Ok one) start.bounds.bytes None held'.left held') (sym end_is) (refl, refl, finds.2, finds.3)) refl
-    (subst (λ took. Wrote taken took follows.answers) (sym answers.2) follows.wrote) finishes
-session_ended Does first now after start held held' taken mid mid' taken' old between new count asked.Quit end result follows few same finds at_end answers finishes =
+    (refl, refl, finds.2, finds.3) refl (subst (λ took. Wrote start.taken took follows.answers) (sym silent) follows.wrote) finishes)
+Comes-of Does start now after old between new count asked.Quit result follows few same finds at_end (is, new_is, silent) =
     let text = finds.0 in
-    let quit : IsTrue (is_quit start.bounds.bytes text) = subst (λ (bounds : ReadingBounds). IsTrue (is_quit bounds.bytes text)) same finds.2 in
-    let end_is : end ≡ Quit = let is = answers.0 in cc in
-    finished end result (λ one. EndsBy one start.bounds.bytes (Some text) held'.left held') (λ one. Session Does first after start held' taken taken' old new one)
-    (λ one ends writes. session_closed Does first after start held' taken taken' old new one follows.requests follows.answers text [] (same_answered answers.1 follows.answered)
-    (ReadsLines-line follows.read finds.1 at_end) (omega (arith, follows.counted, few)) (inl quit) ends (quit_reply start.bounds.bytes text quit) writes)
-    (subst (λ one. EndsBy (Ok one) start.bounds.bytes (Some text) held'.left held') (sym end_is) (quit, refl)) refl
-    (subst (λ replies. Wrote taken mid' replies) (sym (append-nil follows.answers)) (subst (λ took. Wrote taken took follows.answers) (sym answers.2) follows.wrote)) finishes
-session_ended {S = S} Does first now after start held held' taken mid mid' taken' old between new count (asked.Request request) end result follows few same finds at_end answers finishes =
-    by (count == most_requests) refl answers
+    let quit : IsTrue (is_quit start.held.bounds.bytes text) = subst (λ (bounds : ReadingBounds). IsTrue (is_quit bounds.bytes text)) same finds.2 in
+    subst (Comes Does start after old new count) (sym is)
+    (λ taken last finishes.
+    finished Quit last (λ one. EndsBy one start.held.bounds.bytes (Some text) after.held.left after.held) (λ one. Session Does old new start (state after.given after.held taken) one)
+    (λ one. session_closed Does start (state after.given after.held taken) old new one follows.requests follows.answers text [] (same_answered new_is follows.answered)
+    (ReadsLines-line follows.read finds.1 at_end) (omega (arith, follows.counted, few)) (inl quit) (quit_reply start.held.bounds.bytes text quit))
+    (quit, refl) refl
+    (subst (λ replies. Wrote start.taken after.taken replies) (sym (append-nil follows.answers)) (subst (λ took. Wrote start.taken took follows.answers) (sym silent) follows.wrote)) finishes)
+Comes-of {S = S} Does start now after old between new count (asked.Request request) result follows few same finds at_end answers =
+    by (count == most_requests) refl result answers
   where
     text : Text
     text = finds.0
 
-    no_quit : is_quit start.bounds.bytes text ≡ false
+    no_quit : is_quit start.held.bounds.bytes text ≡ false
     no_quit = subst (λ (bounds : ReadingBounds). is_quit bounds.bytes text ≡ false) same finds.2
 
-    by : (late : Bool) → (count == most_requests) ≡ late → MatchBool late (AnswersLate between new mid mid' (Ok (Some end))) (AnswersRequest {E = Option SessionEnd} Does request between new mid mid' (Ok (Some end)) × BringsNoEnd (Ok (Some end)))
-        → Session Does first after start held' taken taken' old new result
-    by true late (new_is, writes_line, over) =
-        let end_is : end ≡ Over = cc in
-        finished end result (λ one. EndsBy one start.bounds.bytes (Some text) held'.left held') (λ one. Session Does first after start held' taken taken' old new one)
-        (λ one ends writes. session_closed Does first after start held' taken taken' old new one follows.requests follows.answers text (over_reply ∷ []) (same_answered new_is follows.answered)
-        (ReadsLines-line follows.read finds.1 at_end) (omega (arith, follows.counted, few)) (inr (follows.counted ∙ eqb-true count most_requests late)) ends
-        (late_reply start.bounds.bytes text no_quit) writes)
-        (subst (λ one. EndsBy (Ok one) start.bounds.bytes (Some text) held'.left held') (sym end_is) (no_quit, refl)) refl
-        (Wrote-line over_reply follows.wrote writes_line) finishes
-    by false late (answer, goes) = absurd (cc)
-
--- one line more was read and answered
-pub Follows-line : {S : Type 0} (Does : S → Request → Reply → S → Type 0) (first now after : Given) (start held held' : Held) (taken mid taken' : Taken) (old between new : S) (count : ℕ) (asks : Asked)
-    → Follows Does first now start held taken mid old between count → count ≤ most_requests → held'.bounds ≡ start.bounds
-    → FindsAsked now.bytes after.bytes held held' asks → EndsOnce now after held held' → AnswersAsked Does asks count between new mid taken' (Ok None)
-    → Follows Does first after start held' taken taken' old new (count + 1) × (count < most_requests)
-Follows-line Does first now after start held held' taken mid taken' old between new count asked.End follows few same finds at_end answers = absurd (let no = answers.0 in cc)
-Follows-line Does first now after start held held' taken mid taken' old between new count asked.Quit follows few same finds at_end answers = absurd (let no = answers.0 in cc)
-Follows-line {S = S} Does first now after start held held' taken mid taken' old between new count (asked.Request request) follows few same finds at_end answers =
-    by (count == most_requests) refl answers
-  where
-    text : Text
-    text = finds.0
-
-    no_quit : is_quit start.bounds.bytes text ≡ false
-    no_quit = subst (λ (bounds : ReadingBounds). is_quit bounds.bytes text ≡ false) same finds.2
-
-    asks : request ≡ request_in start.bounds.bytes text
+    asks : request ≡ request_in start.held.bounds.bytes text
     asks = subst (λ (bounds : ReadingBounds). request ≡ request_in bounds.bytes text) same finds.3
 
-    by : (late : Bool) → (count == most_requests) ≡ late → MatchBool late (AnswersLate between new mid taken' (Ok None)) (AnswersRequest {E = Option SessionEnd} Does request between new mid taken' (Ok None) × BringsNoEnd (Ok None))
-        → Follows Does first after start held' taken taken' old new (count + 1) × (count < most_requests)
-    by true late (new_is, writes_line, over) = absurd (cc)
-    by false late (answer, goes) = (
+    -- the line came after all the requests
+    over : (count == most_requests) ≡ true → new ≡ between → (taken : Taken) (one : Result SessionEnd SessionFault)
+        → EndsBy one start.held.bounds.bytes (Some text) after.held.left after.held → WritesUntil one start.taken taken (follows.answers ++ over_reply ∷ []) → Session Does old new start (state after.given after.held taken) one
+    over late new_is taken one =
+        session_closed Does start (state after.given after.held taken) old new one follows.requests follows.answers text (over_reply ∷ []) (same_answered new_is follows.answered)
+        (ReadsLines-line follows.read finds.1 at_end) (omega (arith, follows.counted, few)) (inr (follows.counted ∙ eqb-true count most_requests late)) (late_reply start.held.bounds.bytes text no_quit)
+
+    by : (late : Bool) → (count == most_requests) ≡ late → (came : Result (Option SessionEnd) SessionFault)
+        → MatchBool late (AnswersLate between new now.taken after.taken came) (AnswersRequest Does request between new now.taken after.taken came × BringsNoEnd came) → Comes Does start after old new count came
+    by true late (Err fault) (new_is, stops, is) =
+        over late new_is after.taken (Err fault) (stopped_ends now.taken after.taken (reply_line over_reply) fault start.held.bounds.bytes (Some text) after.held stops no_quit) (stopped_writes after.taken fault over_reply follows.wrote stops)
+    by true late (Ok None) (new_is, writes_line, is) = absurd (cc)
+    by true late (Ok (Some end)) (new_is, writes_line, is) = λ taken last finishes.
+        finished Over last (λ one. EndsBy one start.held.bounds.bytes (Some text) after.held.left after.held) (λ one. Session Does old new start (state after.given after.held taken) one)
+        (over late new_is taken) (no_quit, refl) refl (Wrote-line over_reply follows.wrote writes_line)
+        (let end_is : end ≡ Over = cc in subst (λ e. Finishes e after.taken taken last) end_is finishes)
+    by false late (Err fault) (answer, goes) =
+        session_alone Does start after old new (Err fault) (follows.requests ++ text ∷ []) (follows.answers ++ answer.reply ∷ []) after.held.left
+        (Answered-line text request answer.reply follows.answered no_quit asks answer.answered)
+        (ReadsLines-line follows.read finds.1 at_end) (omega (arith, follows.counted, fewer count few late, length-append follows.requests (text ∷ [])))
+        (stopped_ends now.taken after.taken (reply_line answer.reply) fault start.held.bounds.bytes None after.held answer.put_out tt) (stopped_writes after.taken fault answer.reply follows.wrote answer.put_out)
+    by false late (Ok (Some end)) (answer, goes) = absurd (cc)
+    by false late (Ok None) (answer, goes) = (
       record {
         requests = follows.requests ++ text ∷ [];
         answers = follows.answers ++ answer.reply ∷ [];
@@ -281,9 +240,9 @@ Follows-line {S = S} Does first now after start held held' taken mid taken' old 
     )
 
 -- what was written before a line was read stays
-pub Follows-kept : {S : Type 0} {Does : S → Request → Reply → S → Type 0} {first now : Given} {start held : Held} {taken mid taken' : Taken} {old new : S} {count : ℕ}
-    → Follows Does first now start held taken mid old new count → KeepsAll mid taken' → Follows Does first now start held taken taken' old new count
-Follows-kept follows keeps = record {
+pub Follows-kept : {S : Type 0} {Does : S → Request → Reply → S → Type 0} {start now : State} {old new : S} {count : ℕ} (taken : Taken)
+    → Follows Does start now old new count → KeepsAll now.taken taken → Follows Does start (state now.given now.held taken) old new count
+Follows-kept taken follows keeps = record {
   requests = follows.requests;
   answers = follows.answers;
   read = follows.read;
@@ -292,17 +251,11 @@ Follows-kept follows keeps = record {
   wrote = Wrote-kept follows.wrote keeps;
 }
 
--- what holds of this fault holds of the one that there is
-pub same_fault : {T E : Type 0} (P : Result T E → Type 0) (result : Result T E) (fault : E) → IsErrAnd result (λ e. e ≡ fault) → P (Err fault) → P result
-same_fault P (Ok value) fault is holds = absurd is
-same_fault P (Err e) fault is holds = subst (λ one. P (Err one)) (sym is) holds
+-- the one fault that there is
+pub fault_is : {T E : Type 0} (result : Result T E) (fault : E) → IsErrAnd result (λ e. e ≡ fault) → result ≡ Err fault
+fault_is (Ok value) fault is = absurd is
+fault_is (Err e) fault is = ap Err is
 
 pub IfNone-holds : {A P : Type 0} (option : Option A) → P → IfNone option P
 IfNone-holds None holds = holds
 IfNone-holds (Some value) holds = tt
-
--- nothing was written yet, or a line was let out
-pub let_out_still : {P : Type 0} {first mid taken last : List ℕ} → (mid ≡ first) ⊎ P → taken ≡ mid → (last ≡ taken) ⊎ P → (last ≡ first) ⊎ P
-let_out_still before same (inr let_out) = inr let_out
-let_out_still (inr let_out) same (inl none) = inr let_out
-let_out_still (inl nothing) same (inl none) = inl (none ∙ same ∙ nothing)

@@ -1,6 +1,7 @@
 pub mod Crossing
 mod FirstLines
 mod Following
+mod Goings
 mod Lists
 mod Reading
 mod Refusing

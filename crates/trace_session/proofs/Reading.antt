@@ -13,7 +13,7 @@ use Rattle.line_protocol.specs.declared.read_fault.ReadFault.TheVariants as read
 use Rattle.trace_session.specs.Faults.{session_fault_of}
 use Rattle.trace_session.specs.Reading.{ReadsLines}
 use Rattle.trace_session.specs.Written.{HandsOnBefore, KeepsAll}
-use Rattle.trace_session.specs.declared.session_fault.SessionFault.{SessionFault}
+use Rattle.trace_session.specs.declared.end.SessionFault.{SessionFault}
 
 -- no line was read
 pub ReadsLines-none : (given held : List ℕ) (is_ended : Bool) → ReadsLines given given held held is_ended []

@@ -2,8 +2,8 @@
 use Rattle.std.specs.Prelude.{ℕ, Result, Ok, Err, Option, Some, None}
 use Rattle.line_protocol.specs.declared.read_fault.ReadFault.{ReadFault}
 use Rattle.line_protocol.specs.declared.read_fault.ReadFault.TheVariants as read
-use Rattle.trace_session.specs.declared.session_fault.SessionFault.{SessionFault}
-use Rattle.trace_session.specs.declared.session_fault.SessionFault.TheVariants.{Read, Write, TooLong, Memory, Gate}
+use Rattle.trace_session.specs.declared.end.SessionFault.{SessionFault}
+use Rattle.trace_session.specs.declared.end.SessionFault.TheVariants.{Read, TooLong}
 
 abbrev pub session_fault_of : ReadFault → SessionFault
 session_fault_of read.Read = Read
@@ -13,9 +13,7 @@ session_fault_of read.TooLong = TooLong
 abbrev pub read_fault_of : SessionFault → Option ReadFault
 read_fault_of Read = Some read.Read
 read_fault_of TooLong = Some read.TooLong
-read_fault_of Write = None
-read_fault_of Memory = None
-read_fault_of Gate = None
+read_fault_of other = None
 
 -- the fault of reading in which a call ended, if it did
 abbrev pub read_fault_in : {A : Type 0} → Result A SessionFault → Option ReadFault
@@ -25,10 +23,7 @@ read_fault_in (Err fault) = read_fault_of fault
 -- how many reads failed before this fault came
 abbrev pub failed_reads_by : SessionFault → ℕ
 failed_reads_by Read = 1
-failed_reads_by TooLong = 0
-failed_reads_by Write = 0
-failed_reads_by Memory = 0
-failed_reads_by Gate = 0
+failed_reads_by other = 0
 
 -- how many reads failed in a call that ended so
 abbrev pub failed_reads_in : {A : Type 0} → Result A SessionFault → ℕ

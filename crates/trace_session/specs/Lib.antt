@@ -2,12 +2,15 @@ pub mod Answers
 pub mod Asking
 pub mod Conversations
 pub mod Faults
+pub mod Goings
 pub mod Hubs
 pub mod Lent
 pub mod Openings
+pub mod Outputs
 pub mod Reading
 pub mod Resting
 pub mod RunsThrough
 pub mod Serving
 pub mod Sessions
+pub mod State
 pub mod Written

@@ -6,8 +6,8 @@ use Rattle.line_protocol.specs.Held.{Held}
 use Rattle.line_protocol.specs.Source.{Given}
 use Rattle.line_protocol.specs.LineReading.{AllWereMade, FindsNone}
 use Rattle.line_protocol.specs.declared.read_fault.ReadFault.TheVariants as read
-use Rattle.trace_session.specs.declared.session_fault.SessionFault.{SessionFault}
-use Rattle.trace_session.specs.declared.session_fault.SessionFault.TheVariants.{Read, Write, TooLong, Memory, Gate}
+use Rattle.trace_session.specs.declared.end.SessionFault.{SessionFault}
+use Rattle.trace_session.specs.declared.end.SessionFault.TheVariants.{Read, Write, TooLong}
 
 -- The source gave more. These are the first lines of what was held and came, and then these bytes are left, however the
 -- input goes on; where the source has told the end it does not go on.
@@ -21,5 +21,4 @@ abbrev pub FindsNothing : SessionFault → Given → Given → Held → Held →
 FindsNothing Read before after old new = FindsNone before.bytes after.bytes old
 FindsNothing TooLong before after old new = FindsNone before.bytes after.bytes old × AllWereMade read.TooLong new
 FindsNothing Write before after old new = (after ≡ before) × (new ≡ old)
-FindsNothing Memory before after old new = ⊥
-FindsNothing Gate before after old new = ⊥
+FindsNothing other before after old new = ⊥

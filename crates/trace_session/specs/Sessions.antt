@@ -1,5 +1,5 @@
 -- What a session did.
-use Rattle.std.specs.Prelude.{◌≡◌, ℕ, ◌≤◌, false, IsTrue, Result, Ok, Err, List, [], ◌∷◌, ◌++◌, ◌⊎◌, ◌==◌, length, map, Option, Some, None, IfSome, IsSomeAnd, IfOk, IsErrOf, MatchBool}
+use Rattle.std.specs.Prelude.{◌≡◌, ℕ, ◌≤◌, false, IsTrue, Result, Ok, Err, List, [], ◌∷◌, ◌++◌, ◌⊎◌, ◌==◌, length, map, Option, Some, None, IfSome, IsSomeAnd, IfOk, MatchBool}
 use Rattle.std.specs.List.{AllByRecursion}
 use Rattle.std.specs.Option.{option_to_list}
 use Rattle.trace_types.specs.text.Name.{Text}
@@ -9,21 +9,20 @@ use Rattle.trace_types.specs.declared.reply.Reply.{Reply}
 use Rattle.trace_types.specs.declared.reply.Reply.TheVariants as reply
 use Rattle.line_protocol.specs.Ends.{HasNoEnd}
 use Rattle.line_protocol.specs.Held.{Held}
-use Rattle.line_protocol.specs.LineReading.{AllWereMade, Reads}
+use Rattle.line_protocol.specs.LineReading.{AllWereMade}
 use Rattle.line_protocol.specs.Sink.{Taken}
-use Rattle.line_protocol.specs.Source.{Given}
 use Rattle.line_protocol.specs.declared.read_fault.ReadFault.TheVariants as read
 use Rattle.trace_session.specs.Answers.{AnswersEach, AnswersLine, last_reply}
 use Rattle.trace_session.specs.Asking.{is_quit, most_requests, request_in}
-use Rattle.trace_session.specs.Faults.{failed_reads_in}
 use Rattle.trace_session.specs.Reading.{ReadsLines}
+use Rattle.trace_session.specs.State.{State}
 use Rattle.trace_session.specs.Written.{HandsAllOn, PutsOut, StopsHandingOn, WritesAll, WritesLinesInPart, reply_line}
-use Rattle.trace_session.specs.declared.asked.Asked.{Asked}
-use Rattle.trace_session.specs.declared.asked.Asked.TheVariants as asked
-use Rattle.trace_session.specs.declared.session_end.SessionEnd.{SessionEnd}
-use Rattle.trace_session.specs.declared.session_end.SessionEnd.TheVariants.{Quit, EndOfInput, Over, Refused}
-use Rattle.trace_session.specs.declared.session_fault.SessionFault.{SessionFault}
-use Rattle.trace_session.specs.declared.session_fault.SessionFault.TheVariants.{Read, Write, TooLong, Memory, Gate}
+use Rattle.trace_session.specs.declared.lines.Asked.{Asked}
+use Rattle.trace_session.specs.declared.lines.Asked.TheVariants as asked
+use Rattle.trace_session.specs.declared.end.SessionEnd.{SessionEnd}
+use Rattle.trace_session.specs.declared.end.SessionEnd.TheVariants.{Quit, EndOfInput, Over}
+use Rattle.trace_session.specs.declared.end.SessionFault.{SessionFault}
+use Rattle.trace_session.specs.declared.end.SessionFault.TheVariants.{Read, Write, TooLong, Memory, Gate}
 
 -- Behind so many requests comes no line, or `quit`, or a line after all the requests that a session may make.
 abbrev pub Closes : ℕ → ℕ → Option Text → Type 0
@@ -36,37 +35,34 @@ abbrev pub EndsBy : Result SessionEnd SessionFault → ℕ → Option Text → L
 EndsBy (Ok Quit) most last left held = IsSomeAnd last (λ text. IsTrue (is_quit most text)) × (left ≡ held.left)
 EndsBy (Ok EndOfInput) most last left held = (last ≡ None) × (left ≡ held.left) × (left ≡ []) × IsTrue held.is_ended
 EndsBy (Ok Over) most last left held = IsSomeAnd last (λ text. is_quit most text ≡ false) × (left ≡ held.left)
-EndsBy (Ok (Refused code)) most last left held = ⊥
 EndsBy (Err Read) most last left held = (last ≡ None) × HasNoEnd left
 EndsBy (Err TooLong) most last left held = (last ≡ None) × HasNoEnd left × AllWereMade read.TooLong held
 EndsBy (Err Write) most last left held = left ≡ held.left
 EndsBy (Err Gate) most last left held = IfSome last (λ text. is_quit most text ≡ false) × (left ≡ held.left)
-EndsBy (Err Memory) most last left held = ⊥
+EndsBy other most last left held = ⊥
 
 -- Which of these replies were written: all, but those that a write fault cut off, and the one that the gate held back.
 abbrev pub WritesUntil : Result SessionEnd SessionFault → Taken → Taken → List Reply → Type 0
-WritesUntil (Ok end) before after replies = WritesAll before after replies
-WritesUntil (Err Read) before after replies = WritesAll before after replies
-WritesUntil (Err TooLong) before after replies = WritesAll before after replies
 WritesUntil (Err Write) before after replies = WritesLinesInPart before after replies
 WritesUntil (Err Gate) before after replies =
     (front : List Reply) × (held_back : Reply) × (replies ≡ front ++ held_back ∷ []) × WritesAll before after front
 WritesUntil (Err Memory) before after replies = ⊥
+WritesUntil other before after replies = WritesAll before after replies
 
 -- Lines were read: requests, and perhaps one line behind them. What the requests ask was answered in turn by what was
 -- lent, and so many of the replies were written as the end or the fault tells.
-pub record Session {S : Type 0} (Does : S → Request → Reply → S → Type 0) (before after : Given) (held held' : Held) (taken taken' : Taken) (old new : S) (result : Result SessionEnd SessionFault) : Type 0 where
+pub record Session {S : Type 0} (Does : S → Request → Reply → S → Type 0) (old new : S) (before after : State) (result : Result SessionEnd SessionFault) : Type 0 where
   pub requests : List Text
   pub last : Option Text
   pub answers : List Reply
   pub left : List ℕ
-  pub reads : ReadsLines before.bytes after.bytes held.left left held'.is_ended (requests ++ option_to_list last)
-  pub none_quits : AllByRecursion (λ text. is_quit held.bounds.bytes text ≡ false) requests
+  pub reads : ReadsLines before.given.bytes after.given.bytes before.held.left left after.held.is_ended (requests ++ option_to_list last)
+  pub none_quits : AllByRecursion (λ text. is_quit before.held.bounds.bytes text ≡ false) requests
   pub at_most : length requests ≤ most_requests
-  pub closes : Closes held.bounds.bytes (length requests) last
-  pub answered : AnswersEach Does old (map (request_in held.bounds.bytes) requests) answers new
-  pub ends : EndsBy result held.bounds.bytes last left held'
-  pub writes : WritesUntil result taken taken' (answers ++ last_reply held.bounds.bytes last)
+  pub closes : Closes before.held.bounds.bytes (length requests) last
+  pub answered : AnswersEach Does old (map (request_in before.held.bounds.bytes) requests) answers new
+  pub ends : EndsBy result before.held.bounds.bytes last left after.held
+  pub writes : WritesUntil result before.taken after.taken (answers ++ last_reply before.held.bounds.bytes last)
 
 -- the reply to a line after all the requests that a session may make
 abbrev pub over_reply : Reply
@@ -98,11 +94,3 @@ AnswersAsked Does (asked.Request request) requests old new before after result =
 abbrev pub Finishes : SessionEnd → Taken → Taken → Result SessionEnd SessionFault → Type 0
 Finishes end before after (Ok other) = (other ≡ end) × HandsAllOn before after
 Finishes end before after (Err fault) = (fault ≡ Write) × StopsHandingOn before after
-
--- How a session went, whatever was answered: how it read, and that it asked its source no more once that had told the end. It
--- wrote nothing, or its gate let out a line. It ended in the fault of its gate only if the gate held a line back.
-pub record Goes {R : Type 0} (seen : R → Given) (source source' : R) (held held' : Held) (taken taken' : Taken) (lets_out holds_back : Type 0) (result : Result SessionEnd SessionFault) : Type 0 where
-  pub reads : Reads (seen source) (seen source') held held' (failed_reads_in result)
-  pub at_end : IsTrue held.is_ended → (source' ≡ source) × IsTrue held'.is_ended
-  pub let_out : (taken'.bytes ≡ taken.bytes) ⊎ lets_out
-  pub gate : IsErrOf result Gate → holds_back

@@ -9,8 +9,8 @@ use Rattle.line_protocol.specs.Patience.{FlushesPatiently, GivesUpFlushing}
 use Rattle.line_protocol.specs.Sink.{Taken}
 use Rattle.line_protocol.specs.TextsInTurn.{BeginsFirst, BreaksOffAt, WritesTexts}
 use Rattle.line_protocol.specs.Writing.{EndsInFault, GoesWell, GoesWrong, WritesPart, WritesWhole}
-use Rattle.trace_session.specs.declared.session_fault.SessionFault.{SessionFault}
-use Rattle.trace_session.specs.declared.session_fault.SessionFault.TheVariants.{Read, Write, TooLong, Memory, Gate}
+use Rattle.trace_session.specs.declared.end.SessionFault.{SessionFault}
+use Rattle.trace_session.specs.declared.end.SessionFault.TheVariants.{Read, Write, TooLong, Gate}
 
 -- the lines of replies
 abbrev pub reply_line : Reply → Text
@@ -61,16 +61,13 @@ HandsOnBefore (Ok value) before after = KeepsAll before after
 HandsOnBefore (Err Read) before after = HandsAllOn before after
 HandsOnBefore (Err TooLong) before after = HandsAllOn before after
 HandsOnBefore (Err Write) before after = StopsHandingOn before after
-HandsOnBefore (Err Memory) before after = ⊥
-HandsOnBefore (Err Gate) before after = ⊥
+HandsOnBefore (Err other) before after = ⊥
 
 -- The line was not written: a write fault came in it, or the gate held it back and what was written before was to be handed on.
 abbrev pub StopsAt : SessionFault → Taken → Taken → Text → Type 0
 StopsAt Write before after text = WritesPart before after text ⊎ StopsHandingOn before after
 StopsAt Gate before after text = HandsAllOn before after
-StopsAt Read before after text = ⊥
-StopsAt TooLong before after text = ⊥
-StopsAt Memory before after text = ⊥
+StopsAt other before after text = ⊥
 
 -- The line was written, or not.
 abbrev pub PutsOut : {A : Type 0} → Taken → Taken → Result A SessionFault → Text → Type 0

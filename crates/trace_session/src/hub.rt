@@ -5,14 +5,13 @@ ghost use Rattle.trace_types.specs.text.Name.{is_same};
 ghost use Rattle.trace_session.specs.Openings.{is_tenant};
 ghost use Rattle.order_cache.specs.Capacity.{IsCapacity};
 ghost use Rattle.trace_session.specs.Hubs.{are_distinct, can_be_tenants};
-ghost use Rattle.trace_session.specs.Lent.{IsSoundDesk, IsSoundView};
 
+use crate::lent::Lent;
 use crate::resting::Resting;
 use order_cache::CacheFault;
 use std::alloc::Global;
 use std::marker::Model;
 use std::sync::{Arc, Mutex, MutexGuard, Wait};
-use tenant_desk::{Desk, View};
 use tenant_ledger::Shared;
 use trace_types::{Limits, Memory, Name, WorldFault};
 
@@ -24,52 +23,27 @@ pub(crate) struct Tenant {
     resting: Mutex<Resting>,
 }
 
-/// A view that is lent. It cannot be dropped, so whoever takes it has to put it back.
-pub(crate) struct LentView {
-    pub(crate) view: View,
-}
-
 impl Tenant {
-    /// Lends the desk, if no session has it.
-    pub(crate) fn take_desk<R: Wait>(&self, rt: &R) -> Option<Desk>
-        ensures { IfSome result IsSoundDesk }
+    /// Lends a desk or a view, if there is one that no session has. It cannot be dropped, so the session has to give it back.
+    pub(crate) fn lend<L: Lent, R: Wait>(&self, rt: &R) -> Option<L>
+        ensures { IfSome result L.is_sound }
     {
         let mut resting = self.resting.lock(rt);
-        let desk = resting.take_desk();
+        let lent = L::take(&mut resting);
         MutexGuard::unlock(resting);
-        desk
+        lent
     }
 
-    /// Takes the desk back that was lent.
-    pub(crate) fn put_desk<R: Wait>(&self, rt: &R, desk: Desk)
-        requires { IsSoundDesk desk }
+    /// Takes back what was lent.
+    pub(crate) fn take_back<L: Lent, R: Wait>(&self, rt: &R, lent: L)
+        requires { L.is_sound lent }
     {
         let mut resting = self.resting.lock(rt);
-        let other = resting.put_desk(desk);
+        let other = lent.put(&mut resting);
         MutexGuard::unlock(resting);
         if let Some(other) = other {
             other.close(rt);
         }
-    }
-
-    /// Lends a view, if there is one that no session has.
-    pub(crate) fn take_view<R: Wait>(&self, rt: &R) -> Option<LentView>
-        ensures { IfSome result (λ lent. IsSoundView lent.view) }
-    {
-        let mut resting = self.resting.lock(rt);
-        let view = resting.take_view();
-        MutexGuard::unlock(resting);
-        Some(LentView { view: view? })
-    }
-
-    /// Takes a view back that was lent.
-    pub(crate) fn put_view<R: Wait>(&self, rt: &R, lent: LentView)
-        requires { IsSoundView lent.view }
-    {
-        let LentView { view } = lent;
-        let mut resting = self.resting.lock(rt);
-        resting.put_view(view);
-        MutexGuard::unlock(resting);
     }
 
     /// Ends the desk.
@@ -147,7 +121,7 @@ impl Hub {
 
     /// The same tenants and one more. It ends all of them if it runs out of memory.
     fn with_tenant<R: Wait>(
-        self,
+        mut self,
         rt: &R,
         alloc: Global,
         name: Name,
@@ -156,28 +130,16 @@ impl Hub {
     ) -> Result<Hub, Memory>
         ensures { IfOk result (λ hub. hub ≡ self ++ name ∷ []) }
     {
-        match new_tenant(rt, alloc, name, limits, shared) {
-            Ok(tenant) => self.with(rt, tenant),
-            Err(refused) => {
-                self.close(rt);
-                Err(refused)
-            }
+        let Ok(tenant) = new_tenant(rt, alloc, name, limits, shared) else {
+            self.close(rt);
+            return Err(Memory);
+        };
+        if let Err(failed) = self.tenants.push(tenant) {
+            failed.value.close(rt);
+            self.close(rt);
+            return Err(Memory);
         }
-    }
-
-    /// The same tenants and this one. It ends all of them if there is no room.
-    fn with<R: Wait>(self, rt: &R, tenant: Tenant) -> Result<Hub, Memory>
-        ensures { IfOk result (λ hub. hub ≡ self ++ tenant.name ∷ []) }
-    {
-        let mut hub = self;
-        match hub.tenants.push(tenant) {
-            Ok(()) => Ok(hub),
-            Err(failed) => {
-                failed.value.close(rt);
-                hub.close(rt);
-                Err(Memory)
-            }
-        }
+        Ok(self)
     }
 
     /// The tenant of this name, if there is one.

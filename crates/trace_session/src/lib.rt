@@ -24,27 +24,22 @@
 //! ```
 #![tactic(auto)]
 
-mod answering;
-mod asked;
-mod conversing;
+mod conversation;
 mod door;
+mod end;
 mod gate;
 mod hub;
 pub mod laws;
-mod leave;
 mod lent;
 mod lines;
-mod opening;
+mod output;
 mod resting;
 mod serving;
-mod session_end;
-mod session_fault;
 
-pub use conversing::session;
+pub use conversation::session;
 pub use door::{Door, DoorFault};
+pub use end::{SessionEnd, SessionFault};
 pub use gate::{Gate, OpenGate};
 pub use hub::Hub;
 pub use lines::{report_lines, view_lines};
 pub use serving::{ServeCounts, ServeFault, serve};
-pub use session_end::SessionEnd;
-pub use session_fault::SessionFault;

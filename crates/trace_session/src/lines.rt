@@ -1,16 +1,37 @@
-//! Lines of sessions, over a desk or a view.
-ghost use Rattle.std.specs.Prelude.{◌≡◌, ◌⊎◌, IsTrue, IfNone, IfSome, IsErrOf, Err};
-ghost use Rattle.line_protocol.specs.LineReading.{Reads};
+//! Lines of sessions, answered one after another by a desk or a view.
+ghost use Rattle.std.specs.Prelude.{◌≡◌, ◌↔◌, ◌<◌, ◌≤◌, ◌⊎◌, IsTrue, None, IfOk, IfErr, IfNone, IfSome, MatchResult, Err};
+ghost use Rattle.std.specs.Result.{result_err};
+ghost use Rattle.line_protocol.specs.LineReading.{FindsNext, NeedsRead, Reads};
+ghost use Rattle.trace_session.specs.Answers.{AnswersLine};
+ghost use Rattle.trace_session.specs.Asking.{FindsAsked, asked_by_line};
 ghost use Rattle.trace_session.specs.Faults.{failed_reads_in, read_fault_in, session_fault_of};
+ghost use Rattle.trace_session.specs.Goings.{Goes, GoesOn};
 ghost use Rattle.trace_session.specs.Lent.{AsksView, IsSoundDesk, IsSoundView, TakesRequest};
-ghost use Rattle.trace_session.specs.Sessions.{Session};
+ghost use Rattle.trace_session.specs.Outputs.{GoesThroughGate, IsSameOutput};
+ghost use Rattle.trace_session.specs.Reading.{FindsNothing};
+ghost use Rattle.trace_session.specs.Sessions.{AnswersAsked, Session};
+ghost use Rattle.trace_session.specs.Written.{HandsOnBefore, KeepsAll, StopsHandingOn};
 
-use crate::answering::answer_lines;
-use crate::leave::WayOut;
+use crate::lent::Lent;
+use crate::output::Output;
 use crate::{Gate, SessionEnd, SessionFault};
-use line_protocol::{LineReader, Sink, Source};
+use line_protocol::{Line, LineReader, ReadFault, Sink, Source, WriteFault, flush, read_request};
 use std::sync::Wait;
 use tenant_desk::{Desk, View};
+use trace_types::{Code, Reply, Request};
+
+/// How many requests one session may make.
+const MOST_REQUESTS: u64 = 1048576;
+
+/// What a line of a session asks.
+pub(crate) enum Asked {
+    /// This request, or `None` if the line spells none.
+    Request(Option<Request>),
+    /// The end of the session.
+    Quit,
+    /// Nothing, since the input has ended.
+    End,
+}
 
 /// Answers lines by the desk until the session of this number ends. Each line is a request, and a line that spells none
 /// is answered 400. The session ends at `quit`, at the end of its input, and at any other line after 1048576 requests,
@@ -31,25 +52,20 @@ pub fn report_lines<T: Wait, R: Source, W: Sink, G: Gate>(
 ) -> Result<SessionEnd, SessionFault>
     ensures same_source { lines.new.source.ghost_name ≡ lines.old.source.ghost_name }
     // What it read, answered and wrote, and how it ended.
-    ensures session { IfNone lines.old.fault (Session TakesRequest (R.seen lines.old.source.now) (R.seen lines.new.source.now)
-        lines.old.buffer lines.new.buffer (W.seen writer.old) (W.seen writer.new) desk.old desk.new result) }
+    ensures goes { IfNone lines.old.fault (Goes R.seen W.seen (G.lets_out gate.now number) (G.holds_back gate.now number)
+        (Session TakesRequest desk.old desk.new) lines.old lines.new writer.old writer.new result) }
     ensures sound { IsSoundDesk desk.old → IsSoundDesk desk.new }
-    // A failed read is a fault of this call, and no other fault is one of reading.
-    ensures reads { IfNone lines.old.fault (Reads (R.seen lines.old.source.now) (R.seen lines.new.source.now)
-        lines.old.buffer lines.new.buffer (failed_reads_in result)) }
-    ensures fault { IfNone lines.old.fault (lines.new.fault ≡ read_fault_in result) }
-    // Once the source has told the end, it is read no more.
-    ensures at_end { IsTrue lines.old.buffer.is_ended →
-        (lines.new.source.now ≡ lines.old.source.now) × IsTrue lines.new.buffer.is_ended }
-    // No line is written that the gate did not let out, and only the gate ends a session in its fault.
-    ensures let_out { ((W.seen writer.new).bytes ≡ (W.seen writer.old).bytes) ⊎ G.lets_out gate.now number }
-    ensures gate { IsErrOf result SessionFault.Gate → G.holds_back gate.now number }
     // The fault of an earlier call is answered again, and then nothing changes.
     ensures again { IfSome lines.old.fault (λ fault. (result ≡ Err (session_fault_of fault)) × (lines.new ≡ lines.old)
         × (writer.new ≡ writer.old) × (desk.new ≡ desk.old)) }
 {
-    let out = WayOut { rt, gate, number };
-    answer_lines(&out, desk, lines, writer)
+    let mut output = Output {
+        writer,
+        rt,
+        gate,
+        number,
+    };
+    output.answer_lines(desk, lines)
 }
 
 /// Answers lines by the view, as [`report_lines`] does by a desk. A report is refused with 410, and a query with 422 if
@@ -64,23 +80,148 @@ pub fn view_lines<T: Wait, R: Source, W: Sink, G: Gate>(
 ) -> Result<SessionEnd, SessionFault>
     ensures same_source { lines.new.source.ghost_name ≡ lines.old.source.ghost_name }
     // What it read, answered and wrote, and how it ended.
-    ensures session { IfNone lines.old.fault (Session AsksView (R.seen lines.old.source.now) (R.seen lines.new.source.now)
-        lines.old.buffer lines.new.buffer (W.seen writer.old) (W.seen writer.new) view.old view.new result) }
+    ensures goes { IfNone lines.old.fault (Goes R.seen W.seen (G.lets_out gate.now number) (G.holds_back gate.now number)
+        (Session AsksView view.old view.new) lines.old lines.new writer.old writer.new result) }
     ensures sound { IsSoundView view.old → IsSoundView view.new }
-    // A failed read is a fault of this call, and no other fault is one of reading.
-    ensures reads { IfNone lines.old.fault (Reads (R.seen lines.old.source.now) (R.seen lines.new.source.now)
-        lines.old.buffer lines.new.buffer (failed_reads_in result)) }
-    ensures fault { IfNone lines.old.fault (lines.new.fault ≡ read_fault_in result) }
-    // Once the source has told the end, it is read no more.
-    ensures at_end { IsTrue lines.old.buffer.is_ended →
-        (lines.new.source.now ≡ lines.old.source.now) × IsTrue lines.new.buffer.is_ended }
-    // No line is written that the gate did not let out, and only the gate ends a session in its fault.
-    ensures let_out { ((W.seen writer.new).bytes ≡ (W.seen writer.old).bytes) ⊎ G.lets_out gate.now number }
-    ensures gate { IsErrOf result SessionFault.Gate → G.holds_back gate.now number }
     // The fault of an earlier call is answered again, and then nothing changes.
     ensures again { IfSome lines.old.fault (λ fault. (result ≡ Err (session_fault_of fault)) × (lines.new ≡ lines.old)
         × (writer.new ≡ writer.old) × (view.new ≡ view.old)) }
 {
-    let out = WayOut { rt, gate, number };
-    answer_lines(&out, view, lines, writer)
+    let mut output = Output {
+        writer,
+        rt,
+        gate,
+        number,
+    };
+    output.answer_lines(view, lines)
+}
+
+impl<'a, W: Sink, T: Wait, G: Gate> Output<'a, W, T, G> {
+    /// Answers lines by what is lent, until the session ends.
+    pub(crate) fn answer_lines<L: Lent, R: Source>(
+        &mut self,
+        lent: &mut L,
+        lines: &mut LineReader<'_, R>,
+    ) -> Result<SessionEnd, SessionFault>
+        ensures same_source { lines.new.source.ghost_name ≡ lines.old.source.ghost_name }
+        ensures same { IsSameOutput self.old self.new }
+        ensures goes { IfNone lines.old.fault
+            (GoesOn R.seen W.seen G.lets_out G.holds_back (Session L.does lent.old lent.new) lines.old lines.new self.old self.new result) }
+        ensures sound { L.is_sound lent.old → L.is_sound lent.new }
+        ensures again { IfSome lines.old.fault (λ fault. (result ≡ Err (session_fault_of fault)) × (lines.new ≡ lines.old)
+            × (self.new ≡ self.old) × (lent.new ≡ lent.old)) }
+    {
+        if let Some(fault) = lines.fault() {
+            return Err(SessionFault::from(fault));
+        }
+        let mut requests = 0u64;
+        loop {
+            let asked = next_asked(lines, self.writer)?;
+            if let Some(end) = self.answer(lent, asked, requests)? {
+                return self.finish(end);
+            }
+            requests += 1;
+        }
+    }
+
+    /// Answers what is asked after `requests` requests, and gives the end that it brings.
+    fn answer<L: Lent>(
+        &mut self,
+        lent: &mut L,
+        asked: Asked,
+        requests: u64,
+    ) -> Result<Option<SessionEnd>, SessionFault>
+        ensures answers { AnswersAsked L.does asked requests lent.old lent.new (W.seen self.old.writer.now) (W.seen self.new.writer.now) result }
+        ensures gate { GoesThroughGate W.seen G.lets_out G.holds_back self.old self.new result }
+        ensures sound { L.is_sound lent.old → L.is_sound lent.new }
+    {
+        match asked {
+            Asked::End => Ok(Some(SessionEnd::EndOfInput)),
+            Asked::Quit => Ok(Some(SessionEnd::Quit)),
+            Asked::Request(_) if requests == MOST_REQUESTS => {
+                self.put_out(&Reply::Refused(Code::SessionOver))?;
+                Ok(Some(SessionEnd::Over))
+            }
+            Asked::Request(request) => {
+                let reply = reply_to(self.rt, lent, &request);
+                self.put_out(&reply)?;
+                Ok(None)
+            }
+        }
+    }
+}
+
+/// Finds what the next line asks. No read is made while the writer holds a reply back.
+fn next_asked<R: Source, W: Sink>(
+    lines: &mut LineReader<'_, R>,
+    writer: &mut W,
+) -> Result<Asked, SessionFault>
+    requires { lines.old.fault ≡ None }
+    ensures same_source { lines.new.source.ghost_name ≡ lines.old.source.ghost_name }
+    ensures asked { IfOk result (λ asked. FindsAsked (R.seen lines.old.source.now).bytes (R.seen lines.new.source.now).bytes
+        lines.old.buffer lines.new.buffer asked) }
+    ensures none { IfErr result (λ fault. FindsNothing fault (R.seen lines.old.source.now) (R.seen lines.new.source.now)
+        lines.old.buffer lines.new.buffer) }
+    ensures reads { Reads (R.seen lines.old.source.now) (R.seen lines.new.source.now)
+        lines.old.buffer lines.new.buffer (failed_reads_in result) }
+    ensures fault { lines.new.fault ≡ read_fault_in result }
+    ensures at_end { IsTrue lines.old.buffer.is_ended →
+        (lines.new.source.now ≡ lines.old.source.now) × IsTrue lines.new.buffer.is_ended }
+    ensures handed_on { HandsOnBefore result (W.seen writer.old) (W.seen writer.new) }
+{
+    hand_on(lines, writer)?;
+    let found = next_line(lines, writer)?;
+    Ok(asked_by_line(found, lines.line()))
+}
+
+/// Flushes what was written, if the next line needs a read.
+fn hand_on<R: Source, W: Sink>(lines: &LineReader<'_, R>, writer: &mut W) -> Result<(), WriteFault>
+    ensures flushed { IfOk result (λ _. NeedsRead lines.now.buffer → IsTrue (W.seen writer.new).is_flushed) }
+    ensures handed_on { MatchResult result (λ _. KeepsAll (W.seen writer.old) (W.seen writer.new)) (λ _. StopsHandingOn (W.seen writer.old) (W.seen writer.new)) }
+{
+    if lines.needs_read() {
+        flush(writer)
+    } else {
+        Ok(())
+    }
+}
+
+/// Finds the next line. No read is made while the writer holds a reply back.
+#[inline(always)]
+fn next_line<R: Source, W: Sink>(
+    lines: &mut LineReader<'_, R>,
+    _writer: &W,
+) -> Result<Line, ReadFault>
+    requires open { lines.old.fault ≡ None }
+    requires flushed { NeedsRead lines.old.buffer → IsTrue (W.seen _writer.now).is_flushed }
+    ensures same_source { lines.new.source.ghost_name ≡ lines.old.source.ghost_name }
+    ensures finds { FindsNext (R.seen lines.old.source.now) (R.seen lines.new.source.now) lines.old.buffer lines.new.buffer result }
+    ensures fault { lines.new.fault ≡ result_err result }
+    ensures at_end { IsTrue lines.old.buffer.is_ended →
+        (lines.new.source.now ≡ lines.old.source.now) × IsTrue lines.new.buffer.is_ended }
+{
+    lines.next()
+}
+
+/// What is asked if this was found. `line` is the line if it is a whole one.
+fn asked_by_line(found: Line, line: &[u8]) -> Asked
+    ensures { result ≡ asked_by_line found line.now }
+{
+    match found {
+        Line::End => Asked::End,
+        Line::TooLong => Asked::Request(None),
+        Line::Whole if line == b"quit".as_slice() => Asked::Quit,
+        Line::Whole => Asked::Request(read_request(line)),
+    }
+}
+
+/// The reply to a line that is a request, or spells none.
+fn reply_to<T: Wait, L: Lent>(rt: &T, lent: &mut L, request: &Option<Request>) -> Reply
+    ensures answers { AnswersLine L.does lent.old request.now result lent.new }
+    ensures sound { L.is_sound lent.old → L.is_sound lent.new }
+{
+    match request {
+        Some(request) => lent.answer(rt, request),
+        None => Reply::Refused(Code::Line),
+    }
 }

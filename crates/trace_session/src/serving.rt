@@ -123,25 +123,6 @@ impl<'x, T: Wait, H: Hall<T>, G: Gate, A: Source + Drop, B: Sink + Drop> Shop<'x
     }
 }
 
-/// Starts this many workers. Returns that it ran out of memory if one cannot be started.
-fn start_all<'s, 'x, 'y, T, H, G, A, B>(
-    scope: &'s Scope<'s, &'y ()>,
-    shop: &'y Shop<'x, T, H, G, A, B>,
-    workers: usize,
-) -> Result<(), AllocError>
-where
-    T: Threads + Wait + Sync,
-    H: Hall<T> + Sync,
-    G: Gate + Sync,
-    A: Source + Drop + Send,
-    B: Sink + Drop + Send,
-{
-    for _ in 0..workers {
-        scope.spawn(move || shop.work())?;
-    }
-    Ok(())
-}
-
 /// Hands on what the door gives, numbered from 1, until it closes, and counts it.
 fn accept_all<T: Wait, D: Door>(
     rt: &T,
@@ -187,7 +168,11 @@ fn start_and_accept<
 ) -> Result<u64, ServeFault>
     ensures { Accepts D.given D.failures D.most door.old door.new result }
 {
-    start_all(scope, shop, workers)?;
+    for _ in 0..workers {
+        if let Err(refused) = scope.spawn(move || shop.work()) {
+            return Err(AllocError::from(refused).into());
+        }
+    }
     accept_all(shop.rt, door, to)
 }
 
@@ -218,19 +203,6 @@ fn serve_in_scope<'x, 'd, T: Threads + Wait + Sync, H: Hall<T> + Sync, D: Door, 
             Served { door, sessions }
         },
     )
-}
-
-/// Does as [`serve_in_scope`], and lets the door go.
-fn serve_at<'x, T: Threads + Wait + Sync, H: Hall<T> + Sync, D: Door, G: Gate + Sync>(
-    shop: &Shop<'x, T, H, G, D::Reader, D::Writer>,
-    door: &mut D,
-    workers: usize,
-    to: Sender<Connection<D::Reader, D::Writer>>,
-) -> Result<u64, ServeFault>
-    ensures { Accepts D.given D.failures D.most door.old door.new result }
-{
-    let Served { door: _, sessions } = serve_in_scope(shop, door, workers, to);
-    sessions
 }
 
 /// Accepts connections until the door closes, at most 2^32 of them, and has this many workers hold a session on the hub
@@ -269,7 +241,7 @@ pub fn serve<T: Threads + Wait + Sync, D: Door, G: Gate + Sync>(
         from,
         faults: Mutex::new(0u64),
     };
-    let sessions = serve_at(&shop, door, workers, to);
+    let Served { door: _, sessions } = serve_in_scope(&shop, door, workers, to);
     let Shop {
         rt: _,
         alloc: _,

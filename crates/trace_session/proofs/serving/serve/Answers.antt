@@ -3,5 +3,5 @@ use Rattle.std.proofs.Crossing.{crosses}
 use Rattle.trace_session.proofs.Crossing.{hub_sync}
 use Rattle.trace_session.proofs.serving.serve.Goals as goal
 
-pub serve_at-sessions-requires-sync-H : goal.serve_at-sessions-requires-sync-H
-serve_at-sessions-requires-sync-H g c κs within = search (sendable, crosses, hub_sync) depth 20
+pub serve_in_scope-sessions-requires-sync-H : goal.serve_in_scope-sessions-requires-sync-H
+serve_in_scope-sessions-requires-sync-H g c κs within = search (sendable, crosses, hub_sync) depth 20

@@ -1,11 +1,24 @@
-//! The faults of a session.
+//! How sessions end.
 ghost use Rattle.std.specs.Prelude.{◌≡◌};
 ghost use Rattle.trace_session.specs.Faults.{session_fault_of};
-ghost use Rattle.trace_session.specs.declared.session_fault.SessionFault.TheVariants as variants;
+ghost use Rattle.trace_session.specs.declared.end.SessionFault.TheVariants as variants;
 
 use line_protocol::{ReadFault, WriteFault};
 use thiserror::Error;
-use trace_types::Memory;
+use trace_types::{Code, Memory};
+
+/// How a session ends if no fault comes.
+#[derive(Clone, Copy, Debug, PartialEq, Eq)]
+pub enum SessionEnd {
+    /// Its line was `quit`, which gets no reply.
+    Quit,
+    /// Its input has ended.
+    EndOfInput,
+    /// It had made 1048576 requests, and one more line was answered 423.
+    Over,
+    /// Its first line was refused with this code.
+    Refused(Code),
+}
 
 /// Why a session stops before its end.
 #[derive(Clone, Copy, Debug, PartialEq, Eq, Error)]

@@ -1,5 +1,5 @@
 use Rattle.trace_session.proofs.Reading.{HandsOnBefore-read, needs_read}
-use Rattle.trace_session.proofs.answering.next_asked.Goals as goal
+use Rattle.trace_session.proofs.lines.next_asked.Goals as goal
 
 pub returns-in_err-found-clause-handed_on : goal.returns-in_err-found-clause-handed_on
 returns-in_err-found-clause-handed_on g c =

@@ -1,19 +1,22 @@
-use Rattle.std.proofs.Common.{◌≡◌, ◌≤◌, ◌-◌, ◌⊎◌, IsTrue, None}
+use Rattle.std.proofs.Common.{◌≡◌, ◌≤◌, ◌-◌, ℕ, IsTrue, None, Ok}
 use Rattle.line_protocol.specs.LineReading.{Reads}
 use Rattle.trace_session.proofs.Following.{Follows}
 use Rattle.trace_session.specs.Asking.{most_requests}
-use Rattle.trace_session.proofs.answering.answer_lines.Given as goal
+use Rattle.trace_session.specs.Outputs.{GoesThroughGate}
+use Rattle.trace_session.specs.State.{state_of}
+use Rattle.trace_session.proofs.output.Output.answer_lines.Given as goal
 
 abbrev pub invariant-loop-asked : goal.invariant-loop-asked
 invariant-loop-asked g l = record {
-  follows : Follows g.L.Lent.does (g.R.Source.seen l.fn.lines.source.now) (g.R.Source.seen l.lines.source.now) l.fn.lines.buffer l.lines.buffer (g.W.Sink.seen l.fn.writer) (g.W.Sink.seen l.writer) l.fn.lent l.lent l.requests;
+  same_source : l.lines.source.ghost_name ≡ l.fn.lines.source.ghost_name;
+  through : GoesThroughGate {A = ℕ} g.W.Sink.seen g.G.Gate.lets_out g.G.Gate.holds_back l.fn.self l.self (Ok 0);
+  follows : Follows g.L.Lent.does (state_of g.R.Source.seen g.W.Sink.seen l.fn.lines l.fn.self.writer.now) (state_of g.R.Source.seen g.W.Sink.seen l.lines l.self.writer.now) l.fn.lent l.lent l.requests;
   few : l.requests ≤ most_requests;
   reads : Reads (g.R.Source.seen l.fn.lines.source.now) (g.R.Source.seen l.lines.source.now) l.fn.lines.buffer l.lines.buffer 0;
   at_end : IsTrue l.fn.lines.buffer.is_ended → (l.lines.source.now ≡ l.fn.lines.source.now) × IsTrue l.lines.buffer.is_ended;
-  same_source : l.lines.source.ghost_name ≡ l.fn.lines.source.ghost_name;
   open_start : l.fn.lines.fault ≡ None;
   open_now : l.lines.fault ≡ None;
-  let_out : ((g.W.Sink.seen l.writer).bytes ≡ (g.W.Sink.seen l.fn.writer).bytes) ⊎ g.G.Gate.lets_out l.out.gate.now l.out.number;
+  sound : g.L.Lent.is_sound l.fn.lent → g.L.Lent.is_sound l.lent;
 }
 
 abbrev pub decreases-loop-asked : goal.decreases-loop-asked

@@ -1,0 +1,164 @@
+//! Sessions on a hub.
+ghost use Rattle.std.specs.Prelude.{◌≡◌, ◌⊎◌, None, IsErrOf};
+ghost use Rattle.line_protocol.specs.Held.{Held, fresh_held};
+ghost use Rattle.line_protocol.specs.LineReading.{Reads};
+ghost use Rattle.line_protocol.specs.Source.{StopsAtEnd};
+ghost use Rattle.trace_session.specs.Conversations.{Converses, Lends, LendsTo, Opens};
+ghost use Rattle.trace_session.specs.Faults.{failed_reads_in};
+ghost use Rattle.trace_session.specs.Goings.{GoesOn};
+ghost use Rattle.trace_session.specs.Openings.{opening_at, opening_of};
+ghost use Rattle.trace_session.specs.State.{state};
+
+use crate::hub::Tenant;
+use crate::lent::Lent;
+use crate::output::Output;
+use crate::{Gate, Hub, SessionEnd, SessionFault};
+use line_protocol::{Buffer, Line, LineReader, Sink, Source};
+use std::alloc::Global;
+use std::sync::Wait;
+use tenant_desk::{Desk, View};
+use trace_types::{Code, Name};
+
+/// What a session asks for.
+#[derive(Clone, Copy, Debug, PartialEq, Eq)]
+pub(crate) enum Lending {
+    /// The tenant's desk, to report to.
+    Desk,
+    /// A view of the tenant, to ask.
+    View,
+}
+
+/// What the first line of a session asks for, and of which tenant.
+#[derive(Clone, Copy)]
+pub(crate) struct Opening {
+    lending: Lending,
+    tenant: Name,
+}
+
+/// Holds the session of this number on the hub.
+///
+/// Its first line is `report NAME` or `view NAME`, and gets no reply if the tenant's desk or a view can be lent. Else the
+/// session writes one line that says why, and ends with `Refused`: 400 for the line, 420 for the tenant, 421 for the
+/// desk, or 422 for the views. From the second line on it is [`crate::report_lines`] or [`crate::view_lines`]. What was
+/// lent rests in the hub again afterwards, whatever the end. Returns `Memory` if it runs out of memory before anything is
+/// read.
+pub fn session<T: Wait, R: Source, W: Sink, G: Gate>(
+    rt: &T,
+    alloc: Global,
+    hub: &Hub,
+    reader: &mut R,
+    writer: &mut W,
+    gate: &G,
+    number: u64,
+) -> Result<SessionEnd, SessionFault>
+    ensures conversed { (IsErrOf result SessionFault.Memory × (reader.new ≡ reader.old) × (writer.new ≡ writer.old))
+        ⊎ ((held : Held) × Converses hub.now (state (R.seen reader.old) fresh_held (W.seen writer.old)) (state (R.seen reader.new) held (W.seen writer.new)) result
+        × Reads (R.seen reader.old) (R.seen reader.new) fresh_held held (failed_reads_in result)) }
+    ensures ends { StopsAtEnd (R.seen reader.old) (R.seen reader.new) }
+    ensures let_out { ((W.seen writer.new).bytes ≡ (W.seen writer.old).bytes) ⊎ G.lets_out gate.now number }
+    ensures gate { IsErrOf result SessionFault.Gate → G.holds_back gate.now number }
+{
+    let buffer = Buffer::new(alloc)?;
+    let mut lines = LineReader::over(reader, buffer);
+    let mut output = Output {
+        writer,
+        rt,
+        gate,
+        number,
+    };
+    output.converse(hub, &mut lines)
+}
+
+/// What is opened if this was found, or `None` at the end of the input. `line` is the line if it is a whole one.
+fn opening_at(found: Line, line: &[u8]) -> Option<Option<Opening>>
+    ensures { result ≡ opening_at found line.now }
+{
+    match found {
+        Line::End => None,
+        Line::TooLong => Some(None),
+        Line::Whole => Some(read_opening(line)),
+    }
+}
+
+/// What the line opens.
+fn read_opening(line: &[u8]) -> Option<Opening>
+    ensures { result ≡ opening_of line.now }
+{
+    let (lending, name) = match line.strip_prefix(b"report ".as_slice()) {
+        Some(name) => (Lending::Desk, name),
+        None => (Lending::View, line.strip_prefix(b"view ".as_slice())?),
+    };
+    let tenant = Name::read(name)?;
+    Some(Opening { lending, tenant })
+}
+
+impl<'a, W: Sink, T: Wait, G: Gate> Output<'a, W, T, G> {
+    /// Holds the session whose lines these are.
+    fn converse<R: Source>(
+        &mut self,
+        hub: &Hub,
+        lines: &mut LineReader<'_, R>,
+    ) -> Result<SessionEnd, SessionFault>
+        requires { lines.old.fault ≡ None }
+        ensures { GoesOn R.seen W.seen G.lets_out G.holds_back (Converses hub.now) lines.old lines.new self.old self.new result }
+    {
+        let found = lines.next()?;
+        let Some(opening) = opening_at(found, lines.line()) else {
+            return Ok(SessionEnd::EndOfInput);
+        };
+        self.open(hub, opening, lines)
+    }
+
+    /// Holds the session that was opened in this way.
+    fn open<R: Source>(
+        &mut self,
+        hub: &Hub,
+        opening: Option<Opening>,
+        lines: &mut LineReader<'_, R>,
+    ) -> Result<SessionEnd, SessionFault>
+        requires { lines.old.fault ≡ None }
+        ensures { GoesOn R.seen W.seen G.lets_out G.holds_back (Opens hub.now opening) lines.old lines.new self.old self.new result }
+    {
+        let Some(opening) = opening else {
+            return self.refuse(Code::Line);
+        };
+        match hub.find(&opening.tenant) {
+            Some(tenant) => self.borrow(tenant, &opening, lines),
+            None => self.refuse(Code::NoTenant),
+        }
+    }
+
+    /// Holds a session with what is asked for of this tenant.
+    fn borrow<R: Source>(
+        &mut self,
+        tenant: &Tenant,
+        opening: &Opening,
+        lines: &mut LineReader<'_, R>,
+    ) -> Result<SessionEnd, SessionFault>
+        requires open { lines.old.fault ≡ None }
+        requires named { tenant.now.name ≡ opening.now.tenant }
+        ensures { GoesOn R.seen W.seen G.lets_out G.holds_back (LendsTo opening.now.lending) lines.old lines.new self.old self.new result }
+    {
+        match opening.lending {
+            Lending::Desk => self.hold::<Desk, R>(tenant, lines),
+            Lending::View => self.hold::<View, R>(tenant, lines),
+        }
+    }
+
+    /// Holds a session with what this tenant lends.
+    fn hold<L: Lent, R: Source>(
+        &mut self,
+        tenant: &Tenant,
+        lines: &mut LineReader<'_, R>,
+    ) -> Result<SessionEnd, SessionFault>
+        requires { lines.old.fault ≡ None }
+        ensures { GoesOn R.seen W.seen G.lets_out G.holds_back (Lends L.is_sound L.does L.NONE_LEFT) lines.old lines.new self.old self.new result }
+    {
+        let Some(mut lent) = tenant.lend::<L, T>(self.rt) else {
+            return self.refuse(L::NONE_LEFT);
+        };
+        let result = self.answer_lines(&mut lent, lines);
+        tenant.take_back(self.rt, lent);
+        result
+    }
+}

@@ -1,0 +1,75 @@
+//! The output of a session. All that a session writes is written here.
+ghost use Rattle.std.specs.Prelude.{◌≡◌, MatchOption};
+ghost use Rattle.line_protocol.specs.Writing.{Writes};
+ghost use Rattle.trace_session.specs.Conversations.{TurnsAway};
+ghost use Rattle.trace_session.specs.Outputs.{GoesThroughGate};
+ghost use Rattle.trace_session.specs.Sessions.{Finishes};
+ghost use Rattle.trace_session.specs.Written.{PutsOut, reply_line};
+
+use crate::{Gate, SessionEnd, SessionFault};
+use line_protocol::{Sink, WriteFault, flush, write_reply};
+use std::sync::Wait;
+use trace_types::{Code, Reply};
+
+/// The writer of one session and the gate before it, which knows the session by its number. The gate waits on the runtime.
+#[derive(Drop)]
+pub(crate) struct Output<'a, W, T, G> {
+    pub(crate) writer: &'a mut W,
+    pub(crate) rt: &'a T,
+    pub(crate) gate: &'a G,
+    pub(crate) number: u64,
+}
+
+/// The leave to write one line. Only asking a gate gives one, and the line spends it.
+#[derive(Drop)]
+struct Leave(());
+
+impl<'a, W: Sink, T: Wait, G: Gate> Output<'a, W, T, G> {
+    /// Asks the gate for leave to write one line.
+    fn ask_leave(&self) -> Option<Leave>
+        ensures { MatchOption result (G.holds_back self.now.gate.now self.now.number) (λ _. G.lets_out self.now.gate.now self.now.number) }
+    {
+        let may = self.gate.before_reply(self.rt, self.number);
+        may.then_some(Leave(()))
+    }
+
+    /// Writes the reply if the gate lets it out. Else it hands on what was written before.
+    pub(crate) fn put_out(&mut self, reply: &Reply) -> Result<(), SessionFault>
+        ensures put_out { PutsOut (W.seen self.old.writer.now) (W.seen self.new.writer.now) result (reply_line reply.now) }
+        ensures gate { GoesThroughGate W.seen G.lets_out G.holds_back self.old self.new result }
+    {
+        let Some(leave) = self.ask_leave() else {
+            flush(self.writer)?;
+            return Err(SessionFault::Gate);
+        };
+        leave.write(self.writer, reply)?;
+        Ok(())
+    }
+
+    /// Writes that the session is refused with this code, and ends it.
+    pub(crate) fn refuse(&mut self, code: Code) -> Result<SessionEnd, SessionFault>
+        ensures refuses { TurnsAway code (W.seen self.old.writer.now) (W.seen self.new.writer.now) result }
+        ensures gate { GoesThroughGate W.seen G.lets_out G.holds_back self.old self.new result }
+    {
+        self.put_out(&Reply::Refused(code))?;
+        self.finish(SessionEnd::Refused(code))
+    }
+
+    /// Ends the session so, once all is handed on.
+    pub(crate) fn finish(&mut self, end: SessionEnd) -> Result<SessionEnd, SessionFault>
+        ensures finishes { Finishes end (W.seen self.old.writer.now) (W.seen self.new.writer.now) result }
+        ensures gate { GoesThroughGate W.seen G.lets_out G.holds_back self.old self.new result }
+    {
+        flush(self.writer)?;
+        Ok(end)
+    }
+}
+
+impl Leave {
+    /// Writes the reply as the one line for which this is the leave.
+    fn write<W: Sink>(self, writer: &mut W, reply: &Reply) -> Result<(), WriteFault>
+        ensures { Writes (W.seen writer.old) (W.seen writer.new) result (reply_line reply.now) }
+    {
+        write_reply(writer, reply)
+    }
+}
