@@ -1,12 +1,14 @@
 -- The answers to lines that name a tenant.
-use Rattle.std.proofs.Common.{◌≡◌, ℕ, Bool, true, false, List, [], length, get_or, Option, Some, None, refl, sym, ap, ◌∙◌, subst, codes}
+use Rattle.std.proofs.Common.{◌≡◌, ◌<◌, slice_get, ℕ, Bool, true, false, List, [], length, get_or, Option, Some, None, refl, sym, ap, ◌∙◌, subst, codes}
 use Rattle.std.proofs.lemmas.List.{append-nil, length-set}
 use Rattle.std.specs.Prelude.{IfSome, if◌then◌else◌}
 use Rattle.trace_types.specs.text.Name.{Text, is_name}
 use Rattle.trace_types.specs.text.Lines.{is_too_long}
 use Rattle.trace_types.specs.text.Reading.{addressed_by, request_of_words}
 use Rattle.trace_types.specs.world.Replay.{NoTenants, NoRequest, Asks, asked, asked_by, place_of}
-use Rattle.trace_types.specs.world.World.{World, StepsOne, IsDue, tells_want}
+use Rattle.trace_types.specs.world.World.{World, StepsOne, tells_want}
+use Rattle.trace_types.proofs.Interleaving.{IsDue-from_step}
+use Rattle.std.proofs.lemmas.Option.{get_or_from_slice_get}
 use Rattle.trace_types.specs.declared.code.Code.{Code}
 use Rattle.trace_types.specs.declared.code.Code.TheVariants as code
 use Rattle.trace_types.specs.declared.request.Request.{Request}
@@ -15,7 +17,7 @@ use Rattle.trace_types.specs.declared.reply.Reply.TheVariants.{Refused}
 use Rattle.line_protocol.specs.Words.{Addresses}
 use Rattle.trace_world.specs.Answered.{IsFound, code_to_nobody}
 use Rattle.trace_world.specs.Replayed.{DoesLine}
-use Rattle.trace_world.proofs.Places.{IsPlace, IsPlace-place_of}
+use Rattle.trace_types.proofs.Places.{IsPlace, IsPlace-place_of}
 
 -- the name at a place that was found
 named : (names : List Text) (name : Text) (tenant : ℕ) → place_of names name ≡ Some tenant → name ≡ get_or names tenant []
@@ -28,17 +30,18 @@ addressed : (line name : Text) (request : Option Request) → Addresses line nam
 addressed line name request addresses named = rw (addresses.splits, named, addresses.spells) refl
 
 -- a request of a tenant was done
-pub answers_request : (old new : World) (line name : Text) (asks_for : Option Request) (tenant : ℕ) (request : Request) (reply : Reply)
+pub answers_request : (old new : World) (line name to : Text) (asks_for : Option Request) (tenant : ℕ) (request : Request) (reply : Reply)
     → is_too_long line ≡ false → Addresses line name asks_for → is_name name ≡ true → asks_for ≡ Some request → place_of old.names name ≡ Some tenant
-    → StepsOne old tenant request reply new → IsDue old tenant request reply new → DoesLine old line name reply new
-answers_request old new line name asks_for tenant request reply short addresses is_named spelled found steps due =
+    → slice_get old.names tenant ≡ Some to → tenant < length old.tenants → StepsOne old tenant request reply new → DoesLine old line to reply new
+answers_request old new line name to asks_for tenant request reply short addresses is_named spelled found at within steps =
     let asks : asked old.names line ≡ Asks tenant request = rw (short, addressed line name asks_for addresses is_named, found, spelled) refl in
+    let due = IsDue-from_step old tenant request reply new steps within in
     record {
       mark = tells_want reply;
       names = ap (λ (world : World). world.names) steps.is;
       limits = ap (λ (world : World). world.limits) steps.is;
       places = ap (λ (world : World). length world.tenants) steps.is ∙ length-set old.tenants tenant steps.later;
-      addressed = rw asks (named old.names name tenant found);
+      addressed = rw asks (sym (get_or_from_slice_get old.names tenant to [] at));
       marked = λ calls after. rw asks (due calls after).1;
       due = λ calls after. rw asks (due calls after).0;
       leads = λ calls after. rw asks (due calls after).2;

@@ -1,8 +1,6 @@
-mod Distinct
 mod Fresh
 mod Isolation
 mod Leading
-mod Places
 mod Fronts
 mod Answering
 mod Following

@@ -1,22 +1,19 @@
 -- What holds of every world.
 use Rattle.std.proofs.Common.{take, drop, ◌++◌, ◌≡◌, ℕ, ◌<◌, zero, suc, true, List, Option, None, IfSome, [], ◌∷◌, length, map, slice_get, slice_set, Some, refl, sym, ap, ◌∙◌, arith, length-set, inl, inr, subst}
-use Rattle.std.specs.Prelude.{◌↔◌, slice_index_or}
+use Rattle.std.specs.Prelude.{slice_index_or}
 use Rattle.std.specs.List.{All}
 use Rattle.std.proofs.Math.Seq.{take-append_seam}
-use Rattle.std.proofs.lemmas.Bool.{and_parts}
 use Rattle.std.proofs.lemmas.List.{length-map, set-get_or}
 use Rattle.std.proofs.lemmas.List.Elements.{All-set}
 use Rattle.std.proofs.lemmas.Option.{slice_get_within, get_or_from_slice_get}
-use Rattle.trace_types.specs.text.Name.{Text, is_between}
+use Rattle.trace_types.specs.text.Name.{Text}
 use Rattle.trace_types.specs.tenant.Limits.{Limits}
-use Rattle.trace_types.specs.world.Replay.{place_of}
 use Rattle.trace_types.specs.tenant.Tenant.{Tenant, Steps, AreLegal, fresh}
-use Rattle.trace_types.specs.world.World.{World, StepsOne, IsDue}
+use Rattle.trace_types.specs.world.World.{World, StepsOne}
 use Rattle.trace_types.specs.declared.request.Request.{Request}
 use Rattle.trace_types.specs.declared.reply.Reply.{Reply}
-use Rattle.trace_types.proofs.Interleaving.{limits-step, IsDue-from_step}
-use Rattle.trace_world.specs.Tenants.{IsTenantWith, IsWorld, StepsAt, are_distinct, can_be_tenants}
-use Rattle.trace_world.proofs.Distinct.{stands-found, found-stands}
+use Rattle.trace_types.proofs.Interleaving.{limits-step}
+use Rattle.trace_world.specs.Tenants.{IsTenantWith, IsWorld, StepsAt, can_be_tenants}
 
 -- a tenant that has reported nothing
 fresh_is : (limits : Limits) → IsTenantWith limits (fresh limits)
@@ -80,15 +77,3 @@ StepsOne-stays world place tenant request (Some reply) was steps =
 
     stays : slice_set world.tenants place tenant ≡ world.tenants
     stays = ap (slice_set world.tenants place) (sym at) ∙ set-get_or world.tenants place tenant
-
-pub IsDue-stays : (world : World) (place : ℕ) (request : Request) (found : Option Reply) → place < length world.tenants
-    → IfSome found (λ reply. StepsOne world place request reply world) → IfSome found (λ reply. IsDue world place request reply world)
-IsDue-stays world place request None inside steps = tt
-IsDue-stays world place request (Some reply) inside steps = IsDue-from_step world place request reply world steps inside
-
--- a name of a world is found exactly where it stands
-pub stands_where_found : (world : World) → IsWorld world → (name : Text) (place : ℕ) → (place_of world.names name ≡ Some place) ↔ (slice_get world.names place ≡ Some name)
-stands_where_found world is name place = (stands-found world.names name place, found-stands world.names distinct name place)
-  where
-    distinct : are_distinct world.names ≡ true
-    distinct = (and_parts (is_between 1 16 (length world.names)) (are_distinct world.names) is.names).1

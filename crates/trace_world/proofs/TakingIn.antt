@@ -7,7 +7,7 @@ use Rattle.trace_types.specs.tenant.Tenant.{Tenant}
 use Rattle.trace_types.specs.world.Interleaving.{tenant_after}
 use Rattle.trace_types.specs.world.Replay.{calls_by, entries}
 use Rattle.line_protocol.specs.Sink.{Taken}
-use Rattle.line_protocol.specs.Writing.{EndsInFault}
+use Rattle.line_protocol.specs.Writing.{EndsInFault, StopsHandingOn}
 use Rattle.trace_export.specs.Export.{BreaksLines, WritesLines, export_lines}
 use Rattle.trace_types.specs.declared.row.Row.{Row}
 use Rattle.trace_export.specs.declared.export_fault.ExportFault.{ExportFault}
@@ -25,7 +25,7 @@ use Rattle.line_protocol.specs.Source.{Given}
 use Rattle.line_protocol.specs.LineReading.{HasRead, Finds, FindsNone, Reads}
 use Rattle.line_protocol.specs.declared.line.Line.TheVariants.{End}
 use Rattle.line_protocol.proofs.LineReadingLemmas.{HasRead-start, HasRead-line, HasRead-end, HasRead-none, has_told_end}
-use Rattle.trace_world.specs.Exported.{AreRowsLeft, HoldsBack, export_of, stamp_texts, LeadsThere, StopsExport, TakesAll, TakesFirst}
+use Rattle.trace_world.specs.Exported.{AreRowsLeft, export_of, stamp_texts, LeadsThere, StopsExport, TakesAll, TakesFirst}
 use Rattle.trace_world.proofs.Following.{LeadsTo-none, LeadsTo-line}
 use Rattle.trace_world.proofs.Parts.{Answered, AreFirstLines-from, gave_known}
 
@@ -109,7 +109,7 @@ pub stops_export : {taken taken' : Taken} {these : List Text} (fault : ExportFau
 stops_export export.Write breaks = inl breaks
 stops_export export.Memory breaks = breaks
 
-pub ends_held_back : {before between after : Taken} {these : List Text} → WritesLines before between these → HoldsBack between after → EndsInFault before after
+pub ends_held_back : {before between after : Taken} {these : List Text} → WritesLines before between these → StopsHandingOn between after → EndsInFault before after
 ends_held_back wrote held = elim held.1.fault [
   | inl failed ↦ inl (omega (arith, failed.0, wrote.failures))
   | inr waited ↦ inr (omega (arith, waited.0, wrote.failures), omega (arith, waited.1, wrote.more))

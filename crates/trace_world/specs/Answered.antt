@@ -1,11 +1,12 @@
 -- How a line was answered.
-use Rattle.std.specs.Prelude.{◌≡◌, ◌++◌, if◌then◌else◌, Option, Some, None, Result, OnOk, OnErr, ◌≤◌, codes, true, false}
+use Rattle.std.specs.Prelude.{◌≡◌, ℕ, slice_get, ◌++◌, if◌then◌else◌, Option, Some, None, Result, OnOk, OnErr, ◌≤◌, codes, true, false}
 use Rattle.trace_types.specs.text.Name.{Text, is_name}
 use Rattle.trace_types.specs.text.Lines.{is_too_long}
 use Rattle.trace_types.specs.text.Text.{reply_text}
-use Rattle.trace_types.specs.world.World.{World}
+use Rattle.trace_types.specs.world.World.{World, StepsOne}
 use Rattle.trace_types.specs.declared.code.Code.{Code}
 use Rattle.trace_types.specs.declared.code.Code.TheVariants as code
+use Rattle.trace_types.specs.declared.request.Request.{Request}
 use Rattle.trace_types.specs.declared.reply.Reply.{Reply}
 use Rattle.line_protocol.specs.Sink.{Taken}
 use Rattle.line_protocol.specs.Writing.{EndsInFault, WritesBoth}
@@ -35,6 +36,14 @@ pub record AnswersFound {E : Type 0} (found : Option Text) (old new : World) (be
   pub to : Text
   pub reply : Reply
   pub does : (line : Text) → IsFound found line → DoesLine old line to reply new
+  pub tells : TellsReply before after to reply counts counts' result
+
+-- The tenant at the place did what it asks for, and the reply that is due was told to it.
+pub record AnswersRequest {E : Type 0} (old : World) (tenant : ℕ) (request : Request) (new : World) (before after : Taken) (counts counts' : Counts) (result : Result (Unit {0}) E) : Type 0 where
+  pub to : Text
+  pub reply : Reply
+  pub named : slice_get old.names tenant ≡ Some to
+  pub steps : StepsOne old tenant request reply new
   pub tells : TellsReply before after to reply counts counts' result
 
 -- why a line is refused whose first word names no tenant

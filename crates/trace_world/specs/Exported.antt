@@ -13,8 +13,7 @@ use Rattle.trace_types.specs.declared.row.Row.{Row}
 use Rattle.line_protocol.specs.Ends.{end_count}
 use Rattle.line_protocol.specs.Source.{Given}
 use Rattle.line_protocol.specs.Sink.{Taken}
-use Rattle.line_protocol.specs.Writing.{GoesWell, GoesWrong}
-use Rattle.line_protocol.specs.Patience.{FlushesPatiently, GivesUpFlushing}
+use Rattle.line_protocol.specs.Writing.{HandsAllOn, StopsHandingOn}
 use Rattle.trace_export.specs.Export.{BreaksLines, WritesLines, export_lines}
 use Rattle.trace_export.specs.Verdict.{IsVerdict}
 use Rattle.trace_export.specs.declared.verdict.Verdict.TheVariants.{Yes}
@@ -70,15 +69,6 @@ abbrev pub AreRowsLeft : (old : World) (found : List Text) (marks : List Bool) (
 AreRowsLeft old found marks tenant rows = (calls : List Call) → IsAfter old calls
     → rows ≡ (tenant_after old.limits (calls ++ calls_by (entries old.names found marks)) tenant).rows
 
--- What was written was handed on.
-abbrev pub HandsOnAll : Taken → Taken → Type 0
-HandsOnAll before after =
-    (after.bytes ≡ before.bytes) × IsTrue after.is_flushed × GoesWell before after × FlushesPatiently before.calls after.calls
-
--- It was not, and a fault came.
-abbrev pub HoldsBack : Taken → Taken → Type 0
-HoldsBack before after = (after.bytes ≡ before.bytes) × GoesWrong before after × GivesUpFlushing before.calls after.calls
-
 -- All lines were done, and then the export of the rows was written that the tenant's requests among them leave, with the
 -- tenant's header. The tenant has these rows.
 pub record Exports (before after : Given) (taken taken' : Taken) (old : World) (tenant count : ℕ) (new : World) : Type 0 where
@@ -91,7 +81,7 @@ pub record Exports (before after : Given) (taken taken' : Taken) (old : World) (
   pub counted : count ≡ length rows
   pub between : Taken
   pub writes : WritesLines taken between (export_of header rows)
-  pub hands_on : HandsOnAll between taken'
+  pub hands_on : HandsAllOn between taken'
 
 -- What was written is an export of so many events on which the verdict is yes.
 abbrev pub WritesRight : Taken → Taken → ℕ → Type 0
@@ -101,7 +91,7 @@ WritesRight before after count = (export : List ℕ) × (after.bytes ≡ before.
 abbrev pub StopsExport : ReplayFault → Taken → Taken → List Text → Type 0
 StopsExport Write taken taken' these =
     BreaksLines export.Write taken taken' these
-    ⊎ ((between : Taken) × WritesLines taken between these × HoldsBack between taken')
+    ⊎ ((between : Taken) × WritesLines taken between these × StopsHandingOn between taken')
 StopsExport Memory taken taken' these = BreaksLines export.Memory taken taken' these
 StopsExport fault taken taken' these = ⊥
 

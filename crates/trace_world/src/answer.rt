@@ -1,14 +1,14 @@
 //! Answers to lines.
-ghost use Rattle.std.specs.Prelude.{◌≡◌, false};
+ghost use Rattle.std.specs.Prelude.{◌≡◌, ◌<◌, false, length};
 ghost use Rattle.std.specs.Option.{option_copied};
 ghost use Rattle.trace_types.specs.text.Lines.{is_too_long};
-ghost use Rattle.trace_world.specs.Answered.{AnswersFound, CarriesOut, TellsReply, code_to_nobody};
+ghost use Rattle.trace_world.specs.Answered.{AnswersFound, AnswersRequest, CarriesOut, TellsReply, code_to_nobody};
 ghost use Rattle.trace_world.specs.Counted.{CanCount};
 
 use crate::{Counts, World};
 use line_protocol::{Sink, WriteFault, read_addressed, write_answer};
 use std::sync::Wait;
-use trace_types::{Code, Name, Reply};
+use trace_types::{Code, Name, Reply, Request};
 
 /// Does what a line asks of the tenants, and writes and counts the answer. A line that is too long is `None`, and asks
 /// nothing.
@@ -33,11 +33,29 @@ pub(crate) fn answer_line<R: Wait, W: Sink>(
     let Some(request) = request else {
         return refuse(writer, counts, name, Code::Line);
     };
-    if let Some(reply) = world.step_briefly(rt, tenant, &request) {
-        return tell(writer, counts, name, &reply);
+    match world.step_briefly(tenant, &request) {
+        Some(reply) => tell(writer, counts, name, &reply),
+        None => answer_at_length(rt, world, tenant, &request, writer, counts),
     }
-    let reply = world.step_apart(rt, tenant, request);
-    tell_apart(writer, counts, name, reply)
+}
+
+/// Does a request of any kind, and writes and counts the answer. It stands apart for the reason that `write_answer` of
+/// `line_protocol` gives.
+#[inline(never)]
+fn answer_at_length<R: Wait, W: Sink>(
+    rt: &R,
+    world: &mut World,
+    tenant: usize,
+    request: &Request,
+    writer: &mut W,
+    counts: &mut Counts,
+) -> Result<(), WriteFault>
+    requires tenant { tenant < length world.old.tenants }
+    requires counts { CanCount counts.old }
+    ensures { AnswersRequest world.old tenant request.now world.new (W.seen writer.old) (W.seen writer.new) counts.old counts.new result }
+{
+    let reply = world.step(rt, tenant, request);
+    tell(writer, counts, world.name(tenant).as_bytes(), &reply)
 }
 
 /// Does what a line asks of the tenants, and writes no reply.
@@ -81,20 +99,6 @@ fn refuse<W: Sink>(
     ensures { TellsReply (W.seen writer.old) (W.seen writer.new) to.now (Reply.Refused code) counts.old counts.new result }
 {
     tell(writer, counts, to, &Reply::Refused(code))
-}
-
-/// Does as [`tell`]. The compiler zeroes all locals on entry, so longer replies have a function of their own.
-#[inline(never)]
-fn tell_apart<W: Sink>(
-    writer: &mut W,
-    counts: &mut Counts,
-    to: &[u8],
-    reply: Reply,
-) -> Result<(), WriteFault>
-    requires { CanCount counts.old }
-    ensures { TellsReply (W.seen writer.old) (W.seen writer.new) to.now reply counts.old counts.new result }
-{
-    tell(writer, counts, to, &reply)
 }
 
 /// Why a line is refused if its first word names no tenant.

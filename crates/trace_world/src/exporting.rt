@@ -50,11 +50,7 @@ pub fn replay_export<T: Wait, R: Source, W: Sink>(
     take_in(rt, alloc, world, reader)?;
     world.law();
     let ledger = world.ledger(tenant);
-    let stamps = LedgerStamps {
-        alloc,
-        ledger,
-        shared: world.shared(),
-    };
+    let stamps = LedgerStamps { alloc, ledger };
     let count = export_rows(alloc, &header, ledger.rows(), &stamps, writer)?;
     flush(writer)?;
     Ok(count)

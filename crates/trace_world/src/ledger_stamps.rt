@@ -3,7 +3,7 @@ ghost use Rattle.std.specs.Prelude.{◌≡◌};
 
 use crate::world::SharedLedger;
 use std::alloc::Global;
-use tenant_ledger::{Shared, laws};
+use tenant_ledger::laws;
 use trace_export::StampTexts;
 use trace_types::{Code, Memory, Reply, Request};
 
@@ -12,7 +12,6 @@ use trace_types::{Code, Memory, Reply, Request};
 pub(crate) struct LedgerStamps<'a> {
     pub(crate) alloc: Global,
     pub(crate) ledger: &'a SharedLedger,
-    pub(crate) shared: &'a Shared,
 }
 
 impl StampTexts for LedgerStamps<'_> {
@@ -23,7 +22,7 @@ impl StampTexts for LedgerStamps<'_> {
     fn text(&self, event: u64) -> Result<Vec<u8>, Memory> {
         laws::greatest_value();
         let _ = self.ledger.rows();
-        match self.ledger.ask(self.shared, &Request::Stamp(event)) {
+        match self.ledger.answer(&Request::Stamp(event)) {
             Reply::Stamp(text) => Ok(text.as_bytes().to_vec(self.alloc)?),
             Reply::Refused(Code::NoMemory) => Err(Memory),
             _ => unreachable!(),

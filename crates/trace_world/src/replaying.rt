@@ -1,14 +1,12 @@
 //! Replays of lines of many tenants.
-ghost use Rattle.std.specs.Prelude.{◌≡◌, ◌↔◌, ◌+◌, ◌<◌, ◌≤◌, ◌^◌, IfOk, IfErr, IsErrOf, IsTrue, OnOk, OnErr};
-ghost use Rattle.line_protocol.specs.LineReading.{FindsNext, NeedsRead};
-ghost use Rattle.line_protocol.specs.Patience.{FlushesPatiently, GivesUpFlushing};
+ghost use Rattle.std.specs.Prelude.{◌≡◌, ◌↔◌, ◌+◌, ◌<◌, ◌≤◌, ◌^◌, IfOk, IfErr, IsErrOf};
 ghost use Rattle.line_protocol.specs.Source.{StopsAtEnd};
-ghost use Rattle.line_protocol.specs.Writing.{EndsInFault, GoesWell, GoesWrong};
+ghost use Rattle.line_protocol.specs.Writing.{EndsInFault};
 ghost use Rattle.trace_world.specs.Replayed.{HandsOn, Replays, ReplaysInPart};
 
 use crate::answer::answer_line;
 use crate::{Counts, ReplayFault, World};
-use line_protocol::{Buffer, Line, ReadFault, Sink, Source, WriteFault, flush};
+use line_protocol::{Buffer, Line, LineFault, Sink, Source, flush};
 use std::alloc::Global;
 use std::sync::Wait;
 
@@ -52,8 +50,12 @@ pub fn replay<T: Wait, R: Source, W: Sink>(
     let mut lines = Buffer::new(alloc)?;
     let mut counts = Counts::none();
     loop {
-        hand_on(&lines, writer)?;
-        let line = match next_line(&mut lines, reader, writer)? {
+        let found = match lines.next_line_flushing(reader, writer) {
+            Ok(found) => found,
+            Err(LineFault::Read(fault)) => return Err(ReplayFault::from(fault)),
+            Err(LineFault::Write) => return Err(ReplayFault::Write),
+        };
+        let line = match found {
             Line::End => break,
             Line::TooLong => None,
             Line::Whole => Some(lines.line()),
@@ -62,34 +64,4 @@ pub fn replay<T: Wait, R: Source, W: Sink>(
     }
     flush(writer)?;
     Ok(counts)
-}
-
-/// Flushes what was answered, if the next line needs a read.
-fn hand_on<W: Sink>(lines: &Buffer, writer: &mut W) -> Result<(), WriteFault>
-    ensures flushed { OnOk result (NeedsRead lines.now → IsTrue (W.seen writer.new).is_flushed) }
-    ensures taken { (W.seen writer.new).bytes ≡ (W.seen writer.old).bytes }
-    ensures well { OnOk result (GoesWell (W.seen writer.old) (W.seen writer.new)) }
-    ensures fault { OnErr result (GoesWrong (W.seen writer.old) (W.seen writer.new)) }
-    ensures patient { OnOk result (FlushesPatiently (W.seen writer.old).calls (W.seen writer.new).calls) }
-    ensures stopped { OnErr result (GivesUpFlushing (W.seen writer.old).calls (W.seen writer.new).calls) }
-{
-    if lines.needs_read() {
-        flush(writer)
-    } else {
-        Ok(())
-    }
-}
-
-/// Finds the next line. No read is made while the writer holds an answer back.
-#[inline(always)]
-fn next_line<R: Source, W: Sink>(
-    lines: &mut Buffer,
-    reader: &mut R,
-    _writer: &W,
-) -> Result<Line, ReadFault>
-    requires flushed { NeedsRead lines.old → IsTrue (W.seen _writer.now).is_flushed }
-    ensures finds { FindsNext (R.seen reader.old) (R.seen reader.new) lines.old lines.new result }
-    ensures at_end { IsTrue lines.old.is_ended → (reader.new ≡ reader.old) × IsTrue lines.new.is_ended }
-{
-    lines.next_line(reader)
 }

@@ -6,7 +6,7 @@ ghost use Rattle.trace_types.specs.tenant.Tenant.{fresh};
 ghost use Rattle.trace_types.specs.world.Replay.{place_of};
 ghost use Rattle.trace_types.specs.world.World.{StepsOne, IsAfter, IsDue};
 ghost use Rattle.trace_world.specs.Exported.{IsHeaderOf};
-ghost use Rattle.trace_world.specs.Tenants.{IsLedTo, IsShortAt, IsWorld, StepsAt, are_distinct, can_be_tenants};
+ghost use Rattle.trace_world.specs.Tenants.{IsLedTo, IsShortAt, IsWorld, StepsAt, can_be_tenants};
 
 use order_cache::CacheFault;
 use std::alloc::Global;
@@ -14,7 +14,7 @@ use std::marker::Model;
 use std::sync::{Arc, Wait};
 use tenant_ledger::{Ledger, Shared};
 use trace_export::Header;
-use trace_types::{Limits, Memory, Name, Reply, Request, WorldFault};
+use trace_types::{Limits, Memory, Name, Reply, Request, TenantNames, WorldFault};
 
 /// The ledger of a tenant that keeps its ids and trees together with all others.
 pub(crate) type SharedLedger = Ledger<Arc<Shared>>;
@@ -24,7 +24,7 @@ pub(crate) type SharedLedger = Ledger<Arc<Shared>>;
 /// They keep their ids and trees in one place, and compare them there. No reply shows it.
 #[derive(Drop)]
 pub struct World {
-    names: Vec<Name>,
+    names: TenantNames,
     limits: Limits,
     /// The ledgers, in the order of the names.
     ledgers: Vec<SharedLedger>,
@@ -37,15 +37,12 @@ impl Model for World {
 
     ghost Value = { Tenants };
 
-    ghost view = { λ w. record { names = w.names.items; limits = w.limits; tenants = w.ledgers.items } };
+    ghost view = { λ w. record { names = w.names; limits = w.limits; tenants = w.ledgers.items } };
 
-    ghost invariant = { λ w. IsWorld (record { names = w.names.items; limits = w.limits; tenants = w.ledgers.items }) };
+    ghost invariant = { λ w. IsWorld (record { names = w.names; limits = w.limits; tenants = w.ledgers.items }) };
 }
 
 impl World {
-    /// The most tenants.
-    pub const MOST_TENANTS: usize = 16;
-
     /// Tenants of these names that have reported nothing. Their cache remembers at most `cache` comparisons of two trees.
     ///
     /// | Fault | When it comes |
@@ -64,14 +61,15 @@ impl World {
         ensures world { IfOk result (λ world. world ≡ record { names = names.now; limits = limits; tenants = map (λ name. fresh limits) names.now }) }
         ensures fresh { IfOk result (λ world. IsAfter world []) }
     {
-        if !can_be_tenants(names) {
+        let Some(names) = TenantNames::of(names) else {
             return Err(WorldFault::Names);
-        }
+        };
         let shared = shared_by_all(alloc, cache)?;
+        let ledgers = fresh_ledgers(alloc, names.as_slice(), limits, &shared)?;
         Ok(World {
-            names: copied(alloc, names)?,
+            names,
             limits,
-            ledgers: fresh_ledgers(alloc, names, limits, &shared)?,
+            ledgers,
             shared,
         })
     }
@@ -116,7 +114,7 @@ impl World {
         ensures within { IfSome result (λ place. place < length self.now.tenants) }
         ensures name { IfSome result (λ _. IsTrue (is_name text.now)) }
     {
-        place_of(&self.names, text)
+        self.names.find(text)
     }
 
     /// The ledger of the tenant at this place.
@@ -127,13 +125,22 @@ impl World {
         &self.ledgers[tenant]
     }
 
+    /// The name of the tenant at this place.
+    #[inline(always)]
+    pub(crate) fn name(&self, tenant: usize) -> &Name
+        requires { tenant < length self.now.tenants }
+        ensures { slice_get self.now.names tenant ≡ Some result.now }
+    {
+        &self.names.as_slice()[tenant]
+    }
+
     /// The header of the export of the tenant at this place.
     pub(crate) fn header(&self, tenant: usize) -> Header
         requires { tenant < length self.now.tenants }
         ensures { IsHeaderOf self.now tenant result }
     {
         Header {
-            tenant: self.names[tenant],
+            tenant: *self.name(tenant),
             limits: self.limits,
         }
     }
@@ -153,35 +160,12 @@ impl World {
 
     /// Does as [`World::step`] a request that [`Ledger::ask_briefly`] answers. It is `None` for any other.
     #[inline(always)]
-    pub(crate) fn step_briefly<R: Wait>(
-        &self,
-        rt: &R,
-        tenant: usize,
-        request: &Request,
-    ) -> Option<Reply>
+    pub(crate) fn step_briefly(&self, tenant: usize, request: &Request) -> Option<Reply>
         requires { tenant < length self.now.tenants }
-        ensures step { IfSome result (λ reply. StepsOne self.now tenant request.now reply self.now) }
-        ensures due { IfSome result (λ reply. IsDue self.now tenant request.now reply self.now) }
+        ensures { IfSome result (λ reply. StepsOne self.now tenant request.now reply self.now) }
     {
-        self.ledgers[tenant].ask_briefly(rt, request)
+        self.ledgers[tenant].ask_briefly(request)
     }
-
-    /// Does as [`World::step`]. The compiler zeroes all locals on entry, so longer requests have a function of their own.
-    #[inline(never)]
-    pub(crate) fn step_apart<R: Wait>(&mut self, rt: &R, tenant: usize, request: Request) -> Reply
-        requires { tenant < length self.old.tenants }
-        ensures step { StepsOne self.old tenant request result self.new }
-        ensures due { IsDue self.old tenant request result self.new }
-    {
-        self.step(rt, tenant, &request)
-    }
-}
-
-/// Copies of the names.
-fn copied(alloc: Global, names: &[Name]) -> Result<Vec<Name>, Memory>
-    ensures { IfOk result (λ copies. copies.items ≡ names.now) }
-{
-    Ok(names.to_vec(alloc)?)
 }
 
 /// What the tenants are to share.
@@ -224,33 +208,4 @@ fn report<R: Wait>(rt: &R, ledgers: &mut [SharedLedger], tenant: usize, request:
 {
     let ledger = &mut ledgers[tenant];
     ledger.report(rt, request)
-}
-
-fn can_be_tenants(names: &[Name]) -> bool
-    ensures { result ≡ can_be_tenants names.now }
-{
-    1 <= names.len() && names.len() <= World::MOST_TENANTS && are_distinct(names)
-}
-
-fn are_distinct(names: &[Name]) -> bool
-    ensures { result ≡ are_distinct names.now }
-{
-    for (place, name) in names.iter().enumerate() {
-        if names[place + 1..].contains(name) {
-            return false;
-        }
-    }
-    true
-}
-
-fn place_of(names: &[Name], text: &[u8]) -> Option<usize>
-    ensures place { result ≡ place_of names.now text.now }
-    ensures name { IfSome result (λ _. IsTrue (is_name text.now)) }
-{
-    for (place, name) in names.iter().enumerate() {
-        if name.as_bytes() == text {
-            return Some(place);
-        }
-    }
-    None
 }

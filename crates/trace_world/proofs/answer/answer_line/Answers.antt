@@ -1,4 +1,4 @@
-use Rattle.std.proofs.Common.{sym, ap, ◌∙◌, codes}
+use Rattle.std.proofs.Common.{refl, sym, ap, ◌∙◌, codes}
 use Rattle.std.specs.Option.{option_copied}
 use Rattle.trace_types.specs.declared.code.Code.TheVariants.{Line}
 use Rattle.trace_types.specs.declared.reply.Reply.TheVariants.{Refused}
@@ -39,19 +39,20 @@ returns-in-Some-step_briefly g c = record {
   to = c.read_addressed-request.result.0.now;
   reply = c.in-Some-step_briefly.reply;
   does = where_found (option_copied c.args.line) c.in-Some.line.now (ap option_copied c.in-Some.is) (λ short.
-      answers_request c.args.world.now c.args.world.now c.in-Some.line.now c.read_addressed-request.result.0.now _ c.in-Some-find_text.tenant c.in-Some-request.request _ short
+      answers_request c.args.world.now c.args.world.now c.in-Some.line.now c.read_addressed-request.result.0.now _ _ c.in-Some-find_text.tenant c.in-Some-request.request _ short
       c.read_addressed-request.ensures c.in-Some-find_text.ensures.name c.in-Some-request.is (sym c.in-Some-find_text.ensures.place)
-      c.in-Some-step_briefly.ensures.step c.in-Some-step_briefly.ensures.due);
+      ((c.in-Some-find_text.ensures.stands c.in-Some-find_text.tenant).0 refl) c.in-Some-find_text.ensures.within c.in-Some-step_briefly.ensures);
   tells = c.tell.ensures;
 }
 
-pub returns : goal.returns
-returns g c = record {
-  to = c.read_addressed-request.result.0.now;
-  reply = c.step_apart-reply.result;
-  does = where_found (option_copied c.args.line) c.in-Some.line.now (ap option_copied c.in-Some.is) (λ short.
-      answers_request c.args.world.now c.step_apart-reply.new.self c.in-Some.line.now c.read_addressed-request.result.0.now _ c.in-Some-find_text.tenant c.in-Some-request.request _ short
-      c.read_addressed-request.ensures c.in-Some-find_text.ensures.name c.in-Some-request.is (sym c.in-Some-find_text.ensures.place)
-      c.step_apart-reply.ensures.step c.step_apart-reply.ensures.due);
-  tells = c.tell_apart.ensures;
-}
+pub returns-in-None : goal.returns-in-None
+returns-in-None g c =
+    let answers = c.answer_at_length.ensures in
+    record {
+      to = answers.to;
+      reply = answers.reply;
+      does = where_found (option_copied c.args.line) c.in-Some.line.now (ap option_copied c.in-Some.is) (λ short.
+          answers_request c.args.world.now c.answer_at_length.new.world c.in-Some.line.now c.read_addressed-request.result.0.now _ _ c.in-Some-find_text.tenant c.in-Some-request.request _ short
+          c.read_addressed-request.ensures c.in-Some-find_text.ensures.name c.in-Some-request.is (sym c.in-Some-find_text.ensures.place) answers.named c.in-Some-find_text.ensures.within answers.steps);
+      tells = answers.tells;
+    }

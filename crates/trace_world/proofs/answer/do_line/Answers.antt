@@ -1,4 +1,4 @@
-use Rattle.std.proofs.Common.{sym, ◌∙◌, codes}
+use Rattle.std.proofs.Common.{refl, sym, ◌∙◌, codes}
 use Rattle.trace_types.specs.declared.code.Code.TheVariants.{Line}
 use Rattle.trace_types.specs.declared.reply.Reply.TheVariants.{Refused}
 use Rattle.trace_world.specs.Answered.{code_to_nobody}
@@ -18,8 +18,8 @@ returns-in-Some-request g c =
     let name = c.read_addressed-request.result.0.now in (
       name,
       c.step.result,
-      answers_request c.args.world.now c.step.new.self c.args.line.now name _ c.in-Some.tenant c.in-Some-request.request c.step.result c.requires c.read_addressed-request.ensures
-          c.in-Some.ensures.name c.in-Some-request.is (sym c.in-Some.ensures.place) c.step.ensures.step c.step.ensures.due,
+      answers_request c.args.world.now c.step.new.self c.args.line.now name name _ c.in-Some.tenant c.in-Some-request.request c.step.result c.requires c.read_addressed-request.ensures
+          c.in-Some.ensures.name c.in-Some-request.is (sym c.in-Some.ensures.place) ((c.in-Some.ensures.stands c.in-Some.tenant).0 refl) c.in-Some.ensures.within c.step.ensures.step,
     )
 
 pub returns-in_default-request : goal.returns-in_default-request

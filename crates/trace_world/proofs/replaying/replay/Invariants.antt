@@ -5,8 +5,8 @@ use Rattle.line_protocol.specs.LineReading.{Reads, work_left}
 use Rattle.trace_world.proofs.Following.{Follows}
 use Rattle.trace_world.proofs.replaying.replay.Given as goal
 
-abbrev pub invariant-loop-lines : goal.invariant-loop-lines
-invariant-loop-lines g l = record {
+abbrev pub invariant-loop-found : goal.invariant-loop-found
+invariant-loop-found g l = record {
   follows : Follows (g.R.Source.seen l.fn.reader).bytes (g.R.Source.seen l.reader).bytes (g.W.Sink.seen l.fn.writer).bytes (g.W.Sink.seen l.writer).bytes (g.W.Sink.seen l.fn.writer).calls (g.W.Sink.seen l.writer).calls l.fn.world l.lines l.counts l.world;
   reads : Reads (g.R.Source.seen l.fn.reader) (g.R.Source.seen l.reader) fresh_held l.lines 0;
   most : l.lines.reads ≤ 2 ^ 30;
@@ -19,5 +19,5 @@ invariant-loop-lines g l = record {
   refused : l.counts.refused ≤ l.counts.lines;
 }
 
-abbrev pub decreases-loop-lines : goal.decreases-loop-lines
-decreases-loop-lines g l = work_left l.lines
+abbrev pub decreases-loop-found : goal.decreases-loop-found
+decreases-loop-found g l = work_left l.lines

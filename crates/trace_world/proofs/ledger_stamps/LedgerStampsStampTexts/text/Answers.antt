@@ -8,7 +8,7 @@ use Rattle.trace_world.proofs.ledger_stamps.LedgerStampsStampTexts.text.Goals.{i
 pub unreachable-requires : goal.unreachable-requires
 unreachable-requires c =
     let is = is_event-stamp c.args.self.now.ledger.now.rows c.args.event c.requires.event in
-    elim (answers_stamp c.args.self.now.ledger.now c.args.event c.ask.result is c.ask.ensures.answer) [
+    elim (answers_stamp c.args.self.now.ledger.now c.args.event c.answer.result is c.answer.ensures.answer) [
       | inl stamp ↦ elim c.in_default.branch [ in_default-via-in-Refused+in_default w ↦ search rules | in_default-via-in_default w ↦ search rules ]
       | inr lacks ↦ elim c.in_default.branch [ in_default-via-in-Refused+in_default w ↦ search rules | in_default-via-in_default w ↦ search rules ]
     ]
@@ -18,9 +18,9 @@ answered : (c : goal.After-drop-text-inside-in-Stamp) → c.in_ok-to_vec-in-Stam
 answered c =
     let is = is_event-stamp c.args.self.now.ledger.now.rows c.args.event c.requires.event in
     let copied : c.in_ok-to_vec-in-Stamp.field-0.items ≡ c.as_bytes.result.now = search rules in
-    elim (answers_stamp c.args.self.now.ledger.now c.args.event c.ask.result is c.ask.ensures.answer) [
-      | inl stamp ↦ copied ∙ c.as_bytes.ensures ∙ stamp_is c.ask.result c.in-Stamp.text _ c.in-Stamp.is stamp
-      | inr lacks ↦ absurd (stamp_is_no_refusal c.ask.result c.in-Stamp.text c.in-Stamp.is lacks)
+    elim (answers_stamp c.args.self.now.ledger.now c.args.event c.answer.result is c.answer.ensures.answer) [
+      | inl stamp ↦ copied ∙ c.as_bytes.ensures ∙ stamp_is c.answer.result c.in-Stamp.text _ c.in-Stamp.is stamp
+      | inr lacks ↦ absurd (stamp_is_no_refusal c.answer.result c.in-Stamp.text c.in-Stamp.is lacks)
     ]
 
 pub returns-in_ok-to_vec-in-Stamp-clause-text : goal.returns-in_ok-to_vec-in-Stamp-clause-text

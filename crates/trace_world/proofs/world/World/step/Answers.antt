@@ -14,7 +14,7 @@ invariant_of-self g c =
 
 pub returns-clause-due : goal.returns-clause-due
 returns-clause-due g c =
-    let old : World = record { names = c.self.inside.names.items; limits = c.self.inside.limits; tenants = c.self.inside.ledgers.items } in
+    let old : World = record { names = c.self.inside.names; limits = c.self.inside.limits; tenants = c.self.inside.ledgers.items } in
     let new : World = record old { tenants = c.report.new.ledgers } in
     let step = subst (λ tenants. StepsAt tenants c.args.tenant c.args.request.now c.report.result c.report.new.ledgers) c.deref_mut.ensures.value c.report.ensures.step in
     rw (written_back c.self.inside.ledgers.len c.deref_mut.result.now c.report.new.ledgers c.self.inside.ledgers.items c.deref_mut.ensures.len (length-StepsAt c.report.ensures.step))
