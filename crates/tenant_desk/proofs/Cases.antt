@@ -1,6 +1,6 @@
 -- What holds in the two cases of a result, and of a value that is there.
 use Rattle.std.proofs.Common.{◌≡◌, subst}
-use Rattle.std.specs.Prelude.{Option, Some, None, Result, Ok, Err, MatchResult}
+use Rattle.std.specs.Prelude.{Option, Some, None, Result, Ok, Err, MatchResult, OnErr}
 
 module _ {A B : Type 0} (Done : A → Type 0) (Failed : B → Type 0) where
   pub match_ok : (result : Result A B) (value : A) → result ≡ Ok value → MatchResult result Done Failed → Done value
@@ -8,6 +8,11 @@ module _ {A B : Type 0} (Done : A → Type 0) (Failed : B → Type 0) where
 
   pub match_err : (result : Result A B) (error : B) → result ≡ Err error → MatchResult result Done Failed → Failed error
   match_err result error is holds = subst (λ r. MatchResult r Done Failed) is holds
+
+-- what holds holds where a result is an error
+pub on_err : {A B : Type 0} (result : Result A B) (P : Type 0) → P → OnErr result P
+on_err (Ok value) P holds = tt
+on_err (Err error) P holds = holds
 
 -- it holds of the value, which is there
 abbrev pub HoldsThere : {A : Type 0} → (A → Type 0) → Option A → Type 0

@@ -2,14 +2,12 @@
 -- them runs out of steps.
 use denote.Param.Send.{IsSend, IsSync, sendable}
 use Rattle.std.proofs.Crossing.{crosses}
-use Rattle.indexmap.proofs.map.IndexMap.TheSendSync as index_map
 use Rattle.left_right.proofs.reader.Reader.TheSendSync as reader
 use Rattle.left_right.proofs.writer.Writer.TheSendSync as writer
 use Rattle.logbook.proofs.tokens.Seen.TheSendSync as seen
 use Rattle.logbook.proofs.word.Word.TheSendSync as word
 use Rattle.tenant_ledger.proofs.ledger.Ledger.TheSendSync as ledger
 use Rattle.trace_types.proofs.limits.Limits.TheSendSync as limits
-use Rattle.trace_types.proofs.name.Name.TheSendSync as name
 use Rattle.trace_types.proofs.row.Row.TheSendSync as row
 use Rattle.tree_forest.proofs.tree.Tree.TheSendSync as kept
 use Rattle.tree_forest.proofs.home.Home.TheSendSync as home
@@ -18,12 +16,12 @@ use Rattle.event_tree.specs.contracts.ev_tree.EvTree as EvTree
 use Rattle.id_tree.specs.contracts.IdTree as IdTree
 use Rattle.trace_query.specs.contracts.deciding.Deciding as Deciding
 use Rattle.tree_forest.specs.contracts.tree.Tree as Tree
+use Rattle.tenant_desk.proofs.index.Index.TheSendSync as index
 use Rattle.tenant_desk.specs.contracts.desk.Desk as Desk
 use Rattle.tenant_desk.specs.contracts.desk.Work as Work
 use Rattle.tenant_desk.specs.contracts.event.Event as Event
 use Rattle.tenant_desk.specs.contracts.events.Events as Events
 use Rattle.tenant_desk.specs.contracts.front.Front as Front
-use Rattle.tenant_desk.specs.contracts.index.Index as Index
 use Rattle.tenant_desk.specs.contracts.met.Met as Met
 use Rattle.tenant_desk.specs.contracts.published.Operation as Operation
 use Rattle.tenant_desk.specs.contracts.published.Published as Published
@@ -45,11 +43,8 @@ front_sync = search (seen.the_sync, sendable, crosses) depth 20
 deciding_sync : IsSync Deciding.the_row
 deciding_sync = search (sendable, crosses) depth 20
 
-index_sync : IsSync Index.the_row
-index_sync = search (sendable, crosses, index_map.the_sync, name.the_sync) depth 20
-
 events_sync : IsSync Events.the_row
-events_sync = search (sendable, crosses, kept_ev_sync, kept_id_sync, deciding_sync, index_sync, row.the_sync, home.the_sync, limits.the_sync) depth 20
+events_sync = search (sendable, crosses, kept_ev_sync, kept_id_sync, deciding_sync, index.the_field_sync, row.the_sync, home.the_sync, limits.the_sync) depth 20
 
 published_sync : IsSync Published.the_row
 published_sync = search (sendable, crosses, events_sync, front_sync) depth 20
@@ -82,11 +77,8 @@ event_send = search (sendable, kept_ev_send, kept_id_send, row.the_field_send) d
 deciding_send : IsSend Deciding.the_row
 deciding_send = search (sendable, crosses) depth 20
 
-index_send : IsSend Index.the_row
-index_send = search (sendable, crosses, index_map.the_send, name.the_send) depth 20
-
 events_send : IsSend Events.the_row
-events_send = search (sendable, crosses, kept_ev_send, kept_id_send, deciding_send, index_send, row.the_send, home.the_send, limits.the_send) depth 20
+events_send = search (sendable, crosses, kept_ev_send, kept_id_send, deciding_send, index.the_field_send, row.the_send, home.the_send, limits.the_send) depth 20
 
 published_send : IsSend Published.the_row
 published_send = search (sendable, events_send, front_send) depth 20

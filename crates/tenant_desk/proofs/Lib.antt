@@ -3,14 +3,10 @@ pub mod Beginnings
 pub mod Cases
 pub mod Crossing
 pub mod Indexing
-pub mod PublishedAnswers
-pub mod PublishedCounts
-pub mod PublishedEvents
-pub mod PublishedHomes
+pub mod PublishedIds
 pub mod PublishedNext
 pub mod Publishing
 pub mod Reporting
-pub mod Searching
 pub mod Spans
 pub mod Steps
 pub mod Viewing

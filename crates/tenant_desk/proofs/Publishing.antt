@@ -1,26 +1,27 @@
 -- What operations of a desk make of what is published.
-use Rattle.std.proofs.Common.{◌≡◌, ℕ, List, [], ◌∷◌, ◌++◌, length, take, fold, refl, ap, sym, ◌∙◌}
+use Rattle.std.proofs.Common.{◌≡◌, ℕ, List, [], ◌∷◌, ◌++◌, length, take, fold, refl, ap, sym, subst, ◌∙◌}
 use Rattle.std.proofs.Math.Seq.{take-append_seam, take-length}
 use Rattle.std.specs.Prelude.{Option, Some, None}
 use Rattle.left_right.specs.Register.{TurnsAt}
-use Rattle.tenant_ledger.proofs.Words.{length-reverse, start_of, id_after, history_of, tree_of, tree_clock}
+use Rattle.trace_types.specs.tenant.Limits.{Limits}
+use Rattle.tree_forest.specs.Kept.{Kept}
+use Rattle.tenant_ledger.proofs.Words.{EventTree, Id, length-map, length-reverse, start_of, id_after, history_of, tree_of, tree_clock}
 use Rattle.tenant_ledger.proofs.keeping.Lists.{length-of_each}
-use Rattle.tenant_desk.specs.Events.{Events, AreSound, first_events}
-use Rattle.tenant_desk.specs.Histories.{longer_by}
+use Rattle.tenant_desk.specs.Events.{Events, AreSound, first_events, no_events}
+use Rattle.tenant_desk.specs.Histories.{Line, longer_by}
 use Rattle.tenant_desk.specs.Publications.{EachNext, IsFor, IsNext, MayPublish, left_by, made_by, with_next, with_some}
-use Rattle.tenant_desk.specs.Rules.{Holds, Sees, IsPublished}
+use Rattle.tenant_desk.specs.Rules.{Holds, Sees, IsPublished, sight_of}
 use Rattle.tenant_desk.specs.declared.event.Event.{Event}
 use Rattle.tenant_desk.specs.declared.published.Operation.{Operation}
 use Rattle.tenant_desk.specs.declared.published.Published.{Published}
 use Rattle.tenant_desk.specs.declared.rule.Sight.{Sight}
-use Rattle.tenant_desk.proofs.PublishedNext.{sound_next}
+use Rattle.tenant_desk.proofs.PublishedNext.{sound_next, sound_none}
 use Rattle.tenant_desk.proofs.Steps.{follows_itself, sees}
 
 -- there are so many events
 record HasCount (events : Events) (count : ℕ) : Type 0 where
   pub rows : length events.rows ≡ count
   pub trees : length events.trees ≡ count
-  pub homes : length events.homes ≡ count
   pub points : length events.points ≡ count
   pub starts : length events.starts ≡ count
   pub ids : length events.ids ≡ count
@@ -28,11 +29,10 @@ record HasCount (events : Events) (count : ℕ) : Type 0 where
 has_count : (events : Events) → AreSound events → HasCount events (length events.rows)
 has_count events sound = record {
   rows = refl;
-  trees = ap length sound.trees ∙ length-of_each (tree_of tree_clock) (history_of events.rows) ∙ length-reverse events.rows;
-  homes = ap length sound.homes ∙ length-of_each (λ history event. events.home) (history_of events.rows) ∙ length-reverse events.rows;
+  trees = sym (length-map events.trees (λ (tree : Kept EventTree). tree.value)) ∙ ap length sound.trees ∙ length-of_each (tree_of tree_clock) (history_of events.rows) ∙ length-reverse events.rows;
   points = sound.points.counted ∙ length-reverse events.rows;
   starts = ap length sound.starts ∙ length-of_each start_of (history_of events.rows) ∙ length-reverse events.rows;
-  ids = ap length sound.ids ∙ length-of_each id_after (history_of events.rows) ∙ length-reverse events.rows;
+  ids = sym (length-map events.ids (λ (id : Kept Id). id.value)) ∙ ap length sound.ids ∙ length-of_each id_after (history_of events.rows) ∙ length-reverse events.rows;
 }
 
 take_first : {A : Type 0} (xs more : List A) (count : ℕ) → length xs ≡ count → take count (xs ++ more) ≡ xs
@@ -46,7 +46,6 @@ first_are_all : (events : Events) (count : ℕ) → HasCount events count → fi
 first_are_all events count has = λ i. record events {
   rows = take_all events.rows count has.rows i;
   trees = take_all events.trees count has.trees i;
-  homes = take_all events.homes count has.homes i;
   points = take_all events.points count has.points i;
   starts = take_all events.starts count has.starts i;
   ids = take_all events.ids count has.ids i;
@@ -57,11 +56,10 @@ first_before : (events : Events) (count : ℕ) (event : Option Event) → HasCou
 first_before events count None has = first_are_all events count has
 first_before events count (Some event) has = λ i. record events {
   rows = take_first events.rows (event.row ∷ []) count has.rows i;
-  trees = take_first events.trees (event.tree.value ∷ []) count has.trees i;
-  homes = take_first events.homes (event.tree.home ∷ []) count has.homes i;
+  trees = take_first events.trees (event.tree ∷ []) count has.trees i;
   points = take_first events.points (event.point ∷ []) count has.points i;
   starts = take_first events.starts (event.start ∷ []) count has.starts i;
-  ids = take_first events.ids (event.id.value ∷ []) count has.ids i;
+  ids = take_first events.ids (event.id ∷ []) count has.ids i;
 }
 
 -- of operations that are each for the event after these only the last one stays
@@ -88,11 +86,6 @@ pub each_next_and : (count : ℕ) (operations : List Operation) (last : Operatio
 each_next_and count [] last next at = (at, tt)
 each_next_and count (operation ∷ operations) last next at = (next.0, each_next_and count operations last next.1 at)
 
--- sound events stay so with the next one
-sound_with_next : (events : Events) (event : Event) → AreSound events → IsNext events event → AreSound (with_some (Some event) events)
-sound_with_next events event sound next =
-    sound_next events event.row event.tree.value event.tree.home event.point event.start event.id.value sound next.legal next.tree next.home next.point next.start next.id
-
 -- The operation for the next event is one.
 pub is_for_next : (published : Published) (event : Event) (operation : Operation) → IsPublished published → IsNext published.events event
     → operation.before ≡ length published.events.rows → operation.event ≡ Some event → operation.front ≡ longer_by event.row published.front
@@ -102,7 +95,7 @@ is_for_next published event operation sound next before is_event is_front =
     record {
       before = before;
       sound = rw is (record {
-        events = sound_with_next published.events event sound.events next;
+        events = sound_next published.events event sound.events next;
         rows = ap (λ rows. rows ++ event.row ∷ []) sound.rows;
       });
       follows = rw is (record { of = (refl, refl, refl); begins = (event.row ∷ [], refl) });
@@ -134,7 +127,16 @@ pub ready_and : (published : Published) (known : Option Sight) (waiting : List O
 ready_and published known waiting operation ready for =
     record { sound = ready.sound; seen = ready.seen; next = each_next_and (length published.events.rows) waiting operation ready.next for.before }
 
--- once it is published, and seen, nothing waits
-pub ready_after : (published next : Published) (known now : Option Sight) (operation : Operation) → IsFor published operation
-    → next ≡ made_by operation published → Sees known published next now → MayPublish next now []
-ready_after published next known now operation for is seen = record { sound = seen.0; seen = seen.1; next = tt }
+-- what is seen may be published where nothing waits
+pub ready_with_none : (published : Published) (known : Option Sight) (waiting : List Operation) → IsPublished published → known ≡ Some (sight_of published)
+    → waiting ≡ [] → MayPublish published known waiting
+ready_with_none published known waiting sound seen none =
+    record { sound = sound; seen = seen; next = subst (EachNext (length published.events.rows)) (sym none) tt }
+
+-- No events are published, and no place knows of them.
+pub none_are_published : (events : Events) (home : List ℕ) (limits : Limits) (front : Line) → events ≡ no_events home limits → front.rows ≡ []
+    → IsPublished (record { events = events; front = front })
+none_are_published events home limits front none no_rows = record {
+  events = subst AreSound (sym none) (sound_none home limits);
+  rows = no_rows ∙ ap (λ (of : Events). of.rows) (sym none);
+}

@@ -7,7 +7,7 @@ use Rattle.std.proofs.lemmas.Option.{same_Some}
 use Rattle.trace_types.specs.text.Name.{Text}
 use Rattle.trace_types.specs.tenant.Rows.{History, history_of, receives, receipts}
 use Rattle.trace_types.specs.declared.row.Row.{Row}
-use Rattle.tenant_desk.specs.Searches.{last_of, span_of, with_later}
+use Rattle.tenant_desk.specs.Spans.{last_of, span_of, with_later}
 use Rattle.tenant_desk.specs.declared.span.Span.{Span}
 
 last_of-later : (one : ℕ) (events : List ℕ) (event : ℕ) → last_of one (events ++ event ∷ []) ≡ event

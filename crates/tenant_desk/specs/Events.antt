@@ -1,5 +1,5 @@
 -- What is published of a tenant's events.
-use Rattle.std.specs.Prelude.{◌≡◌, ℕ, List, [], ◌∷◌, ◌++◌, take, Option}
+use Rattle.std.specs.Prelude.{◌≡◌, ℕ, List, [], ◌∷◌, ◌++◌, take, map, Option, All}
 use Rattle.trace_types.specs.tenant.Limits.{Limits}
 use Rattle.trace_types.specs.tenant.Rows.{history_of}
 use Rattle.trace_types.specs.tenant.Tenant.{Tenant, AreLegal}
@@ -9,20 +9,20 @@ use Rattle.trace_types.specs.clock.Id.{Id}
 use Rattle.trace_types.specs.clock.Stamps.{tree_of}
 use Rattle.trace_types.specs.declared.row.Row.{Row}
 use Rattle.trace_query.specs.declared.deciding.Deciding.{Deciding}
+use Rattle.tree_forest.specs.Kept.{Kept}
 use Rattle.tenant_ledger.specs.Ledger.{of_each, start_of, id_after, ArePoints}
+use Rattle.tenant_desk.specs.declared.event.Event.{Event}
 
 -- The rows, and what is kept of each event, in the order of the events. The trees are to lie in the forest of this home.
 pub record Events : Type 0 where
   pub home : List ℕ
   pub limits : Limits
   pub rows : List Row
-  pub trees : List EventTree
-  -- where each tree lies
-  pub homes : List (List ℕ)
+  pub trees : List (Kept EventTree)
   pub points : List (Option Deciding)
   -- the event that started each event's task, or 0
   pub starts : List ℕ
-  pub ids : List Id
+  pub ids : List (Kept Id)
 
 abbrev pub published_tenant : Events → Tenant
 published_tenant events = record { limits = events.limits; rows = events.rows }
@@ -31,33 +31,31 @@ published_tenant events = record { limits = events.limits; rows = events.rows }
 -- that it raised, its start is the event that started its task, and its id is that of its task after it.
 pub record AreSound (events : Events) : Type 0 where
   pub legal : AreLegal events.limits events.rows
-  pub trees : events.trees ≡ of_each (tree_of tree_clock) (history_of events.rows)
-  pub homes : events.homes ≡ of_each (λ history event. events.home) (history_of events.rows)
+  pub trees : map (λ tree. tree.value) events.trees ≡ of_each (tree_of tree_clock) (history_of events.rows)
+  pub homes : All (λ tree. tree.home ≡ events.home) events.trees
   pub points : ArePoints (history_of events.rows) events.points
   pub starts : events.starts ≡ of_each start_of (history_of events.rows)
-  pub ids : events.ids ≡ of_each id_after (history_of events.rows)
+  pub ids : map (λ id. id.value) events.ids ≡ of_each id_after (history_of events.rows)
 
 -- none yet
 abbrev pub no_events : List ℕ → Limits → Events
-no_events home limits = record { home = home; limits = limits; rows = []; trees = []; homes = []; points = []; starts = []; ids = [] }
+no_events home limits = record { home = home; limits = limits; rows = []; trees = []; points = []; starts = []; ids = [] }
 
 -- the first events, and one more behind them
 abbrev pub first_events : ℕ → Events → Events
 first_events count events = record events {
   rows = take count events.rows;
   trees = take count events.trees;
-  homes = take count events.homes;
   points = take count events.points;
   starts = take count events.starts;
   ids = take count events.ids;
 }
 
-abbrev pub events_with : Row → EventTree → List ℕ → Option Deciding → ℕ → Id → Events → Events
-events_with row tree home point start id events = record events {
-  rows = events.rows ++ row ∷ [];
-  trees = events.trees ++ tree ∷ [];
-  homes = events.homes ++ home ∷ [];
-  points = events.points ++ point ∷ [];
-  starts = events.starts ++ start ∷ [];
-  ids = events.ids ++ id ∷ [];
+abbrev pub events_with : Event → Events → Events
+events_with event events = record events {
+  rows = events.rows ++ event.row ∷ [];
+  trees = events.trees ++ event.tree ∷ [];
+  points = events.points ++ event.point ∷ [];
+  starts = events.starts ++ event.start ∷ [];
+  ids = events.ids ++ event.id ∷ [];
 }

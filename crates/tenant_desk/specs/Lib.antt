@@ -5,5 +5,5 @@ pub mod Indexes
 pub mod Kept
 pub mod Publications
 pub mod Rules
-pub mod Searches
+pub mod Spans
 pub mod Views

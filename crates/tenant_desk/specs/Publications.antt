@@ -16,7 +16,7 @@ use Rattle.tenant_desk.specs.declared.published.Published.{Published}
 -- the events with that of an operation, where it has one
 abbrev pub with_some : Option Event → Events → Events
 with_some None events = events
-with_some (Some event) events = events_with event.row event.tree.value event.tree.home event.point event.start event.id.value events
+with_some (Some event) events = events_with event events
 
 -- what is published after an operation: the events before the operation's own, and that one
 abbrev pub left_by : Published → Operation → Published

@@ -87,15 +87,15 @@ fn accept<R: Wait>(
 
 impl Work {
     /// Answers a query by the ledger.
-    fn ask<R: Wait>(&self, rt: &R, request: &Request) -> Reply
+    fn ask(&self, request: &Request) -> Reply
         requires { is_report request.now ≡ false }
         ensures steps { Steps self.now.tenant request.now result self.now.tenant }
         ensures legal { AreLegal self.now.tenant.limits self.now.tenant.rows }
         ensures published { self.now.published ≡ self.now.tenant.rows }
     {
-        match self.ledger.ask_briefly(rt, request) {
+        match self.ledger.ask_briefly(request) {
             Some(reply) => reply,
-            None => self.ledger.ask(&*self.shared, request),
+            None => self.ledger.answer(request),
         }
     }
 
@@ -184,12 +184,12 @@ impl Desk {
         if request.reported().is_some() {
             self.report(rt, request)
         } else {
-            self.ask(rt, request)
+            self.ask(request)
         }
     }
 
     /// Answers a query from where the desk stands.
-    fn ask<R: Wait>(&self, rt: &R, request: &Request) -> Reply
+    fn ask(&self, request: &Request) -> Reply
         requires { is_report request.now ≡ false }
         ensures steps { Steps self.now.tenant request.now result self.now.tenant }
         ensures legal { AreLegal self.now.tenant.limits self.now.tenant.rows }
@@ -198,7 +198,7 @@ impl Desk {
         let Some(work) = &self.work else {
             unreachable!()
         };
-        work.ask(rt, request)
+        work.ask(request)
     }
 
     /// Takes a report, which moves all that the desk works with.

@@ -1,76 +1,126 @@
 //! Tasks and messages by their names.
-ghost use Rattle.std.specs.Prelude.{◌≡◌, [], Some, if◌then◌else◌, IfOk, IsTrue};
-ghost use Rattle.indexmap.specs.IndexMap.{get};
+ghost use Rattle.std.specs.Prelude.{◌≡◌, ◌+◌, ◌≤◌, ◌<◌, ℕ, true, [], ◌∷◌, suc, length, take, Some, if◌then◌else◌, IfOk, MatchBool};
+ghost use Rattle.indexmap.specs.IndexMap.{get, index_map_len, spare};
 ghost use Rattle.trace_types.specs.text.Name.{Text as Characters, is_same};
-ghost use Rattle.tenant_desk.specs.Indexes.{IsIndexOf, NotesRow, task_after, naming_after};
+ghost use Rattle.trace_types.specs.tenant.Limits.{Limits as Bounds};
+ghost use Rattle.trace_types.specs.tenant.Rows.{History, history_of, starts_task, sends_message};
+ghost use Rattle.tenant_desk.specs.Indexes.{AreWithin, HasRoom, IsIndexOf, acting_after, capacity, message_after, naming_after, state_after};
 
-use crate::search::state_at;
 use crate::span::Span;
 use indexmap::IndexMap;
+use indexmap::map::Entry;
 use std::alloc::Global;
 use trace_types::{Kind, Limits, Memory, Name, Row, TaskState};
 
 /// What the rows say of each task and of each message, by its name.
 ///
-/// Room for as many as the tenant may have is taken when this is made.
+/// Room for as many as the tenant may have is taken when this is made. So a change takes no memory.
 #[derive(Drop)]
 pub(crate) struct Index {
+    limits: Limits,
     /// How far each task has come, and its last event, else the event that started it, else 0.
     tasks: IndexMap<Name, (TaskState, u64)>,
     /// The event that sent each message, and the first and the last that received it, if one did.
     messages: IndexMap<Name, (u64, Option<Span>)>,
+    /// How many tasks there ever were, root included.
+    task_count: u64,
+    message_count: u64,
 }
 
 impl Index {
     /// The index of no rows. Returns `Memory` if it runs out of memory.
     pub(crate) fn new(alloc: Global, limits: Limits) -> Result<Index, Memory>
-        ensures { IfOk result (IsIndexOf []) }
+        ensures { IfOk result (IsIndexOf limits []) }
     {
-        let mut tasks = IndexMap::with_capacity(alloc, limits.tasks() as usize)?;
-        if !put(&mut tasks, Name::root(), (TaskState::Live, 0)) {
-            return Err(Memory);
-        }
-        Ok(Index {
-            tasks,
+        let mut index = Index {
+            limits,
+            tasks: IndexMap::with_capacity(alloc, limits.tasks() as usize)?,
             messages: IndexMap::with_capacity(alloc, limits.messages() as usize)?,
-        })
-    }
-
-    /// Notes the row of this event, and says whether there was room for what the row names. If there was none, the index
-    /// is of no more use.
-    pub(crate) fn add(&mut self, row: &Row, event: u64) -> bool
-        ensures { IsTrue result → NotesRow task_after row.now event self.old self.new }
-    {
-        self.add_named(row, event)
-            && put(
-                &mut self.tasks,
-                row.task,
-                (state_at(false, row.kind), event),
-            )
-    }
-
-    /// Notes what the row says of the task or the message that it names, and says whether there was room.
-    fn add_named(&mut self, row: &Row, event: u64) -> bool
-        ensures { IsTrue result → NotesRow naming_after row.now event self.old self.new }
-    {
-        let Some(name) = row.name else {
-            return true;
+            task_count: 0,
+            message_count: 0,
         };
+        index.clear();
+        Ok(index)
+    }
+
+    /// Makes it the index of no rows.
+    fn clear(&mut self)
+        requires { HasRoom self.old }
+        ensures { IsIndexOf self.old.limits [] self.new }
+    {
+        let _ = self.limits.events();
+        self.tasks.clear();
+        self.messages.clear();
+        put(&mut self.tasks, Name::root(), (TaskState::Live, 0));
+        self.task_count = 1;
+        self.message_count = 0;
+    }
+
+    /// Makes it the index of these rows.
+    fn read(&mut self, rows: &[Row])
+        requires room { HasRoom self.old }
+        requires within { AreWithin self.old.limits (history_of rows.now) }
+        ensures { IsIndexOf self.old.limits (history_of rows.now) self.new }
+    {
+        self.clear();
+        for (place, row) in rows.iter().enumerate() {
+            self.add(row, place as u64 + 1);
+        }
+    }
+
+    /// Makes the index of the rows that of the first `count`.
+    pub(crate) fn truncate(&mut self, rows: &[Row], count: usize)
+        requires { IsIndexOf self.old.limits (history_of rows.now) self.old }
+        ensures { IsIndexOf self.old.limits (history_of (take count rows.now)) self.new }
+    {
+        if count < rows.len() {
+            self.read(&rows[..count]);
+        }
+    }
+
+    /// Makes the index of the rows that of the first `before` and of this row behind them, and says whether these are
+    /// within the limits. If they are not, it stays the index of the rows.
+    pub(crate) fn put(&mut self, rows: &[Row], before: usize, row: &Row) -> bool
+        requires { IsIndexOf self.old.limits (history_of rows.now) self.old }
+        ensures within { MatchBool result (AreWithin self.old.limits (row.now ∷ history_of (take before rows.now)))
+            (AreWithin self.old.limits (row.now ∷ history_of (take before rows.now)) → ⊥) }
+        ensures index { MatchBool result (IsIndexOf self.old.limits (row.now ∷ history_of (take before rows.now)) self.new)
+            (IsIndexOf self.old.limits (history_of rows.now) self.new) }
+    {
+        self.truncate(rows, before);
+        if !self.has_room(row) {
+            self.read(rows);
+            return false;
+        }
+        self.add(row, before.min(rows.len()) as u64 + 1);
+        true
+    }
+
+    /// Whether the rows are still within the limits with this one.
+    fn has_room(&self, row: &Row) -> bool
+        ensures { (limits : Bounds) (history : History) → IsIndexOf limits history self.now
+            → MatchBool result (AreWithin limits (row.now ∷ history)) (AreWithin limits (row.now ∷ history) → ⊥) }
+    {
         match row.kind {
-            Kind::Local | Kind::End => true,
-            Kind::Spawn => put(&mut self.tasks, name, (TaskState::Live, event)),
-            Kind::Join => match self.task(&name) {
-                Some((_, last)) => put(&mut self.tasks, name, (TaskState::Joined, last)),
-                None => true,
-            },
-            Kind::Send => put(&mut self.messages, name, (event, None)),
-            Kind::Recv => match self.message(&name) {
-                Some((sent, received)) => {
-                    let received = Span::with_later(received, event);
-                    put(&mut self.messages, name, (sent, Some(received)))
-                }
-                None => true,
-            },
+            Kind::Spawn => self.task_count < self.limits.tasks(),
+            Kind::Send => self.message_count < self.limits.messages(),
+            _ => true,
+        }
+    }
+
+    /// Adds the row of this event.
+    fn add(&mut self, row: &Row, event: u64)
+        requires { (limits : Bounds) × (history : History) × IsIndexOf limits history self.old × AreWithin limits (row.now ∷ history) }
+        ensures { (limits : Bounds) (history : History) → IsIndexOf limits history self.old → AreWithin limits (row.now ∷ history) → event ≡ suc (length history)
+            → IsIndexOf limits (row.now ∷ history) self.new }
+    {
+        name_task(&mut self.tasks, row, event);
+        act(&mut self.tasks, row, event);
+        name_message(&mut self.messages, row, event);
+        match row.kind {
+            Kind::Spawn => self.task_count += 1,
+            Kind::Send => self.message_count += 1,
+            _ => {}
         }
     }
 
@@ -89,11 +139,93 @@ impl Index {
     {
         self.messages.get(name).copied()
     }
+
+    /// How many tasks there ever were, root included.
+    pub(crate) fn task_count(&self) -> u64
+        ensures { result ≡ self.now.task_count }
+    {
+        self.task_count
+    }
+
+    /// How many messages there are.
+    pub(crate) fn message_count(&self) -> u64
+        ensures { result ≡ self.now.message_count }
+    {
+        self.message_count
+    }
 }
 
-/// Keeps the value under the name, and says whether there was room.
-fn put<V: Drop>(map: &mut IndexMap<Name, V>, name: Name, value: V) -> bool
-    ensures { IsTrue result → (other : Characters) → get is_same map.new other ≡ (if is_same name other then Some value else get is_same map.old other) }
+/// Notes what the row of this event says of a task that it names.
+fn name_task(tasks: &mut IndexMap<Name, (TaskState, u64)>, row: &Row, event: u64)
+    requires { starts_task row.now.kind ≡ true → 0 < spare tasks.old }
+    ensures tasks { (task : Characters) → get is_same tasks.new task ≡ naming_after row.now event task (get is_same tasks.old task) }
+    ensures count { index_map_len tasks.new ≤ index_map_len tasks.old + (if starts_task row.now.kind then 1 else 0) }
+    ensures room { capacity tasks.old ≤ capacity tasks.new }
 {
-    map.insert(name, value).is_ok()
+    match (row.kind, row.name) {
+        (Kind::Spawn, Some(child)) => put(tasks, child, (TaskState::Live, event)),
+        (Kind::Join, Some(child)) => {
+            if let Some(found) = tasks.get_mut(&child) {
+                found.0 = TaskState::Joined;
+            }
+        }
+        _ => {}
+    }
+}
+
+/// Notes that the row of this event is the last of its task.
+fn act(tasks: &mut IndexMap<Name, (TaskState, u64)>, row: &Row, event: u64)
+    ensures tasks { (task : Characters) → get is_same tasks.new task ≡ acting_after row.now event task (get is_same tasks.old task) }
+    ensures count { index_map_len tasks.new ≡ index_map_len tasks.old }
+    ensures room { capacity tasks.old ≤ capacity tasks.new }
+{
+    if let Some(found) = tasks.get_mut(&row.task) {
+        *found = (state_after(row.kind), event);
+    }
+}
+
+/// Notes what the row of this event says of a message that it names.
+fn name_message(messages: &mut IndexMap<Name, (u64, Option<Span>)>, row: &Row, event: u64)
+    requires { sends_message row.now.kind ≡ true → 0 < spare messages.old }
+    ensures messages { (message : Characters) → get is_same messages.new message ≡ message_after row.now event message (get is_same messages.old message) }
+    ensures count { index_map_len messages.new ≤ index_map_len messages.old + (if sends_message row.now.kind then 1 else 0) }
+    ensures room { capacity messages.old ≤ capacity messages.new }
+{
+    match (row.kind, row.name) {
+        (Kind::Send, Some(message)) => put(messages, message, (event, None)),
+        (Kind::Recv, Some(message)) => {
+            if let Some(sent) = messages.get_mut(&message) {
+                sent.1 = Some(Span::with_later(sent.1, event));
+            }
+        }
+        _ => {}
+    }
+}
+
+/// Keeps the value under the name. There is room for it.
+fn put<V: Drop>(map: &mut IndexMap<Name, V>, name: Name, value: V)
+    requires { 0 < spare map.old }
+    ensures names { (other : Characters) → get is_same map.new other ≡ (if is_same name other then Some value else get is_same map.old other) }
+    ensures count { index_map_len map.new ≤ index_map_len map.old + 1 }
+    ensures room { capacity map.old ≤ capacity map.new }
+{
+    match map.entry(name) {
+        Ok(Entry::Occupied(mut entry)) => {
+            entry.insert(value);
+        }
+        Ok(Entry::Vacant(entry)) => {
+            entry.insert(value);
+        }
+        Err(_) => unreachable!(),
+    }
+}
+
+/// How far a task has come after its own report of this kind.
+fn state_after(kind: Kind) -> TaskState
+    ensures { result ≡ state_after kind }
+{
+    match kind {
+        Kind::End => TaskState::Ended,
+        _ => TaskState::Live,
+    }
 }

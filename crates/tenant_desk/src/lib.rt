@@ -32,7 +32,6 @@ mod met;
 mod published;
 mod publisher;
 mod rule;
-mod search;
 mod span;
 mod told;
 mod view;

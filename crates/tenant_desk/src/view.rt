@@ -2,19 +2,22 @@
 ghost use Rattle.std.specs.Prelude.{◌≡◌, [], IfOk, MatchResult};
 ghost use Rattle.std.specs.Arc.{arc_value};
 ghost use Rattle.left_right.specs.Sides.{view as known_at};
+ghost use Rattle.trace_types.specs.tenant.Tenant.{Answers};
 ghost use Rattle.tenant_ledger.specs.Size.{IsShort};
+ghost use Rattle.tenant_desk.specs.Events.{AreSound, published_tenant};
 ghost use Rattle.tenant_desk.specs.Rules.{HasEntered, IsOfLog, StaysOf};
 ghost use Rattle.tenant_desk.specs.Views.{Learns, Responds};
 
 use crate::Told;
+use crate::events::Events;
 use crate::front::Front;
 use crate::met::Met;
 use crate::publisher::{DeskReader, DeskReading, Publisher};
 use crate::rule::Seeing;
-use std::alloc::Global;
 use std::marker::Model;
 use std::sync::{Arc, Wait};
-use tenant_ledger::{Keep, Shared};
+use tenant_ledger::{Keep, Own, Shared, answer};
+use trace_query::Plain;
 use trace_types::{Code, Limits, Memory, Reply, Request};
 
 /// A view of a tenant. It answers at a list of rows that the desk published. It never goes back behind a list that it saw
@@ -30,7 +33,6 @@ pub struct View {
     met: Met,
     limits: Limits,
     shared: Arc<Shared>,
-    alloc: Global,
 }
 
 impl Model for View {
@@ -73,10 +75,23 @@ fn leave(reading: DeskReading) -> (DeskReader, Front)
     (reading.leave(), front)
 }
 
+/// Answers from the events, by the cache of what keeps their trees or without it.
+#[inline(always)]
+fn answer_from(events: &Events, shared: &Shared, by_cache: bool, request: &Request) -> Reply
+    requires sound { AreSound events.now }
+    requires home { ⟦<Shared as Keep>⟧.home shared.now ≡ events.now.home }
+    ensures { Answers (published_tenant events.now) request.now result }
+{
+    if by_cache {
+        answer(events, &Own(shared), request)
+    } else {
+        answer(events, &Plain, request)
+    }
+}
+
 impl View {
     /// A view that has seen all that is shown. Returns `Memory` if there is no place to read from, or no memory for it.
     pub(crate) fn new(
-        alloc: Global,
         limits: Limits,
         shared: &Arc<Shared>,
         publisher: &mut Publisher,
@@ -94,7 +109,6 @@ impl View {
             met: Met::new(),
             limits,
             shared,
-            alloc,
         })
     }
 
@@ -123,37 +137,7 @@ impl View {
         ensures short { IsShort self.new.seen request.now result }
     {
         let _ = self.limits.events();
-        self.respond(request)
-    }
-
-    /// The same, by itself.
-    #[inline(always)]
-    #[tactic(auto, using(crate::proofs::Viewing::of_log, crate::proofs::Viewing::entered_desk))]
-    fn respond(&mut self, request: &Request) -> Reply
-        ensures answer { Responds self.old request.now result self.new }
-        ensures book { self.new.book ≡ self.old.book }
-    {
-        if request.is_report() {
-            return Reply::Refused(Code::ViewOnly);
-        }
-        let Some(reader) = self.reader.take() else {
-            unreachable!()
-        };
-        match enter(reader, &self.seen) {
-            Ok(reading) => {
-                let events = &reading.get().events;
-                let reply = events.answer(&*self.shared, self.alloc, request);
-                let (reader, seen) = leave(reading);
-                self.reader = Some(reader);
-                self.seen = seen;
-                self.met.clear();
-                reply
-            }
-            Err(reader) => {
-                self.reader = Some(reader);
-                Reply::Refused(Code::NoPlace)
-            }
-        }
+        self.respond(request, false)
     }
 
     /// Answers as [`View::ask`] does, and looks orders up in the cache that all tenants share.
@@ -164,13 +148,14 @@ impl View {
         ensures short { IsShort self.new.seen request.now result }
     {
         let _ = self.limits.events();
-        self.respond_cached(rt, request)
+        let _ = rt;
+        self.respond(request, true)
     }
 
-    /// The same, by itself.
+    /// Answers as [`View::ask`] does, by the cache that all tenants share or without it.
     #[inline(always)]
     #[tactic(auto, using(crate::proofs::Viewing::of_log, crate::proofs::Viewing::entered_desk))]
-    fn respond_cached<R: Wait>(&mut self, rt: &R, request: &Request) -> Reply
+    fn respond(&mut self, request: &Request, by_cache: bool) -> Reply
         ensures answer { Responds self.old request.now result self.new }
         ensures book { self.new.book ≡ self.old.book }
     {
@@ -183,7 +168,7 @@ impl View {
         match enter(reader, &self.seen) {
             Ok(reading) => {
                 let events = &reading.get().events;
-                let reply = events.answer_cached(rt, &*self.shared, self.alloc, request);
+                let reply = answer_from(events, &*self.shared, by_cache, request);
                 let (reader, seen) = leave(reading);
                 self.reader = Some(reader);
                 self.seen = seen;

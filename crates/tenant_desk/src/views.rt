@@ -49,7 +49,7 @@ impl Views {
     {
         let mut views = Vec::with_capacity(alloc, VIEWS)?;
         for _number in 0..VIEWS {
-            views.push(View::new(alloc, limits, shared, publisher)?)?;
+            views.push(View::new(limits, shared, publisher)?)?;
         }
         Ok(Views {
             views,

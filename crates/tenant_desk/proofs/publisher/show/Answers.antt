@@ -1,7 +1,7 @@
 use Rattle.std.proofs.Common.{ap, ◌∙◌, drop, fold}
 use Rattle.tenant_desk.specs.Publications.{left_by}
 use Rattle.tenant_desk.proofs.Cases.{match_ok, match_err}
-use Rattle.tenant_desk.proofs.Publishing.{publishes, ready_and}
+use Rattle.tenant_desk.proofs.Publishing.{publishes, ready_and, ready_with_none}
 use Rattle.tenant_desk.proofs.publisher.show.Goals as goal
 
 pub publish_as-requires : goal.publish_as-requires
@@ -11,6 +11,12 @@ publish_as-requires g c next is =
     let of_old = is ∙ ap (λ desk. fold left_by desk.shown.value (drop c.append.new.self.behind c.append.new.self.log.items)) same
     ∙ ap (fold left_by writer.desk.shown.value) c.in-Ok.ensures.pending in
     rw same (publishes _ _ writer.desk.shown.value next _ c.args.operation c.requires.ready c.requires.operation of_old).1
+
+pub returns-in_default-Ok-clause-ready : goal.returns-in_default-Ok-clause-ready
+returns-in_default-Ok-clause-ready g c =
+    let values = match_ok _ _ _ _ c.in_default-Ok.is-1 c.publish_as.ensures.values in
+    let seen = match_ok _ _ _ _ c.in_default-Ok.is-1 c.publish_as.ensures.rule in
+    ready_with_none _ _ _ seen.0 seen.1 values.1
 
 pub returns-in_default-Ok-clause-shown : goal.returns-in_default-Ok-clause-shown
 returns-in_default-Ok-clause-shown g c =
