@@ -20,10 +20,13 @@
 //! ```
 #![tactic(auto)]
 
+mod check;
 mod fault;
-mod names;
+mod load;
 mod program;
-mod serving;
+mod replay;
+mod serve;
+mod show;
 
 pub use fault::Fault;
 pub use program::run;

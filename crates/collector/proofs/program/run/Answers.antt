@@ -2,15 +2,13 @@ use Rattle.std.proofs.Common.{rules, ℕ, ◌≡◌, ◌∙◌, ◌⊎◌, inl, 
 use Rattle.command_line.specs.Demand.{Demand, ToReplay, ToServe, ToCheck, ToLoad}
 use Rattle.collector.specs.Taking.{is_taken}
 use Rattle.collector.specs.Fault.{status_of}
-use Rattle.collector.specs.Program.{Does, DoesInPart, ExportsFreshInPart, GoesThrough, IsFailure, IsUntouched, LacksMemory, LoadsExport, LoadsExportInPart, NothingFails, RefusesTenants, ShowsSome, TellsFault}
+use Rattle.collector.specs.Program.{Does, DoesInPart, GoesThrough, IsFailure, IsUntouched, LacksMemory, LoadsExport, LoadsExportInPart, NothingFails, RefusesTenants, ShowsSome, TellsFault}
 use Rattle.collector.specs.Serving.{Serves, ServesInPart}
 use Rattle.line_protocol.specs.Source.{Given}
 use Rattle.line_protocol.specs.Sink.{Taken}
 use Rattle.std.proofs.lemmas.Bool.{cases_eq}
-use Rattle.std.specs.Global.{Global}
-use Rattle.std.specs.Prelude.{String, option_map, unwrap_or, IsErrAnd, IsSomeAnd, IsTrue, List, string_bytes}
-use Rattle.trace_types.specs.text.Name.{Text, is_between, is_name}
-use Rattle.command_line.specs.declared.demand.Replay.{Replay as Replays}
+use Rattle.std.specs.Prelude.{unwrap_or, List, string_bytes}
+use Rattle.trace_types.specs.text.Name.{Text, is_name}
 use Rattle.collector.specs.declared.fault.Fault.{Fault}
 use Rattle.collector.specs.declared.fault.Fault.TheVariants.{Words, Tenants, Port, Accept, Read, Write, TooLong, Memory}
 use Rattle.command_line.specs.Demand.{asked_in}
@@ -112,25 +110,6 @@ asked_by words (Load tenant) demand is read ranges =
     (record { taken = read.0.0; work = read.0.1; found = read.2; exact = read.1; ranges = subst IsInRange (sym (some_same is)) ranges })
 asked_by words (Show text) demand is read ranges = cc
 
--- what running out of memory leaves of a replay
-replay_lacks : {R W : Type 0} (given : R → Given) (taken : W → Taken) (words : List Text) (fault : Fault) (replay : Replays) (reader reader' : R) (writer writer' : W)
-    → fault ≡ Memory → IsAskedBy words (ToReplay (wanted_of replay)) → is_taken (ToReplay (wanted_of replay)) ≡ true
-    → IsUntouched reader reader' writer writer' ⊎ IsSomeAnd replay.export (λ name.
-    ExportsFreshInPart fault (string_bytes name) replay.limits (map string_bytes replay.tenants.items) (given reader) (given reader') (taken writer) (taken writer'))
-    → IsUntouched reader reader' writer writer'
-    ⊎ ((asked : Demand) × IsAskedBy words asked × (is_taken asked ≡ true) × LacksMemory given taken asked reader reader' writer writer')
-replay_lacks given taken words fault replay reader reader' writer writer' fault_is asked names (inl untouched) = inl untouched
-replay_lacks given taken words fault replay reader reader' writer writer' fault_is asked names (inr part) =
-    inr (ToReplay (wanted_of replay), asked, names, exported replay.export part)
-  where
-    exported : (export : Option (String Global)) → IsSomeAnd export (λ name. ExportsFreshInPart fault (string_bytes name) replay.limits (map string_bytes replay.tenants.items) (given reader) (given reader') (taken writer) (taken writer'))
-        → IsSomeAnd (option_map string_bytes export) (λ name. ExportsFreshInPart Memory name replay.limits (map string_bytes replay.tenants.items)
-        (given reader) (given reader') (taken writer) (taken writer'))
-    exported None part = part
-    exported (Some name) part =
-        subst (λ one. ExportsFreshInPart one (string_bytes name) replay.limits (map string_bytes replay.tenants.items) (given reader) (given reader') (taken writer) (taken writer'))
-        fault_is part
-
 -- tenants that are not refused are taken
 taken_unless : (before after : Taken) (taken : Bool) (status : ℕ) → RefusesTenants taken before after status → status ≢ 2 → taken ≡ true
 taken_unless before after true status refuses other = refl
@@ -140,15 +119,6 @@ taken_unless before after false status refuses other = absurd (other refuses.0)
 service_unfailed : (port : ℕ) (given : Given) (taken taken' : Taken) → ServesInPart Memory port taken taken' → NothingFails given given taken taken'
 service_unfailed port given taken taken' (inl same) = (λ e. omega (arith, e), λ e. omega (arith, e, ap (λ (t : Taken). t.failures) same))
 service_unfailed port given taken taken' (inr all) = (λ e. omega (arith, e), λ e. omega (arith, e, all.2))
-
--- what failed is told with status 3, so nothing did at status 4
-unfailed : {T : Type 0} (before after : Given) (taken taken' : Taken) (result : Result T Fault) (fault : Fault) → result ≡ Err fault → status_of fault ≡ 4
-    → (before.failures < after.failures → IsErrAnd result (λ one. status_of one ≡ 3)) → (taken.failures < taken'.failures → IsErrAnd result (λ one. status_of one ≡ 3))
-    → NothingFails before after taken taken'
-unfailed {T} before after taken taken' result fault is four read write = (λ e. other (read e), λ e. other (write e))
-  where
-    other : IsErrAnd result (λ one. status_of one ≡ 3) → ⊥
-    other three = let at : status_of fault ≡ 3 = subst (λ r. IsErrAnd r (λ one. status_of one ≡ 3)) is three in omega (arith, four, at)
 
 -- why serving was broken off
 serving_failed : (fault : Fault) (port : ℕ) (before after : Given) (taken taken' : Taken) → status_of fault ≡ 3 → ServesInPart fault port taken taken'
@@ -372,7 +342,7 @@ returns-in-Ok g c = record {
         let field : w.in-Ok-Replay.field-0 ≡ Replay w.in-Ok-Replay.wanted = search rules in
         let is : asked ≡ ToReplay (wanted_of w.in-Ok-Replay.wanted) = subst (λ one. ReadsWords asked (Ok one)) field read in
         let taken = at_ok w.replay_tenants-done.result c.in-Ok.field-0 _ (sym w.done-is ∙ c.in-Ok.is) w.replay_tenants-done.ensures.taken in
-        inl (done_taken _ _ (is_taken asked) (ap is_taken is ∙ taken)))
+        inl (done_taken _ _ (is_taken asked) (ap is_taken is ∙ taken.0)))
     | in-Ok-Show w ↦ on_asked _ (λ asked. ReadsWords asked (Ok w.in-Ok-Show.field-0)) _ w.in-Ok-Show.ensures.asked (λ asked read.
         let field : w.in-Ok-Show.field-0 ≡ Show w.in-Ok-Show.text = search rules in
         absurd (subst (λ one. ReadsWords asked (Ok one)) field read))
@@ -389,13 +359,11 @@ returns-in-Ok g c = record {
           let field : w.in-Ok-Replay.field-0 ≡ Replay w.in-Ok-Replay.wanted = search rules in
           let asked_is = ToReplay (wanted_of w.in-Ok-Replay.wanted) in
           let done = sym w.done-is ∙ c.in-Ok.is in
-          let limits = at_ok w.replay_tenants-done.result c.in-Ok.field-0 _ done w.replay_tenants-done.ensures.ranges in
-          let cache : IsTrue (is_between 1 65536 w.in-Ok-Replay.wanted.cache) = search rules in
-          let read = subst (IsReadAs words) field (w.in-Ok-Replay.ensures.kinds, w.in-Ok-Replay.ensures.asked, w.in-Ok-Replay.ensures.found) in
-          let by = asked_by words (Replay w.in-Ok-Replay.wanted) asked_is refl read (limits, cache) in
           let taken = at_ok w.replay_tenants-done.result c.in-Ok.field-0 _ done w.replay_tenants-done.ensures.taken in
-          let does = at_ok w.replay_tenants-done.result c.in-Ok.field-0 _ done w.replay_tenants-done.ensures.ok in
-          inr (asked_is, by, taken, (refl, rw (w.reader-is, w.writer-is) does))
+          let read = subst (IsReadAs words) field (w.in-Ok-Replay.ensures.kinds, w.in-Ok-Replay.ensures.asked, w.in-Ok-Replay.ensures.found) in
+          let by = asked_by words (Replay w.in-Ok-Replay.wanted) asked_is refl read taken.1 in
+          let does = at_ok w.replay_tenants-done.result c.in-Ok.field-0 _ done w.replay_tenants-done.ensures.done in
+          inr (asked_is, by, taken.0, rw (w.reader-is, w.writer-is) does)
       | in-Ok-Show w ↦
           let words = map g.S.AsStr.text c.args.words.now in
           let field : w.in-Ok-Show.field-0 ≡ Show w.in-Ok-Show.text = search rules in
@@ -412,9 +380,9 @@ returns-in-Ok g c = record {
     | in-Ok-Replay w ↦ on_asked _ (λ asked. ReadsWords asked (Ok w.in-Ok-Replay.field-0)) _ w.in-Ok-Replay.ensures.asked (λ asked read.
         let field : w.in-Ok-Replay.field-0 ≡ Replay w.in-Ok-Replay.wanted = search rules in
         let is : asked ≡ ToReplay (wanted_of w.in-Ok-Replay.wanted) = subst (λ one. ReadsWords asked (Ok one)) field read in
-        let fresh = at_ok w.replay_tenants-done.result c.in-Ok.field-0 _ (sym w.done-is ∙ c.in-Ok.is) w.replay_tenants-done.ensures.ok in
+        let fresh = at_ok w.replay_tenants-done.result c.in-Ok.field-0 _ (sym w.done-is ∙ c.in-Ok.is) w.replay_tenants-done.ensures.done in
         subst (λ one. Does g.R.Source.seen one c.args.reader.now c.match-read_words.reader
-        (g.W.Sink.seen c.args.writer.now) (g.W.Sink.seen c.match-read_words.writer) 0) (sym is) (refl, rw (w.reader-is, w.writer-is) fresh))
+        (g.W.Sink.seen c.args.writer.now) (g.W.Sink.seen c.match-read_words.writer) 0) (sym is) (rw (w.reader-is, w.writer-is) fresh))
     | in-Ok-Show w ↦ on_asked _ (λ asked. ReadsWords asked (Ok w.in-Ok-Show.field-0)) _ w.in-Ok-Show.ensures.asked (λ asked read.
         let field : w.in-Ok-Show.field-0 ≡ Show w.in-Ok-Show.text = search rules in
         absurd (subst (λ one. ReadsWords asked (Ok one)) field read))
@@ -453,7 +421,7 @@ returns-in-Err g c = record {
         let in_part = at_err w.replay_tenants-done.result c.in-Err.fault _ err w.replay_tenants-done.ensures.in_part in
         let lacks = at_err w.replay_tenants-done.result c.in-Err.fault _ err w.replay_tenants-done.ensures.lacks in
         inl (subst (λ status. RefusesTenants (is_taken asked) (g.E.Sink.seen c.args.errors.now) (g.E.Sink.seen c.tell.new.errors) status) (sym c.tell.ensures.status)
-        (status_taken _ _ c.in-Err.fault (is_taken asked) c.tell.ensures.told (λ two. ((refused two).0, same ∙ (refused two).1)) (λ three. same ∙ (in_part three).0) (λ four. same ∙ lacks four))))
+        (status_taken _ _ c.in-Err.fault (is_taken asked) c.tell.ensures.told (λ two. ((refused two).0, same ∙ (refused two).1)) (λ three. same ∙ (in_part three).0) (λ four. same ∙ (lacks four).0))))
     | in-Ok-Show w ↦ on_asked _ (λ asked. ReadsWords asked (Ok w.in-Ok-Show.field-0)) _ w.in-Ok-Show.ensures.asked (λ asked read.
         let field : w.in-Ok-Show.field-0 ≡ Show w.in-Ok-Show.text = search rules in
         absurd (subst (λ one. ReadsWords asked (Ok one)) field read))
@@ -466,10 +434,8 @@ returns-in-Err g c = record {
     search rules,
     elim c.match-read_words.branch [
       | in-Ok-Replay w ↦
-          let done = w.replay_tenants-done in
-          let fails = unfailed (g.R.Source.seen c.args.reader.now) (g.R.Source.seen c.match-read_words.reader)
-          (g.W.Sink.seen c.args.writer.now) (g.W.Sink.seen c.match-read_words.writer) done.result c.in-Err.fault (sym w.done-is ∙ c.in-Err.is) (sym c.tell.ensures.status ∙ four) in
-          fails (rw w.reader-is done.ensures.read_failed) (rw w.writer-is done.ensures.write_failed)
+          rw (w.reader-is, w.writer-is)
+          (at_err w.replay_tenants-done.result c.in-Err.fault _ (sym w.done-is ∙ c.in-Err.is) w.replay_tenants-done.ensures.unfailed (sym c.tell.ensures.status ∙ four))
       | in-Ok-Show w ↦
           let fault = at_err w.show_help-done.result c.in-Err.fault _ (sym w.done-is ∙ c.in-Err.is) w.show_help-done.ensures.err in
           let no : 3 ≡ 4 = sym (c.tell.ensures.status ∙ ap status_of fault.0) ∙ four in
@@ -484,13 +450,14 @@ returns-in-Err g c = record {
       | in-Ok-Replay w ↦
           let words = map g.S.AsStr.text c.args.words.now in
           let field : w.in-Ok-Replay.field-0 ≡ Replay w.in-Ok-Replay.wanted = search rules in
-          let lacked = at_err w.replay_tenants-done.result c.in-Err.fault _ (sym w.done-is ∙ c.in-Err.is) w.replay_tenants-done.ensures.memory (sym c.tell.ensures.status ∙ four) in
-          let names = at_err w.replay_tenants-done.result c.in-Err.fault _ (sym w.done-is ∙ c.in-Err.is) w.replay_tenants-done.ensures.lacks (sym c.tell.ensures.status ∙ four) in
-          let ranges : IsInRange (ToReplay (wanted_of w.in-Ok-Replay.wanted)) = search rules in
+          let asked_is = ToReplay (wanted_of w.in-Ok-Replay.wanted) in
+          let lacked = at_err w.replay_tenants-done.result c.in-Err.fault _ (sym w.done-is ∙ c.in-Err.is) w.replay_tenants-done.ensures.lacks (sym c.tell.ensures.status ∙ four) in
+          let ranges : IsInRange asked_is = search rules in
           let read = subst (IsReadAs words) field (w.in-Ok-Replay.ensures.kinds, w.in-Ok-Replay.ensures.asked, w.in-Ok-Replay.ensures.found) in
-          let by = asked_by words (Replay w.in-Ok-Replay.wanted) (ToReplay (wanted_of w.in-Ok-Replay.wanted)) refl read ranges in
-          replay_lacks g.R.Source.seen g.W.Sink.seen words c.in-Err.fault w.in-Ok-Replay.wanted c.args.reader.now c.match-read_words.reader c.args.writer.now c.match-read_words.writer
-          (four_only c.in-Err.fault (sym c.tell.ensures.status ∙ four)) by names (rw (w.reader-is, w.writer-is) lacked)
+          let by = asked_by words (Replay w.in-Ok-Replay.wanted) asked_is refl read ranges in
+          let left : IsUntouched c.args.reader.now c.match-read_words.reader c.args.writer.now c.match-read_words.writer
+          ⊎ LacksMemory g.R.Source.seen g.W.Sink.seen asked_is c.args.reader.now c.match-read_words.reader c.args.writer.now c.match-read_words.writer = rw (w.reader-is, w.writer-is) lacked.1 in
+          elim left [ inl untouched ↦ inl untouched | inr part ↦ inr (asked_is, by, lacked.0, part) ]
       | in-Ok-Show w ↦
           let fault = at_err w.show_help-done.result c.in-Err.fault _ (sym w.done-is ∙ c.in-Err.is) w.show_help-done.ensures.err in
           let no : 3 ≡ 4 = sym (c.tell.ensures.status ∙ ap status_of fault.0) ∙ four in
@@ -517,7 +484,7 @@ returns-in-Err g c = record {
                 let in_part = at_err w.replay_tenants-done.result c.in-Err.fault _ (sym w.done-is ∙ c.in-Err.is) w.replay_tenants-done.ensures.in_part in
                 subst (λ one. DoesInPart g.R.Source.seen one c.in-Err.fault c.args.reader.now c.match-read_words.reader
                 (g.W.Sink.seen c.args.writer.now) (g.W.Sink.seen c.match-read_words.writer)) (sym is)
-                (rw (w.reader-is, w.writer-is) (in_part (sym c.tell.ensures.status ∙ three)).1))
+                (rw (w.reader-is, w.writer-is) (in_part (sym c.tell.ensures.status ∙ three)).1.1))
             | in-Ok-Show w ↦ on_asked _ (λ asked. ReadsWords asked (Ok w.in-Ok-Show.field-0)) _ w.in-Ok-Show.ensures.asked (λ asked read.
                 let field : w.in-Ok-Show.field-0 ≡ Show w.in-Ok-Show.text = search rules in
                 absurd (subst (λ one. ReadsWords asked (Ok one)) field read))
@@ -537,7 +504,7 @@ returns-in-Err g c = record {
               let ranges : IsInRange asked_is = search rules in
               let read = subst (IsReadAs words) field (w.in-Ok-Replay.ensures.kinds, w.in-Ok-Replay.ensures.asked, w.in-Ok-Replay.ensures.found) in
               let by = asked_by words (Replay w.in-Ok-Replay.wanted) asked_is refl read ranges in
-              inr (asked_is, by, in_part.0, rw (w.reader-is, w.writer-is) in_part.1)
+              inr (asked_is, by, in_part.0, rw (w.reader-is, w.writer-is) in_part.1.1)
           | in-Ok-Show w ↦
               let words = map g.S.AsStr.text c.args.words.now in
               let field : w.in-Ok-Show.field-0 ≡ Show w.in-Ok-Show.text = search rules in

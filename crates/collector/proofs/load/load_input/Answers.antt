@@ -11,7 +11,7 @@ use Rattle.collector.specs.Program.{LoadsToTell, TellsNo, line_of_loaded}
 use Rattle.collector.specs.Showing.{Shows}
 use Rattle.collector.specs.declared.fault.Fault.{Fault}
 use Rattle.collector.specs.declared.fault.Fault.TheVariants.{Tenants}
-use Rattle.collector.proofs.program.load_input.Goals as goal
+use Rattle.collector.proofs.load.load_input.Goals as goal
 
 -- the text that there is, or else another one
 abbrev text_or : Text → Option Text → Text

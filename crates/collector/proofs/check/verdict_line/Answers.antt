@@ -5,7 +5,7 @@ use Rattle.trace_export.specs.declared.reason.Reason.{Reason}
 use Rattle.trace_export.specs.declared.verdict.Verdict.{Verdict}
 use Rattle.trace_export.specs.declared.verdict.Verdict.TheVariants.{No}
 use Rattle.collector.specs.Program.{line_of_verdict}
-use Rattle.collector.proofs.program.verdict_line.Goals as goal
+use Rattle.collector.proofs.check.verdict_line.Goals as goal
 
 told : (line number : ℕ) (reason : Reason) (verdict : Verdict) → number ≡ reason_number reason → verdict ≡ No line reason
     → codes "no " ++ (decimal line ++ (codes " " ++ (decimal number ++ codes "\n"))) ≡ line_of_verdict verdict

@@ -12,7 +12,7 @@ use Rattle.collector.specs.Showing.{Shows, ShowsAll, ShowsFront}
 use Rattle.collector.specs.declared.fault.Fault.{Fault}
 use Rattle.collector.specs.declared.fault.Fault.TheVariants.{Write}
 use Rattle.collector.proofs.Fronts.{both, front, front_behind, front_of_both, later_fault}
-use Rattle.collector.proofs.serving.serve_hub.Goals as goal
+use Rattle.collector.proofs.serve.serve_hub.Goals as goal
 
 -- the first line could not be written
 unwritten : {T : Type 0} (port : ℕ) (taken taken' : Taken) (text : Text) (result : Result T Fault) → result ≡ Err Write

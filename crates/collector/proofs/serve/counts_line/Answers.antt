@@ -2,7 +2,7 @@ use Rattle.std.proofs.Common.{◌≡◌, ◌∙◌, ◌++◌, IfOk, ap, sym, app
 use Rattle.std.proofs.lemmas.Result.{IfOk-weaker}
 use Rattle.trace_session.specs.declared.serving.ServeCounts.{ServeCounts}
 use Rattle.collector.specs.Serving.{line_of_counts}
-use Rattle.collector.proofs.serving.counts_line.Goals as goal
+use Rattle.collector.proofs.serve.counts_line.Goals as goal
 
 told : (counts : ServeCounts)
     → codes "served " ++ (decimal counts.sessions ++ (codes " faults " ++ (decimal counts.faults ++ codes "\n"))) ≡ line_of_counts counts

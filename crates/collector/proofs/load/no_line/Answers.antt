@@ -3,7 +3,7 @@ use Rattle.std.proofs.lemmas.Result.{IfOk-weaker}
 use Rattle.trace_export.specs.Reasons.{reason_number}
 use Rattle.trace_export.specs.declared.reason.Reason.{Reason}
 use Rattle.collector.specs.Program.{line_of_no}
-use Rattle.collector.proofs.program.no_line.Goals as goal
+use Rattle.collector.proofs.load.no_line.Goals as goal
 
 told : (line number : ℕ) (reason : Reason) → number ≡ reason_number reason
     → codes "itc_trace: no " ++ (decimal line ++ (codes " " ++ (decimal number ++ codes "\n"))) ≡ line_of_no line reason

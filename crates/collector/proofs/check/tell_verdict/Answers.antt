@@ -10,7 +10,7 @@ use Rattle.collector.specs.Showing.{Shows, ShowsFront}
 use Rattle.collector.specs.declared.fault.Fault.{Fault}
 use Rattle.collector.specs.declared.fault.Fault.TheVariants.{Memory, Write}
 use Rattle.collector.proofs.Fronts.{front}
-use Rattle.collector.proofs.program.tell_verdict.Goals as goal
+use Rattle.collector.proofs.check.tell_verdict.Goals as goal
 
 -- the verdict could not be written
 unwritten : {R : Type 0} (given : R → Given) (reader reader' : R) (taken taken' : Taken) (verdict : Verdict) (text : Text) (result : Result ℕ Fault) → result ≡ Err Write

@@ -8,8 +8,7 @@ ghost use Rattle.collector.specs.Serving.{Serves, ServesInPart, line_of_counts, 
 ghost use Rattle.collector.specs.Taking.{is_taken};
 
 use crate::fault::Fault;
-use crate::names::Names;
-use crate::program::show;
+use crate::show::show;
 use command_line::Serve;
 use line_protocol::Sink;
 use std::alloc::{AllocError, Global};
@@ -18,6 +17,7 @@ use std::sync::Wait;
 use std::thread::Threads;
 use tcp_door::TcpDoor;
 use trace_session::{Hub, OpenGate, ServeCounts, serve};
+use trace_types::TenantNames;
 
 /// Serves what is asked for, and answers the status.
 pub(crate) fn serve_programs<T, W: Sink, E: Sink>(
@@ -56,7 +56,7 @@ where
     ensures tenants { IfErr result (λ fault. TellsOfTenants fault (is_taken (ToServe (service_of wanted.now)))) }
     ensures refused { IfErr result (λ fault. status_of fault ≡ 2 → writer.new ≡ writer.old) }
 {
-    let names = Names::read(&wanted.tenants)?;
+    let names = TenantNames::read(&wanted.tenants).ok_or(Fault::Tenants)?;
     let hub = Hub::new(rt, alloc, names.as_slice(), wanted.limits, wanted.cache)?;
     let served = serve_hub(rt, alloc, &hub, wanted, writer);
     hub.close(rt);
