@@ -6,17 +6,22 @@ use Rattle.std.specs.Prelude.{ℕ, IsTrue, Option, Some, None, IfNone, IfSome, R
 use Rattle.trace_types.specs.text.Name.{Text}
 use Rattle.trace_types.specs.declared.request.Request.{Request}
 use Rattle.trace_types.specs.declared.reply.Reply.{Reply}
+use Rattle.line_protocol.specs.HandingOn.{FindsBehind, HandsOnBefore, KeepsAll}
 use Rattle.line_protocol.specs.Held.{Held, ReadingBounds}
+use Rattle.line_protocol.specs.declared.line_fault.LineFault.{LineFault}
+use Rattle.line_protocol.specs.declared.line_fault.LineFault.TheVariants as line
+use Rattle.line_protocol.specs.declared.read_fault.ReadFault.TheVariants as read
 use Rattle.line_protocol.specs.Sink.{Taken}
 use Rattle.line_protocol.specs.Source.{Given}
 use Rattle.trace_session.proofs.Reading.{ReadsLines-none, ReadsLines-line, ReadsLines-more, ReadsLines-same}
 use Rattle.trace_session.proofs.Writing.{Wrote, Wrote-none, Wrote-kept, Wrote-line, WritesAll-from, WritesLinesInPart-held, WritesLinesInPart-line}
 use Rattle.trace_session.specs.Answers.{AnswersEach, AnswersLine, last_reply}
 use Rattle.trace_session.specs.Asking.{FindsAsked, is_quit, most_requests, request_in}
-use Rattle.trace_session.specs.Reading.{FindsNothing, ReadsLines}
+use Rattle.trace_session.specs.Faults.{session_fault_by}
+use Rattle.trace_session.specs.Reading.{ReadsLines}
 use Rattle.trace_session.specs.Sessions.{AnswersAsked, AnswersLate, AnswersRequest, Closes, EndsBy, Finishes, BringsNoEnd, Session, WritesUntil, over_reply}
 use Rattle.trace_session.specs.State.{State, state}
-use Rattle.trace_session.specs.Written.{HandsOnBefore, KeepsAll, StopsAt, reply_line}
+use Rattle.trace_session.specs.Written.{StopsAt, reply_line}
 use Rattle.trace_session.specs.declared.lines.Asked.{Asked}
 use Rattle.trace_session.specs.declared.lines.Asked.TheVariants as asked
 use Rattle.trace_session.specs.declared.end.SessionEnd.{SessionEnd}
@@ -110,21 +115,20 @@ session_closed Does start after old new result requests answers text more answer
 }
 
 -- no line was found any more
-pub session_unread : {S : Type 0} (A : Type 0) (Does : S → Request → Reply → S → Type 0) (start now after : State) (old new : S) (count : ℕ) (fault : SessionFault)
-    → Follows Does start now old new count → count ≤ most_requests → FindsNothing fault now.given after.given now.held after.held → HandsOnBefore {A = A} (Err fault) now.taken after.taken
-    → Session Does old new start after (Err fault)
-session_unread A Does start now after old new count Read follows few none hands =
-    session_alone Does start after old new (Err Read) follows.requests follows.answers (now.held.left ++ none.gave) follows.answered
-    (ReadsLines-more after.held.is_ended none.gave follows.read none.grows none.goes_on) (omega (arith, follows.counted, few)) (refl, none.no_end) (WritesAll-from follows.wrote hands)
-session_unread A Does start now after old new count TooLong follows few (none, all) hands =
-    session_alone Does start after old new (Err TooLong) follows.requests follows.answers (now.held.left ++ none.gave) follows.answered
-    (ReadsLines-more after.held.is_ended none.gave follows.read none.grows none.goes_on) (omega (arith, follows.counted, few)) (refl, none.no_end, all) (WritesAll-from follows.wrote hands)
-session_unread A Does start now after old new count Write follows few (given_is, held_is) hands =
-    session_alone Does start after old new (Err Write) follows.requests follows.answers after.held.left follows.answered
-    (ReadsLines-same follows.read (ap (λ (given : Given). given.bytes) given_is) (ap (λ (h : Held). h.left) held_is) (λ ended. ap (λ (h : Held). h.is_ended) held_is ∙ ended))
+pub session_unread : {S R : Type 0} (A : Type 0) (Does : S → Request → Reply → S → Type 0) (seen : R → Given) (source source' : R) (start : State) (held held' : Held) (taken taken' : Taken) (old new : S) (count : ℕ) (fault : LineFault)
+    → Follows Does start (state (seen source) held taken) old new count → count ≤ most_requests → FindsBehind seen source source' held held' (Err fault) → HandsOnBefore {A = A} held (Err fault) taken taken'
+    → Session Does old new start (state (seen source') held' taken') (Err (session_fault_by fault))
+session_unread A Does seen source source' start held held' taken taken' old new count (line.Read read.Read) follows few finds hands =
+    session_alone Does start (state (seen source') held' taken') old new (Err Read) follows.requests follows.answers (held.left ++ finds.none.gave) follows.answered
+    (ReadsLines-more held'.is_ended finds.none.gave follows.read finds.none.grows finds.none.goes_on) (omega (arith, follows.counted, few)) (refl, finds.none.no_end) (WritesAll-from follows.wrote hands)
+session_unread A Does seen source source' start held held' taken taken' old new count (line.Read read.TooLong) follows few finds hands =
+    session_alone Does start (state (seen source') held' taken') old new (Err TooLong) follows.requests follows.answers (held.left ++ finds.none.gave) follows.answered
+    (ReadsLines-more held'.is_ended finds.none.gave follows.read finds.none.grows finds.none.goes_on) (omega (arith, follows.counted, few)) (refl, finds.none.no_end, finds.reads.too_long) (WritesAll-from follows.wrote hands)
+session_unread A Does seen source source' start held held' taken taken' old new count line.Write follows few (source_is, held_is) hands =
+    session_alone Does start (state (seen source') held' taken') old new (Err Write) follows.requests follows.answers held'.left follows.answered
+    (ReadsLines-same follows.read (ap (λ one. (seen one).bytes) source_is) (ap (λ (h : Held). h.left) held_is) (λ ended. ap (λ (h : Held). h.is_ended) held_is ∙ ended))
     (omega (arith, follows.counted, few)) refl
-    (subst (λ replies. WritesUntil (Err Write) start.taken after.taken replies) (append-nil follows.answers) (WritesLinesInPart-held [] (omega arith) follows.wrote hands))
-session_unread A Does start now after old new count fault follows few none hands = absurd none
+    (subst (λ replies. WritesUntil (Err Write) start.taken taken' replies) (append-nil follows.answers) (WritesLinesInPart-held [] (omega arith) follows.wrote hands))
 
 -- the writes up to a reply that was not written whole
 stopped_writes : {taken mid : Taken} (taken' : Taken) {answers : List Reply} (fault : SessionFault) (reply : Reply) → Wrote taken mid answers → StopsAt fault mid taken' (reply_line reply)

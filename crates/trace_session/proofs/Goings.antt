@@ -1,23 +1,26 @@
 -- How sessions go on, whatever they do.
 use Rattle.std.proofs.Common.{◌≡◌, ◌⊎◌, ◌==◌, Bool, true, false, inl, inr, refl, sym, subst, ◌∙◌, Result, Ok, Err}
 use Rattle.std.specs.Prelude.{ℕ, Option, None, IsErrOf, MatchBool}
+use Rattle.line_protocol.specs.HandingOn.{HandsOnBefore}
+use Rattle.line_protocol.specs.HandingOn as lines
 use Rattle.line_protocol.specs.Held.{Held}
+use Rattle.line_protocol.specs.declared.line_fault.LineFault.{LineFault}
+use Rattle.line_protocol.specs.declared.line_fault.LineFault.TheVariants as line
+use Rattle.line_protocol.specs.declared.read_fault.ReadFault.TheVariants as read
 use Rattle.line_protocol.specs.Sink.{Taken}
-use Rattle.line_protocol.specs.Source.{Given}
 use Rattle.trace_types.specs.declared.request.Request.{Request}
 use Rattle.trace_types.specs.declared.reply.Reply.{Reply}
 use Rattle.trace_types.specs.text.Name.{Text}
 use Rattle.trace_session.specs.Asking.{most_requests}
-use Rattle.trace_session.specs.Faults.{failed_reads_in, read_fault_in}
+use Rattle.trace_session.specs.Faults.{failed_reads_in, read_fault_in, session_fault_by}
 use Rattle.trace_session.specs.Outputs.{GoesThroughGate, IsSameOutput}
-use Rattle.trace_session.specs.Reading.{FindsNothing}
 use Rattle.trace_session.specs.Sessions.{AnswersAsked, AnswersLate, AnswersRequest, BringsNoEnd, Finishes, over_reply}
-use Rattle.trace_session.specs.Written.{HandsOnBefore, StopsAt, reply_line}
+use Rattle.trace_session.specs.Written.{StopsAt, reply_line}
 use Rattle.trace_session.specs.declared.lines.Asked.{Asked}
 use Rattle.trace_session.specs.declared.lines.Asked.TheVariants as asked
 use Rattle.trace_session.specs.declared.end.SessionEnd.{SessionEnd}
 use Rattle.trace_session.specs.declared.end.SessionFault.{SessionFault}
-use Rattle.trace_session.specs.declared.end.SessionFault.TheVariants.{Read, Write, TooLong, Gate}
+use Rattle.trace_session.specs.declared.end.SessionFault.TheVariants.{Write, Gate}
 use Rattle.trace_session.specs.declared.output.Output.{Output}
 
 to_old : {W T G : Type 0} {old mid : Output W T G} (P : G → ℕ → Type 0) → IsSameOutput old mid → P mid.gate.now mid.number → P old.gate.now old.number
@@ -49,16 +52,17 @@ module _ {W T G : Type 0} {took : W → Taken} {lets_out holds_back : G → ℕ 
   pub Through-ok : {A : Type 0} {old new : Output W T G} {result : Result A SessionFault} → GoesThroughGate took lets_out holds_back old new result → GoesThroughGate {A = ℕ} took lets_out holds_back old new (Ok 0)
   Through-ok through = record { same = through.same; let_out = through.let_out; gate = λ none. absurd (cc) }
 
--- where no line was found, what was written stays, and the fault is not the gate's
-pub unread_bytes : (A : Type 0) (fault : SessionFault) (before after : Taken) → HandsOnBefore {A = A} (Err fault) before after → after.bytes ≡ before.bytes
-unread_bytes A Read before after hands = hands.0
-unread_bytes A TooLong before after hands = hands.0
-unread_bytes A Write before after stops = stops.0
-unread_bytes A fault before after none = absurd none
+-- where no line was found, what was written stays
+pub unread_bytes : (A : Type 0) (held : Held) (fault : LineFault) (before after : Taken) → HandsOnBefore {A = A} held (Err fault) before after → after.bytes ≡ before.bytes
+unread_bytes A held (line.Read fault) before after hands = hands.0
+unread_bytes A held line.Write before after stops = stops.0
 
-pub unread_gate : {A : Type 0} (P : Type 0) (fault : SessionFault) (before after : Given) (old new : Held) → FindsNothing fault before after old new → IsErrOf {T = A} (Err fault) Gate → P
-unread_gate P Gate before after old new none is = absurd none
-unread_gate P fault before after old new none is = absurd (cc)
+-- the fault tells which read failed, and is not the gate's
+pub unread_fault : (A B : Type 0) (fault : LineFault) → (lines.failed_reads_in {A = A} (Err fault) ≡ failed_reads_in {A = B} (Err (session_fault_by fault)))
+    × (lines.read_fault_in {A = A} (Err fault) ≡ read_fault_in {A = B} (Err (session_fault_by fault))) × ((P : Type 0) → IsErrOf {T = B} (Err (session_fault_by fault)) Gate → P)
+unread_fault A B (line.Read read.Read) = (refl, refl, λ P is. absurd (cc))
+unread_fault A B (line.Read read.TooLong) = (refl, refl, λ P is. absurd (cc))
+unread_fault A B line.Write = (refl, refl, λ P is. absurd (cc))
 
 -- a fault is the gate's whatever the result holds where there is none
 pub same_gate : (A B : Type 0) (fault : SessionFault) → IsErrOf {T = A} (Err fault) Gate → IsErrOf {T = B} (Err fault) Gate

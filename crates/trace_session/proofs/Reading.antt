@@ -1,19 +1,16 @@
 -- The lines that a session reads, one after another.
-use Rattle.std.proofs.Common.{◌≡◌, Bool, false, IsTrue, List, [], ◌∷◌, ◌++◌, sym, ap, ◌∙◌, append_assoc, subst}
+use Rattle.std.proofs.Common.{◌≡◌, Bool, true, false, IsTrue, List, [], ◌∷◌, ◌++◌, refl, sym, ap, ◌∙◌, append_assoc}
 use Rattle.std.proofs.lemmas.List.{append-nil, append_cancel_left}
-use Rattle.std.specs.Prelude.{ℕ, Result, Ok, Err, IsErrAnd}
-use Rattle.trace_types.specs.text.Name.{Text}
+use Rattle.std.specs.Prelude.{ℕ, codes}
+use Rattle.trace_types.specs.text.Name.{Text, is_same}
 use Rattle.trace_types.specs.text.Lines.{lines}
-use Rattle.line_protocol.proofs.EndsLemmas.{HasNoEnd-front}
 use Rattle.line_protocol.specs.Held.{Held}
-use Rattle.line_protocol.specs.LineReading.{FindsNone, GivesLine, NeedsRead}
-use Rattle.line_protocol.specs.Sink.{Taken}
-use Rattle.line_protocol.specs.declared.read_fault.ReadFault.{ReadFault}
-use Rattle.line_protocol.specs.declared.read_fault.ReadFault.TheVariants as read
-use Rattle.trace_session.specs.Faults.{session_fault_of}
+use Rattle.line_protocol.specs.LineReading.{Finds, GivesLine}
+use Rattle.line_protocol.specs.declared.line.Line.{Line}
+use Rattle.line_protocol.specs.declared.line.Line.TheVariants as line
+use Rattle.trace_session.specs.Asking.{FindsAsked, asked_by_line}
 use Rattle.trace_session.specs.Reading.{ReadsLines}
-use Rattle.trace_session.specs.Written.{HandsOnBefore, KeepsAll}
-use Rattle.trace_session.specs.declared.end.SessionFault.{SessionFault}
+use Rattle.trace_session.specs.declared.lines.Asked.{Asked}
 
 -- no line was read
 pub ReadsLines-none : (given held : List ℕ) (is_ended : Bool) → ReadsLines given given held held is_ended []
@@ -69,17 +66,12 @@ ReadsLines-same {found = found} before same left_is at_end = record {
   first = λ rest none. before.first rest (λ ended. none (at_end ended)) ∙ ap (λ bytes. found ++ lines (bytes ++ rest)) (sym left_is);
 }
 
--- a line that was not found was not held
-pub needs_read : {given given' : List ℕ} {held : Held} → FindsNone given given' held → NeedsRead held
-needs_read {held = held} none = (HasNoEnd-front held.left none.gave none.no_end, none.goes_on)
-
-handed_on_by : (A : Type 0) (fault : ReadFault) (before after : Taken) → KeepsAll before after → IsTrue after.is_flushed → HandsOnBefore {A = A} (Err (session_fault_of fault)) before after
-handed_on_by A read.Read before after keeps flushed = (keeps.0, flushed, keeps.1, keeps.2)
-handed_on_by A read.TooLong before after keeps flushed = (keeps.0, flushed, keeps.1, keeps.2)
-
--- all was handed on before a read that failed
-pub HandsOnBefore-read : {A : Type 0} (result : Result A SessionFault) (fault : ReadFault) (before after : Taken) → IsErrAnd result (λ e. e ≡ session_fault_of fault)
-    → KeepsAll before after → IsTrue after.is_flushed → HandsOnBefore result before after
-HandsOnBefore-read (Ok value) fault before after is keeps flushed = absurd is
-HandsOnBefore-read {A = A} (Err e) fault before after is keeps flushed =
-    subst (λ f. HandsOnBefore {A = A} (Err f) before after) (sym is) (handed_on_by A fault before after keeps flushed)
+-- what the line that was found asks
+pub FindsAsked-of : (given given' : List ℕ) (old new : Held) (found : Line) (asks : Asked) → Finds given given' old new found → asks ≡ asked_by_line found new.line → FindsAsked given given' old new asks
+FindsAsked-of given given' old new line.End asks finds is = rw is finds
+FindsAsked-of given given' old new line.TooLong asks (text, gives, long) is = rw is (text, gives, rw long refl, rw long refl)
+FindsAsked-of given given' old new line.Whole asks (gives, fits) is = by (is_same new.line (codes "quit")) refl
+  where
+    by : (quit : Bool) → is_same new.line (codes "quit") ≡ quit → FindsAsked given given' old new asks
+    by true quit = rw (is, quit) (new.line, gives, rw (fits, quit) refl)
+    by false other = rw (is, other) (new.line, gives, rw (fits, other) refl, rw fits refl)

@@ -13,8 +13,9 @@ use Rattle.line_protocol.proofs.TextsInTurn.{WroteTexts, WroteTexts-none, WroteT
 use Rattle.line_protocol.specs.Patience.{SinkCall}
 use Rattle.line_protocol.specs.Sink.{Taken}
 use Rattle.line_protocol.specs.TextsInTurn.{BeginsFirst, BreaksOffAt}
-use Rattle.line_protocol.specs.Writing.{EndsInFault, GoesWrong, WritesPart, WritesWhole}
-use Rattle.trace_session.specs.Written.{HandsAllOn, KeepsAll, StopsHandingOn, WritesAll, WritesLinesInPart, reply_line, reply_lines}
+use Rattle.line_protocol.specs.HandingOn.{KeepsAll}
+use Rattle.line_protocol.specs.Writing.{EndsInFault, GoesWrong, HandsAllOn, StopsHandingOn, WritesPart, WritesWhole}
+use Rattle.trace_session.specs.Written.{WritesAll, WritesLinesInPart, reply_line, reply_lines}
 
 -- These replies were written, each patiently, and all is ready for the next.
 pub record Wrote (before after : Taken) (replies : List Reply) : Type 0 where

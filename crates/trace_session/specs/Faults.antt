@@ -1,13 +1,20 @@
 -- Which fault of a session a fault of reading is.
 use Rattle.std.specs.Prelude.{ℕ, Result, Ok, Err, Option, Some, None}
+use Rattle.line_protocol.specs.declared.line_fault.LineFault.{LineFault}
+use Rattle.line_protocol.specs.declared.line_fault.LineFault.TheVariants as line
 use Rattle.line_protocol.specs.declared.read_fault.ReadFault.{ReadFault}
 use Rattle.line_protocol.specs.declared.read_fault.ReadFault.TheVariants as read
 use Rattle.trace_session.specs.declared.end.SessionFault.{SessionFault}
-use Rattle.trace_session.specs.declared.end.SessionFault.TheVariants.{Read, TooLong}
+use Rattle.trace_session.specs.declared.end.SessionFault.TheVariants.{Read, Write, TooLong}
 
 abbrev pub session_fault_of : ReadFault → SessionFault
 session_fault_of read.Read = Read
 session_fault_of read.TooLong = TooLong
+
+-- the same, of a fault before the next line was found
+abbrev pub session_fault_by : LineFault → SessionFault
+session_fault_by (line.Read fault) = session_fault_of fault
+session_fault_by line.Write = Write
 
 -- the fault of reading that a fault of a session is, if it is one
 abbrev pub read_fault_of : SessionFault → Option ReadFault

@@ -11,12 +11,13 @@ use Rattle.line_protocol.specs.Ends.{HasNoEnd}
 use Rattle.line_protocol.specs.Held.{Held}
 use Rattle.line_protocol.specs.LineReading.{AllWereMade}
 use Rattle.line_protocol.specs.Sink.{Taken}
+use Rattle.line_protocol.specs.Writing.{HandsAllOn, StopsHandingOn}
 use Rattle.line_protocol.specs.declared.read_fault.ReadFault.TheVariants as read
 use Rattle.trace_session.specs.Answers.{AnswersEach, AnswersLine, last_reply}
 use Rattle.trace_session.specs.Asking.{is_quit, most_requests, request_in}
 use Rattle.trace_session.specs.Reading.{ReadsLines}
 use Rattle.trace_session.specs.State.{State}
-use Rattle.trace_session.specs.Written.{HandsAllOn, PutsOut, StopsHandingOn, WritesAll, WritesLinesInPart, reply_line}
+use Rattle.trace_session.specs.Written.{PutsOut, WritesAll, WritesLinesInPart, reply_line}
 use Rattle.trace_session.specs.declared.lines.Asked.{Asked}
 use Rattle.trace_session.specs.declared.lines.Asked.TheVariants as asked
 use Rattle.trace_session.specs.declared.end.SessionEnd.{SessionEnd}

@@ -5,12 +5,11 @@ use Rattle.std.specs.Io.KnownBytes.{Keeps}
 use Rattle.trace_types.specs.text.Name.{Text}
 use Rattle.trace_types.specs.text.Text.{reply_text}
 use Rattle.trace_types.specs.declared.reply.Reply.{Reply}
-use Rattle.line_protocol.specs.Patience.{FlushesPatiently, GivesUpFlushing}
 use Rattle.line_protocol.specs.Sink.{Taken}
 use Rattle.line_protocol.specs.TextsInTurn.{BeginsFirst, BreaksOffAt, WritesTexts}
-use Rattle.line_protocol.specs.Writing.{EndsInFault, GoesWell, GoesWrong, WritesPart, WritesWhole}
+use Rattle.line_protocol.specs.Writing.{EndsInFault, HandsAllOn, StopsHandingOn, WritesPart, WritesWhole}
 use Rattle.trace_session.specs.declared.end.SessionFault.{SessionFault}
-use Rattle.trace_session.specs.declared.end.SessionFault.TheVariants.{Read, Write, TooLong, Gate}
+use Rattle.trace_session.specs.declared.end.SessionFault.TheVariants.{Write, Gate}
 
 -- the lines of replies
 abbrev pub reply_line : Reply → Text
@@ -41,27 +40,6 @@ pub record WritesLinesInPart (before after : Taken) (replies : List Reply) : Typ
   pub broken_off : BreaksOffAt (length (concat (reply_lines whole))) (reply_lines left) patient.more
   pub fault : EndsInFault before after
   pub began : Keeps before.began after.began
-
--- All was handed on.
-abbrev pub HandsAllOn : Taken → Taken → Type 0
-HandsAllOn before after =
-    (after.bytes ≡ before.bytes) × IsTrue after.is_flushed × GoesWell before after × FlushesPatiently before.calls after.calls
-
--- What was written stays, and was perhaps handed on.
-abbrev pub KeepsAll : Taken → Taken → Type 0
-KeepsAll before after = (after.bytes ≡ before.bytes) × GoesWell before after × FlushesPatiently before.calls after.calls
-
--- A write fault came while all was to be handed on.
-abbrev pub StopsHandingOn : Taken → Taken → Type 0
-StopsHandingOn before after = (after.bytes ≡ before.bytes) × GoesWrong before after × GivesUpFlushing before.calls after.calls
-
--- What was written is handed on where a line is to be read, or left as it is.
-abbrev pub HandsOnBefore : {A : Type 0} → Result A SessionFault → Taken → Taken → Type 0
-HandsOnBefore (Ok value) before after = KeepsAll before after
-HandsOnBefore (Err Read) before after = HandsAllOn before after
-HandsOnBefore (Err TooLong) before after = HandsAllOn before after
-HandsOnBefore (Err Write) before after = StopsHandingOn before after
-HandsOnBefore (Err other) before after = ⊥
 
 -- The line was not written: a write fault came in it, or the gate held it back and what was written before was to be handed on.
 abbrev pub StopsAt : SessionFault → Taken → Taken → Text → Type 0

@@ -1,9 +1,9 @@
 //! How sessions end.
 ghost use Rattle.std.specs.Prelude.{◌≡◌};
-ghost use Rattle.trace_session.specs.Faults.{session_fault_of};
+ghost use Rattle.trace_session.specs.Faults.{session_fault_by, session_fault_of};
 ghost use Rattle.trace_session.specs.declared.end.SessionFault.TheVariants as variants;
 
-use line_protocol::{ReadFault, WriteFault};
+use line_protocol::{LineFault, ReadFault, WriteFault};
 use thiserror::Error;
 use trace_types::{Code, Memory};
 
@@ -47,6 +47,17 @@ impl From<ReadFault> for SessionFault {
         match fault {
             ReadFault::Read => SessionFault::Read,
             ReadFault::TooLong => SessionFault::TooLong,
+        }
+    }
+}
+
+impl From<LineFault> for SessionFault {
+    ghost from_gives = { λ fault session_fault. session_fault ≡ session_fault_by fault };
+
+    fn from(fault: LineFault) -> SessionFault {
+        match fault {
+            LineFault::Read(fault) => SessionFault::from(fault),
+            LineFault::Write => SessionFault::Write,
         }
     }
 }

@@ -1,21 +1,17 @@
 //! Lines of sessions, answered one after another by a desk or a view.
-ghost use Rattle.std.specs.Prelude.{◌≡◌, ◌↔◌, ◌<◌, ◌≤◌, ◌⊎◌, IsTrue, None, IfOk, IfErr, IfNone, IfSome, MatchResult, Err};
-ghost use Rattle.std.specs.Result.{result_err};
-ghost use Rattle.line_protocol.specs.LineReading.{FindsNext, NeedsRead, Reads};
+ghost use Rattle.std.specs.Prelude.{◌≡◌, ◌<◌, ◌≤◌, IfNone, IfSome, Err};
 ghost use Rattle.trace_session.specs.Answers.{AnswersLine};
-ghost use Rattle.trace_session.specs.Asking.{FindsAsked, asked_by_line};
-ghost use Rattle.trace_session.specs.Faults.{failed_reads_in, read_fault_in, session_fault_of};
+ghost use Rattle.trace_session.specs.Asking.{asked_by_line};
+ghost use Rattle.trace_session.specs.Faults.{session_fault_of};
 ghost use Rattle.trace_session.specs.Goings.{Goes, GoesOn};
 ghost use Rattle.trace_session.specs.Lent.{AsksView, IsSoundDesk, IsSoundView, TakesRequest};
 ghost use Rattle.trace_session.specs.Outputs.{GoesThroughGate, IsSameOutput};
-ghost use Rattle.trace_session.specs.Reading.{FindsNothing};
 ghost use Rattle.trace_session.specs.Sessions.{AnswersAsked, Session};
-ghost use Rattle.trace_session.specs.Written.{HandsOnBefore, KeepsAll, StopsHandingOn};
 
 use crate::lent::Lent;
 use crate::output::Output;
 use crate::{Gate, SessionEnd, SessionFault};
-use line_protocol::{Line, LineReader, ReadFault, Sink, Source, WriteFault, flush, read_request};
+use line_protocol::{Line, LineReader, Sink, Source, read_request};
 use std::sync::Wait;
 use tenant_desk::{Desk, View};
 use trace_types::{Code, Reply, Request};
@@ -97,7 +93,7 @@ pub fn view_lines<T: Wait, R: Source, W: Sink, G: Gate>(
 }
 
 impl<'a, W: Sink, T: Wait, G: Gate> Output<'a, W, T, G> {
-    /// Answers lines by what is lent, until the session ends.
+    /// Answers lines by what is lent, until the session ends. No read is made while the writer holds a reply back.
     pub(crate) fn answer_lines<L: Lent, R: Source>(
         &mut self,
         lent: &mut L,
@@ -116,7 +112,8 @@ impl<'a, W: Sink, T: Wait, G: Gate> Output<'a, W, T, G> {
         }
         let mut requests = 0u64;
         loop {
-            let asked = next_asked(lines, self.writer)?;
+            let found = lines.next_flushing(self.writer)?;
+            let asked = asked_by_line(found, lines.line());
             if let Some(end) = self.answer(lent, asked, requests)? {
                 return self.finish(end);
             }
@@ -149,58 +146,6 @@ impl<'a, W: Sink, T: Wait, G: Gate> Output<'a, W, T, G> {
             }
         }
     }
-}
-
-/// Finds what the next line asks. No read is made while the writer holds a reply back.
-fn next_asked<R: Source, W: Sink>(
-    lines: &mut LineReader<'_, R>,
-    writer: &mut W,
-) -> Result<Asked, SessionFault>
-    requires { lines.old.fault ≡ None }
-    ensures same_source { lines.new.source.ghost_name ≡ lines.old.source.ghost_name }
-    ensures asked { IfOk result (λ asked. FindsAsked (R.seen lines.old.source.now).bytes (R.seen lines.new.source.now).bytes
-        lines.old.buffer lines.new.buffer asked) }
-    ensures none { IfErr result (λ fault. FindsNothing fault (R.seen lines.old.source.now) (R.seen lines.new.source.now)
-        lines.old.buffer lines.new.buffer) }
-    ensures reads { Reads (R.seen lines.old.source.now) (R.seen lines.new.source.now)
-        lines.old.buffer lines.new.buffer (failed_reads_in result) }
-    ensures fault { lines.new.fault ≡ read_fault_in result }
-    ensures at_end { IsTrue lines.old.buffer.is_ended →
-        (lines.new.source.now ≡ lines.old.source.now) × IsTrue lines.new.buffer.is_ended }
-    ensures handed_on { HandsOnBefore result (W.seen writer.old) (W.seen writer.new) }
-{
-    hand_on(lines, writer)?;
-    let found = next_line(lines, writer)?;
-    Ok(asked_by_line(found, lines.line()))
-}
-
-/// Flushes what was written, if the next line needs a read.
-fn hand_on<R: Source, W: Sink>(lines: &LineReader<'_, R>, writer: &mut W) -> Result<(), WriteFault>
-    ensures flushed { IfOk result (λ _. NeedsRead lines.now.buffer → IsTrue (W.seen writer.new).is_flushed) }
-    ensures handed_on { MatchResult result (λ _. KeepsAll (W.seen writer.old) (W.seen writer.new)) (λ _. StopsHandingOn (W.seen writer.old) (W.seen writer.new)) }
-{
-    if lines.needs_read() {
-        flush(writer)
-    } else {
-        Ok(())
-    }
-}
-
-/// Finds the next line. No read is made while the writer holds a reply back.
-#[inline(always)]
-fn next_line<R: Source, W: Sink>(
-    lines: &mut LineReader<'_, R>,
-    _writer: &W,
-) -> Result<Line, ReadFault>
-    requires open { lines.old.fault ≡ None }
-    requires flushed { NeedsRead lines.old.buffer → IsTrue (W.seen _writer.now).is_flushed }
-    ensures same_source { lines.new.source.ghost_name ≡ lines.old.source.ghost_name }
-    ensures finds { FindsNext (R.seen lines.old.source.now) (R.seen lines.new.source.now) lines.old.buffer lines.new.buffer result }
-    ensures fault { lines.new.fault ≡ result_err result }
-    ensures at_end { IsTrue lines.old.buffer.is_ended →
-        (lines.new.source.now ≡ lines.old.source.now) × IsTrue lines.new.buffer.is_ended }
-{
-    lines.next()
 }
 
 /// What is asked if this was found. `line` is the line if it is a whole one.

@@ -1,16 +1,19 @@
-use Rattle.std.proofs.Common.{◌≡◌, Ok, None, refl, sym, subst, ap, ◌∙◌, arith}
+use Rattle.std.proofs.Common.{◌≡◌, Ok, Err, None, refl, sym, subst, ap, ◌∙◌, arith}
 use Rattle.std.specs.Prelude.{Option}
-use Rattle.line_protocol.proofs.LineReadingLemmas.{Reads-none, Reads-on}
+use Rattle.line_protocol.proofs.LineReadingLemmas.{Reads-behind, Reads-none, Reads-on}
 use Rattle.line_protocol.specs.LineReading.{Reads}
 use Rattle.trace_session.proofs.Following.{Comes, Comes-of, Follows-kept, Follows-none, IfNone-holds, fault_is, session_unread}
-use Rattle.trace_session.proofs.Goings.{Through-none, Through-ok, Through-then, answered_unread, finished_unread, same_gate, unread_bytes, unread_gate}
+use Rattle.trace_session.proofs.Goings.{Through-none, Through-ok, Through-then, answered_unread, finished_unread, same_gate, unread_bytes, unread_fault}
 use Rattle.trace_session.specs.State.{state_of}
-use Rattle.trace_session.specs.declared.lines.Asked.{Asked}
+use Rattle.line_protocol.specs.declared.line.Line.{Line}
+use Rattle.trace_session.proofs.FirstLines.{IfNone-from}
+use Rattle.trace_session.proofs.Reading.{FindsAsked-of}
+use Rattle.trace_session.specs.Asking.{asked_by_line}
 use Rattle.trace_session.specs.declared.end.SessionEnd.{SessionEnd}
 use Rattle.trace_session.proofs.output.Output.answer_lines.Goals as goal
 
-pub loop-asked-init : goal.loop-asked-init
-loop-asked-init g c =
+pub loop-found-init : goal.loop-found-init
+loop-found-init g c =
     let open_now : c.args.lines.now.fault ≡ None = sym c.in_default.ensures in
     record {
       same_source = refl;
@@ -24,40 +27,51 @@ loop-asked-init g c =
       sound = λ sound. sound;
     }
 
-pub returns-in_err-asked-clause-goes : goal.returns-in_err-asked-clause-goes
-returns-in_err-asked-clause-goes g c =
-    let before = c.loop-asked.invariant in
-    let next = c.in_err-asked.ensures in
-    let kept = Through-then before.through (Through-none (record { writer = refl; gate = refl; number = refl }) (unread_bytes Asked c.in_err-asked.field-0.0 (g.W.Sink.seen c.loop-asked.self.writer.now) (g.W.Sink.seen c.next_asked.new.writer) next.handed_on)) in
-    IfNone-holds c.args.lines.now.fault (rw (fault_is c.from_residual.result c.in_err-asked.field-0.0 c.from_residual.ensures.1) (record {
+pub returns-in_err-found-clause-goes : goal.returns-in_err-found-clause-goes
+returns-in_err-found-clause-goes g c =
+    let start = state_of g.R.Source.seen g.W.Sink.seen c.args.lines.now c.args.self.now.writer.now in
+    let after = state_of g.R.Source.seen g.W.Sink.seen c.next_flushing.new.self c.next_flushing.new.writer in
+    let before = c.loop-found.invariant in
+    let next = c.in_err-found.ensures in
+    let fault = c.in_err-found.field-0.0 in
+    let finds = IfNone-from _ c.loop-found.lines.fault before.open_now next.finds in
+    let hands = IfNone-from _ c.loop-found.lines.fault before.open_now next.handed_on in
+    let told = unread_fault Line SessionEnd fault in
+    let kept = Through-then before.through (Through-none (record { writer = refl; gate = refl; number = refl }) (unread_bytes Line c.loop-found.lines.buffer fault (g.W.Sink.seen c.loop-found.self.writer.now) (g.W.Sink.seen c.next_flushing.new.writer) hands)) in
+    IfNone-holds c.args.lines.now.fault (rw (fault_is c.from_residual.result _ c.from_residual.ensures.1) (record {
       same_source = next.same_source ∙ before.same_source;
       same = kept.same;
       goes = record {
-        did = session_unread Asked g.L.Lent.does _ _ _ _ _ _ c.in_err-asked.field-0.0 before.follows before.few next.none next.handed_on;
-        reads = Reads-on before.reads (λ ended. ap g.R.Source.seen (next.at_end ended).0) next.reads;
-        fault = next.fault;
+        did = session_unread Line g.L.Lent.does g.R.Source.seen _ _ start _ _ _ _ _ _ _ fault before.follows before.few finds hands;
+        reads =
+            subst (Reads start.given after.given start.held after.held) told.0
+            (Reads-on before.reads (λ ended. ap g.R.Source.seen (next.at_end ended).0) (Reads-behind g.R.Source.seen _ _ _ _ (Err fault) finds));
+        fault = next.fault ∙ told.1;
         at_end = λ ended. let was = before.at_end ended in let now = next.at_end was.1 in (now.0 ∙ was.0, now.1);
         let_out = kept.let_out;
-        gate = unread_gate _ c.in_err-asked.field-0.0 _ _ _ _ next.none;
+        gate = told.2 _;
       };
     }))
 
 pub returns-in_err-end-clause-goes : goal.returns-in_err-end-clause-goes
 returns-in_err-end-clause-goes g c =
     let start = state_of g.R.Source.seen g.W.Sink.seen c.args.lines.now c.args.self.now.writer.now in
-    let after = state_of g.R.Source.seen g.W.Sink.seen c.next_asked.new.lines c.answer.new.self.writer.now in
-    let before = c.loop-asked.invariant in
-    let next = c.in_ok-asked.ensures in
-    let reads = Reads-on {failed = 0} before.reads (λ ended. ap g.R.Source.seen (next.at_end ended).0) next.reads in
-    let through = Through-then (Through-then before.through (Through-none (record { writer = refl; gate = refl; number = refl }) next.handed_on.0)) c.in_err-end.ensures.gate in
-    let unread = answered_unread g.L.Lent.does c.in_ok-asked.asked c.loop-asked.requests c.loop-asked.lent c.answer.new.lent (g.W.Sink.seen c.next_asked.new.writer) (g.W.Sink.seen c.answer.new.self.writer.now) c.in_err-end.field-0.0 c.in_err-end.ensures.answers in
+    let after = state_of g.R.Source.seen g.W.Sink.seen c.next_flushing.new.self c.answer.new.self.writer.now in
+    let before = c.loop-found.invariant in
+    let next = c.in_ok-found.ensures in
+    let finds = IfNone-from _ c.loop-found.lines.fault before.open_now next.finds in
+    let hands = (IfNone-from _ c.loop-found.lines.fault before.open_now next.handed_on).0 in
+    let asks = FindsAsked-of _ _ c.loop-found.lines.buffer c.next_flushing.new.self.buffer c.in_ok-found.found c.asked_by_line-asked.result finds.line (c.asked_by_line-asked.ensures ∙ ap (asked_by_line c.in_ok-found.found) c.line.ensures) in
+    let reads = Reads-on {failed = 0} before.reads (λ ended. ap g.R.Source.seen (next.at_end ended).0) finds.reads.reads in
+    let through = Through-then (Through-then before.through (Through-none (record { writer = refl; gate = refl; number = refl }) hands.0)) c.in_err-end.ensures.gate in
+    let unread = answered_unread g.L.Lent.does c.asked_by_line-asked.result c.loop-found.requests c.loop-found.lent c.answer.new.lent (g.W.Sink.seen c.next_flushing.new.writer) (g.W.Sink.seen c.answer.new.self.writer.now) c.in_err-end.field-0.0 c.in_err-end.ensures.answers in
     IfNone-holds c.args.lines.now.fault (rw (fault_is c.from_residual-in_err-end.result c.in_err-end.field-0.0 c.from_residual-in_err-end.ensures.1) (record {
       same_source = next.same_source ∙ before.same_source;
       same = through.same;
       goes = record {
         did =
-            Comes-of g.L.Lent.does start _ after c.args.lent.now c.loop-asked.lent c.answer.new.lent c.loop-asked.requests c.in_ok-asked.asked _
-            (Follows-kept (g.W.Sink.seen c.next_asked.new.writer) before.follows next.handed_on) before.few reads.bounds next.asked
+            Comes-of g.L.Lent.does start _ after c.args.lent.now c.loop-found.lent c.answer.new.lent c.loop-found.requests c.asked_by_line-asked.result _
+            (Follows-kept (g.W.Sink.seen c.next_flushing.new.writer) before.follows hands) before.few reads.bounds asks
             (λ ended. (ap (λ source. (g.R.Source.seen source).bytes) (next.at_end ended).0, (next.at_end ended).1)) c.in_err-end.ensures.answers;
         reads = subst (Reads start.given after.given start.held after.held) (sym unread.0) reads;
         fault = next.fault ∙ sym unread.1;
@@ -70,16 +84,19 @@ returns-in_err-end-clause-goes g c =
 pub returns-in-Some-2-clause-goes : goal.returns-in-Some-2-clause-goes
 returns-in-Some-2-clause-goes g c =
     let start = state_of g.R.Source.seen g.W.Sink.seen c.args.lines.now c.args.self.now.writer.now in
-    let after = state_of g.R.Source.seen g.W.Sink.seen c.next_asked.new.lines c.answer.new.self.writer.now in
-    let before = c.loop-asked.invariant in
-    let next = c.in_ok-asked.ensures in
-    let reads = Reads-on {failed = 0} before.reads (λ ended. ap g.R.Source.seen (next.at_end ended).0) next.reads in
-    let through = Through-then (Through-then (Through-then before.through (Through-none (record { writer = refl; gate = refl; number = refl }) next.handed_on.0)) c.in_ok-end.ensures.gate) c.finish.ensures.gate in
+    let after = state_of g.R.Source.seen g.W.Sink.seen c.next_flushing.new.self c.answer.new.self.writer.now in
+    let before = c.loop-found.invariant in
+    let next = c.in_ok-found.ensures in
+    let finds = IfNone-from _ c.loop-found.lines.fault before.open_now next.finds in
+    let hands = (IfNone-from _ c.loop-found.lines.fault before.open_now next.handed_on).0 in
+    let asks = FindsAsked-of _ _ c.loop-found.lines.buffer c.next_flushing.new.self.buffer c.in_ok-found.found c.asked_by_line-asked.result finds.line (c.asked_by_line-asked.ensures ∙ ap (asked_by_line c.in_ok-found.found) c.line.ensures) in
+    let reads = Reads-on {failed = 0} before.reads (λ ended. ap g.R.Source.seen (next.at_end ended).0) finds.reads.reads in
+    let through = Through-then (Through-then (Through-then before.through (Through-none (record { writer = refl; gate = refl; number = refl }) hands.0)) c.in_ok-end.ensures.gate) c.finish.ensures.gate in
     let unread = finished_unread c.in-Some-2.end (g.W.Sink.seen c.answer.new.self.writer.now) (g.W.Sink.seen c.finish.new.self.writer.now) c.finish.result c.finish.ensures.finishes in
     let came =
-    subst (λ end. Comes g.L.Lent.does start after c.args.lent.now c.answer.new.lent c.loop-asked.requests (Ok end)) c.in-Some-2.is
-    (Comes-of g.L.Lent.does start _ after c.args.lent.now c.loop-asked.lent c.answer.new.lent c.loop-asked.requests c.in_ok-asked.asked _
-    (Follows-kept (g.W.Sink.seen c.next_asked.new.writer) before.follows next.handed_on) before.few reads.bounds next.asked
+    subst (λ end. Comes g.L.Lent.does start after c.args.lent.now c.answer.new.lent c.loop-found.requests (Ok end)) c.in-Some-2.is
+    (Comes-of g.L.Lent.does start _ after c.args.lent.now c.loop-found.lent c.answer.new.lent c.loop-found.requests c.asked_by_line-asked.result _
+    (Follows-kept (g.W.Sink.seen c.next_flushing.new.writer) before.follows hands) before.few reads.bounds asks
     (λ ended. (ap (λ source. (g.R.Source.seen source).bytes) (next.at_end ended).0, (next.at_end ended).1)) c.in_ok-end.ensures.answers) in
     IfNone-holds c.args.lines.now.fault (record {
       same_source = next.same_source ∙ before.same_source;
@@ -94,21 +111,24 @@ returns-in-Some-2-clause-goes g c =
       };
     })
 
-pub loop-asked-preserved : goal.loop-asked-preserved
-loop-asked-preserved g c =
+pub loop-found-preserved : goal.loop-found-preserved
+loop-found-preserved g c =
     let start = state_of g.R.Source.seen g.W.Sink.seen c.args.lines.now c.args.self.now.writer.now in
-    let after = state_of g.R.Source.seen g.W.Sink.seen c.next_asked.new.lines c.answer.new.self.writer.now in
-    let before = c.loop-asked.invariant in
-    let next = c.in_ok-asked.ensures in
-    let reads = Reads-on {failed = 0} before.reads (λ ended. ap g.R.Source.seen (next.at_end ended).0) next.reads in
+    let after = state_of g.R.Source.seen g.W.Sink.seen c.next_flushing.new.self c.answer.new.self.writer.now in
+    let before = c.loop-found.invariant in
+    let next = c.in_ok-found.ensures in
+    let finds = IfNone-from _ c.loop-found.lines.fault before.open_now next.finds in
+    let hands = (IfNone-from _ c.loop-found.lines.fault before.open_now next.handed_on).0 in
+    let asks = FindsAsked-of _ _ c.loop-found.lines.buffer c.next_flushing.new.self.buffer c.in_ok-found.found c.asked_by_line-asked.result finds.line (c.asked_by_line-asked.ensures ∙ ap (asked_by_line c.in_ok-found.found) c.line.ensures) in
+    let reads = Reads-on {failed = 0} before.reads (λ ended. ap g.R.Source.seen (next.at_end ended).0) finds.reads.reads in
     let came =
-    subst (λ end. Comes g.L.Lent.does start after c.args.lent.now c.answer.new.lent c.loop-asked.requests (Ok end)) c.in_default-2.is
-    (Comes-of g.L.Lent.does start _ after c.args.lent.now c.loop-asked.lent c.answer.new.lent c.loop-asked.requests c.in_ok-asked.asked _
-    (Follows-kept (g.W.Sink.seen c.next_asked.new.writer) before.follows next.handed_on) before.few reads.bounds next.asked
+    subst (λ end. Comes g.L.Lent.does start after c.args.lent.now c.answer.new.lent c.loop-found.requests (Ok end)) c.in_default-2.is
+    (Comes-of g.L.Lent.does start _ after c.args.lent.now c.loop-found.lent c.answer.new.lent c.loop-found.requests c.asked_by_line-asked.result _
+    (Follows-kept (g.W.Sink.seen c.next_flushing.new.writer) before.follows hands) before.few reads.bounds asks
     (λ ended. (ap (λ source. (g.R.Source.seen source).bytes) (next.at_end ended).0, (next.at_end ended).1)) c.in_ok-end.ensures.answers) in
     record {
       same_source = next.same_source ∙ before.same_source;
-      through = Through-ok (Through-then (Through-then before.through (Through-none (record { writer = refl; gate = refl; number = refl }) next.handed_on.0)) c.in_ok-end.ensures.gate);
+      through = Through-ok (Through-then (Through-then before.through (Through-none (record { writer = refl; gate = refl; number = refl }) hands.0)) c.in_ok-end.ensures.gate);
       follows = came.0;
       few = omega (arith, came.1);
       reads = reads;

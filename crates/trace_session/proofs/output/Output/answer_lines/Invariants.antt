@@ -6,8 +6,8 @@ use Rattle.trace_session.specs.Outputs.{GoesThroughGate}
 use Rattle.trace_session.specs.State.{state_of}
 use Rattle.trace_session.proofs.output.Output.answer_lines.Given as goal
 
-abbrev pub invariant-loop-asked : goal.invariant-loop-asked
-invariant-loop-asked g l = record {
+abbrev pub invariant-loop-found : goal.invariant-loop-found
+invariant-loop-found g l = record {
   same_source : l.lines.source.ghost_name ≡ l.fn.lines.source.ghost_name;
   through : GoesThroughGate {A = ℕ} g.W.Sink.seen g.G.Gate.lets_out g.G.Gate.holds_back l.fn.self l.self (Ok 0);
   follows : Follows g.L.Lent.does (state_of g.R.Source.seen g.W.Sink.seen l.fn.lines l.fn.self.writer.now) (state_of g.R.Source.seen g.W.Sink.seen l.lines l.self.writer.now) l.fn.lent l.lent l.requests;
@@ -19,5 +19,5 @@ invariant-loop-asked g l = record {
   sound : g.L.Lent.is_sound l.fn.lent → g.L.Lent.is_sound l.lent;
 }
 
-abbrev pub decreases-loop-asked : goal.decreases-loop-asked
-decreases-loop-asked g l = most_requests - l.requests
+abbrev pub decreases-loop-found : goal.decreases-loop-found
+decreases-loop-found g l = most_requests - l.requests
