@@ -3,7 +3,6 @@ pub mod Asking
 pub mod Conversations
 pub mod Faults
 pub mod Goings
-pub mod Hubs
 pub mod Lent
 pub mod Openings
 pub mod Outputs

@@ -4,7 +4,7 @@ ghost use Rattle.std.specs.List.{list_any};
 ghost use Rattle.trace_types.specs.text.Name.{is_same};
 ghost use Rattle.trace_session.specs.Openings.{is_tenant};
 ghost use Rattle.order_cache.specs.Capacity.{IsCapacity};
-ghost use Rattle.trace_session.specs.Hubs.{are_distinct, can_be_tenants};
+ghost use Rattle.trace_types.specs.world.TenantNames.{can_be_tenants};
 
 use crate::lent::Lent;
 use crate::resting::Resting;
@@ -13,7 +13,7 @@ use std::alloc::Global;
 use std::marker::Model;
 use std::sync::{Arc, Mutex, MutexGuard, Wait};
 use tenant_ledger::Shared;
-use trace_types::{Limits, Memory, Name, WorldFault};
+use trace_types::{Limits, Memory, Name, TenantNames, WorldFault};
 
 /// One tenant, with a lock over what no session has of it.
 ///
@@ -71,9 +71,6 @@ impl Model for Hub {
 }
 
 impl Hub {
-    /// The most tenants.
-    pub const MOST_TENANTS: usize = 16;
-
     /// Tenants of these names that have reported nothing, each with these limits by itself, a desk and eight views. Their
     /// cache remembers at most `cache` comparisons of two trees.
     ///
@@ -93,7 +90,7 @@ impl Hub {
         ensures capacity { IsErrOf result WorldFault.Capacity ↔ (can_be_tenants names.now ≡ true) × (IsCapacity cache → ⊥) }
         ensures hub { IfOk result (λ hub. hub ≡ names.now) }
     {
-        if !can_be_tenants(names) {
+        if TenantNames::of(names).is_none() {
             return Err(WorldFault::Names);
         }
         let shared = shared_by_all(alloc, cache)?;
@@ -204,21 +201,4 @@ fn shared_by_all(alloc: Global, cache: u64) -> Result<Arc<Shared>, WorldFault>
         Err(CacheFault::Capacity) => Err(WorldFault::Capacity),
         Err(CacheFault::Memory) => Err(WorldFault::Memory),
     }
-}
-
-fn can_be_tenants(names: &[Name]) -> bool
-    ensures { result ≡ can_be_tenants names.now }
-{
-    1 <= names.len() && names.len() <= Hub::MOST_TENANTS && are_distinct(names)
-}
-
-fn are_distinct(names: &[Name]) -> bool
-    ensures { result ≡ are_distinct names.now }
-{
-    for (place, name) in names.iter().enumerate() {
-        if names[place + 1..].contains(name) {
-            return false;
-        }
-    }
-    true
 }
