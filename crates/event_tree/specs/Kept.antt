@@ -10,17 +10,17 @@ use Rattle.event_tree.specs.declared.ev_tree.Node.TheVariants.{Leaf, Fork}
 -- the plain tree
 abbrev pub tree_of_node : kept.Node → EventTree
 tree_of_node (Leaf n) = plain.Leaf n
-tree_of_node (Fork base spread children) = Node base children.value.left children.value.right
+tree_of_node (Fork base children) = Node base children.value.left children.value.right
 
--- a fork keeps how far the greatest value of its children lies above their least, which is 0
+-- a fork keeps the greatest value of its children
 abbrev pub KeepsSpread : kept.Node → Type 0
 KeepsSpread (Leaf n) = Unit {0}
-KeepsSpread (Fork base spread children) = spread ≡ max (maximum children.value.left) (maximum children.value.right)
+KeepsSpread (Fork base children) = children.value.spread ≡ max (maximum children.value.left) (maximum children.value.right)
 
 -- and the digest of what stands below its number
 abbrev pub KeepsDigest : kept.Node → Type 0
 KeepsDigest (Leaf n) = Unit {0}
-KeepsDigest (Fork base spread children) = children.value.digest ≡ digest_of_both (tree_digest children.value.left) (tree_digest children.value.right)
+KeepsDigest (Fork base children) = children.value.digest ≡ digest_of_both (tree_digest children.value.left) (tree_digest children.value.right)
 
 pub record IsKeptNode (node : kept.Node) : Type 0 where
   pub normal : IsNormal (tree_of_node node)

@@ -10,4 +10,4 @@ use Rattle.event_tree.specs.Kept.{tree_of_node}
 -- no child is deeper than the tree is high
 pub depth_le-height : (node : Node) → max (deep-Node node) 0 ≤ height (tree_of_node node)
 depth_le-height (Leaf n) = omega arith
-depth_le-height (Fork base spread children) = omega arith
+depth_le-height (Fork base children) = omega arith

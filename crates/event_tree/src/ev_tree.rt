@@ -46,20 +46,16 @@ pub struct EvTree {
 #[derive(Drop)]
 enum Node {
     Leaf(u64),
-    /// `spread` is how far the greatest value lies above the least, `base`.
-    Fork {
-        base: u64,
-        spread: u64,
-        children: Arc<Children>,
-    },
+    Fork { base: u64, children: Arc<Children> },
 }
 
-/// The children of an inner node, and the digest of the two.
+/// The children of an inner node, their greatest value, and the digest of the two. Their least value is 0.
 #[cycle(ev_tree)]
 #[derive(Drop)]
 struct Children {
     left: EvTree,
     right: EvTree,
+    spread: u64,
     digest: u64,
 }
 
@@ -134,12 +130,12 @@ impl EvTree {
         let children = Children {
             left,
             right,
+            spread,
             digest,
         };
         Ok(EvTree {
             node: Node::Fork {
                 base,
-                spread,
                 children: Arc::new(alloc, children)?,
             },
         })
@@ -151,14 +147,9 @@ impl EvTree {
     {
         match self.node {
             Node::Leaf(n) => EvTree::leaf(n - by),
-            Node::Fork {
-                base,
-                spread,
-                children,
-            } => EvTree {
+            Node::Fork { base, children } => EvTree {
                 node: Node::Fork {
                     base: base - by,
-                    spread,
                     children,
                 },
             },
@@ -173,14 +164,9 @@ impl EvTree {
     {
         match &self.node {
             Node::Leaf(n) => Ok(EvTree::leaf(*n + by)),
-            Node::Fork {
-                base,
-                spread,
-                children,
-            } => Ok(EvTree {
+            Node::Fork { base, children } => Ok(EvTree {
                 node: Node::Fork {
                     base: *base + by,
-                    spread: *spread,
                     children: Arc::try_clone(children)?,
                 },
             }),
@@ -209,14 +195,9 @@ impl EvTree {
     {
         match &self.node {
             Node::Leaf(n) => Ok(EvTree::leaf(*n)),
-            Node::Fork {
-                base,
-                spread,
-                children,
-            } => Ok(EvTree {
+            Node::Fork { base, children } => Ok(EvTree {
                 node: Node::Fork {
                     base: *base,
-                    spread: *spread,
                     children: Arc::try_clone(children)?,
                 },
             }),
@@ -345,9 +326,9 @@ impl EvTree {
     pub fn max(&self) -> u64
         ensures { result ≡ maximum self.now }
     {
-        match self.node {
-            Node::Leaf(n) => n,
-            Node::Fork { base, spread, .. } => base + spread,
+        match &self.node {
+            Node::Leaf(n) => *n,
+            Node::Fork { base, children } => *base + children.spread,
         }
     }
 
