@@ -20,9 +20,9 @@ use comparison::{Directions, compare, is_below, is_below_within};
 use id_tree::IdTree;
 use joining::joined;
 use std::alloc::{AllocError, Global};
-use std::fmt;
 use std::marker::Model;
 use std::sync::Arc;
+use std::{fmt, mem};
 use trace_types::{Memory, Order, digest_of_both};
 
 mod above;
@@ -56,6 +56,13 @@ struct Children {
     left: EvTree,
     right: EvTree,
     spread: u64,
+    digest: u64,
+}
+
+/// The greatest value of a tree, and its digest.
+#[derive(Clone, Copy)]
+struct Facts {
+    high: u64,
     digest: u64,
 }
 
@@ -108,51 +115,77 @@ impl EvTree {
         ensures exact { IfOk result (λ tree. tree ≡ norm n left right) }
         ensures leaf { IsLeafTree (norm n left right) → IsOk result }
     {
-        if let (Node::Leaf(one), Node::Leaf(other)) = (&left.node, &right.node)
-            && one == other
-        {
-            return Ok(EvTree::leaf(n + *one));
-        }
-        let common = left.min().min(right.min());
-        let left = left.lowered(common);
-        let right = right.lowered(common);
-        EvTree::node(alloc, n + common, left, right)
+        let mut tree = left;
+        tree.fork_with(alloc, n, right)?;
+        Ok(tree)
     }
 
-    /// The node with this number over the two.
-    fn node(alloc: Global, base: u64, left: EvTree, right: EvTree) -> Result<EvTree, Memory>
-        requires normal { IsNormal (plain_Node base left right) }
-        requires fits { base + max (maximum left) (maximum right) < 2 ^ 64 }
-        ensures { IfOk result (λ tree. tree ≡ plain_Node base left right) }
+    /// Puts this tree and the one on its right under a node, as [`EvTree::fork`] does. Both are lost if it returns `Memory`.
+    fn fork_with(&mut self, alloc: Global, n: u64, right: EvTree) -> Result<(), Memory>
+        requires { n + max (maximum self.old) (maximum right) < 2 ^ 64 }
+        ensures exact { IfOk result (λ done. self.new ≡ norm n self.old right) }
+        ensures leaf { IsLeafTree (norm n self.old right) → IsOk result }
     {
-        let spread = left.max().max(right.max());
-        let digest = digest_of_both(left.digest(), right.digest());
+        if let (Node::Leaf(one), Node::Leaf(other)) = (&self.node, &right.node)
+            && one == other
+        {
+            *self = EvTree::leaf(n + *one);
+            return Ok(());
+        }
+        let common = self.min().min(right.min());
+        let mut right = right;
+        self.lower(common);
+        right.lower(common);
+        self.node_with(alloc, n + common, right)
+    }
+
+    /// Puts this tree and the one on its right under the node with this number.
+    fn node_with(&mut self, alloc: Global, base: u64, right: EvTree) -> Result<(), Memory>
+        requires normal { IsNormal (plain_Node base self.old right) }
+        requires fits { base + max (maximum self.old) (maximum right) < 2 ^ 64 }
+        ensures { IfOk result (λ done. self.new ≡ plain_Node base self.old right) }
+    {
+        let (on_left, on_right) = (self.facts(), right.facts());
         let children = Children {
-            left,
+            left: mem::replace(self, EvTree::leaf(0)),
             right,
-            spread,
-            digest,
+            spread: on_left.high.max(on_right.high),
+            digest: digest_of_both(on_left.digest, on_right.digest),
         };
-        Ok(EvTree {
+        *self = EvTree {
             node: Node::Fork {
                 base,
                 children: Arc::new(alloc, children)?,
             },
-        })
+        };
+        Ok(())
     }
 
-    fn lowered(self, by: u64) -> EvTree
-        requires { by ≤ minimum self }
-        ensures { result ≡ lowered by self }
+    /// What a node keeps of a child.
+    fn facts(&self) -> Facts
+        ensures high { result.high ≡ maximum self.now }
+        ensures digest { result.digest ≡ tree_digest self.now }
     {
-        match self.node {
-            Node::Leaf(n) => EvTree::leaf(n - by),
-            Node::Fork { base, children } => EvTree {
-                node: Node::Fork {
-                    base: base - by,
-                    children,
-                },
+        match &self.node {
+            Node::Leaf(n) => Facts {
+                high: *n,
+                digest: *n,
             },
+            Node::Fork { base, children } => Facts {
+                high: *base + children.spread,
+                digest: base.wrapping_add(children.digest),
+            },
+        }
+    }
+
+    /// Lowers the least value by `by`.
+    fn lower(&mut self, by: u64)
+        requires { by ≤ minimum self.old }
+        ensures { self.new ≡ lowered by self.old }
+    {
+        match &mut self.node {
+            Node::Leaf(n) => *n -= by,
+            Node::Fork { base, .. } => *base -= by,
         }
     }
 
