@@ -246,7 +246,10 @@ impl EvTree {
     {
         self.normal();
         other.normal();
-        joined(alloc, self, 0, other, 0)?.tree(self, 0, other, 0)
+        let mut made = EvTree::leaf(0);
+        let join = joined(alloc, self, 0, other, 0, &mut made)?;
+        join.settle(&mut made, self, 0, other, 0)?;
+        Ok(made)
     }
 
     /// The tree after an event of this id, by the published `event`: it fills the tree if that changes it, and else grows

@@ -1,61 +1,96 @@
 //! Joins of two lifted trees.
-ghost use Rattle.std.specs.Prelude.{◌≡◌, ◌+◌, ◌^◌, ◌<◌, max, IfOk, IfSome};
+ghost use Rattle.std.specs.Prelude.{◌≡◌, ◌+◌, ◌^◌, ◌<◌, ◌&&◌, ◌||◌, max, IfOk};
 ghost use Rattle.trace_types.specs.clock.EventTree.{maximum, Node as plain_Node};
 ghost use Rattle.trace_types.specs.clock.Norm.{norm};
 ghost use Rattle.trace_types.specs.clock.Join.{joined_number, joined};
-ghost use Rattle.event_tree.specs.Joins.{IsJoin, HoldsBeside};
+ghost use Rattle.event_tree.specs.Joins.{gives_second, gives_first, IsJoin};
 
-use super::comparison::Directions;
 use super::{Children, EvTree, Node};
 use std::alloc::Global;
 use trace_types::Memory;
 
-/// The join of two lifted trees.
-#[derive(Drop)]
+/// Which tree the join of two lifted trees is.
+#[derive(Clone, Copy)]
 pub(super) enum Join {
-    /// It is one of the two: the first if it is above the other, else the second.
-    Given(Directions),
-    /// It is neither of the two.
-    Made(EvTree),
+    /// Neither of the two. The tree stands in the place that was lent for it.
+    Made,
+    /// The second, since the first is nowhere above it.
+    Second,
+    /// The first, since the second is nowhere above it.
+    First,
+    /// Either, since they have the same values.
+    Either,
 }
 
 impl Join {
-    /// The join itself, of the two trees that were joined.
-    pub(super) fn tree(
+    /// The join if these directions hold.
+    fn of(below: bool, above: bool) -> Join
+        ensures second { gives_second result ≡ below }
+        ensures first { gives_first result ≡ above }
+    {
+        match (below, above) {
+            (false, false) => Join::Made,
+            (true, false) => Join::Second,
+            (false, true) => Join::First,
+            (true, true) => Join::Either,
+        }
+    }
+
+    /// Whether it is one of the two trees.
+    fn is_given(self) -> bool
+        ensures { result ≡ (gives_second self || gives_first self) }
+    {
+        !matches!(self, Join::Made)
+    }
+
+    fn is_second(self) -> bool
+        ensures { result ≡ gives_second self }
+    {
+        matches!(self, Join::Second | Join::Either)
+    }
+
+    fn is_first(self) -> bool
+        ensures { result ≡ gives_first self }
+    {
+        matches!(self, Join::First | Join::Either)
+    }
+
+    /// The join of two nodes whose children on the left have this join.
+    fn beside(self, right: Join) -> Join
+        ensures second { gives_second result ≡ (gives_second self && gives_second right) }
+        ensures first { gives_first result ≡ (gives_first self && gives_first right) }
+    {
+        Join::of(
+            self.is_second() && right.is_second(),
+            self.is_first() && right.is_first(),
+        )
+    }
+
+    /// Puts the join itself, of the two trees that were joined, into the place that was lent for it.
+    pub(super) fn settle(
         self,
+        made: &mut EvTree,
         one: &EvTree,
         one_lift: u64,
         other: &EvTree,
         other_lift: u64,
-    ) -> Result<EvTree, Memory>
+    ) -> Result<(), Memory>
         requires one_fits { one_lift + maximum one.now < 2 ^ 64 }
         requires other_fits { other_lift + maximum other.now < 2 ^ 64 }
-        requires join { IsJoin self one_lift one.now other_lift other.now }
-        ensures { IfOk result (λ tree. tree ≡ joined one_lift one.now other_lift other.now) }
+        requires join { IsJoin self made.old one_lift one.now other_lift other.now }
+        ensures { IfOk result (λ done. made.new ≡ joined one_lift one.now other_lift other.now) }
     {
         match self {
-            Join::Given(holding) if holding.above => one.lifted(one_lift),
-            Join::Given(_) => other.lifted(other_lift),
-            Join::Made(tree) => Ok(tree),
+            Join::Made => {}
+            Join::Second => *made = other.lifted(other_lift)?,
+            Join::First | Join::Either => *made = one.lifted(one_lift)?,
         }
-    }
-
-    /// Which directions hold on both sides, if the joins of both sides are given by one of the two trees.
-    fn given_beside(&self, right: &Join) -> Option<Directions>
-        ensures { IfSome result (λ holding. HoldsBeside holding self.now right.now) }
-    {
-        let (Join::Given(on_left), Join::Given(on_right)) = (self, right) else {
-            return None;
-        };
-        let both = Directions {
-            below: on_left.below && on_right.below,
-            above: on_left.above && on_right.above,
-        };
-        if both.any() { Some(both) } else { None }
+        Ok(())
     }
 }
 
-/// The join of two trees, each lifted by the number beside it. It makes no part again that one of the two has.
+/// The join of two trees, each lifted by the number beside it. It makes no part again that one of the two has. A join that
+/// is neither is put into `made`, which else may hold any tree.
 #[cycle(joined)]
 #[inline(always)]
 pub(super) fn joined(
@@ -64,23 +99,22 @@ pub(super) fn joined(
     one_lift: u64,
     other: &EvTree,
     other_lift: u64,
+    made: &mut EvTree,
 ) -> Result<Join, Memory>
     requires one_fits { one_lift + maximum one.now < 2 ^ 64 }
     requires other_fits { other_lift + maximum other.now < 2 ^ 64 }
-    ensures { IfOk result (λ join. IsJoin join one_lift one.now other_lift other.now) }
+    ensures { IfOk result (λ join. IsJoin join made.new one_lift one.now other_lift other.now) }
 {
     let here = one.range(one_lift);
     let there = other.range(other_lift);
-    let holding = Directions {
-        below: here.is_below(there),
-        above: there.is_below(here),
-    };
-    if holding.any() {
-        return Ok(Join::Given(holding));
+    let below = here.is_below(there);
+    let above = there.is_below(here);
+    if below || above {
+        return Ok(Join::of(below, above));
     }
     match (&one.node, &other.node) {
-        (Node::Leaf(n), _) => other.made_with(alloc, other_lift, one_lift + *n),
-        (_, Node::Leaf(n)) => one.made_with(alloc, one_lift, other_lift + *n),
+        (Node::Leaf(n), _) => other.made_with(alloc, other_lift, one_lift + *n, made),
+        (_, Node::Leaf(n)) => one.made_with(alloc, one_lift, other_lift + *n, made),
         (
             Node::Fork { base, children, .. },
             Node::Fork {
@@ -90,7 +124,7 @@ pub(super) fn joined(
             },
         ) => {
             let (root, other_root) = (one_lift + *base, other_lift + *other_base);
-            joined_below(alloc, children, root, other_children, other_root)
+            joined_below(alloc, children, root, other_children, other_root, made)
         }
     }
 }
@@ -104,56 +138,50 @@ fn joined_below(
     root: u64,
     other: &Children,
     other_root: u64,
+    made: &mut EvTree,
 ) -> Result<Join, Memory>
     requires one_fits { root + max (maximum one.now.left) (maximum one.now.right) < 2 ^ 64 }
     requires other_fits { other_root + max (maximum other.now.left) (maximum other.now.right) < 2 ^ 64 }
-    ensures { IfOk result (λ join. IsJoin join
+    ensures { IfOk result (λ join. IsJoin join made.new
         0 (plain_Node root one.now.left one.now.right) 0 (plain_Node other_root other.now.left other.now.right)) }
 {
     let low = root.min(other_root);
     let (lift, other_lift) = (root - low, other_root - low);
-    let left = joined(alloc, &one.left, lift, &other.left, other_lift)?;
-    let right = joined(alloc, &one.right, lift, &other.right, other_lift)?;
-    if let Some(holding) = left.given_beside(&right) {
-        return Ok(Join::Given(holding));
+    let on_left = joined(alloc, &one.left, lift, &other.left, other_lift, made)?;
+    let mut right = EvTree::leaf(0);
+    let on_right = joined(
+        alloc,
+        &one.right,
+        lift,
+        &other.right,
+        other_lift,
+        &mut right,
+    )?;
+    let join = on_left.beside(on_right);
+    if join.is_given() {
+        return Ok(join);
     }
-    node_over(alloc, low, left, right, one, lift, other, other_lift)
-}
-
-/// The node over the joins of both sides, in normal form. It is a function of its own so that the walk has small frames.
-#[inline(never)]
-fn node_over(
-    alloc: Global,
-    low: u64,
-    left: Join,
-    right: Join,
-    one: &Children,
-    one_lift: u64,
-    other: &Children,
-    other_lift: u64,
-) -> Result<Join, Memory>
-    requires left { IsJoin left one_lift one.now.left other_lift other.now.left }
-    requires right { IsJoin right one_lift one.now.right other_lift other.now.right }
-    requires fits { low + (one_lift + max (maximum one.now.left) (maximum one.now.right)) < 2 ^ 64 }
-    requires other_fits { low + (other_lift + max (maximum other.now.left) (maximum other.now.right)) < 2 ^ 64 }
-    ensures { IfOk result (λ join. join ≡ Join.Made (norm low
-        (joined one_lift one.now.left other_lift other.now.left)
-        (joined one_lift one.now.right other_lift other.now.right))) }
-{
-    let left = left.tree(&one.left, one_lift, &other.left, other_lift)?;
-    let right = right.tree(&one.right, one_lift, &other.right, other_lift)?;
-    Ok(Join::Made(EvTree::fork(alloc, low, left, right)?))
+    on_left.settle(made, &one.left, lift, &other.left, other_lift)?;
+    on_right.settle(&mut right, &one.right, lift, &other.right, other_lift)?;
+    made.fork_with(alloc, low, right)?;
+    Ok(Join::Made)
 }
 
 impl EvTree {
-    /// What [`EvTree::raised_to`] gives, as a join that is neither of the two. It is a function of its own for small
-    /// frames too.
+    /// Puts what [`EvTree::raised_to`] gives into `made`. It is a function of its own so that the walk has small frames.
     #[inline(never)]
-    fn made_with(&self, alloc: Global, lift: u64, number: u64) -> Result<Join, Memory>
+    fn made_with(
+        &self,
+        alloc: Global,
+        lift: u64,
+        number: u64,
+        made: &mut EvTree,
+    ) -> Result<Join, Memory>
         requires { lift + maximum self.now < 2 ^ 64 }
-        ensures { IfOk result (λ join. join ≡ Join.Made (joined_number number lift self.now)) }
+        ensures { IfOk result (λ join. (join ≡ Join.Made) × (made.new ≡ joined_number number lift self.now)) }
     {
-        Ok(Join::Made(self.raised_to(alloc, lift, number)?))
+        *made = self.raised_to(alloc, lift, number)?;
+        Ok(Join::Made)
     }
 
     /// The join of this tree lifted by `lift` and of `number`.
