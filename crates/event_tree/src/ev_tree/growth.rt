@@ -240,6 +240,8 @@ impl EvTree {
 
     /// The grown tree in normal form, if it costs exactly `price`. Then it grew at `place`. There is none for less. `zero`
     /// stands below a number.
+    #[cycle(grown_for)]
+    #[inline(always)]
     fn grown_for(
         &self,
         alloc: Global,
@@ -255,21 +257,42 @@ impl EvTree {
         ensures place { IfOk result (λ found. IfSome found (λ tree. GrewAt price.steps self.now tree place.new)) }
         ensures whole { id.now ≡ One → IsOk result }
     {
-        let (left_id, right_id) = match id.parts() {
-            IdParts::One if price.is_nothing() => return Ok(Some(self.grown_whole(place))),
-            IdParts::Zero | IdParts::One => return Ok(None),
-            IdParts::Pair(left_id, right_id) => (left_id, right_id),
-        };
+        match id.parts() {
+            IdParts::One if price.is_nothing() => Ok(Some(self.grown_whole(place))),
+            IdParts::Zero | IdParts::One => Ok(None),
+            IdParts::Pair(left_id, right_id) => {
+                self.grown_below(alloc, (left_id, right_id), price, zero, place)
+            }
+        }
+    }
+
+    /// The grown tree at that price below an id of these two halves.
+    #[cycle(grown_for)]
+    #[inline(never)]
+    fn grown_below(
+        &self,
+        alloc: Global,
+        id: (&IdTree, &IdTree),
+        price: Cost,
+        zero: &EvTree,
+        place: &mut Place,
+    ) -> Result<Option<EvTree>, Memory>
+        requires least { is_cheaper (cost (Pair id.0.now id.1.now) self.now) (Some price) ≡ false }
+        requires fits { maximum self.now + 1 < 2 ^ 64 }
+        requires zero { zero.now ≡ Leaf 0 }
+        ensures exact { IfOk result (λ found. found ≡ grown_for price (Pair id.entry.0.now id.entry.1.now) self.now) }
+        ensures place { IfOk result (λ found. IfSome found (λ tree. GrewAt price.steps self.now tree place.new)) }
+    {
         let opened = self.opened(zero);
         let Some(price) = price.after_step(opened.expansion) else {
             return Ok(None);
         };
-        if let Some(right) = opened.right.grown_for(alloc, right_id, price, zero, place)? {
+        if let Some(right) = opened.right.grown_for(alloc, id.1, price, zero, place)? {
             place.lift(1, opened.root);
             let left = opened.left.share(alloc)?;
             return Ok(Some(EvTree::fork(alloc, opened.root, left, right)?));
         }
-        let Some(left) = opened.left.grown_for(alloc, left_id, price, zero, place)? else {
+        let Some(left) = opened.left.grown_for(alloc, id.0, price, zero, place)? else {
             return Ok(None);
         };
         place.lift(0, opened.root);
