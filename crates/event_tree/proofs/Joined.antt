@@ -124,6 +124,23 @@ join-nodes m n l r l' r' le =
     by_half m n Left x y v w v' w' left right = left
     by_half m n Right x y v w v' w' left right = right
 
+-- the join of two nodes, by the joins of their sides with all of both numbers on them
+pub joined-sides : (m n : ℕ) (l r l' r' : EventTree) → norm 0 (joined m l n l') (joined m r n r') ≡ joined 0 (Node m l r) 0 (Node n l' r')
+joined-sides m n l r l' r' =
+    let one = joined m l n l' in
+    let other = joined m r n r' in
+    let one_normal = normal_joined m l n l' in
+    let other_normal = normal_joined m r n r' in
+    same_from_values (norm 0 one other) (joined 0 (Node m l r) 0 (Node n l' r')) (normal_norm 0 one other one_normal other_normal) (normal_joined 0 (Node m l r) 0 (Node n l' r'))
+    (λ point.
+    let rest = within_half point in
+    let here = by_half m n (half_of point) (value one rest) (value other rest) (value l rest) (value r rest) (value l' rest) (value r' rest) (value-joined m l n l' rest) (value-joined m r n r' rest) in
+    omega (arith, value-joined 0 (Node m l r) 0 (Node n l' r') point, value-norm 0 one other one_normal other_normal point, here))
+  where
+    by_half : (m n : ℕ) (half : Half) (x y v w v' w' : ℕ) → x ≡ max (m + v) (n + v') → y ≡ max (m + w) (n + w') → at_half half x y ≡ max (m + at_half half v w) (n + at_half half v' w')
+    by_half m n Left x y v w v' w' left right = left
+    by_half m n Right x y v w v' w' left right = right
+
 pub follows_join_table : FollowsJoinTable
 follows_join_table = record {
   numbers = λ m n. same_from_values (join (Leaf m) (Leaf n)) (Leaf (max m n)) (normal_joined 0 (Leaf m) 0 (Leaf n)) tt (λ point. omega (arith, value-joined 0 (Leaf m) 0 (Leaf n) point));

@@ -145,25 +145,23 @@ fn joined_below(
     ensures { IfOk result (λ join. IsJoin join made.new
         0 (plain_Node root one.now.left one.now.right) 0 (plain_Node other_root other.now.left other.now.right)) }
 {
-    let low = root.min(other_root);
-    let (lift, other_lift) = (root - low, other_root - low);
-    let on_left = joined(alloc, &one.left, lift, &other.left, other_lift, made)?;
+    let on_left = joined(alloc, &one.left, root, &other.left, other_root, made)?;
     let mut right = EvTree::leaf(0);
     let on_right = joined(
         alloc,
         &one.right,
-        lift,
+        root,
         &other.right,
-        other_lift,
+        other_root,
         &mut right,
     )?;
     let join = on_left.beside(on_right);
     if join.is_given() {
         return Ok(join);
     }
-    on_left.settle(made, &one.left, lift, &other.left, other_lift)?;
-    on_right.settle(&mut right, &one.right, lift, &other.right, other_lift)?;
-    made.fork_with(alloc, low, right)?;
+    on_left.settle(made, &one.left, root, &other.left, other_root)?;
+    on_right.settle(&mut right, &one.right, root, &other.right, other_root)?;
+    made.fork_with(alloc, 0, right)?;
     Ok(Join::Made)
 }
 

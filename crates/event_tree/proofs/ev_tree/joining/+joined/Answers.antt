@@ -1,6 +1,7 @@
 use Rattle.std.proofs.Common.{◌≡◌, ◌||◌, true, refl, sym, ◌∙◌, arith}
+use Rattle.std.proofs.lemmas.Bool.{false≢true}
 use Rattle.event_tree.specs.Joins.{gives_second, gives_first}
-use Rattle.event_tree.proofs.Joined.{maximum-joined-le}
+use Rattle.event_tree.proofs.Joined.{maximum-joined-le, joined-sides}
 use Rattle.event_tree.proofs.Lifts.{given-is, lifted_nodes}
 use Rattle.event_tree.proofs.Walk.{below_from_ranges}
 use Rattle.event_tree.proofs.ev_tree.joining.+joined.Goals.{joined-then-below-via-then-below, joined-then-below-via-else-below+then-above}
@@ -30,3 +31,12 @@ joined-returns-in-Fork-Fork t c =
 pub joined_below-fork_with-requires : goal.joined_below-fork_with-requires
 joined_below-fork_with-requires t c =
     rw (c.in_ok-settle.ensures, c.in_ok-settle-2.ensures) (omega (arith, c.requires.one_fits, c.requires.other_fits, maximum-joined-le))
+
+pub joined_below-returns : goal.joined_below-returns
+joined_below-returns t c = record {
+  exact =
+      rw (c.in_ok-fork_with.ensures.exact, c.in_ok-settle.ensures, c.in_ok-settle-2.ensures)
+      (joined-sides c.args.root c.args.other_root c.args.one.now.left c.args.one.now.right c.args.other.now.left c.args.other.now.right);
+  second = λ given. absurd (false≢true given);
+  first = λ given. absurd (false≢true given);
+}
