@@ -43,6 +43,13 @@ module _ (m n : ℕ) (e f : EventTree) {a b : ℕ} {l r l' r' : EventTree} (node
   not_below_by_left left on_left fails =
       (λ is. absurd (false≢true (sym fails ∙ is)), λ below. on_left.1 (below_on m n a b l r l' r' Left (rw (nodes.one, nodes.other) at below)))
 
+  -- they stand as both sides do
+  pub below_by_sides : (held : Bool) → (IsTrue held ↔ (IsLiftedBelow (m + a) l (n + b) l' × IsLiftedBelow (m + a) r (n + b) r')) → IsTrue held ↔ IsLiftedBelow m e n f
+  below_by_sides held sides = (
+    λ is. let both = sides.0 is in rw (nodes.one, nodes.other) (below_from_sides m n a b l r l' r' both.0 both.1),
+    λ below. let nodes_below = rw (nodes.one, nodes.other) at below in sides.1 (below_on m n a b l r l' r' Left nodes_below, below_on m n a b l r l' r' Right nodes_below),
+  )
+
   -- and else stand as the right side does
   pub below_by_right : (left right : Bool) → (IsTrue left ↔ IsLiftedBelow (m + a) l (n + b) l') → left ≡ true → (IsTrue right ↔ IsLiftedBelow (m + a) r (n + b) r') → IsTrue right ↔ IsLiftedBelow m e n f
   below_by_right left right on_left holds on_right = (

@@ -1,11 +1,11 @@
 //! Comparing two lifted trees.
-ghost use Rattle.std.specs.Prelude.{◌≡◌, ◌+◌, ◌^◌, ◌<◌, ◌≤◌, ◌↔◌, ◌||◌, IfSome, IsTrue, MatchOption};
+ghost use Rattle.std.specs.Prelude.{◌≡◌, ◌+◌, ◌^◌, ◌<◌, ◌≤◌, ◌↔◌, ◌||◌, max, IfSome, IsTrue, MatchOption};
 ghost use Rattle.trace_types.specs.clock.EventTree.{maximum};
 ghost use Rattle.trace_types.specs.clock.Size.{inner_of_tree};
 ghost use Rattle.event_tree.specs.Lifted.{IsLiftedBelow};
 ghost use Rattle.event_tree.specs.Ranges.{range_of, IsRangeBelow, CanBeBelow};
 
-use super::{EvTree, Node};
+use super::{Children, EvTree, Node};
 
 impl EvTree {
     /// The least and the greatest value of the lifted tree.
@@ -64,6 +64,8 @@ impl Directions {
 }
 
 /// Whether no value of the first tree is above that of the other at the same point, each lifted by the number beside it.
+#[cycle(is_below)]
+#[inline(always)]
 pub(super) fn is_below(one: &EvTree, one_lift: u64, other: &EvTree, other_lift: u64) -> bool
     requires one_fits { one_lift + maximum one.now < 2 ^ 64 }
     requires other_fits { other_lift + maximum other.now < 2 ^ 64 }
@@ -86,17 +88,31 @@ pub(super) fn is_below(one: &EvTree, one_lift: u64, other: &EvTree, other_lift: 
                 ..
             },
         ) => {
-            let (one_lift, other_lift) = (one_lift + *base, other_lift + *other_base);
-            is_below(&children.left, one_lift, &other_children.left, other_lift)
-                && is_below(&children.right, one_lift, &other_children.right, other_lift)
+            let (root, other_root) = (one_lift + *base, other_lift + *other_base);
+            are_below(children, root, other_children, other_root)
         }
         // A leaf has one value, so the ranges have decided.
         _ => unreachable!(),
     }
 }
 
+/// Whether each of the two trees, lifted by the number at its root, is so below the other one on its side.
+#[cycle(is_below)]
+#[inline(never)]
+fn are_below(one: &Children, root: u64, other: &Children, other_root: u64) -> bool
+    requires one_fits { root + max (maximum one.now.left) (maximum one.now.right) < 2 ^ 64 }
+    requires other_fits { other_root + max (maximum other.now.left) (maximum other.now.right) < 2 ^ 64 }
+    ensures { IsTrue result ↔ (IsLiftedBelow root one.now.left other_root other.now.left
+        × IsLiftedBelow root one.now.right other_root other.now.right) }
+{
+    is_below(&one.left, root, &other.left, other_root)
+        && is_below(&one.right, root, &other.right, other_root)
+}
+
 /// Answers as [`is_below`] does, or `None` if a walk over `steps` inner nodes does not show it. Else `steps` is how many
 /// of them are left.
+#[cycle(is_below_within)]
+#[inline(always)]
 pub(super) fn is_below_within(
     one: &EvTree,
     one_lift: u64,
@@ -126,18 +142,38 @@ pub(super) fn is_below_within(
                 ..
             },
         ) => {
-            *steps = steps.checked_sub(1)?;
-            let (one_lift, other_lift) = (one_lift + *base, other_lift + *other_base);
-            let (left, other_left) = (&children.left, &other_children.left);
-            if !is_below_within(left, one_lift, other_left, other_lift, steps)? {
-                return Some(false);
-            }
-            let (right, other_right) = (&children.right, &other_children.right);
-            is_below_within(right, one_lift, other_right, other_lift, steps)
+            let (root, other_root) = (one_lift + *base, other_lift + *other_base);
+            are_below_within(children, root, other_children, other_root, steps)
         }
         // A leaf has one value, so the ranges have decided.
         _ => unreachable!(),
     }
+}
+
+/// Answers as [`are_below`] does, or `None` if walks over `steps` inner nodes do not show it. A step is for the node above
+/// the two.
+#[cycle(is_below_within)]
+#[inline(never)]
+fn are_below_within(
+    one: &Children,
+    root: u64,
+    other: &Children,
+    other_root: u64,
+    steps: &mut u64,
+) -> Option<bool>
+    requires one_fits { root + max (maximum one.now.left) (maximum one.now.right) < 2 ^ 64 }
+    requires other_fits { other_root + max (maximum other.now.left) (maximum other.now.right) < 2 ^ 64 }
+    ensures is { IfSome result (λ below. IsTrue below ↔ (IsLiftedBelow root one.now.left other_root other.now.left
+        × IsLiftedBelow root one.now.right other_root other.now.right)) }
+    ensures short { MatchOption result
+        (steps.old < inner_of_tree one.now.left + inner_of_tree one.now.right + 1)
+        (λ _. steps.old ≤ steps.new + (inner_of_tree one.now.left + inner_of_tree one.now.right + 1)) }
+{
+    *steps = steps.checked_sub(1)?;
+    if !is_below_within(&one.left, root, &other.left, other_root, steps)? {
+        return Some(false);
+    }
+    is_below_within(&one.right, root, &other.right, other_root, steps)
 }
 
 /// Which directions hold between the two trees, each lifted by the number beside it.
