@@ -73,6 +73,19 @@ fn write_tree(text: &mut Vec<u8>, tree: &EvTree) -> Result<(), Memory>
 fn write_number(text: &mut Vec<u8>, n: u64) -> Result<(), Memory>
     ensures { IfOk result (λ _. text.new.items ≡ text.old.items ++ decimal n) }
 {
+    // Most numbers of a stamp have one digit.
+    if n < 10 {
+        text.push(b'0' + n as u8)?;
+        return Ok(());
+    }
+    write_digits(text, n)
+}
+
+/// Writes a number of any length. It is a function of its own, since the buffer is cleared on entry.
+#[inline(never)]
+fn write_digits(text: &mut Vec<u8>, n: u64) -> Result<(), Memory>
+    ensures { IfOk result (λ _. text.new.items ≡ text.old.items ++ decimal n) }
+{
     let mut buffer = Buffer::new();
     text.extend_from_slice(buffer.format(n).as_bytes())?;
     Ok(())
