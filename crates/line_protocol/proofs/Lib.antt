@@ -5,6 +5,8 @@ pub mod EndsLemmas
 pub mod SkipLemmas
 pub mod LineReadingLemmas
 pub mod WordsLemmas
+pub mod FirstWordLemmas
+pub mod FirstNumberLemmas
 pub mod WritingLemmas
 pub mod GatherLemmas
 pub mod PatienceLemmas

@@ -49,7 +49,7 @@ pub number_onto-take : (digits : Text) (i : ℕ) → i < length digits → numbe
 number_onto-take digits i within =
     ap (λ k. number_onto 0 (take k digits)) (add-one i) ∙ ap (number_onto 0) (take-suc digits i 0 within) ∙ number_onto-push 0 (take i digits) (get_or digits i 0)
 
-both_true : (a b : Bool) → (a && b) ≡ true → (a ≡ true) × (b ≡ true)
+pub both_true : (a b : Bool) → (a && b) ≡ true → (a ≡ true) × (b ≡ true)
 both_true true true h = (refl, refl)
 both_true true false h = (refl, h)
 both_true false b h = (h, absurd (cc))
@@ -71,7 +71,7 @@ onto_some : (byte : ℕ) (words : List Text) → (first : Text) × (rest : List 
 onto_some byte [] = (byte ∷ [], [], refl)
 onto_some byte (word ∷ words) = (byte ∷ word, words, refl)
 
-some_word : (bytes : Text) → (first : Text) × (rest : List Text) × (words bytes ≡ first ∷ rest)
+pub some_word : (bytes : Text) → (first : Text) × (rest : List Text) × (words bytes ≡ first ∷ rest)
 some_word [] = ([], [], refl)
 some_word (byte ∷ bytes) = by_blank (byte == 32) refl
   where

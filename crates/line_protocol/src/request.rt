@@ -1,10 +1,9 @@
 //! Requests, which are read in place.
-ghost use Rattle.std.specs.Prelude.{◌≡◌, ◌≤◌, ◌∷◌, IfSome, is_some, length, position, ◌==◌};
+ghost use Rattle.std.specs.Prelude.{◌≡◌, ◌∷◌, false, codes, take, option_map, position, ◌==◌};
 ghost use Rattle.std.specs.Option.{option_copied};
-ghost use Rattle.std.specs.List.{list_all};
 ghost use Rattle.trace_types.specs.text.Name.{is_same};
-ghost use Rattle.trace_types.specs.text.Reading.{request_of, words, number_of, is_digit, number_onto, name_of, only, only_two, request_of_words, with_names};
-ghost use Rattle.line_protocol.specs.Words.{Addresses, may_be_number, words_after};
+ghost use Rattle.trace_types.specs.text.Reading.{request_of, words, number_of, is_digit, name_of, only, only_two, request_of_words, with_names, with_numbers};
+ghost use Rattle.line_protocol.specs.Words.{Addresses, LeadingNumber, first_number, may_be_number, words_after};
 
 use trace_types::{Name, Request};
 
@@ -12,15 +11,42 @@ use trace_types::{Name, Request};
 pub fn read_request(line: &[u8]) -> Option<Request>
     ensures { result ≡ request_of line.now }
 {
-    let (keyword, arguments) = split_first(line);
-    match arguments {
-        None => is_word(keyword, b"count").then_some(Request::Count),
-        Some(arguments) => read_arguments(keyword, arguments),
+    // The compiler zeroes all locals of a function on entry. What is asked most does without those of `read_other`.
+    match line {
+        b"count" => Some(Request::Count),
+        [b'o', b'r', b'd', b'e', b'r', b' ', arguments @ ..] => read_order(arguments),
+        _ => read_other(line),
     }
 }
 
-/// The request of a keyword that has arguments.
+/// The arguments of an order.
+#[inline(always)]
+fn read_order(arguments: &[u8]) -> Option<Request>
+    ensures { result ≡ with_numbers Request.Order (words arguments.now) }
+{
+    let (first, rest) = first_number(arguments)?;
+    match first_number(rest?)? {
+        (second, None) => Some(Request::Order(first, second)),
+        (_, Some(_)) => None,
+    }
+}
+
+/// Any other request.
+#[inline(never)]
+fn read_other(line: &[u8]) -> Option<Request>
+    requires count { is_same line.now (codes "count") ≡ false }
+    requires order { is_same (take 6 line.now) (codes "order ") ≡ false }
+    ensures { result ≡ request_of line.now }
+{
+    match split_first(line) {
+        (keyword, Some(arguments)) => read_arguments(keyword, arguments),
+        (_, None) => None,
+    }
+}
+
+/// The request of a keyword that has arguments, other than `order`.
 fn read_arguments(keyword: &[u8], arguments: &[u8]) -> Option<Request>
+    requires { is_same keyword.now (codes "order") ≡ false }
     ensures { result ≡ request_of_words (keyword.now ∷ words arguments.now) }
 {
     if is_word(keyword, b"local") {
@@ -40,9 +66,6 @@ fn read_arguments(keyword: &[u8], arguments: &[u8]) -> Option<Request>
     }
     if is_word(keyword, b"join") {
         return read_join(arguments);
-    }
-    if is_word(keyword, b"order") {
-        return two_numbers(arguments).map(|(first, second)| Request::Order(first, second));
     }
     if is_word(keyword, b"past") {
         return Some(Request::Past(only_number(arguments)?));
@@ -139,19 +162,8 @@ fn two_names(arguments: &[u8]) -> Option<(Name, Name)>
 fn only_number(arguments: &[u8]) -> Option<u64>
     ensures { result ≡ only number_of (words arguments.now) }
 {
-    match split_first(arguments) {
-        (number, None) => read_number(number),
-        (_, Some(_)) => None,
-    }
-}
-
-/// The two numbers, if there are two arguments and no more.
-fn two_numbers(arguments: &[u8]) -> Option<(u64, u64)>
-    ensures { result ≡ only_two number_of (words arguments.now) }
-{
-    let (first, rest) = split_first(arguments);
-    match split_first(rest?) {
-        (second, None) => Some((read_number(first)?, read_number(second)?)),
+    match first_number(arguments)? {
+        (number, None) => Some(number),
         (_, Some(_)) => None,
     }
 }
@@ -180,13 +192,19 @@ fn is_word(word: &[u8], other: &[u8]) -> bool
     word == other
 }
 
-fn read_number(word: &[u8]) -> Option<u64>
-    ensures { result ≡ number_of word.now }
+/// The number that the first word is, and the bytes behind its blank, if there is one.
+#[inline(always)]
+fn first_number(bytes: &[u8]) -> Option<(u64, Option<&[u8]>)>
+    ensures { option_map (λ read. (read.0, words_after (option_copied read.1))) result ≡ first_number (words bytes.now) }
 {
-    if may_be_number(word) {
-        value_of(word)
-    } else {
-        None
+    let (number, len) = leading_number(bytes);
+    if !may_be_number(&bytes[..len]) {
+        return None;
+    }
+    match bytes.get(len) {
+        None => Some((number, None)),
+        Some(b' ') => Some((number, Some(&bytes[len + 1..]))),
+        Some(_) => None,
     }
 }
 
@@ -196,20 +214,19 @@ fn may_be_number(word: &[u8]) -> bool
     1 <= word.len() && word.len() <= 9 && (word.len() == 1 || word[0] != b'0')
 }
 
-/// The number whose digits these are, if all are digits.
-fn value_of(word: &[u8]) -> Option<u64>
-    requires { length word.now ≤ 9 }
-    ensures digits { IfSome result (λ number. number ≡ number_onto 0 word.now) }
-    ensures number { is_some result ≡ list_all is_digit word.now }
+/// The number that the first digits spell, and how many they are, at most nine.
+#[inline(always)]
+fn leading_number(bytes: &[u8]) -> (u64, usize)
+    ensures { LeadingNumber bytes.now result.0 result.1 }
 {
+    let most = bytes.len().min(9);
     let mut number = 0;
-    for byte in word {
-        if !is_digit(*byte) {
-            return None;
-        }
-        number = 10 * number + u64::from(*byte - b'0');
+    let mut len = 0;
+    while len < most && is_digit(bytes[len]) {
+        number = 10 * number + u64::from(bytes[len] - b'0');
+        len += 1;
     }
-    Some(number)
+    (number, len)
 }
 
 fn is_digit(byte: u8) -> bool

@@ -1,6 +1,7 @@
-use Rattle.line_protocol.proofs.WordsLemmas.{only-more}
+use Rattle.line_protocol.proofs.FirstNumberLemmas.{only_number-more}
+use Rattle.trace_types.specs.text.Reading.{words}
 use Rattle.line_protocol.proofs.request.only_number.Goals as goal
 
 pub returns-in_default-Some : goal.returns-in_default-Some
 returns-in_default-Some c =
-    only-more _ c.split_first.result.0.now c.in_default-Some.field-0-1.now _ (rw c.in_default-Some.is-1 at c.split_first.ensures)
+    only_number-more (words c.args.arguments.now) c.in_ok-number.field-0.0 c.in_default-Some.field-0-1.now (rw c.in_default-Some.is-1 at c.in_ok-number.ensures)

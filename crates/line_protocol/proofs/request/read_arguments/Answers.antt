@@ -11,6 +11,7 @@ returns c =
       sym c.is_word-4.ensures ∙ c.if-is_word-4.false,
       sym c.is_word-5.ensures ∙ c.if-is_word-5.false,
       sym c.is_word-6.ensures ∙ c.if-is_word-6.false,
+      c.requires,
       sym c.is_word-7.ensures ∙ c.if-is_word-7.false,
       sym c.is_word-8.ensures ∙ c.if-is_word-8.false,
       sym c.is_word-9.ensures ∙ c.if-is_word-9.false,
@@ -18,6 +19,5 @@ returns c =
       sym c.is_word-11.ensures ∙ c.if-is_word-11.false,
       sym c.is_word-12.ensures ∙ c.if-is_word-12.false,
       sym c.is_word-13.ensures ∙ c.if-is_word-13.false,
-      sym c.is_word-14.ensures ∙ c.if-is_word-14.false,
     )
     (no_argument-more _ _ c.args.arguments.now)
