@@ -6,7 +6,7 @@ ghost use Rattle.trace_types.specs.clock.Clock.{tree_clock};
 ghost use Rattle.trace_types.specs.clock.Stamps.{tree_of};
 ghost use Rattle.trace_types.specs.tenant.Rows.{history_of, is_event, is_sent, message_count, task_count};
 ghost use Rattle.trace_types.specs.tenant.Tenant.{Answers, AreLegal, Tenant, reply_to_view};
-ghost use Rattle.tenant_ledger.specs.Answers.{code_of, message_due, task_due};
+ghost use Rattle.tenant_ledger.specs.Answers.{code_of, is_brief, message_due, task_due};
 ghost use Rattle.tenant_ledger.specs.Ledger.{ArePoints, id_after, of_each, start_of};
 
 use id_tree::IdTree;
@@ -116,9 +116,29 @@ pub fn answer<R: Records, C: Compare<R::Kept>>(records: &R, compare: &C, request
     }
 }
 
+/// Answers `order` and `count`, whose answers are short, as [`answer`] does. Returns `None` for any other request. It takes
+/// no memory.
+#[inline(always)]
+pub fn answer_briefly<R: Records, C: Compare<R::Kept>>(
+    records: &R,
+    compare: &C,
+    request: &Request,
+) -> Option<Reply>
+    requires sound { R.is_sound records.now }
+    requires admitted { (kept : R.Kept) → R.keeps records.now kept → C.admits compare.now kept }
+    ensures answer { IfSome result (λ reply. Answers (R.tenant records.now) request.now reply) }
+    ensures brief { is_some result ≡ is_brief request.now }
+{
+    match *request {
+        Request::Order(first, second) => Some(order(records, compare, first, second)),
+        Request::Count => Some(count(records)),
+        _ => None,
+    }
+}
+
 /// How the first event stands to the second.
 #[inline(always)]
-pub(crate) fn order<R: Records, C: Compare<R::Kept>>(
+fn order<R: Records, C: Compare<R::Kept>>(
     records: &R,
     compare: &C,
     first: u64,
@@ -237,7 +257,7 @@ fn message<R: Records>(records: &R, name: &Name) -> Reply
 
 /// How many events, tasks ever and messages there are.
 #[inline(always)]
-pub(crate) fn count<R: Records>(records: &R) -> Reply
+fn count<R: Records>(records: &R) -> Reply
     requires { R.is_sound records.now }
     ensures { result ≡ reply_to_view (R.tenant records.now) Request.Count }
 {

@@ -10,7 +10,7 @@ ghost use Rattle.event_tree.specs.Comparison.{StandsAs};
 ghost use Rattle.tenant_ledger.specs.Answers.{is_brief};
 ghost use Rattle.tenant_ledger.specs.Size.{AreShort, AreSized, HaveShortParts, IsShort, NestBySpawns, spawns_up_to};
 
-use crate::answers::{Records, answer, count, order, place_of};
+use crate::answers::{Records, answer, answer_briefly, place_of};
 use crate::book::Book;
 use crate::share::{Keep, MeantId, Own, Share};
 use crate::{PlainShare, Prepared, laws};
@@ -147,16 +147,13 @@ impl<S: Keep> Ledger<S> {
     /// Answers `order` and `count`, whose answers are short, as [`Ledger::report`] does. Returns `None` for any other
     /// request. It takes no memory.
     #[inline(always)]
+    #[tactic(auto, using(crate::proofs::keeping::Refused::brief_steps))]
     pub fn ask_briefly(&self, request: &Request) -> Option<Reply>
         ensures steps { IfSome result (λ reply. Steps self.now request.now reply self.now) }
         ensures brief { is_some result ≡ is_brief request.now }
     {
         let book = &*self.book;
-        match *request {
-            Request::Order(first, second) => Some(order(book, &Own(book.share()), first, second)),
-            Request::Count => Some(count(book)),
-            _ => None,
-        }
+        answer_briefly(book, &Own(book.share()), request)
     }
 
     /// Does all of a report that may be refused, and leaves the rows as they are. What it returns is to be committed or

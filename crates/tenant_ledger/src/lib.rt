@@ -34,10 +34,12 @@ mod plain_share;
 mod prepared;
 mod share;
 mod shared;
+mod shared_ids;
 
-pub use answers::{Records, answer};
+pub use answers::{Records, answer, answer_briefly};
 pub use ledger::Ledger;
 pub use plain_share::PlainShare;
 pub use prepared::Prepared;
 pub use share::{Keep, MeantId, Own, Share};
 pub use shared::Shared;
+pub use shared_ids::SharedIds;
