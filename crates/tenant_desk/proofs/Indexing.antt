@@ -13,12 +13,13 @@ use Rattle.trace_types.proofs.Names.{is_same_iff}
 use Rattle.trace_types.specs.tenant.Rows.{History, history_of, starts_task, sends_message, starts, ends_task, joins, sends, receives, receives_message, is_known, is_ended, is_joined, is_sent, last_event, send_event, receipts}
 use Rattle.trace_types.specs.declared.row.Row.{Row}
 use Rattle.trace_types.specs.declared.row.Kind.{Kind}
-use Rattle.trace_types.specs.declared.row.Kind.TheVariants.{Spawn, Send, Recv}
+use Rattle.trace_types.specs.declared.row.Kind.TheVariants.{Spawn, Send}
 use Rattle.trace_types.specs.declared.task_state.TaskState.{TaskState}
 use Rattle.trace_types.specs.declared.task_state.TaskState.TheVariants.{Live, Ended, Joined}
 use Rattle.tenant_ledger.specs.Legal.{IsLegal, AllowsNamed}
 use Rattle.tenant_ledger.proofs.clock.Tasks.{last_event-acting, last_event-bystander, last_event-started, unknown_has_no_event}
 use Rattle.tenant_ledger.proofs.keeping.Known.{joined_was, unended_is_not_joined, unknown_has_not_ended}
+use Rattle.tenant_ledger.proofs.keeping.Messages.{unsent_has_no_events}
 use Rattle.tenant_ledger.specs.Answers.{message_due, task_due}
 use Rattle.tenant_desk.specs.Indexes.{AreWithin, Found, Sent, state_after, naming_after, indexed_task, indexed_message, sent_due}
 use Rattle.tenant_desk.specs.Spans.{span_of, with_later}
@@ -134,19 +135,6 @@ sent_is_new earlier row message Send (Some name) allowed is = (subst (λ one. is
 sent_is_new earlier row message Send None allowed is = absurd allowed
 sent_is_new earlier row message kind named allowed is = absurd (false≢true is)
 
--- and one that a row receives was
-received_was_sent : (earlier : History) (row : Row) (message : Text) (kind : Kind) (named : Option Text) → AllowsNamed earlier kind named
-    → receives message (record row { kind = kind; name = named }) ≡ true → is_sent earlier message ≡ true
-received_was_sent earlier row message Recv (Some name) allowed is = subst (λ one. is_sent earlier one ≡ true) ((is_same_iff name message).0 is) allowed
-received_was_sent earlier row message Recv None allowed is = absurd allowed
-received_was_sent earlier row message kind named allowed is = absurd (false≢true is)
-
--- so one that was not sent has no receipts
-unsent_has_no_receipts : (history : History) (message : Text) → IsLegal history → is_sent history message ≡ false → receipts history message ≡ []
-unsent_has_no_receipts [] message legal unsent = refl
-unsent_has_no_receipts (row ∷ earlier) message legal unsent =
-    grind (arith, nat_tests, received_was_sent earlier row message row.kind row.name legal.0.1, unsent_has_no_receipts earlier message legal.1)
-
 -- a row that sends the message is its send, and there are no receipts yet
 due_where_sent : (row : Row) (earlier : History) (message : Text) → IsLegal (row ∷ earlier) → sends message row ≡ true
     → sent_due (row ∷ earlier) message ≡ Some (suc (length earlier), None)
@@ -156,7 +144,7 @@ due_where_sent row earlier message legal sent =
     let is_sent_now : is_sent (row ∷ earlier) message ≡ true = grind (arith, nat_tests) in
     let event : send_event (row ∷ earlier) message ≡ suc (length earlier) = cond-true (sends message row) _ _ sent in
     let none : receipts (row ∷ earlier) message ≡ [] =
-    cond-false (receives message row) _ _ not_received ∙ unsent_has_no_receipts earlier message legal.1 new.0 in
+    cond-false (receives message row) _ _ not_received ∙ unsent_has_no_events earlier message legal.1 new.0 in
     cond-true (is_sent (row ∷ earlier) message) _ _ is_sent_now ∙ (λ i. Some (event i, span_of (none i)))
 
 module _ (row : Row) (earlier : History) (message : Text) (not_sent : sends message row ≡ false) where

@@ -174,6 +174,11 @@ pub message_told : (history : History) (name : Text) (entry : Sent) → IsMessag
 message_told history name entry right =
     (right.0, right.1, ap (map (λ (receipt : Receipt). receipt.event)) right.2 ∙ events_of_receipts history name)
 
+-- and one that was not sent was received by no event
+pub unsent_has_no_events : (history : History) (name : Text) → IsLegal history → is_sent history name ≡ false → receipts history name ≡ []
+unsent_has_no_events history name legal unsent =
+    sym (events_of_receipts history name) ∙ ap (map (λ (receipt : Receipt). receipt.event)) (unsent_has_no_receipts history name legal unsent)
+
 -- what was received can be taken back
 pub receive_taken_back : (task name : Text) (event : ℕ) (before after : message_book.Book) → Notes task Recv (Some name) event before after
     → record after { messages = without_last_receipt name after.messages } ≡ before
