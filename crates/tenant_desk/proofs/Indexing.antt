@@ -21,7 +21,7 @@ use Rattle.tenant_ledger.proofs.clock.Tasks.{last_event-acting, last_event-bysta
 use Rattle.tenant_ledger.proofs.keeping.Known.{joined_was, unended_is_not_joined, unknown_has_not_ended}
 use Rattle.tenant_ledger.proofs.keeping.Messages.{unsent_has_no_events}
 use Rattle.tenant_ledger.specs.Answers.{message_due, task_due}
-use Rattle.tenant_desk.specs.Indexes.{AreWithin, Found, Sent, state_after, naming_after, indexed_task, indexed_message, sent_due}
+use Rattle.tenant_desk.specs.Indexes.{AreWithin, FoundTask, FoundMessage, state_after, naming_after, indexed_task, indexed_message, sent_due}
 use Rattle.tenant_desk.specs.Spans.{span_of, with_later}
 use Rattle.tenant_desk.specs.declared.span.Span.{Span}
 use Rattle.tenant_desk.proofs.Spans.{span_of-later}
@@ -35,7 +35,7 @@ started_was_unknown earlier row task kind named allowed is = absurd (false≢tru
 
 -- a task is joined however far it had come
 joined_either : (known : Bool) (state : TaskState) (last : ℕ)
-    → cond {A = Found} known (Some (Joined, last)) None ≡ option_map (λ (found : TaskState × ℕ). (Joined, found.1)) (cond {A = Found} known (Some (state, last)) None)
+    → cond {A = FoundTask} known (Some (Joined, last)) None ≡ option_map (λ (found : TaskState × ℕ). (Joined, found.1)) (cond {A = FoundTask} known (Some (state, last)) None)
 joined_either true state last = refl
 joined_either false state last = refl
 
@@ -49,7 +49,7 @@ module _ (row : Row) (earlier : History) (task : Text) (legal : IsLegal (row ∷
     acting_unended : is_ended earlier task ≡ false
     acting_unended = subst (λ name. is_ended earlier name ≡ false) ((is_same_iff row.task task).0 acts) legal.0.0.1
 
-    names_none : (before : Found) → naming_after row (suc (length earlier)) task before ≡ before
+    names_none : (before : FoundTask) → naming_after row (suc (length earlier)) task before ≡ before
     names_none before =
         let not_starts : starts task row ≡ false =
         false_from_ne_true (starts task row) (λ is. false≢true (sym (started_was_unknown earlier row task row.kind row.name legal.0.1 is) ∙ acting_known)) in
@@ -150,7 +150,7 @@ due_where_sent row earlier message legal sent =
 module _ (row : Row) (earlier : History) (message : Text) (not_sent : sends message row ≡ false) where
   -- any other row leaves the send
   due_with : (list : List ℕ) → receipts (row ∷ earlier) message ≡ list
-      → sent_due (row ∷ earlier) message ≡ cond {A = Sent} (is_sent earlier message) (Some (send_event earlier message, span_of list)) None
+      → sent_due (row ∷ earlier) message ≡ cond {A = FoundMessage} (is_sent earlier message) (Some (send_event earlier message, span_of list)) None
   due_with list is =
       let sent : is_sent (row ∷ earlier) message ≡ is_sent earlier message = grind (arith, nat_tests) in
       let event : send_event (row ∷ earlier) message ≡ send_event earlier message = cond-false (sends message row) _ _ not_sent in
@@ -161,9 +161,9 @@ module _ (row : Row) (earlier : History) (message : Text) (not_sent : sends mess
       → sent_due (row ∷ earlier) message ≡ option_map (λ (sent : ℕ × Option Span). (sent.0, Some (with_later sent.1 (suc (length earlier))))) (sent_due earlier message)
   received_due received = due_with _ (cond-true (receives message row) _ _ received) ∙ by (is_sent earlier message)
     where
-      by : (sent : Bool) → cond {A = Sent} sent (Some (send_event earlier message, span_of (receipts earlier message ++ suc (length earlier) ∷ []))) None
+      by : (sent : Bool) → cond {A = FoundMessage} sent (Some (send_event earlier message, span_of (receipts earlier message ++ suc (length earlier) ∷ []))) None
           ≡ option_map (λ (sent : ℕ × Option Span). (sent.0, Some (with_later sent.1 (suc (length earlier)))))
-          (cond {A = Sent} sent (Some (send_event earlier message, span_of (receipts earlier message))) None)
+          (cond {A = FoundMessage} sent (Some (send_event earlier message, span_of (receipts earlier message))) None)
       by true = λ i. Some (send_event earlier message, span_of-later (receipts earlier message) (suc (length earlier)) i)
       by false = refl
 
@@ -206,7 +206,7 @@ first_are_within limits rows count all =
 -- ---- what is answered of a message
 
 module _ (history : History) (message : Text) where
-  abbrev due_where : Bool → Sent
+  abbrev due_where : Bool → FoundMessage
   due_where there = cond there (Some (send_event history message, span_of (receipts history message))) None
 
   -- one of which something is kept was sent

@@ -4,7 +4,7 @@ ghost use Rattle.indexmap.specs.IndexMap.{get, index_map_len, spare};
 ghost use Rattle.trace_types.specs.text.Name.{Text as Characters, is_same};
 ghost use Rattle.trace_types.specs.tenant.Limits.{Limits as Bounds};
 ghost use Rattle.trace_types.specs.tenant.Rows.{History, history_of, starts_task, sends_message};
-ghost use Rattle.tenant_desk.specs.Indexes.{AreWithin, HasRoom, IsIndexOf, acting_after, capacity, message_after, naming_after, state_after};
+ghost use Rattle.tenant_desk.specs.Indexes.{AreWithin, HasRoomForNames, IsIndexOf, acting_after, capacity, message_after, naming_after, state_after};
 
 use crate::span::Span;
 use indexmap::IndexMap;
@@ -45,7 +45,7 @@ impl Index {
 
     /// Makes it the index of no rows.
     fn clear(&mut self)
-        requires { HasRoom self.old }
+        requires { HasRoomForNames self.old }
         ensures { IsIndexOf self.old.limits [] self.new }
     {
         let _ = self.limits.events();
@@ -58,7 +58,7 @@ impl Index {
 
     /// Makes it the index of these rows.
     fn read(&mut self, rows: &[Row])
-        requires room { HasRoom self.old }
+        requires room { HasRoomForNames self.old }
         requires within { AreWithin self.old.limits (history_of rows.now) }
         ensures { IsIndexOf self.old.limits (history_of rows.now) self.new }
     {

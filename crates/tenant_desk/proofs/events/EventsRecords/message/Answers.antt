@@ -4,7 +4,7 @@ use Rattle.trace_types.specs.text.Name.{Text, is_same}
 use Rattle.trace_types.specs.tenant.Rows.{history_of, receipts}
 use Rattle.tenant_ledger.proofs.clock.Legality.{IsLegal_from_AreLegal}
 use Rattle.tenant_desk.specs.Events.{Events, AreSound}
-use Rattle.tenant_desk.specs.Indexes.{Sent, IsIndexOf, indexed_message, sent_due}
+use Rattle.tenant_desk.specs.Indexes.{FoundMessage, IsIndexOf, indexed_message, sent_due}
 use Rattle.tenant_desk.specs.Spans.{span_of}
 use Rattle.tenant_desk.specs.declared.index.Index.{Index}
 use Rattle.tenant_desk.proofs.Cases.{on_err}
@@ -12,7 +12,7 @@ use Rattle.tenant_desk.proofs.Indexing.{kept_message_due, sent_told, unsent_told
 use Rattle.tenant_desk.proofs.events.EventsRecords.message.Goals as goal
 
 -- what the index has of a message is what the rows say
-kept_is_due : (events seen : Events) (index : Index) (name : Text) (found : Sent) → AreSound events → IsIndexOf seen.limits (history_of seen.rows) index → seen ≡ events
+kept_is_due : (events seen : Events) (index : Index) (name : Text) (found : FoundMessage) → AreSound events → IsIndexOf seen.limits (history_of seen.rows) index → seen ≡ events
     → found ≡ get is_same index.messages name → found ≡ sent_due (history_of events.rows) name
 kept_is_due events seen index name found sound of same is =
     is ∙ of.messages name ∙ ap (λ (shown : Events). indexed_message (history_of shown.rows) name) same
