@@ -11,7 +11,7 @@ use Rattle.trace_types.proofs.limits.Limits.TheSendSync as limits
 use Rattle.trace_types.proofs.row.Row.TheSendSync as row
 use Rattle.tree_forest.proofs.tree.Tree.TheSendSync as kept
 use Rattle.tree_forest.proofs.home.Home.TheSendSync as home
-use Rattle.tenant_ledger.proofs.Crossing.{id_tree_send, id_tree_sync, ev_tree_send, ev_tree_sync, shared_send, shared_sync}
+use Rattle.tenant_ledger.proofs.Crossing.{id_tree_send, id_tree_sync, ev_tree_send, ev_tree_sync, shared_send, shared_sync, shared_ids_send}
 use Rattle.event_tree.specs.contracts.ev_tree.EvTree as EvTree
 use Rattle.id_tree.specs.contracts.IdTree as IdTree
 use Rattle.trace_query.specs.contracts.deciding.Deciding as Deciding
@@ -103,10 +103,11 @@ work_send = search (
   sendable,
   crosses,
   ledger.the_send,
+  shared_ids_send,
   shared_send,
   shared_sync,
   publisher_send,
-  kept_ev_send,
+  ev_tree_send,
   kept_id_send,
 ) depth 20
 

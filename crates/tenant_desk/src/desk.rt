@@ -5,18 +5,19 @@ ghost use Rattle.trace_types.specs.text.Text.{CanBeWritten};
 ghost use Rattle.tenant_desk.specs.Desks.{IsDone, IsEventOf, AllArePublished};
 
 use crate::Told;
+use crate::by_cache::answer_by_cache;
 use crate::event::Event;
 use crate::publisher::Publisher;
 use crate::views::Views;
 use std::alloc::Global;
 use std::marker::Model;
 use std::sync::{Arc, Wait};
-use tenant_ledger::{Keep, Ledger, Prepared, Share, Shared};
+use tenant_ledger::{Keep, Ledger, Prepared, Share, Shared, SharedIds};
 use trace_types::{Code, Limits, Memory, Reply, Request};
 
-/// What a desk works with: the tenant's ledger, what keeps its trees, and what its views see.
+/// What a desk works with: the tenant's ledger, what keeps its ids and published trees, and what its views see.
 struct Work {
-    ledger: Ledger<Arc<Shared>>,
+    ledger: Ledger<SharedIds>,
     shared: Arc<Shared>,
     publisher: Publisher,
     alloc: Global,
@@ -33,16 +34,17 @@ impl Model for Work {
     ghost invariant = { λ w. AllArePublished (⟦<Shared as Keep>⟧.home (arc_value w.shared)) w.ledger w.publisher };
 }
 
-/// What is to be published of a report. Returns `Memory` if its tree or its id cannot be kept once more.
+/// What is to be published of a report. Its tree is kept here. Returns `Memory` if that, or sharing, runs out of
+/// memory.
 fn event_of<R: Wait>(
     rt: &R,
     alloc: Global,
     shared: &Shared,
-    prepared: &Prepared<Arc<Shared>>,
+    prepared: &Prepared<SharedIds>,
 ) -> Result<Event, Memory>
     ensures { IfOk result (IsEventOf (⟦<Shared as Keep>⟧.home shared.now) prepared.now) }
 {
-    let tree = prepared.tree().value().share(alloc)?;
+    let tree = prepared.tree().share(alloc)?;
     Ok(Event {
         row: prepared.row().share(),
         tree: shared.keep_tree(rt, tree)?,
@@ -57,9 +59,9 @@ fn accept<R: Wait>(
     rt: &R,
     alloc: Global,
     shared: &Shared,
-    prepared: Prepared<Arc<Shared>>,
+    prepared: Prepared<SharedIds>,
     publisher: Publisher,
-) -> (Ledger<Arc<Shared>>, Publisher, Reply)
+) -> (Ledger<SharedIds>, Publisher, Reply)
     requires legal { AreLegal prepared.tenant.limits (prepared.tenant.rows ++ prepared.row ∷ []) }
     requires shown { AllArePublished (⟦<Shared as Keep>⟧.home shared.now) prepared.tenant publisher }
     ensures done { IsDone prepared result.2 result.0 }
@@ -86,17 +88,14 @@ fn accept<R: Wait>(
 }
 
 impl Work {
-    /// Answers a query by the ledger.
+    /// Answers a query by what is published, and looks orders up in the cache.
     fn ask(&self, request: &Request) -> Reply
         requires { is_report request.now ≡ false }
         ensures steps { Steps self.now.tenant request.now result self.now.tenant }
         ensures legal { AreLegal self.now.tenant.limits self.now.tenant.rows }
         ensures published { self.now.published ≡ self.now.tenant.rows }
     {
-        match self.ledger.ask_briefly(request) {
-            Some(reply) => reply,
-            None => self.ledger.answer(request),
-        }
+        answer_by_cache(self.publisher.events(), &self.shared, request)
     }
 
     /// Takes a report. An accepted one is published before it is committed. The report can be written, so its row is legal.
@@ -253,7 +252,7 @@ pub fn desk_and_views<R: Wait>(
     ensures published { IfOk result (λ made. made.0.published ≡ []) }
     ensures views { IfOk result (λ made. made.1 ≡ record { left = 8; limits = limits; book = made.0.book }) }
 {
-    let ledger = Ledger::with_share(alloc, limits, Arc::try_clone(&shared)?)?;
+    let ledger = Ledger::with_share(alloc, limits, SharedIds(Arc::try_clone(&shared)?))?;
     let mut publisher = Publisher::new(rt, alloc, limits, &shared.home())?;
     match Views::new(alloc, limits, &shared, &mut publisher) {
         Ok(views) => {

@@ -23,6 +23,7 @@
 //! ```
 #![tactic(auto)]
 
+mod by_cache;
 mod desk;
 mod event;
 mod events;

@@ -1,7 +1,7 @@
 //! What a desk shows to its views.
 ghost use Rattle.std.specs.Prelude.{◌≡◌, [], Some, None, IfOk, IsTrue, MatchBool, drop};
 ghost use Rattle.left_right.specs.Sides.{view as known_at};
-ghost use Rattle.tenant_desk.specs.Events.{no_events};
+ghost use Rattle.tenant_desk.specs.Events.{AreSound, no_events};
 ghost use Rattle.tenant_desk.specs.Publications.{IsFor, IsNext, MayPublish, made_by, with_next};
 ghost use Rattle.tenant_desk.specs.Rules.{IsPublished, sight_of};
 
@@ -186,6 +186,14 @@ impl Publisher {
         ensures { result.now ≡ self.now.front }
     {
         &self.front
+    }
+
+    /// The events that are shown.
+    pub(crate) fn events(&self) -> &Events
+        ensures events { result.now ≡ self.now.events }
+        ensures sound { AreSound result.now }
+    {
+        &self.writer.published().events
     }
 
     /// A place to read from, which knows what is shown. Returns `Memory` if there is none, or no memory for it.

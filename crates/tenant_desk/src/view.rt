@@ -9,6 +9,7 @@ ghost use Rattle.tenant_desk.specs.Rules.{HasEntered, IsOfLog, StaysOf};
 ghost use Rattle.tenant_desk.specs.Views.{Learns, Responds};
 
 use crate::Told;
+use crate::by_cache::answer_by_cache;
 use crate::events::Events;
 use crate::front::Front;
 use crate::met::Met;
@@ -16,7 +17,7 @@ use crate::publisher::{DeskReader, DeskReading, Publisher};
 use crate::rule::Seeing;
 use std::marker::Model;
 use std::sync::{Arc, Wait};
-use tenant_ledger::{Keep, Own, Shared, answer};
+use tenant_ledger::{Keep, Shared, answer};
 use trace_query::Plain;
 use trace_types::{Code, Limits, Memory, Reply, Request};
 
@@ -83,7 +84,7 @@ fn answer_from(events: &Events, shared: &Shared, by_cache: bool, request: &Reque
     ensures { Answers (published_tenant events.now) request.now result }
 {
     if by_cache {
-        answer(events, &Own(shared), request)
+        answer_by_cache(events, shared, request)
     } else {
         answer(events, &Plain, request)
     }
