@@ -12,7 +12,7 @@ use crate::views::Views;
 use std::alloc::Global;
 use std::marker::Model;
 use std::sync::{Arc, Wait};
-use tenant_ledger::{Keep, Ledger, Prepared, Share, Shared, SharedIds};
+use tenant_ledger::{Keep, Ledger, Prepared, Shared, SharedIds};
 use trace_types::{Code, Limits, Memory, Reply, Request};
 
 /// What a desk works with: the tenant's ledger, what keeps its ids and published trees, and what its views see.
@@ -20,7 +20,6 @@ struct Work {
     ledger: Ledger<SharedIds>,
     shared: Arc<Shared>,
     publisher: Publisher,
-    alloc: Global,
 }
 
 impl Model for Work {
@@ -34,20 +33,19 @@ impl Model for Work {
     ghost invariant = { λ w. AllArePublished (⟦<Shared as Keep>⟧.home (arc_value w.shared)) w.ledger w.publisher };
 }
 
-/// What is to be published of a report. Its tree is kept here. Returns `Memory` if that, or sharing, runs out of
-/// memory.
+/// What is to be published of a report, whose tree this share keeps. Returns `Memory` if it runs out of memory.
 fn event_of<R: Wait>(
     rt: &R,
-    alloc: Global,
     shared: &Shared,
-    prepared: &Prepared<SharedIds>,
+    prepared: &mut Prepared<SharedIds>,
 ) -> Result<Event, Memory>
-    ensures { IfOk result (IsEventOf (⟦<Shared as Keep>⟧.home shared.now) prepared.now) }
+    ensures same { prepared.new ≡ prepared.old }
+    ensures event { IfOk result (IsEventOf (⟦<Shared as Keep>⟧.home shared.now) prepared.old) }
 {
-    let tree = prepared.tree().share(alloc)?;
+    let tree = prepared.intern_tree(rt, shared)?;
     Ok(Event {
         row: prepared.row().share(),
-        tree: shared.keep_tree(rt, tree)?,
+        tree,
         point: prepared.point(),
         start: prepared.start(),
         id: prepared.id().share()?,
@@ -57,7 +55,6 @@ fn event_of<R: Wait>(
 /// Publishes the report and commits it. If it cannot be published, it is abandoned with `NoMemory`.
 fn accept<R: Wait>(
     rt: &R,
-    alloc: Global,
     shared: &Shared,
     prepared: Prepared<SharedIds>,
     publisher: Publisher,
@@ -68,7 +65,8 @@ fn accept<R: Wait>(
     ensures shown { AllArePublished (⟦<Shared as Keep>⟧.home shared.now) result.0 result.1 }
     ensures book { result.1.front.book ≡ publisher.front.book }
 {
-    let Ok(event) = event_of(rt, alloc, shared, &prepared) else {
+    let mut prepared = prepared;
+    let Ok(event) = event_of(rt, shared, &mut prepared) else {
         return (
             prepared.abandon(),
             publisher,
@@ -111,17 +109,15 @@ impl Work {
             ledger,
             shared,
             publisher,
-            alloc,
         } = self;
         let (ledger, publisher, reply) = match ledger.prepare(rt, request) {
-            Ok(prepared) => accept(rt, alloc, &shared, prepared, publisher),
+            Ok(prepared) => accept(rt, &shared, prepared, publisher),
             Err((ledger, reply)) => (ledger, publisher, reply),
         };
         let work = Work {
             ledger,
             shared,
             publisher,
-            alloc,
         };
         (work, reply)
     }
@@ -141,7 +137,6 @@ impl Work {
             ledger: _,
             shared: _,
             publisher,
-            alloc: _,
         } = self;
         publisher.close(rt);
     }
@@ -260,7 +255,6 @@ pub fn desk_and_views<R: Wait>(
                 ledger,
                 shared,
                 publisher,
-                alloc,
             };
             Ok((Desk { work: Some(work) }, views))
         }

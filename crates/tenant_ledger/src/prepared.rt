@@ -1,5 +1,5 @@
 //! Prepared reports.
-ghost use Rattle.std.specs.Prelude.{◌≡◌, ◌≤◌, suc, ◌∷◌, Some, length};
+ghost use Rattle.std.specs.Prelude.{◌≡◌, ◌≤◌, suc, ◌∷◌, Some, IfOk, length};
 ghost use Rattle.trace_types.specs.clock.Clock.{tree_clock};
 ghost use Rattle.trace_types.specs.tenant.Rows.{history_of, spawn_count};
 ghost use Rattle.trace_types.specs.clock.Size.{inner_of_id, inner_of_tree};
@@ -8,12 +8,16 @@ ghost use Rattle.trace_types.specs.tenant.Tenant.{with_row};
 ghost use Rattle.trace_types.specs.declared.reply.Reply.TheVariants as reply;
 ghost use Rattle.tenant_ledger.specs.Ledger.{MayHavePoint, start_of};
 
+use crate::answers::Records;
 use crate::book::{Book, Draft};
-use crate::share::{Keep, MeantId};
-use crate::{Ledger, PlainShare};
+use crate::share::{Keep, MeantId, Share};
+use crate::{Ledger, PlainShare, Shared, SharedIds};
+use event_tree::EvTree;
 use std::marker::Model;
+use std::sync::Wait;
 use trace_query::{Deciding, Meant};
-use trace_types::{Reply, Row};
+use trace_types::{Memory, Reply, Row};
+use tree_forest::Tree;
 
 /// A ledger with a report that will be accepted. It has to be committed or abandoned, and neither takes memory.
 ///
@@ -89,5 +93,20 @@ impl<S: Keep> Prepared<S> {
         let Prepared { mut book, draft } = self;
         book.abandon(draft);
         Ledger { book }
+    }
+}
+
+impl Prepared<SharedIds> {
+    /// Keeps what the report's event knows in the forest of this share, and has the ledger share the blocks that the forest
+    /// has. Returns `Memory` if it runs out of memory.
+    pub fn intern_tree<R: Wait>(&mut self, rt: &R, shared: &Shared) -> Result<Tree<EvTree>, Memory>
+        ensures same { self.new ≡ self.old }
+        ensures tree { IfOk result (λ tree. tree.value ≡ tree_of tree_clock (self.old.row ∷ history_of self.old.tenant.rows) (suc (length self.old.tenant.rows))) }
+        ensures home { IfOk result (λ tree. tree.home ≡ ⟦<Shared as Keep>⟧.home shared.now) }
+    {
+        let alloc = self.book.alloc();
+        let tree = shared.keep_tree(rt, self.draft.tree().share(alloc)?)?;
+        self.draft.replace_tree(tree.value().share(alloc)?);
+        Ok(tree)
     }
 }

@@ -11,6 +11,7 @@ ghost use Rattle.event_tree.specs.Risen.{IsRaisedAt};
 ghost use Rattle.tenant_ledger.specs.Ledger.{IsKept, HasRoom, history_in, MayNote, IsReport, row_of_report, tree_of_report, MayRaise, event_of, Notes, Prepares};
 
 use super::{Book, Report, Task};
+use crate::SharedIds;
 use crate::share::{Keep, Share};
 use event_tree::EvTree;
 use id_tree::IdTree;
@@ -91,6 +92,16 @@ impl<S: Keep> Draft<S> {
         ensures none { IfNone result (self.now.ids ≡ []) }
     {
         self.first.as_ref().or(self.second.as_ref())
+    }
+}
+
+impl Draft<SharedIds> {
+    /// Puts an equal tree in place of what the event knows.
+    pub(crate) fn replace_tree(&mut self, tree: EvTree)
+        requires { tree ≡ self.old.tree }
+        ensures { self.new ≡ self.old }
+    {
+        self.tree = tree;
     }
 }
 
