@@ -19,6 +19,9 @@ mod stamps;
 use clock::{Path, Tree};
 use std::io::{stdin, Read};
 
+/// The values in trees.
+type Number = u64;
+
 extern "C" {
     /// The processor time of the process, in millionths of a second.
     fn clock() -> i64;

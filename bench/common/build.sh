@@ -1,9 +1,14 @@
 # What the scripts of bench share. Where it is read, `top` is the top of the repository and `work` a new folder.
 
+# compile FLAG.. FILE: compiles plain Rust as a release does that has to be fast: in one unit, and without unwinding.
+compile() {
+    rustc --edition 2021 -O -C codegen-units=1 -C panic=abort "$@"
+}
+
 # build_plain FILE..: compiles these files of bench, named without their ending, to programs in plain Rust.
 build_plain() {
     for file; do
-        rustc -O -o "$work/${file##*/}" "$top/bench/$file.rs"
+        compile -o "$work/${file##*/}" "$top/bench/$file.rs"
     done
 }
 

@@ -2,7 +2,9 @@
 // no proofs, and a refused request for memory ends the program.
 //
 // Trees share their parts: both children of a node stand in one block behind one `Arc`, and what an operation leaves as it
-// was is kept by a count. To clone an id or a tree takes no memory.
+// was is kept by a count. To clone an id or a tree takes no memory. Each program says by its `Number` how great values may be.
+use crate::Number;
+use std::cmp::Ordering;
 use std::sync::Arc;
 
 #[derive(Clone)]
@@ -59,6 +61,25 @@ impl Id {
         }
     }
 
+    /// The least cost of growing a number at a point of it, with the turns as [`Tree::begun`] adds them.
+    fn expanded(&self, turns: &mut Vec<bool>) -> Cost {
+        let Id::Pair(halves) = self else {
+            return 0;
+        };
+        let cost = match (&halves.left, &halves.right) {
+            (Id::One, _) | (_, Id::One) => 0,
+            (Id::Zero, id) | (id, Id::Zero) => id.expanded(turns),
+            (left, right) => {
+                let start = turns.len();
+                let left_cost = left.expanded(turns);
+                let middle = turns.len();
+                let right_cost = right.expanded(turns);
+                cheaper((left_cost, right_cost), start, middle, turns)
+            }
+        };
+        cost + EXPANSION + STEP
+    }
+
     pub fn disjoint(&self, other: &Id) -> bool {
         match (self, other) {
             (Id::Zero, _) | (_, Id::Zero) => true,
@@ -84,15 +105,13 @@ impl Id {
     }
 }
 
-/// `spread` is how far the greatest value lies above the least, `base`.
+/// The value of each point: `base` is the least, and `spread` is how far the greatest lies above it. A tree without children
+/// has one value.
 #[derive(Clone)]
-pub enum Tree {
-    Leaf(u64),
-    Fork {
-        base: u64,
-        spread: u64,
-        children: Arc<Children>,
-    },
+pub struct Tree {
+    base: Number,
+    spread: Number,
+    children: Option<Arc<Children>>,
 }
 
 /// The least of the two has the least value 0.
@@ -105,14 +124,7 @@ pub struct Children {
 #[derive(Clone, Default)]
 pub struct Path(Vec<bool>);
 
-pub static ZERO: Tree = Tree::Leaf(0);
-
-/// A tree as a node: a number counts as a node over 0 and 0, and to make it one is an expansion.
-struct Opened<'a> {
-    left: &'a Tree,
-    right: &'a Tree,
-    expansions: u32,
-}
+pub static ZERO: Tree = Tree::leaf(0);
 
 /// A part of a tree: the halves in which it lies, from the root down, 0 for left and 1 for right, the uppermost the lowest
 /// bit; and how many they are. Below the 128th level it keeps none.
@@ -134,8 +146,32 @@ impl Place {
     }
 }
 
-/// What growing costs: expansions, and then steps down.
-type Cost = (u32, u32);
+/// What growing costs: steps down, and expansions, each of which outweighs all steps.
+type Cost = u64;
+
+const STEP: Cost = 1;
+
+/// To make a number a node over 0 and 0.
+const EXPANSION: Cost = 1 << 32;
+
+/// What an event does first: it fills the tree, or else finds out what growing costs.
+enum Begun {
+    Filled(Tree),
+    Unfilled(Cost),
+}
+
+impl Begun {
+    fn new(filled: Option<Tree>, cost: Cost) -> Begun {
+        filled.map_or(Begun::Unfilled(cost), Begun::Filled)
+    }
+
+    fn filled(self) -> Option<Tree> {
+        match self {
+            Begun::Filled(tree) => Some(tree),
+            Begun::Unfilled(_) => None,
+        }
+    }
+}
 
 /// Which tree a join is: one of the two, where both are the same either, or a new one.
 enum Joined {
@@ -146,7 +182,7 @@ enum Joined {
 }
 
 impl Joined {
-    fn tree(self, one: &Tree, lift: u64, other: &Tree, other_lift: u64) -> Tree {
+    fn tree(self, one: &Tree, lift: Number, other: &Tree, other_lift: Number) -> Tree {
         match self {
             Joined::One | Joined::Either => one.lifted(lift),
             Joined::Other => other.lifted(other_lift),
@@ -156,50 +192,49 @@ impl Joined {
 }
 
 impl Tree {
-    pub fn min(&self) -> u64 {
-        match self {
-            Tree::Leaf(n) => *n,
-            Tree::Fork { base, .. } => *base,
+    pub const fn leaf(n: Number) -> Tree {
+        Tree { base: n, spread: 0, children: None }
+    }
+
+    pub fn is_leaf(&self) -> bool {
+        self.children.is_none()
+    }
+
+    pub fn min(&self) -> Number {
+        self.base
+    }
+
+    pub fn max(&self) -> Number {
+        self.base + self.spread
+    }
+
+    fn lifted(&self, by: Number) -> Tree {
+        Tree { base: self.base + by, spread: self.spread, children: self.children.clone() }
+    }
+
+    pub fn fork(n: Number, mut left: Tree, mut right: Tree) -> Tree {
+        if left.is_leaf() && right.is_leaf() && left.base == right.base {
+            return Tree::leaf(n + left.base);
+        }
+        let common = left.base.min(right.base);
+        left.base -= common;
+        right.base -= common;
+        let spread = left.max().max(right.max());
+        Tree { base: n + common, spread, children: Some(Arc::new(Children { left, right })) }
+    }
+
+    /// The children: a number counts as a node over 0 and 0.
+    fn halves(&self) -> (&Tree, &Tree) {
+        match &self.children {
+            None => (&ZERO, &ZERO),
+            Some(children) => (&children.left, &children.right),
         }
     }
 
-    pub fn max(&self) -> u64 {
-        match self {
-            Tree::Leaf(n) => *n,
-            Tree::Fork { base, spread, .. } => base + spread,
-        }
-    }
-
-    fn number(&mut self) -> &mut u64 {
-        match self {
-            Tree::Leaf(n) => n,
-            Tree::Fork { base, .. } => base,
-        }
-    }
-
-    fn lifted(&self, by: u64) -> Tree {
-        let mut tree = self.clone();
-        *tree.number() += by;
-        tree
-    }
-
-    pub fn fork(n: u64, mut left: Tree, mut right: Tree) -> Tree {
-        if let (Tree::Leaf(one), Tree::Leaf(other)) = (&left, &right) {
-            if one == other {
-                return Tree::Leaf(n + one);
-            }
-        }
-        let common = left.min().min(right.min());
-        let spread = left.max().max(right.max()) - common;
-        *left.number() -= common;
-        *right.number() -= common;
-        Tree::Fork { base: n + common, spread, children: Arc::new(Children { left, right }) }
-    }
-
-    fn opened(&self) -> Opened<'_> {
-        match self {
-            Tree::Leaf(_) => Opened { left: &ZERO, right: &ZERO, expansions: 1 },
-            Tree::Fork { children, .. } => Opened { left: &children.left, right: &children.right, expansions: 0 },
+    fn shares_children(&self, other: &Tree) -> bool {
+        match (&self.children, &other.children) {
+            (Some(children), Some(others)) => Arc::ptr_eq(children, others),
+            _ => false,
         }
     }
 
@@ -207,29 +242,40 @@ impl Tree {
         self.joined(0, other, 0).tree(self, 0, other, 0)
     }
 
-    fn joined(&self, lift: u64, other: &Tree, other_lift: u64) -> Joined {
-        let (low, other_low) = (lift + self.min(), other_lift + other.min());
-        let is_below = lift + self.max() <= other_low;
-        let is_above = other_lift + other.max() <= low;
+    #[inline]
+    fn joined(&self, lift: Number, other: &Tree, other_lift: Number) -> Joined {
+        let (low, other_low) = (lift + self.base, other_lift + other.base);
+        let is_below = low + self.spread <= other_low;
+        let is_above = other_low + other.spread <= low;
         match (is_above, is_below) {
-            (true, true) => return Joined::Either,
-            (true, false) => return Joined::One,
-            (false, true) => return Joined::Other,
-            (false, false) => {}
+            (true, true) => Joined::Either,
+            (true, false) => Joined::One,
+            (false, true) => Joined::Other,
+            (false, false) => self.joined_inside(low, other, other_low),
+        }
+    }
+
+    fn joined_inside(&self, low: Number, other: &Tree, other_low: Number) -> Joined {
+        if self.shares_children(other) {
+            return match low.cmp(&other_low) {
+                Ordering::Less => Joined::Other,
+                Ordering::Equal => Joined::Either,
+                Ordering::Greater => Joined::One,
+            };
         }
         let base = low.min(other_low);
         let (lift, other_lift) = (low - base, other_low - base);
-        let (one, other) = (self.opened(), other.opened());
-        let left = one.left.joined(lift, other.left, other_lift);
-        let right = one.right.joined(lift, other.right, other_lift);
+        let ((one_left, one_right), (other_left, other_right)) = (self.halves(), other.halves());
+        let left = one_left.joined(lift, other_left, other_lift);
+        let right = one_right.joined(lift, other_right, other_lift);
         match (left, right) {
             (Joined::Either, Joined::Either) => Joined::Either,
             (Joined::One | Joined::Either, Joined::One | Joined::Either) => Joined::One,
             (Joined::Other | Joined::Either, Joined::Other | Joined::Either) => Joined::Other,
             (left, right) => Joined::New(Tree::fork(
                 base,
-                left.tree(one.left, lift, other.left, other_lift),
-                right.tree(one.right, lift, other.right, other_lift),
+                left.tree(one_left, lift, other_left, other_lift),
+                right.tree(one_right, lift, other_right, other_lift),
             )),
         }
     }
@@ -239,19 +285,20 @@ impl Tree {
         self.is_below(0, other, 0)
     }
 
-    fn is_below(&self, lift: u64, other: &Tree, other_lift: u64) -> bool {
-        let (low, high) = (lift + self.min(), lift + self.max());
-        let (other_low, other_high) = (other_lift + other.min(), other_lift + other.max());
-        if high <= other_low {
-            return true;
-        }
-        if low > other_low || high > other_high {
-            return false;
-        }
-        let (Tree::Fork { children, .. }, Tree::Fork { children: others, .. }) = (self, other) else {
+    #[inline]
+    fn is_below(&self, lift: Number, other: &Tree, other_lift: Number) -> bool {
+        let (low, other_low) = (lift + self.base, other_lift + other.base);
+        let (high, other_high) = (low + self.spread, other_low + other.spread);
+        high <= other_low || low <= other_low && high <= other_high && self.is_below_inside(low, other, other_low)
+    }
+
+    fn is_below_inside(&self, low: Number, other: &Tree, other_low: Number) -> bool {
+        let (Some(children), Some(others)) = (&self.children, &other.children) else {
             unreachable!("one value stands to a range somehow")
         };
-        children.left.is_below(low, &others.left, other_low) && children.right.is_below(low, &others.right, other_low)
+        Arc::ptr_eq(children, others)
+            || children.left.is_below(low, &others.left, other_low)
+                && children.right.is_below(low, &others.right, other_low)
     }
 
     /// The same; where it is not below the other, the path is then to a place that refutes it.
@@ -260,21 +307,21 @@ impl Tree {
         self.is_below_or_path(0, other, 0, path)
     }
 
-    fn is_below_or_path(&self, lift: u64, other: &Tree, other_lift: u64, path: &mut Path) -> bool {
-        let (low, high) = (lift + self.min(), lift + self.max());
-        let (other_low, other_high) = (other_lift + other.min(), other_lift + other.max());
+    fn is_below_or_path(&self, lift: Number, other: &Tree, other_lift: Number, path: &mut Path) -> bool {
+        let (low, other_low) = (lift + self.base, other_lift + other.base);
+        let (high, other_high) = (low + self.spread, other_low + other.spread);
         if high <= other_low {
             return true;
         }
         if low > other_low {
-            other.lead(path, |left, right| right.min() < left.min());
+            other.lead(path, |left, right| right.base < left.base);
             return false;
         }
         if high > other_high {
             self.lead(path, |left, right| right.max() > left.max());
             return false;
         }
-        let (Tree::Fork { children, .. }, Tree::Fork { children: others, .. }) = (self, other) else {
+        let (Some(children), Some(others)) = (&self.children, &other.children) else {
             unreachable!("one value stands to a range somehow")
         };
         for (right, part, other_part) in [(false, &children.left, &others.left), (true, &children.right, &others.right)] {
@@ -288,7 +335,7 @@ impl Tree {
 
     /// Leads the path down, to the right where this says so of both children.
     fn lead(&self, path: &mut Path, goes_right: fn(&Tree, &Tree) -> bool) {
-        if let Tree::Fork { children, .. } = self {
+        if let Some(children) = &self.children {
             let right = goes_right(&children.left, &children.right);
             let part = if right { &children.right } else { &children.left };
             part.lead(path, goes_right);
@@ -301,10 +348,10 @@ impl Tree {
         let (mut one, mut lift, mut two, mut other_lift) = (self, 0, other, 0);
         let mut rights = path.0.iter().rev();
         loop {
-            if other_lift + two.max() < lift + one.min() {
+            if other_lift + two.max() < lift + one.base {
                 return true;
             }
-            if lift + one.max() <= other_lift + two.min() {
+            if lift + one.max() <= other_lift + two.base {
                 return false;
             }
             let right = *rights.next().unwrap_or(&false);
@@ -313,21 +360,21 @@ impl Tree {
         }
     }
 
-    fn part(&self, lift: u64, right: bool) -> (&Tree, u64) {
-        match self {
-            Tree::Leaf(_) => (self, lift),
-            Tree::Fork { base, children, .. } if right => (&children.right, lift + base),
-            Tree::Fork { base, children, .. } => (&children.left, lift + base),
+    fn part(&self, lift: Number, right: bool) -> (&Tree, Number) {
+        match &self.children {
+            None => (self, lift),
+            Some(children) if right => (&children.right, lift + self.base),
+            Some(children) => (&children.left, lift + self.base),
         }
     }
 
     /// Whether it is below the other, and whether it is above: both ways at once, until one is refuted.
-    fn stands(&self, lift: u64, other: &Tree, other_lift: u64) -> (bool, bool) {
-        let (low, high) = (lift + self.min(), lift + self.max());
-        if (low, high) != (other_lift + other.min(), other_lift + other.max()) {
+    fn stands(&self, lift: Number, other: &Tree, other_lift: Number) -> (bool, bool) {
+        let (low, high) = (lift + self.base, lift + self.max());
+        if (low, high) != (other_lift + other.base, other_lift + other.max()) {
             return (self.is_below(lift, other, other_lift), other.is_below(other_lift, self, lift));
         }
-        let (Tree::Fork { children, .. }, Tree::Fork { children: others, .. }) = (self, other) else {
+        let (Some(children), Some(others)) = (&self.children, &other.children) else {
             return (true, true);
         };
         let (right, other_right) = (&children.right, &others.right);
@@ -349,85 +396,102 @@ impl Tree {
     }
 
     /// The number that is the greatest value, and at least `least`, where that is another tree.
-    fn flattened(&self, least: u64) -> Option<Tree> {
-        match self {
-            Tree::Leaf(n) if *n >= least => None,
-            _ => Some(Tree::Leaf(self.max().max(least))),
-        }
+    fn flattened(&self, least: Number) -> Option<Tree> {
+        (!self.is_leaf() || self.base < least).then(|| Tree::leaf(self.max().max(least)))
     }
 
-    /// The filled tree, where that is another tree.
-    fn filled(&self, id: &Id) -> Option<Tree> {
-        let halves = match id {
-            Id::Zero => return None,
-            Id::One => return self.flattened(0),
-            Id::Pair(halves) => halves,
-        };
-        let Tree::Fork { base, children, .. } = self else {
-            return None;
-        };
-        let Children { left, right } = &**children;
-        let (new_left, new_right) = match (&halves.left, &halves.right) {
-            (Id::One, right_id) => {
-                let new_right = right.filled(right_id);
-                (left.flattened(new_right.as_ref().unwrap_or(right).min()), new_right)
-            }
-            (left_id, Id::One) => {
-                let new_left = left.filled(left_id);
-                let new_right = right.flattened(new_left.as_ref().unwrap_or(left).min());
-                (new_left, new_right)
-            }
-            (left_id, right_id) => (left.filled(left_id), right.filled(right_id)),
-        };
-        if new_left.is_none() && new_right.is_none() {
+    /// The tree with these children in place of its own, if there is one.
+    fn with(&self, children: &Children, left: Option<Tree>, right: Option<Tree>) -> Option<Tree> {
+        if left.is_none() && right.is_none() {
             return None;
         }
         Some(Tree::fork(
-            *base,
-            new_left.unwrap_or_else(|| left.clone()),
-            new_right.unwrap_or_else(|| right.clone()),
+            self.base,
+            left.unwrap_or_else(|| children.left.clone()),
+            right.unwrap_or_else(|| children.right.clone()),
         ))
     }
 
-    /// The least cost of growing.
-    fn cost(&self, id: &Id) -> Option<Cost> {
+    /// Fills the tree. Where that leaves it as it was, it tells the least cost of growing at a point of the id, if it has one,
+    /// and adds the turns of the way to there. A turn is whether the way goes right from a node on both sides of which the id
+    /// is a pair, the lowest first.
+    fn begun(&self, id: &Id, turns: &mut Vec<bool>) -> Begun {
         let halves = match id {
-            Id::Zero => return None,
-            Id::One => return Some((0, 0)),
+            Id::Zero => return Begun::Unfilled(0),
+            Id::One => return Begun::new(self.flattened(0), 0),
             Id::Pair(halves) => halves,
         };
-        let opened = self.opened();
-        let left = opened.left.cost(&halves.left);
-        let right = opened.right.cost(&halves.right);
-        let cheaper = match (left, right) {
-            (Some(left), Some(right)) => Some(left.min(right)),
-            (left, right) => left.or(right),
+        let Some(children) = &self.children else {
+            return Begun::Unfilled(id.expanded(turns));
         };
-        cheaper.map(|(expansions, steps)| (expansions + opened.expansions, steps + 1))
+        let Children { left, right } = &**children;
+        match (&halves.left, &halves.right) {
+            (Id::One, right_id) => {
+                let new_right = right.filled_beside(right_id, turns);
+                let new_left = left.flattened(new_right.as_ref().unwrap_or(right).base);
+                Begun::new(self.with(children, new_left, new_right), STEP)
+            }
+            (left_id, Id::One) => {
+                let new_left = left.filled_beside(left_id, turns);
+                let new_right = right.flattened(new_left.as_ref().unwrap_or(left).base);
+                Begun::new(self.with(children, new_left, new_right), STEP)
+            }
+            (Id::Zero, right_id) => match right.begun(right_id, turns) {
+                Begun::Filled(right) => Begun::Filled(Tree::fork(self.base, left.clone(), right)),
+                Begun::Unfilled(cost) => Begun::Unfilled(cost + STEP),
+            },
+            (left_id, Id::Zero) => match left.begun(left_id, turns) {
+                Begun::Filled(left) => Begun::Filled(Tree::fork(self.base, left, right.clone())),
+                Begun::Unfilled(cost) => Begun::Unfilled(cost + STEP),
+            },
+            (left_id, right_id) => self.begun_on_both(children, left_id, right_id, turns),
+        }
     }
 
-    /// The tree grown for exactly this cost, where it can be; it is to be had for no less.
-    fn grown(&self, id: &Id, cost: Cost) -> Option<Tree> {
-        let halves = match id {
-            Id::Zero => return None,
-            Id::One => return (cost == (0, 0)).then(|| Tree::Leaf(self.max() + 1)),
-            Id::Pair(halves) => halves,
-        };
-        let opened = self.opened();
-        let cost = (cost.0.checked_sub(opened.expansions)?, cost.1.checked_sub(1)?);
-        if let Some(right) = opened.right.grown(&halves.right, cost) {
-            return Some(Tree::fork(self.min(), opened.left.clone(), right));
+    /// The filled tree, where that is another tree. The other half of the id is one there, and the way goes to that side.
+    fn filled_beside(&self, id: &Id, turns: &mut Vec<bool>) -> Option<Tree> {
+        let start = turns.len();
+        let begun = self.begun(id, turns);
+        turns.truncate(start);
+        begun.filled()
+    }
+
+    fn begun_on_both(&self, children: &Children, left_id: &Id, right_id: &Id, turns: &mut Vec<bool>) -> Begun {
+        let start = turns.len();
+        let left = children.left.begun(left_id, turns);
+        let middle = turns.len();
+        let right = children.right.begun(right_id, turns);
+        if let (Begun::Unfilled(left), Begun::Unfilled(right)) = (&left, &right) {
+            return Begun::Unfilled(cheaper((*left, *right), start, middle, turns) + STEP);
         }
-        let left = opened.left.grown(&halves.left, cost)?;
-        Some(Tree::fork(self.min(), left, opened.right.clone()))
+        Begun::new(self.with(children, left.filled(), right.filled()), 0)
+    }
+
+    /// The tree grown by the way with these turns.
+    fn grown(&self, id: &Id, turns: &mut Vec<bool>) -> Tree {
+        let Id::Pair(halves) = id else {
+            return Tree::leaf(self.base + 1);
+        };
+        let (left, right) = self.halves();
+        let goes_right = match (&halves.left, &halves.right) {
+            (Id::Zero, _) | (_, Id::One) => true,
+            (_, Id::Zero) | (Id::One, _) => false,
+            _ => turns.pop().expect("a turn of each such node"),
+        };
+        if goes_right {
+            Tree::fork(self.base, left.clone(), right.grown(&halves.right, turns))
+        } else {
+            Tree::fork(self.base, left.grown(&halves.left, turns), right.clone())
+        }
     }
 
     /// The tree after an event, which makes anew only the path that it raises.
     pub fn event(&self, id: &Id) -> Tree {
-        self.filled(id).unwrap_or_else(|| {
-            let cost = self.cost(id).expect("an id of some points");
-            self.grown(id, cost).expect("what costs this much")
-        })
+        let mut turns = Vec::new();
+        match self.begun(id, &mut turns) {
+            Begun::Filled(tree) => tree,
+            Begun::Unfilled(_) => self.grown(id, &mut turns),
+        }
     }
 
     /// A place that was raised by an event, where this is the tree before it and `after` the one after it. What both share
@@ -436,43 +500,35 @@ impl Tree {
         self.raised(0, after, 0)
     }
 
-    fn raised(&self, lift: u64, after: &Tree, after_lift: u64) -> Option<Place> {
-        let (low, after_low) = (lift + self.min(), after_lift + after.min());
-        match (self, after) {
-            (Tree::Leaf(_), Tree::Leaf(_)) => return (low < after_low).then_some(Place::WHOLE),
-            (Tree::Fork { children, .. }, Tree::Fork { children: others, .. }) if Arc::ptr_eq(children, others) => {
-                return (low < after_low).then_some(Place::WHOLE);
-            }
-            _ => {}
+    fn raised(&self, lift: Number, after: &Tree, after_lift: Number) -> Option<Place> {
+        let (low, after_low) = (lift + self.base, after_lift + after.base);
+        if self.is_leaf() && after.is_leaf() || self.shares_children(after) {
+            return (low < after_low).then_some(Place::WHOLE);
         }
-        let (one, other) = (self.opened(), after.opened());
-        match one.left.raised(low, other.left, after_low) {
+        let ((left, right), (after_left, after_right)) = (self.halves(), after.halves());
+        match left.raised(low, after_left, after_low) {
             Some(place) => Some(place.in_half(0)),
-            None => Some(one.right.raised(low, other.right, after_low)?.in_half(1)),
+            None => Some(right.raised(low, after_right, after_low)?.in_half(1)),
         }
     }
 
     /// The value at the point with these halves.
-    pub fn value_at(&self, mut halves: u128) -> u64 {
-        let (mut tree, mut sum) = (self, 0);
-        loop {
-            match tree {
-                Tree::Leaf(n) => return sum + n,
-                Tree::Fork { base, children, .. } => {
-                    sum += base;
-                    tree = if halves & 1 == 0 { &children.left } else { &children.right };
-                    halves >>= 1;
-                }
-            }
+    pub fn value_at(&self, mut halves: u128) -> Number {
+        let (mut tree, mut sum) = (self, self.base);
+        while let Some(children) = &tree.children {
+            tree = if halves & 1 == 0 { &children.left } else { &children.right };
+            sum += tree.base;
+            halves >>= 1;
         }
+        sum
     }
 
     pub fn write(&self, text: &mut Vec<u8>) {
-        match self {
-            Tree::Leaf(n) => write_number(text, *n),
-            Tree::Fork { base, children, .. } => {
+        match &self.children {
+            None => write_number(text, self.base),
+            Some(children) => {
                 text.push(b'(');
-                write_number(text, *base);
+                write_number(text, self.base);
                 text.push(b',');
                 children.left.write(text);
                 text.push(b',');
@@ -483,18 +539,49 @@ impl Tree {
     }
 }
 
-pub fn write_number(text: &mut Vec<u8>, mut n: u64) {
-    let mut digits = [0; 20];
-    let mut place = digits.len();
-    loop {
-        place -= 1;
-        digits[place] = b'0' + (n % 10) as u8;
-        n /= 10;
-        if n == 0 {
-            break;
-        }
+/// The lesser of the costs to the left and to the right, where both are the same that to the right. Of the turns from
+/// `start` on, those to the left and from `middle` on those to the right, only its own are left, and a new one to its side.
+fn cheaper((left, right): (Cost, Cost), start: usize, middle: usize, turns: &mut Vec<bool>) -> Cost {
+    let goes_right = right <= left;
+    if goes_right {
+        turns.drain(start..middle);
+    } else {
+        turns.truncate(middle);
     }
-    text.extend_from_slice(&digits[place..]);
+    turns.push(goes_right);
+    left.min(right)
+}
+
+/// Greater numbers are written by parts, of so many digits each.
+const DIGITS: u32 = 8;
+
+const BOUND: Number = Number::pow(10, DIGITS);
+
+#[inline]
+pub fn write_number(text: &mut Vec<u8>, n: Number) {
+    if n < 10 {
+        text.push(b'0' + n as u8);
+    } else {
+        write_longer_number(text, n);
+    }
+}
+
+/// The digits are gathered in a word, the first in the lowest byte.
+fn write_longer_number(text: &mut Vec<u8>, n: Number) {
+    let mut least = 1;
+    if n >= BOUND {
+        write_number(text, n / BOUND);
+        least = DIGITS as usize;
+    }
+    let (mut digits, mut count, mut rest) = (0_u64, 0, n % BOUND);
+    while rest > 0 || count < least {
+        digits = digits << 8 | (u64::from(b'0') + rest as u64 % 10);
+        rest /= 10;
+        count += 1;
+    }
+    let end = text.len() + count;
+    text.extend_from_slice(&digits.to_le_bytes());
+    text.truncate(end);
 }
 
 /// The text of a stamp.

@@ -65,7 +65,7 @@ impl Reader<'_> {
 
     fn tree(&mut self, nested: usize, sum: u64) -> Option<Tree> {
         if self.rest.first() != Some(&b'(') {
-            return self.number().filter(|n| *n <= GREATEST_SUM - sum).map(Tree::Leaf);
+            return self.number().filter(|n| *n <= GREATEST_SUM - sum).map(Tree::leaf);
         }
         if nested == MOST_NESTED {
             return None;
@@ -77,13 +77,10 @@ impl Reader<'_> {
         self.take(b',')?;
         let right = self.tree(nested + 1, sum + base)?;
         self.take(b')')?;
-        if left.min().min(right.min()) != 0 {
+        if left.min() != 0 && right.min() != 0 {
             return None;
         }
-        match Tree::fork(base, left, right) {
-            Tree::Leaf(_) => None,
-            tree => Some(tree),
-        }
+        Some(Tree::fork(base, left, right)).filter(|tree| !tree.is_leaf())
     }
 
     fn stamp(mut self) -> Option<Stamp> {

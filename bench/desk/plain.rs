@@ -5,27 +5,13 @@ use std::sync::atomic::{AtomicBool, Ordering as AtomicOrdering};
 use std::sync::RwLock;
 use std::time::Instant;
 
-/// The order of two events, of which the later is not before the earlier.
-fn tell_order(tenant: &Tenant, first: u64, second: u64, out: &mut Vec<u8>) -> Result<(), Refusal> {
-    let rows = (tenant.row(first)?, tenant.row(second)?);
-    let (earlier, later) = if first < second { rows } else { (rows.1, rows.0) };
-    let is_before = earlier.is_known_to(&later.tree);
-    out.extend_from_slice(match first.cmp(&second) {
-        Ordering::Equal => b"200 same",
-        Ordering::Less if is_before => b"200 before",
-        Ordering::Greater if is_before => b"200 after",
-        _ => b"200 concurrent",
-    });
-    Ok(())
-}
-
 /// Answers a question as a reader does.
 fn ask(book: &RwLock<Tenant>, question: &Request, out: &mut Vec<u8>) -> bool {
     let tenant = book.read().expect("a lock");
     out.clear();
     let told = match question {
         Request::Count => tenant.tell_count(out),
-        Request::Order(first, second) => tell_order(&tenant, *first, *second, out),
+        Request::Order(first, second) => tenant.tell_order(*first, *second, out),
         Request::Task(task) => tenant.tell_task(*task, out),
         Request::Message(message) => tenant.tell_message(*message, out),
         _ => Err("no question"),

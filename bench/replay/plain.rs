@@ -5,11 +5,12 @@
 // lines on standard error, and the ranges of its words (what is no number ends it, names of tenants and limits are taken as
 // they stand). A line that one buffer does not hold is kept whole until its end is read.
 //
-// The first receipt of a message lies beside its send; whoever received it is told by a bit of his, without a look at the
-// receipts. No predecessor is followed: order and lists are told by the trees, a list by comparing with each event that by its
-// number can be in it, one way. A cut goes back from its event, and compares with an event only while its task has none in it.
-// With `--points` it keeps with each event a point that it raised, and its value there, and a list compares two events at the
-// point of the earlier one alone.
+// Rows and the values in trees have 32 bits. The first receipt of a message lies beside its send; whoever received it is told
+// by a bit of his, without a look at the receipts. No predecessor is followed: order and lists are told by the trees. Two
+// events are compared one way, since by their numbers no later one happened before an earlier one. A list compares each event
+// that by its number can be in it, and a cut only those of tasks that have none in it so far, back from its event. With
+// `--points` it keeps of each event a point that it raised, and its value there, and two events are compared at the point of
+// the earlier one alone.
 #[allow(dead_code)]
 #[path = "../common/clock.rs"]
 mod clock;
@@ -17,39 +18,94 @@ mod clock;
 use clock::{write_number, write_stamp, Id, Tree, ZERO};
 use std::cmp::Ordering;
 use std::collections::hash_map::{Entry, HashMap};
-use std::hash::{Hash, Hasher};
-use std::io::{stdin, stdout, BufRead, BufReader, Result as IoResult, Write};
+use std::ffi::{c_int, c_void};
+use std::hash::{BuildHasherDefault, Hash, Hasher};
+use std::io::{stdin, stdout, Read, Result as IoResult, Write};
+
+/// Of events, tasks and messages, and the values in trees, none of which is greater than the number of events.
+type Number = u32;
 
 const ROOM: usize = 65536;
 
 const MOST_BYTES: usize = 200;
 
-/// The text, and then zeros.
+const NAME_BYTES: usize = 24;
+
+static IS_OF_NAMES: [bool; 256] = {
+    let mut table = [false; 256];
+    let mut byte = 0;
+    while byte < 256 {
+        table[byte] = (byte as u8).is_ascii_alphanumeric() || byte as u8 == b'_';
+        byte += 1;
+    }
+    table
+};
+
+/// The text, and then zeros, by words of eight bytes.
 #[derive(Clone, Copy, PartialEq, Eq)]
-struct Name([u8; 24]);
+struct Name([u64; 3]);
 
 impl Name {
-    fn read(text: &[u8]) -> Option<Name> {
-        let is_name_byte = |byte: &u8| byte.is_ascii_alphanumeric() || *byte == b'_';
-        if text.is_empty() || text.len() > 24 || !text.iter().all(is_name_byte) {
+    /// The name that a text begins with, and what stands behind it.
+    fn read_first(text: &[u8]) -> Option<(Name, &[u8])> {
+        let length = text.iter().position(|byte| !IS_OF_NAMES[usize::from(*byte)]).unwrap_or(text.len());
+        if length == 0 || length > NAME_BYTES {
             return None;
         }
-        let mut name = [0; 24];
-        name[..text.len()].copy_from_slice(text);
-        Some(Name(name))
+        let (name, rest) = text.split_at(length);
+        let mut bytes = [0; NAME_BYTES];
+        bytes[..length].copy_from_slice(name);
+        let word = |at: usize| u64::from_le_bytes(bytes[8 * at..8 * at + 8].try_into().expect("eight bytes"));
+        Some((Name([word(0), word(1), word(2)]), rest))
+    }
+
+    fn read(text: &[u8]) -> Option<Name> {
+        whole(Name::read_first(text))
     }
 
     fn write(&self, out: &mut Vec<u8>) {
-        let length = self.0.iter().position(|byte| *byte == 0).unwrap_or(self.0.len());
-        out.extend_from_slice(&self.0[..length]);
+        let end = out.len() + self.length();
+        for word in self.0 {
+            out.extend_from_slice(&word.to_le_bytes());
+        }
+        out.truncate(end);
+    }
+
+    fn length(&self) -> usize {
+        let zeros = match self.0 {
+            [word, 0, 0] => word.leading_zeros() + 128,
+            [_, word, 0] => word.leading_zeros() + 64,
+            [_, _, word] => word.leading_zeros(),
+        };
+        NAME_BYTES - zeros as usize / 8
     }
 }
 
 impl Hash for Name {
     fn hash<H: Hasher>(&self, state: &mut H) {
-        state.write(&self.0);
+        self.0.iter().for_each(|word| state.write_u64(*word));
     }
 }
+
+/// Mixes words by a product with an odd number, and gives the upper half, to which all bits came.
+#[derive(Default)]
+struct Mixed(u64);
+
+impl Hasher for Mixed {
+    fn write(&mut self, bytes: &[u8]) {
+        bytes.iter().for_each(|byte| self.write_u64(u64::from(*byte)));
+    }
+
+    fn write_u64(&mut self, word: u64) {
+        self.0 = (self.0.rotate_left(29) ^ word).wrapping_mul(0x9e37_79b9_7f4a_7c15);
+    }
+
+    fn finish(&self) -> u64 {
+        self.0 ^ self.0 >> 32
+    }
+}
+
+type ByName<T> = HashMap<Name, T, BuildHasherDefault<Mixed>>;
 
 enum Request {
     Local(Name),
@@ -58,12 +114,12 @@ enum Request {
     Recv(Name, Name),
     End(Name),
     Join(Name, Name),
-    Order(u64, u64),
-    Past(u64),
-    Concurrent(u64),
-    Cut(u64),
-    Event(u64),
-    Stamp(u64),
+    Order(Number, Number),
+    Past(Number),
+    Concurrent(Number),
+    Cut(Number),
+    Event(Number),
+    Stamp(Number),
     Task(Name),
     Message(Name),
     Count,
@@ -76,53 +132,61 @@ fn split_first(bytes: &[u8]) -> (&[u8], Option<&[u8]>) {
     }
 }
 
-fn number(word: &[u8]) -> Option<u64> {
-    if word.is_empty() || word.len() > 9 || (word.len() > 1 && word[0] == b'0') {
-        return None;
-    }
-    let mut value = 0;
-    for byte in word {
-        if !byte.is_ascii_digit() {
+/// The number that a text begins with, and what stands behind it.
+fn first_number(text: &[u8]) -> Option<(Number, &[u8])> {
+    let (mut value, mut length) = (0, 0);
+    while let Some(digit) = text.get(length).map(|byte| byte.wrapping_sub(b'0')).filter(|digit| *digit < 10) {
+        if length == 9 {
             return None;
         }
-        value = 10 * value + u64::from(byte - b'0');
+        value = 10 * value + Number::from(digit);
+        length += 1;
     }
-    Some(value)
+    if length == 0 || length > 1 && text[0] == b'0' {
+        return None;
+    }
+    Some((value, &text[length..]))
 }
 
-fn one<T>(words: Option<&[u8]>, read: impl Fn(&[u8]) -> Option<T>) -> Option<T> {
-    read(words?)
+/// What was read, if nothing stands behind it.
+fn whole<T>(read: Option<(T, &[u8])>) -> Option<T> {
+    read.filter(|(_, rest)| rest.is_empty()).map(|(value, _)| value)
 }
 
-fn two<T>(words: Option<&[u8]>, read: impl Fn(&[u8]) -> Option<T>) -> Option<(T, T)> {
-    let (first, second) = split_first(words?);
-    Some((read(first)?, read(second?)?))
+fn one<T>(words: Option<&[u8]>, read: fn(&[u8]) -> Option<(T, &[u8])>) -> Option<T> {
+    whole(read(words?))
+}
+
+fn two<T>(words: Option<&[u8]>, read: fn(&[u8]) -> Option<(T, &[u8])>) -> Option<(T, T)> {
+    let (first, rest) = read(words?)?;
+    Some((first, whole(read(rest.strip_prefix(b" ")?))?))
 }
 
 impl Request {
     fn read(line: &[u8]) -> Option<Request> {
         let (keyword, words) = split_first(line);
         match keyword {
-            b"local" => one(words, Name::read).map(Request::Local),
-            b"spawn" => two(words, Name::read).map(|(task, child)| Request::Spawn(task, child)),
-            b"send" => two(words, Name::read).map(|(task, message)| Request::Send(task, message)),
-            b"recv" => two(words, Name::read).map(|(task, message)| Request::Recv(task, message)),
-            b"end" => one(words, Name::read).map(Request::End),
-            b"join" => two(words, Name::read).map(|(task, child)| Request::Join(task, child)),
-            b"order" => two(words, number).map(|(first, second)| Request::Order(first, second)),
-            b"past" => one(words, number).map(Request::Past),
-            b"concurrent" => one(words, number).map(Request::Concurrent),
-            b"cut" => one(words, number).map(Request::Cut),
-            b"event" => one(words, number).map(Request::Event),
-            b"stamp" => one(words, number).map(Request::Stamp),
-            b"task" => one(words, Name::read).map(Request::Task),
-            b"message" => one(words, Name::read).map(Request::Message),
+            b"local" => one(words, Name::read_first).map(Request::Local),
+            b"spawn" => two(words, Name::read_first).map(|(task, child)| Request::Spawn(task, child)),
+            b"send" => two(words, Name::read_first).map(|(task, message)| Request::Send(task, message)),
+            b"recv" => two(words, Name::read_first).map(|(task, message)| Request::Recv(task, message)),
+            b"end" => one(words, Name::read_first).map(Request::End),
+            b"join" => two(words, Name::read_first).map(|(task, child)| Request::Join(task, child)),
+            b"order" => two(words, first_number).map(|(first, second)| Request::Order(first, second)),
+            b"past" => one(words, first_number).map(Request::Past),
+            b"concurrent" => one(words, first_number).map(Request::Concurrent),
+            b"cut" => one(words, first_number).map(Request::Cut),
+            b"event" => one(words, first_number).map(Request::Event),
+            b"stamp" => one(words, first_number).map(Request::Stamp),
+            b"task" => one(words, Name::read_first).map(Request::Task),
+            b"message" => one(words, Name::read_first).map(Request::Message),
             b"count" if words.is_none() => Some(Request::Count),
             _ => None,
         }
     }
 }
 
+#[derive(Clone, Copy)]
 enum Kind {
     Local,
     Spawn,
@@ -132,35 +196,36 @@ enum Kind {
     Join,
 }
 
+impl Kind {
+    fn text(self) -> &'static [u8] {
+        match self {
+            Kind::Local => b"local ",
+            Kind::Spawn => b"spawn ",
+            Kind::Send => b"send ",
+            Kind::Recv => b"recv ",
+            Kind::End => b"end ",
+            Kind::Join => b"join ",
+        }
+    }
+}
+
 /// A point that an event raised, by its halves, and the event's value there: a later event knows of it where it is no less.
 struct Point {
     halves: u128,
-    value: u64,
+    value: Number,
 }
 
 struct Row {
-    task: Name,
-    /// The place of its task.
-    place: u32,
-    kind: Kind,
-    name: Option<Name>,
-    /// Increasing; then 0 where there are less than two.
-    preds: [u64; 2],
     tree: Tree,
-    /// None where no points are kept, or all that it raised lies too deep.
-    point: Option<Point>,
+    /// The place of its task.
+    place: Number,
     /// The place of its task's id after it.
-    id: usize,
-}
-
-impl Row {
-    /// Whether a later event with this tree knows of it.
-    fn is_known_to(&self, tree: &Tree) -> bool {
-        match &self.point {
-            Some(point) => point.value <= tree.value_at(point.halves),
-            None => self.tree.leq(tree),
-        }
-    }
+    id: Number,
+    /// Increasing; then 0 where there are less than two.
+    preds: [Number; 2],
+    /// The place of the task or the message that it names, where it names one.
+    named: Number,
+    kind: Kind,
 }
 
 #[derive(Clone, Copy)]
@@ -172,42 +237,44 @@ enum State {
 
 #[derive(Clone, Copy)]
 struct Task {
+    name: Name,
     state: State,
     /// Its last event, else the event that started it, else 0.
-    last: u64,
+    last: Number,
     /// The place of its id.
-    id: usize,
+    id: Number,
 }
 
 /// The events that received a message, and the places of their tasks.
 enum Receipts {
     None,
-    One(u64, usize),
+    One(Number, Number),
     Many(Box<ManyReceipts>),
 }
 
 struct ManyReceipts {
-    events: Vec<u64>,
+    events: Vec<Number>,
     /// A bit for each place of a task, up to the greatest that received it.
     places: Vec<u64>,
 }
 
 impl ManyReceipts {
-    fn has(&self, place: usize) -> bool {
-        self.places.get(place / 64).is_some_and(|bits| bits >> (place % 64) & 1 == 1)
+    fn has(&self, place: Number) -> bool {
+        self.places.get(place as usize / 64).is_some_and(|bits| bits >> (place % 64) & 1 == 1)
     }
 
-    fn add(&mut self, event: u64, place: usize) {
-        if self.places.len() <= place / 64 {
-            self.places.resize(place / 64 + 1, 0);
+    fn add(&mut self, event: Number, place: Number) {
+        let word = place as usize / 64;
+        if self.places.len() <= word {
+            self.places.resize(word + 1, 0);
         }
-        self.places[place / 64] |= 1 << (place % 64);
+        self.places[word] |= 1 << (place % 64);
         self.events.push(event);
     }
 }
 
 impl Receipts {
-    fn has(&self, place: usize) -> bool {
+    fn has(&self, place: Number) -> bool {
         match self {
             Receipts::None => false,
             Receipts::One(_, first) => *first == place,
@@ -215,7 +282,7 @@ impl Receipts {
         }
     }
 
-    fn add(&mut self, event: u64, place: usize) {
+    fn add(&mut self, event: Number, place: Number) {
         match self {
             Receipts::None => *self = Receipts::One(event, place),
             Receipts::One(first, first_place) => {
@@ -228,7 +295,7 @@ impl Receipts {
         }
     }
 
-    fn events(&self) -> &[u64] {
+    fn events(&self) -> &[Number] {
         match self {
             Receipts::None => &[],
             Receipts::One(event, _) => std::slice::from_ref(event),
@@ -238,7 +305,8 @@ impl Receipts {
 }
 
 struct Message {
-    sent: u64,
+    name: Name,
+    sent: Number,
     receipts: Receipts,
 }
 
@@ -253,14 +321,14 @@ struct Limits {
 
 type Refusal = &'static str;
 
-fn preds(first: u64, second: u64) -> [u64; 2] {
+fn preds(first: Number, second: Number) -> [Number; 2] {
     if first == second { [first, 0] } else { [first.min(second), first.max(second)] }
 }
 
 /// Writes the list of these events without those that are 0.
-fn write_list(out: &mut Vec<u8>, events: &[u64]) {
+fn write_list(out: &mut Vec<u8>, events: &[Number]) {
     let events = events.iter().filter(|event| **event != 0);
-    write_number(out, events.clone().count() as u64);
+    write_number(out, events.clone().count() as Number);
     for event in events {
         out.push(b' ');
         write_number(out, *event);
@@ -268,7 +336,7 @@ fn write_list(out: &mut Vec<u8>, events: &[u64]) {
 }
 
 /// Writes `200`, how many events these are, and the events.
-fn tell_list(events: impl Iterator<Item = u64>, out: &mut Vec<u8>) {
+fn tell_list(events: impl Iterator<Item = Number>, out: &mut Vec<u8>) {
     out.extend_from_slice(b"200 ");
     let start = out.len();
     let mut count = 0;
@@ -286,42 +354,51 @@ fn tell_list(events: impl Iterator<Item = u64>, out: &mut Vec<u8>) {
 struct Tenant {
     limits: Limits,
     rows: Vec<Row>,
+    /// Of each event, if points are kept: none where all that it raised lies too deep.
+    points: Vec<Option<Point>>,
     /// Each id that some task has or had.
     ids: Vec<Id>,
+    /// The first is `root`.
     tasks: Vec<Task>,
-    places: HashMap<Name, usize>,
-    messages: HashMap<Name, Message>,
+    places: ByName<Number>,
+    messages: Vec<Message>,
+    message_places: ByName<Number>,
 }
 
 impl Tenant {
     fn new(limits: Limits) -> Tenant {
         let root = Name::read(b"root").expect("a name");
-        let task = Task { state: State::Live, last: 0, id: 0 };
         Tenant {
             limits,
             rows: Vec::new(),
+            points: Vec::new(),
             ids: vec![Id::One],
-            tasks: vec![task],
-            places: HashMap::from([(root, 0)]),
-            messages: HashMap::new(),
+            tasks: vec![Task { name: root, state: State::Live, last: 0, id: 0 }],
+            places: [(root, 0)].into_iter().collect(),
+            messages: Vec::new(),
+            message_places: ByName::default(),
         }
     }
 
-    fn place(&self, name: &Name) -> Result<usize, Refusal> {
+    fn place(&self, name: &Name) -> Result<Number, Refusal> {
         self.places.get(name).copied().ok_or("401 no task")
     }
 
-    fn live(&self, name: &Name) -> Result<usize, Refusal> {
+    fn task(&self, place: Number) -> &Task {
+        &self.tasks[place as usize]
+    }
+
+    fn live(&self, name: &Name) -> Result<Number, Refusal> {
         let place = self.place(name)?;
-        match self.tasks[place].state {
+        match self.task(place).state {
             State::Live => Ok(place),
             State::Ended | State::Joined => Err("403 task ended"),
         }
     }
 
-    fn ended(&self, name: &Name) -> Result<usize, Refusal> {
+    fn ended(&self, name: &Name) -> Result<Number, Refusal> {
         let place = self.place(name)?;
-        match self.tasks[place].state {
+        match self.task(place).state {
             State::Live => Err("408 not ended"),
             State::Ended => Ok(place),
             State::Joined => Err("409 already joined"),
@@ -332,127 +409,133 @@ impl Tenant {
         if self.rows.len() < self.limits.events { Ok(()) } else { Err("413 events full") }
     }
 
-    fn known(&self, event: u64) -> &Tree {
+    fn next_event(&self) -> Number {
+        self.rows.len() as Number + 1
+    }
+
+    fn known(&self, event: Number) -> &Tree {
         if event == 0 { &ZERO } else { &self.rows[event as usize - 1].tree }
     }
 
-    fn add_id(&mut self, id: Id) -> usize {
+    fn add_id(&mut self, id: Id) -> Number {
         self.ids.push(id);
-        self.ids.len() - 1
+        self.ids.len() as Number - 1
     }
 
-    fn add(&mut self, row: Row) -> u64 {
-        self.rows.push(row);
-        self.rows.len() as u64
+    /// A point that an event raised, where these are the trees before and after it.
+    fn raised_point(before: &Tree, after: &Tree) -> Option<Point> {
+        let halves = before.raised_place(after)?.point()?;
+        Some(Point { halves, value: after.value_at(halves) })
     }
 
-    /// The tree after an event of the id, and a point that it raised.
-    fn raised(&self, tree: &Tree, id: &Id) -> (Tree, Option<Point>) {
-        let after = tree.event(id);
-        let halves = if self.limits.keeps_points { tree.raised_place(&after).and_then(|place| place.point()) } else { None };
-        let point = halves.map(|halves| Point { halves, value: after.value_at(halves) });
-        (after, point)
+    /// Adds an event of the task of this place, which takes in what this other event knew, if it is not 0.
+    fn add(&mut self, kind: Kind, place: Number, named: Number, taken_in: Number) -> Number {
+        let Task { last, id, .. } = *self.task(place);
+        let joined;
+        let (before, preds) = if taken_in == 0 {
+            (self.known(last), [last, 0])
+        } else {
+            joined = self.known(last).join(self.known(taken_in));
+            (&joined, preds(last, taken_in))
+        };
+        let tree = before.event(&self.ids[id as usize]);
+        if self.limits.keeps_points {
+            let point = Tenant::raised_point(before, &tree);
+            self.points.push(point);
+        }
+        self.rows.push(Row { tree, place, id, preds, named, kind });
+        let event = self.rows.len() as Number;
+        self.tasks[place as usize].last = event;
+        event
     }
 
-    /// Adds an event with which the task of this place takes nothing in and keeps its id.
-    fn add_alone(&mut self, place: usize, task_name: Name, kind: Kind, name: Option<Name>) -> u64 {
-        let task = self.tasks[place];
-        let (tree, point) = self.raised(self.known(task.last), &self.ids[task.id]);
-        let preds = [task.last, 0];
-        let last = self.add(Row { task: task_name, place: place as u32, kind, name, preds, tree, point, id: task.id });
-        self.tasks[place].last = last;
-        last
-    }
-
-    fn local(&mut self, name: Name) -> Result<u64, Refusal> {
+    fn local(&mut self, name: Name) -> Result<Number, Refusal> {
         let place = self.live(&name)?;
         self.check_room()?;
-        Ok(self.add_alone(place, name, Kind::Local, None))
+        Ok(self.add(Kind::Local, place, 0, 0))
     }
 
-    fn end(&mut self, name: Name) -> Result<u64, Refusal> {
+    fn end(&mut self, name: Name) -> Result<Number, Refusal> {
         let place = self.live(&name)?;
         self.check_room()?;
-        self.tasks[place].state = State::Ended;
-        Ok(self.add_alone(place, name, Kind::End, None))
+        self.tasks[place as usize].state = State::Ended;
+        Ok(self.add(Kind::End, place, 0, 0))
     }
 
-    fn send(&mut self, name: Name, message: Name) -> Result<u64, Refusal> {
+    fn send(&mut self, name: Name, message: Name) -> Result<Number, Refusal> {
         let place = self.live(&name)?;
-        let sent = self.rows.len() as u64 + 1;
-        let is_full = self.rows.len() >= self.limits.events;
         let are_full = self.messages.len() >= self.limits.messages;
-        match self.messages.entry(message) {
+        let is_full = self.rows.len() >= self.limits.events;
+        let sent = self.messages.len() as Number;
+        match self.message_places.entry(message) {
             Entry::Occupied(_) => return Err("406 message exists"),
             Entry::Vacant(_) if are_full => return Err("415 messages full"),
             Entry::Vacant(_) if is_full => return Err("413 events full"),
-            Entry::Vacant(entry) => entry.insert(Message { sent, receipts: Receipts::None }),
+            Entry::Vacant(entry) => entry.insert(sent),
         };
-        Ok(self.add_alone(place, name, Kind::Send, Some(message)))
+        let event = self.add(Kind::Send, place, sent, 0);
+        self.messages.push(Message { name: message, sent: event, receipts: Receipts::None });
+        Ok(event)
     }
 
-    fn receive(&mut self, name: Name, message: Name) -> Result<u64, Refusal> {
+    fn receive(&mut self, name: Name, message: Name) -> Result<Number, Refusal> {
         let place = self.live(&name)?;
-        let received = self.rows.len() as u64 + 1;
-        let is_full = self.rows.len() >= self.limits.events;
-        let sent = match self.messages.get_mut(&message) {
-            None => return Err("405 no message"),
-            Some(message) if message.receipts.has(place) => return Err("407 already received"),
-            Some(_) if is_full => return Err("413 events full"),
-            Some(message) => {
-                message.receipts.add(received, place);
-                message.sent
-            }
-        };
-        let task = self.tasks[place];
-        let (tree, point) = self.raised(&self.known(task.last).join(self.known(sent)), &self.ids[task.id]);
-        let preds = preds(task.last, sent);
-        let row = Row { task: name, place: place as u32, kind: Kind::Recv, name: Some(message), preds, tree, point, id: task.id };
-        let last = self.add(row);
-        self.tasks[place].last = last;
-        Ok(last)
+        let received = self.message_place(&message)?;
+        let Message { sent, receipts, .. } = &self.messages[received as usize];
+        if receipts.has(place) {
+            return Err("407 already received");
+        }
+        self.check_room()?;
+        let event = self.add(Kind::Recv, place, received, *sent);
+        self.messages[received as usize].receipts.add(event, place);
+        Ok(event)
     }
 
-    fn spawn(&mut self, name: Name, child: Name) -> Result<u64, Refusal> {
+    fn spawn(&mut self, name: Name, child: Name) -> Result<Number, Refusal> {
         let place = self.live(&name)?;
-        let started = self.tasks.len();
+        let are_full = self.tasks.len() >= self.limits.tasks;
         let is_full = self.rows.len() >= self.limits.events;
+        let started = self.tasks.len() as Number;
         match self.places.entry(child) {
             Entry::Occupied(_) => return Err("402 task exists"),
-            Entry::Vacant(_) if started >= self.limits.tasks => return Err("414 tasks full"),
+            Entry::Vacant(_) if are_full => return Err("414 tasks full"),
             Entry::Vacant(_) if is_full => return Err("413 events full"),
             Entry::Vacant(entry) => entry.insert(started),
         };
-        let task = self.tasks[place];
-        let (tree, point) = self.raised(self.known(task.last), &self.ids[task.id]);
-        let (kept, given) = self.ids[task.id].split();
+        let event = self.add(Kind::Spawn, place, started, 0);
+        let (kept, given) = self.ids[self.task(place).id as usize].split();
         let (kept, given) = (self.add_id(kept), self.add_id(given));
-        let preds = [task.last, 0];
-        let row = Row { task: name, place: place as u32, kind: Kind::Spawn, name: Some(child), preds, tree, point, id: kept };
-        let last = self.add(row);
-        self.tasks.push(Task { state: State::Live, last, id: given });
-        self.tasks[place] = Task { last, id: kept, ..task };
-        Ok(last)
+        self.rows[event as usize - 1].id = kept;
+        self.tasks[place as usize].id = kept;
+        self.tasks.push(Task { name: child, state: State::Live, last: event, id: given });
+        Ok(event)
     }
 
-    fn join(&mut self, name: Name, child: Name) -> Result<u64, Refusal> {
+    fn join(&mut self, name: Name, child: Name) -> Result<Number, Refusal> {
         let place = self.live(&name)?;
         let other = self.ended(&child)?;
         self.check_room()?;
-        let (task, joined) = (self.tasks[place], self.tasks[other]);
-        let id = self.ids[task.id].sum(&self.ids[joined.id]);
-        let (tree, point) = self.raised(&self.known(task.last).join(self.known(joined.last)), &id);
-        let id = self.add_id(id);
-        let preds = preds(task.last, joined.last);
-        let row = Row { task: name, place: place as u32, kind: Kind::Join, name: Some(child), preds, tree, point, id };
-        let last = self.add(row);
-        self.tasks[place] = Task { last, id, ..task };
-        self.tasks[other].state = State::Joined;
-        Ok(last)
+        let Task { last, id, .. } = *self.task(other);
+        let id = self.ids[self.task(place).id as usize].sum(&self.ids[id as usize]);
+        self.tasks[place as usize].id = self.add_id(id);
+        self.tasks[other as usize].state = State::Joined;
+        Ok(self.add(Kind::Join, place, other, last))
     }
 
-    fn row(&self, event: u64) -> Result<&Row, Refusal> {
+    fn row(&self, event: Number) -> Result<&Row, Refusal> {
         (event as usize).checked_sub(1).and_then(|place| self.rows.get(place)).ok_or("404 no event")
+    }
+
+    fn message_place(&self, name: &Name) -> Result<Number, Refusal> {
+        self.message_places.get(name).copied().ok_or("405 no message")
+    }
+
+    /// Whether an event is known to a later one with this tree.
+    fn is_known(&self, event: Number, tree: &Tree) -> bool {
+        match self.points.get(event as usize - 1) {
+            Some(Some(point)) => point.value <= tree.value_at(point.halves),
+            Some(None) | None => self.known(event).leq(tree),
+        }
     }
 
     /// Does the request, and writes the reply where it is accepted.
@@ -479,91 +562,88 @@ impl Tenant {
         Ok(())
     }
 
-    fn tell_order(&self, first: u64, second: u64, out: &mut Vec<u8>) -> Result<(), Refusal> {
-        let (first, second) = (self.row(first)?, self.row(second)?);
-        out.extend_from_slice(b"200 ");
-        out.extend_from_slice(first.tree.order(&second.tree).as_bytes());
+    /// No later event happened before an earlier one, so they are compared one way.
+    fn tell_order(&self, first: Number, second: Number, out: &mut Vec<u8>) -> Result<(), Refusal> {
+        let (tree, other) = (&self.row(first)?.tree, &self.row(second)?.tree);
+        let order = match first.cmp(&second) {
+            Ordering::Equal => "200 same",
+            Ordering::Less if self.is_known(first, other) => "200 before",
+            Ordering::Greater if self.is_known(second, tree) => "200 after",
+            Ordering::Less | Ordering::Greater => "200 concurrent",
+        };
+        out.extend_from_slice(order.as_bytes());
         Ok(())
     }
 
     /// No later event happened before this one, so only the earlier ones are compared, and one way.
-    fn tell_past(&self, event: u64, out: &mut Vec<u8>) -> Result<(), Refusal> {
+    fn tell_past(&self, event: Number, out: &mut Vec<u8>) -> Result<(), Refusal> {
         let tree = &self.row(event)?.tree;
-        let earlier = &self.rows[..event as usize - 1];
-        let past = (1..).zip(earlier).filter(|(_, row)| row.is_known_to(tree));
-        tell_list(past.map(|(number, _)| number), out);
+        tell_list((1..event).filter(|earlier| self.is_known(*earlier, tree)), out);
         Ok(())
     }
 
     /// No earlier event happened after this one, and no later one before it, so each is compared one way.
-    fn tell_concurrent(&self, event: u64, out: &mut Vec<u8>) -> Result<(), Refusal> {
-        let asked = self.row(event)?;
-        let concurrent = (1..).zip(&self.rows).filter(|(number, row)| match number.cmp(&event) {
-            Ordering::Less => !row.is_known_to(&asked.tree),
-            Ordering::Equal => false,
-            Ordering::Greater => !asked.is_known_to(&row.tree),
-        });
-        tell_list(concurrent.map(|(number, _)| number), out);
+    fn tell_concurrent(&self, event: Number, out: &mut Vec<u8>) -> Result<(), Refusal> {
+        let tree = &self.row(event)?.tree;
+        let earlier = (1..event).filter(|earlier| !self.is_known(*earlier, tree));
+        let later = (event + 1..self.next_event()).filter(|later| !self.is_known(event, self.known(*later)));
+        tell_list(earlier.chain(later), out);
         Ok(())
     }
 
     /// What a task did before an event that reaches this one reaches it, too, so the first one back is its last.
-    fn tell_cut(&self, event: u64, out: &mut Vec<u8>) -> Result<(), Refusal> {
-        let tree = &self.row(event)?.tree;
+    fn tell_cut(&self, event: Number, out: &mut Vec<u8>) -> Result<(), Refusal> {
+        let Row { tree, place, .. } = self.row(event)?;
         let mut cut = vec![event];
         let mut has_one = vec![false; self.tasks.len()];
-        has_one[self.rows[event as usize - 1].place as usize] = true;
-        for (place, row) in self.rows[..event as usize - 1].iter().enumerate().rev() {
-            if !has_one[row.place as usize] && row.is_known_to(tree) {
+        has_one[*place as usize] = true;
+        for (earlier, row) in (1..event).zip(&self.rows).rev() {
+            if !has_one[row.place as usize] && self.is_known(earlier, tree) {
                 has_one[row.place as usize] = true;
-                cut.push(place as u64 + 1);
+                cut.push(earlier);
             }
         }
         tell_list(cut.into_iter().rev(), out);
         Ok(())
     }
 
-    fn tell_event(&self, event: u64, out: &mut Vec<u8>) -> Result<(), Refusal> {
-        let row = self.row(event)?;
-        out.extend_from_slice(match row.kind {
-            Kind::Local => b"200 local ",
-            Kind::Spawn => b"200 spawn ",
-            Kind::Send => b"200 send ",
-            Kind::Recv => b"200 recv ",
-            Kind::End => b"200 end ",
-            Kind::Join => b"200 join ",
-        });
-        row.task.write(out);
+    fn tell_event(&self, event: Number, out: &mut Vec<u8>) -> Result<(), Refusal> {
+        let Row { place, preds, named, kind, .. } = self.row(event)?;
+        out.extend_from_slice(b"200 ");
+        out.extend_from_slice(kind.text());
+        self.task(*place).name.write(out);
         out.push(b' ');
-        match &row.name {
-            Some(name) => name.write(out),
-            None => out.push(b'-'),
+        match kind {
+            Kind::Local | Kind::End => out.push(b'-'),
+            Kind::Spawn | Kind::Join => self.task(*named).name.write(out),
+            Kind::Send | Kind::Recv => self.messages[*named as usize].name.write(out),
         }
         out.push(b' ');
-        write_list(out, &row.preds);
+        write_list(out, preds);
         Ok(())
     }
 
-    fn tell_stamp(&self, event: u64, out: &mut Vec<u8>) -> Result<(), Refusal> {
+    fn tell_stamp(&self, event: Number, out: &mut Vec<u8>) -> Result<(), Refusal> {
         let row = self.row(event)?;
         out.extend_from_slice(b"200 ");
-        write_stamp(&self.ids[row.id], &row.tree, out);
+        write_stamp(&self.ids[row.id as usize], &row.tree, out);
         Ok(())
     }
 
     fn tell_task(&self, name: Name, out: &mut Vec<u8>) -> Result<(), Refusal> {
-        let task = self.tasks[self.place(&name)?];
-        out.extend_from_slice(match task.state {
-            State::Live => b"200 live ",
-            State::Ended => b"200 ended ",
-            State::Joined => b"200 joined ",
-        });
+        let task = self.task(self.place(&name)?);
+        let state = match task.state {
+            State::Live => "200 live ",
+            State::Ended => "200 ended ",
+            State::Joined => "200 joined ",
+        };
+        out.extend_from_slice(state.as_bytes());
         write_number(out, task.last);
         Ok(())
     }
 
     fn tell_message(&self, name: Name, out: &mut Vec<u8>) -> Result<(), Refusal> {
-        let message = self.messages.get(&name).ok_or("405 no message")?;
+        let message = &self.messages[self.message_place(&name)? as usize];
         out.extend_from_slice(b"200 ");
         write_number(out, message.sent);
         out.push(b' ');
@@ -573,85 +653,156 @@ impl Tenant {
 
     fn tell_count(&self, out: &mut Vec<u8>) -> Result<(), Refusal> {
         out.extend_from_slice(b"200 ");
-        write_number(out, self.rows.len() as u64);
+        write_number(out, self.rows.len() as Number);
         out.push(b' ');
-        write_number(out, self.tasks.len() as u64);
+        write_number(out, self.tasks.len() as Number);
         out.push(b' ');
-        write_number(out, self.messages.len() as u64);
+        write_number(out, self.messages.len() as Number);
         Ok(())
     }
 }
 
-fn reply(tenants: &mut [(Name, Tenant)], line: &[u8], out: &mut Vec<u8>) {
-    if line.len() > MOST_BYTES {
-        return out.extend_from_slice(b"? 400 line\n");
-    }
-    let (word, rest) = split_first(line);
-    let Some(name) = Name::read(word) else {
-        return out.extend_from_slice(b"? 400 line\n");
-    };
-    let Some((_, tenant)) = tenants.iter_mut().find(|(other, _)| *other == name) else {
-        return out.extend_from_slice(b"? 420 no tenant\n");
-    };
-    out.extend_from_slice(word);
-    out.push(b' ');
-    let outcome = match rest.and_then(Request::read) {
-        Some(request) => tenant.answer(request, out),
-        None => Err("400 line"),
-    };
-    if let Err(refusal) = outcome {
-        out.extend_from_slice(refusal.as_bytes());
-    }
-    out.push(b'\n');
+struct Addressee {
+    name: Name,
+    /// The name and a blank.
+    start: Vec<u8>,
+    tenant: Tenant,
 }
 
-fn tenants_of_words() -> Vec<(Name, Tenant)> {
-    let mut limits = Limits { events: 4096, tasks: 512, messages: 2048, keeps_points: false };
-    let mut names = Vec::new();
-    let mut words = std::env::args().skip(1);
-    while let Some(word) = words.next() {
-        let mut limit = || words.next().and_then(|number| number.parse().ok()).expect("a number");
-        match word.as_str() {
-            "--points" => limits.keeps_points = true,
-            "--events" => limits.events = limit(),
-            "--tasks" => limits.tasks = limit(),
-            "--messages" => limits.messages = limit(),
-            _ => names.push(Name::read(word.as_bytes()).expect("a name")),
+impl Addressee {
+    fn reply(&mut self, request: Option<&[u8]>, out: &mut Vec<u8>) {
+        out.extend_from_slice(&self.start);
+        let outcome = match request.and_then(Request::read) {
+            Some(request) => self.tenant.answer(request, out),
+            None => Err("400 line"),
+        };
+        if let Err(refusal) = outcome {
+            out.extend_from_slice(refusal.as_bytes());
+        }
+        out.push(b'\n');
+    }
+}
+
+struct Addressees {
+    all: Vec<Addressee>,
+    /// The place of the one whose line was last.
+    last: usize,
+}
+
+impl Addressees {
+    fn of_words() -> Addressees {
+        let mut limits = Limits { events: 4096, tasks: 512, messages: 2048, keeps_points: false };
+        let mut names = Vec::new();
+        let mut words = std::env::args().skip(1);
+        while let Some(word) = words.next() {
+            let mut limit = || words.next().and_then(|number| number.parse().ok()).expect("a number");
+            match word.as_str() {
+                "--points" => limits.keeps_points = true,
+                "--events" => limits.events = limit(),
+                "--tasks" => limits.tasks = limit(),
+                "--messages" => limits.messages = limit(),
+                _ => names.push(word),
+            }
+        }
+        let of_name = |word: String| Addressee {
+            name: Name::read(word.as_bytes()).expect("a name"),
+            start: format!("{word} ").into_bytes(),
+            tenant: Tenant::new(limits),
+        };
+        Addressees { all: names.into_iter().map(of_name).collect(), last: 0 }
+    }
+
+    /// Most lines are of the tenant of the line before.
+    fn reply(&mut self, line: &[u8], out: &mut Vec<u8>) {
+        let last = &mut self.all[self.last];
+        match line.strip_prefix(last.start.as_slice()) {
+            Some(request) if line.len() <= MOST_BYTES => last.reply(Some(request), out),
+            _ => self.find_and_reply(line, out),
         }
     }
-    names.into_iter().map(|name| (name, Tenant::new(limits))).collect()
+
+    fn find_and_reply(&mut self, line: &[u8], out: &mut Vec<u8>) {
+        let (word, request) = split_first(line);
+        let Some(name) = Name::read(word).filter(|_| line.len() <= MOST_BYTES) else {
+            return out.extend_from_slice(b"? 400 line\n");
+        };
+        let Some(place) = self.all.iter().position(|other| other.name == name) else {
+            return out.extend_from_slice(b"? 420 no tenant\n");
+        };
+        self.last = place;
+        self.all[place].reply(request, out);
+    }
 }
 
-fn without_return(piece: &[u8]) -> &[u8] {
-    piece.strip_suffix(b"\r").unwrap_or(piece)
+unsafe extern "C" {
+    fn memchr(bytes: *const c_void, byte: c_int, length: usize) -> *const c_void;
+}
+
+fn line_end(bytes: &[u8]) -> Option<usize> {
+    // SAFETY: it reads these bytes alone, and gives the place of one of them, or null.
+    let found = unsafe { memchr(bytes.as_ptr().cast(), c_int::from(b'\n'), bytes.len()) };
+    (!found.is_null()).then(|| found.addr() - bytes.as_ptr().addr())
+}
+
+/// The lines of what is read. The buffer grows only for a line that is longer.
+struct Lines<R> {
+    input: R,
+    buffer: Vec<u8>,
+    /// The bytes that are read, and not yet handed out.
+    unread: std::ops::Range<usize>,
+}
+
+impl<R: Read> Lines<R> {
+    fn new(input: R) -> Lines<R> {
+        Lines { input, buffer: vec![0; ROOM], unread: 0..0 }
+    }
+
+    /// The next line without its end, unless there is none.
+    fn next(&mut self) -> IoResult<Option<&[u8]>> {
+        let mut searched = 0;
+        loop {
+            let start = self.unread.start;
+            if let Some(at) = line_end(&self.buffer[start + searched..self.unread.end]) {
+                let line = &self.buffer[start..start + searched + at];
+                self.unread.start = start + searched + at + 1;
+                return Ok(Some(line.strip_suffix(b"\r").unwrap_or(line)));
+            }
+            searched = self.unread.len();
+            if self.read_more()? == 0 {
+                let line = std::mem::take(&mut self.unread);
+                return Ok((searched > 0).then(|| &self.buffer[line]));
+            }
+        }
+    }
+
+    fn read_more(&mut self) -> IoResult<usize> {
+        self.buffer.copy_within(self.unread.clone(), 0);
+        self.unread = 0..self.unread.len();
+        if self.unread.end == self.buffer.len() {
+            self.buffer.resize(2 * self.buffer.len(), 0);
+        }
+        let count = self.input.read(&mut self.buffer[self.unread.end..])?;
+        self.unread.end += count;
+        Ok(count)
+    }
 }
 
 fn main() -> IoResult<()> {
-    let mut tenants = tenants_of_words();
-    let mut input = BufReader::with_capacity(ROOM, stdin().lock());
+    let mut addressees = Addressees::of_words();
+    let mut lines = Lines::new(stdin().lock());
     let mut output = stdout().lock();
     // Replies are gathered here. It grows only where a stamp or a list is longer than what is free of it.
     let mut out = Vec::with_capacity(2 * ROOM);
-    let mut divided = Vec::new();
-    loop {
-        let bytes = input.fill_buf()?;
-        if bytes.is_empty() {
-            break;
-        }
-        if let Some(at) = bytes.iter().position(|byte| *byte == b'\n') {
-            reply(&mut tenants, without_return(&bytes[..at]), &mut out);
-            input.consume(at + 1);
-        } else {
-            divided.clear();
-            input.read_until(b'\n', &mut divided)?;
-            let line = divided.strip_suffix(b"\n").map_or(divided.as_slice(), without_return);
-            reply(&mut tenants, line, &mut out);
-        }
+    while let Some(line) = lines.next()? {
+        addressees.reply(line, &mut out);
         if out.len() >= ROOM {
             output.write_all(&out)?;
             out.clear();
         }
     }
     output.write_all(&out)?;
-    output.flush()
+    output.flush()?;
+    // The memory is left to the end of the process.
+    std::mem::forget(addressees);
+    Ok(())
 }

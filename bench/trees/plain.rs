@@ -11,6 +11,9 @@ use std::hint::black_box;
 use std::io::{stdin, BufRead};
 use std::time::Instant;
 
+/// The values in trees.
+type Number = u64;
+
 impl Stamp {
     fn write(&self) -> Vec<u8> {
         let mut text = Vec::new();
@@ -33,7 +36,7 @@ fn tell<T>(count: u64, run: impl Fn() -> T, text: impl Fn(T) -> Vec<u8>) {
 }
 
 fn text_of_id(id: Id) -> Vec<u8> {
-    Stamp { id, tree: Tree::Leaf(0) }.write()
+    Stamp { id, tree: Tree::leaf(0) }.write()
 }
 
 fn text_of_tree(tree: Tree) -> Vec<u8> {
