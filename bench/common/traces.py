@@ -5,6 +5,7 @@ take.
 They are the same at every run. All requests are accepted or answered.
 """
 import collections
+import itertools
 import random
 import sys
 
@@ -101,6 +102,24 @@ def build(jobs, events):
             locals_left -= 1
             yield f"local {random.choice(list(started))}"
     yield from ["local root"] * locals_left
+
+
+def pipeline(tasks, events):
+    """A line of so many tasks, which all live to the end: the first sends messages, and each other one in turn receives a
+    message of the one before it, and sends one on, unless it is the last. All of them are at work at the same time."""
+    line = ["root", *NAMES[:tasks - 1]]
+
+    def reports():
+        yield from (f"spawn root {name}" for name in line[1:])
+        for turn in itertools.count():
+            for stage in reversed(range(min(turn + 1, tasks))):
+                item = turn - stage
+                if stage > 0:
+                    yield f"recv {line[stage]} item_{item}_{stage}"
+                if stage < tasks - 1:
+                    yield f"send {line[stage]} item_{item}_{stage + 1}"
+
+    return itertools.islice(reports(), events)
 
 
 def grown(parents, joins):
@@ -244,3 +263,8 @@ if __name__ == "__main__":
         write(f"{keyword}s", GREATEST, addressed("x", with_asked(built, keyword, asked)))
         write(f"{keyword}s_of_broadcast", GREATEST, addressed("x", with_asked(broadcast, keyword, asked)))
     write("receivers", GREATEST, addressed("x", to_all(), of_each_receipt()))
+    write("local", "x", addressed("x", ["local root"] * EVENTS, orders(EVENTS, 100_000)))
+    passed_on = pipeline(8, MOST_EVENTS)
+    write("pipeline", f"--messages {MOST_EVENTS} {GREATEST}", addressed("x", passed_on, orders(MOST_EVENTS, 4_000)))
+    by_two = list(zip((name for name in ["root", *NAMES] for _ in range(2)), NAMES))
+    write("forkjoin", GREATEST, addressed("x", grown([parent for parent, _ in by_two], reversed(by_two)), after))
