@@ -86,14 +86,18 @@ fn accept<R: Wait>(
 }
 
 impl Work {
-    /// Answers a query by what is published, and looks orders up in the cache.
+    /// Answers a query by what is published, and looks orders up in the cache. The ledger answers `message`, since it keeps
+    /// the receipts of each message, and the published rows would be searched for them.
     fn ask(&self, request: &Request) -> Reply
         requires { is_report request.now ≡ false }
         ensures steps { Steps self.now.tenant request.now result self.now.tenant }
         ensures legal { AreLegal self.now.tenant.limits self.now.tenant.rows }
         ensures published { self.now.published ≡ self.now.tenant.rows }
     {
-        answer_by_cache(self.publisher.events(), &self.shared, request)
+        match *request {
+            Request::Message(_) => self.ledger.answer(request),
+            _ => answer_by_cache(self.publisher.events(), &self.shared, request),
+        }
     }
 
     /// Takes a report. An accepted one is published before it is committed. The report can be written, so its row is legal.
