@@ -13,3 +13,4 @@ pub mod Writing
 pub mod HandingOn
 pub mod TextsInTurn
 pub mod Answer
+pub mod StreamFaults

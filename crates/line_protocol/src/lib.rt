@@ -44,6 +44,7 @@ mod request;
 mod sink;
 mod source;
 mod stop;
+mod stream_fault;
 mod write_fault;
 
 pub use buffer::Buffer;
@@ -59,4 +60,5 @@ pub use request::{read_addressed, read_request};
 pub use sink::Sink;
 pub use source::Source;
 pub use stop::Stop;
+pub use stream_fault::StreamFault;
 pub use write_fault::WriteFault;
