@@ -1,5 +1,5 @@
 -- Lines that were found right, one more, and the verdict.
-use Rattle.std.proofs.Common.{◌≡◌, ℕ, suc, ◌+◌, ◌^◌, Bool, IsTrue, true, false, inl, inr, Option, Some, None, List, [], ◌∷◌, ◌++◌, length, refl, sym, ap, subst, ◌∙◌, arith, length-append, append_assoc}
+use Rattle.std.proofs.Common.{◌≡◌, ℕ, suc, ◌+◌, ◌^◌, Bool, IsTrue, true, false, ◌⊎◌, inl, inr, Option, Some, None, List, [], ◌∷◌, ◌++◌, length, refl, sym, ap, subst, ◌∙◌, arith, length-append, append_assoc}
 use Rattle.std.proofs.lemmas.Bool.{ltb-true, ltb-false}
 use Rattle.std.proofs.lemmas.List.{append-nil}
 use Rattle.trace_types.specs.text.Name.{Text}
@@ -20,7 +20,7 @@ use Rattle.trace_export.specs.declared.verdict.Verdict.TheVariants.{Yes, No}
 use Rattle.trace_export.specs.Edges.{Placing}
 use Rattle.trace_export.specs.Graph.{IsKeptGraph}
 use Rattle.trace_export.specs.Heading.{AreParts, IsHeader, IsNoHeader, lines_ahead}
-use Rattle.trace_export.specs.Checked.{Judges, IsTextFound, IsJudged, IsJudgedAs, StopsReading}
+use Rattle.trace_export.specs.Checked.{Judges, HoldsOfFound, IsTextFound, IsJudged, IsJudgedAs, StopsReading}
 use Rattle.trace_export.specs.ReadTo.{StopsAtLine, WasReadTo, WasReadToEnd}
 use Rattle.trace_export.specs.Verdict.{AreRightAfter, IsRightNext, IsFaulty}
 
@@ -169,11 +169,22 @@ judges_no before after given held held' header placing line reason number found 
     }
 
 -- a line was found, with this text
-pub text_found : {given given' : List ℕ} (old new : Held) (found : Line) → (new.bounds ≡ export_bounds) → Finds given given' old new found → (found ≡ End → ⊥)
+text_found : {given given' : List ℕ} (old new : Held) (found : Line) → (new.bounds ≡ export_bounds) → Finds given given' old new found → (found ≡ End → ⊥)
     → (text : Text) × GivesLine given given' old.left new.left new.is_ended text × IsTextFound found new.line text
 text_found old new Whole bounds finds some = (new.line, finds.0, (refl, omega (arith, ltb-false 65536 (length new.line) (subst (λ (b : ReadingBounds). is_longer_than b.bytes new.line ≡ false) bounds finds.1))))
 text_found old new TooLong bounds finds some = (finds.0, finds.1, ltb-true 65536 (length finds.0) (subst (λ (b : ReadingBounds). is_longer_than b.bytes finds.0 ≡ true) bounds finds.2))
 text_found old new End bounds finds some = absurd (some refl)
+
+-- what holds at the end, or of the line that was found
+pub end_or_line : {given given' : List ℕ} {at_end : Type 0} {of_text : Text → Type 0} (old new : Held) (found : Line) → new.bounds ≡ export_bounds → Finds given given' old new found
+    → HoldsOfFound found new.line at_end of_text → (Finds given given' old new End × at_end) ⊎ ((text : Text) × GivesLine given given' old.left new.left new.is_ended text × of_text text)
+end_or_line old new End bounds finds holds = inl (finds, holds)
+end_or_line old new Whole bounds finds holds =
+    let text = text_found old new Whole bounds finds (λ same. absurd (cc)) in
+    inr (text.0, text.1, holds text.0 text.2)
+end_or_line old new TooLong bounds finds holds =
+    let text = text_found old new TooLong bounds finds (λ same. absurd (cc)) in
+    inr (text.0, text.1, holds text.0 text.2)
 
 -- What was found next: since `before` the lines were right, and of the source and what is held it is known how they went on.
 pub record FindsOn (before middle after : Given) (held held' : Held) (collected : Collected) (found : Line) : Type 0 where
@@ -192,16 +203,13 @@ judges_as {before} {middle} {after} {held} {held'} {old} new (No number reason) 
 -- the verdict with which a check ends
 pub judges_over : (before middle after : Given) (held held' : Held) (old new : Collected) (found : Line) (verdict : Verdict) → FindsOn before middle after held held' old found
     → IsJudged found held'.line (Some verdict) old new → Judges before after verdict
-judges_over before middle after held held' old new End verdict on judged =
-    let same : verdict ≡ Yes (length old.graph.placed.items) = cc judged in
-    subst (Judges before after) (sym same)
-    (judges_yes before after held old.header old.graph.placed.items (subst (λ bytes. FoundRight before.bytes bytes held old.header old.graph.placed.items) (sym on.finds.0) on.right) on.finds.1 (on.told on.finds.3))
-judges_over before middle after held held' old new Whole verdict on judged =
-    let text = text_found held held' Whole on.bounds on.finds (λ same. absurd (cc)) in
-    judges_as new verdict text.0 on text.1 (judged text.0 text.2)
-judges_over before middle after held held' old new TooLong verdict on judged =
-    let text = text_found held held' TooLong on.bounds on.finds (λ same. absurd (cc)) in
-    judges_as new verdict text.0 on text.1 (judged text.0 text.2)
+judges_over before middle after held held' old new found verdict on judged = elim (end_or_line held held' found on.bounds on.finds judged) [
+  | inl over ↦
+      let same : verdict ≡ Yes (length old.graph.placed.items) = cc over.1 in
+      subst (Judges before after) (sym same)
+      (judges_yes before after held old.header old.graph.placed.items (subst (λ bytes. FoundRight before.bytes bytes held old.header old.graph.placed.items) (sym over.0.0) on.right) over.0.1 (on.told over.0.3))
+  | inr line ↦ judges_as new verdict line.0 on line.1 line.2
+]
 
 right_on : {before middle after : Given} {held held' : Held} {old : Collected} {found : Line} (new : Collected) (text : Text) → FindsOn before middle after held held' old found
     → GivesLine middle.bytes after.bytes held.left held'.left held'.is_ended text → IsJudgedAs None old new text
@@ -221,13 +229,10 @@ right_on {before} {after = after} {held' = held'} {old} new text on gives (inr k
 -- the check goes on
 pub judged_right : (before middle after : Given) (held held' : Held) (old new : Collected) (found : Line) → FindsOn before middle after held held' old found
     → IsJudged found held'.line None old new → FoundRight before.bytes after.bytes held' new.header new.graph.placed.items × IsKeptGraph new.graph
-judged_right before middle after held held' old new End on judged = absurd (cc judged)
-judged_right before middle after held held' old new Whole on judged =
-    let text = text_found held held' Whole on.bounds on.finds (λ same. absurd (cc)) in
-    right_on new text.0 on text.1 (judged text.0 text.2)
-judged_right before middle after held held' old new TooLong on judged =
-    let text = text_found held held' TooLong on.bounds on.finds (λ same. absurd (cc)) in
-    right_on new text.0 on text.1 (judged text.0 text.2)
+judged_right before middle after held held' old new found on judged = elim (end_or_line held held' found on.bounds on.finds judged) [
+  | inl over ↦ absurd (cc over.1)
+  | inr line ↦ right_on new line.0 on line.1 line.2
+]
 
 -- how many lines were found that are kept as these
 abbrev pub line_count : Option Header → Placing → ℕ
@@ -246,13 +251,10 @@ counts_as old new text (inr kept) =
 -- a line that is right is one more
 pub counts_more : (before middle after : Given) (held held' : Held) (old new : Collected) (found : Line) → FindsOn before middle after held held' old found
     → IsJudged found held'.line None old new → line_count new.header new.graph.placed.items ≡ suc (line_count old.header old.graph.placed.items)
-counts_more before middle after held held' old new End on judged = absurd (cc judged)
-counts_more before middle after held held' old new Whole on judged =
-    let text = text_found held held' Whole on.bounds on.finds (λ same. absurd (cc)) in
-    counts_as old new text.0 (judged text.0 text.2)
-counts_more before middle after held held' old new TooLong on judged =
-    let text = text_found held held' TooLong on.bounds on.finds (λ same. absurd (cc)) in
-    counts_as old new text.0 (judged text.0 text.2)
+counts_more before middle after held held' old new found on judged = elim (end_or_line held held' found on.bounds on.finds judged) [
+  | inl over ↦ absurd (cc over.1)
+  | inr line ↦ counts_as old new line.0 line.2
+]
 
 module _ {R : Type 0} (seen : R → Given) (reader reader' : R) (old : Collected) where
   abbrev pub StopsNext : Type 0
@@ -267,12 +269,9 @@ module _ {R : Type 0} (seen : R → Given) (reader reader' : R) (old : Collected
   -- a check that ends asks for nothing behind the line
   pub stops_over : (before middle after : Given) (held held' : Held) (new : Collected) (found : Line) (verdict : Verdict) → StopsNext → FindsOn before middle after held held' old found
       → IsJudged found held'.line (Some verdict) old new → StopsReading seen reader reader' verdict
-  stops_over before middle after held held' new End verdict stops on judged =
-      let same : verdict ≡ Yes (length old.graph.placed.items) = cc judged in
-      subst (StopsReading seen reader reader') (sym same) tt
-  stops_over before middle after held held' new Whole verdict stops on judged =
-      let text = text_found held held' Whole on.bounds on.finds (λ same. absurd (cc)) in
-      stops_as new verdict text.0 stops (judged text.0 text.2)
-  stops_over before middle after held held' new TooLong verdict stops on judged =
-      let text = text_found held held' TooLong on.bounds on.finds (λ same. absurd (cc)) in
-      stops_as new verdict text.0 stops (judged text.0 text.2)
+  stops_over before middle after held held' new found verdict stops on judged = elim (end_or_line held held' found on.bounds on.finds judged) [
+    | inl over ↦
+        let same : verdict ≡ Yes (length old.graph.placed.items) = cc over.1 in
+        subst (StopsReading seen reader reader') (sym same) tt
+    | inr line ↦ stops_as new verdict line.0 stops line.2
+  ]

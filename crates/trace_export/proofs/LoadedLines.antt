@@ -10,7 +10,6 @@ use Rattle.line_protocol.specs.Held.{Held}
 use Rattle.line_protocol.specs.LineReading.{HasRead, GivesLine, Finds}
 use Rattle.line_protocol.specs.Source.{Given}
 use Rattle.line_protocol.specs.declared.line.Line.{Line}
-use Rattle.line_protocol.specs.declared.line.Line.TheVariants.{Whole, TooLong, End}
 use Rattle.line_protocol.proofs.LineReadingLemmas.{HasRead-start, HasRead-line, HasRead-end}
 use Rattle.trace_export.specs.Heading.{AreParts, IsHeader, IsNoHeader, lines_ahead}
 use Rattle.trace_export.specs.Loading.{AreLoadedAfter, IsFaultyAfter, IsLoadedNext, limits_under, tenant_with}
@@ -22,7 +21,7 @@ use Rattle.trace_export.specs.declared.loaded.Loaded.{Loaded}
 use Rattle.trace_export.specs.declared.loaded.Loaded.TheVariants.{Done, No}
 use Rattle.trace_export.specs.declared.reason.Reason.{Reason}
 use Rattle.trace_export.specs.declared.rebuilt.Rebuilt.{Rebuilt}
-use Rattle.trace_export.proofs.Judging.{export_bounds, no_texts, parts_count, parts_more, text_found, was_read_to}
+use Rattle.trace_export.proofs.Judging.{end_or_line, export_bounds, no_texts, parts_count, parts_more, was_read_to}
 use Rattle.trace_export.proofs.Rerunning.{loaded_count}
 
 -- Since the reader had given `start`, these lines were found, each of them loaded, and they lead to this tenant.
@@ -163,17 +162,14 @@ answered_as {before} {middle} {after} {held} {held'} {old} new (No number reason
 -- what is answered in the end
 pub answered_over : (before middle after : Given) (held held' : Held) (old new : Rebuilt) (found : Line) (loaded : Loaded) → LoadsOn before middle after held held' old found
     → IsTaken found held'.line (Some loaded) old new → LoadsAs before after loaded new.ledger.rows
-answered_over before middle after held held' old new End loaded on taken =
-    let same : loaded ≡ Done (length old.ledger.rows) = cc taken.0 in
-    subst (λ (tenant : Tenant). LoadsAs before after loaded tenant.rows) (sym taken.1)
-    (subst (λ (found : Loaded). LoadsAs before after found old.ledger.rows) (sym same)
-    (loads_done before after held old.header old.ledger (subst (λ bytes. FoundLoaded before.bytes bytes held old.header old.ledger) (sym on.finds.0) on.so_far) on.finds.1 (on.told on.finds.3)))
-answered_over before middle after held held' old new Whole loaded on taken =
-    let text = text_found held held' Whole on.bounds on.finds (λ same. absurd (cc)) in
-    answered_as new loaded text.0 on text.1 (taken text.0 text.2)
-answered_over before middle after held held' old new TooLong loaded on taken =
-    let text = text_found held held' TooLong on.bounds on.finds (λ same. absurd (cc)) in
-    answered_as new loaded text.0 on text.1 (taken text.0 text.2)
+answered_over before middle after held held' old new found loaded on taken = elim (end_or_line held held' found on.bounds on.finds taken) [
+  | inl over ↦
+      let same : loaded ≡ Done (length old.ledger.rows) = cc over.1.0 in
+      subst (λ (tenant : Tenant). LoadsAs before after loaded tenant.rows) (sym over.1.1)
+      (subst (λ (found : Loaded). LoadsAs before after found old.ledger.rows) (sym same)
+      (loads_done before after held old.header old.ledger (subst (λ bytes. FoundLoaded before.bytes bytes held old.header old.ledger) (sym over.0.0) on.so_far) over.0.1 (on.told over.0.3)))
+  | inr line ↦ answered_as new loaded line.0 on line.1 line.2
+]
 
 loaded_on : {before middle after : Given} {held held' : Held} {old : Rebuilt} {found : Line} (new : Rebuilt) (text : Text) → LoadsOn before middle after held held' old found
     → GivesLine middle.bytes after.bytes held.left held'.left held'.is_ended text → IsTakenAs None old new text
@@ -190,13 +186,10 @@ loaded_on {before} {after = after} {held' = held'} {old} new text on gives (inr 
 -- loading goes on
 pub loaded_so_far : (before middle after : Given) (held held' : Held) (old new : Rebuilt) (found : Line) → LoadsOn before middle after held held' old found
     → IsTaken found held'.line None old new → FoundLoaded before.bytes after.bytes held' new.header new.ledger
-loaded_so_far before middle after held held' old new End on taken = absurd (cc taken.0)
-loaded_so_far before middle after held held' old new Whole on taken =
-    let text = text_found held held' Whole on.bounds on.finds (λ same. absurd (cc)) in
-    loaded_on new text.0 on text.1 (taken text.0 text.2)
-loaded_so_far before middle after held held' old new TooLong on taken =
-    let text = text_found held held' TooLong on.bounds on.finds (λ same. absurd (cc)) in
-    loaded_on new text.0 on text.1 (taken text.0 text.2)
+loaded_so_far before middle after held held' old new found on taken = elim (end_or_line held held' found on.bounds on.finds taken) [
+  | inl over ↦ absurd (cc over.1.0)
+  | inr line ↦ loaded_on new line.0 on line.1 line.2
+]
 
 -- it begins with no line
 pub begins_loading : (start : List ℕ) (held : Held) (rebuilt : Rebuilt) → held.left ≡ [] → IsUnbegun rebuilt → FoundLoaded start start held rebuilt.header rebuilt.ledger
@@ -220,13 +213,10 @@ counts_as old new text (inr goes) =
 -- a line that is loaded is one more
 pub counts_more : (before middle after : Given) (held held' : Held) (old new : Rebuilt) (found : Line) → LoadsOn before middle after held held' old found
     → IsTaken found held'.line None old new → lines_loaded new.header new.ledger ≡ suc (lines_loaded old.header old.ledger)
-counts_more before middle after held held' old new End on taken = absurd (cc taken.0)
-counts_more before middle after held held' old new Whole on taken =
-    let text = text_found held held' Whole on.bounds on.finds (λ same. absurd (cc)) in
-    counts_as old new text.0 (taken text.0 text.2)
-counts_more before middle after held held' old new TooLong on taken =
-    let text = text_found held held' TooLong on.bounds on.finds (λ same. absurd (cc)) in
-    counts_as old new text.0 (taken text.0 text.2)
+counts_more before middle after held held' old new found on taken = elim (end_or_line held held' found on.bounds on.finds taken) [
+  | inl over ↦ absurd (cc over.1.0)
+  | inr line ↦ counts_as old new line.0 line.2
+]
 
 module _ {R : Type 0} (seen : R → Given) (reader reader' : R) (old : Rebuilt) where
   abbrev pub StopsNext : Type 0
@@ -241,12 +231,9 @@ module _ {R : Type 0} (seen : R → Given) (reader reader' : R) (old : Rebuilt) 
   -- loading that ends asks for nothing behind the line
   pub stops_over : (before middle after : Given) (held held' : Held) (new : Rebuilt) (found : Line) (loaded : Loaded) → StopsNext → LoadsOn before middle after held held' old found
       → IsTaken found held'.line (Some loaded) old new → StopsLoading seen reader reader' loaded
-  stops_over before middle after held held' new End loaded stops on taken =
-      let same : loaded ≡ Done (length old.ledger.rows) = cc taken.0 in
-      subst (StopsLoading seen reader reader') (sym same) tt
-  stops_over before middle after held held' new Whole loaded stops on taken =
-      let text = text_found held held' Whole on.bounds on.finds (λ same. absurd (cc)) in
-      stops_as new loaded text.0 stops (taken text.0 text.2)
-  stops_over before middle after held held' new TooLong loaded stops on taken =
-      let text = text_found held held' TooLong on.bounds on.finds (λ same. absurd (cc)) in
-      stops_as new loaded text.0 stops (taken text.0 text.2)
+  stops_over before middle after held held' new found loaded stops on taken = elim (end_or_line held held' found on.bounds on.finds taken) [
+    | inl over ↦
+        let same : loaded ≡ Done (length old.ledger.rows) = cc over.1.0 in
+        subst (StopsLoading seen reader reader') (sym same) tt
+    | inr line ↦ stops_as new loaded line.0 stops line.2
+  ]

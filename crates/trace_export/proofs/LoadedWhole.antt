@@ -6,13 +6,13 @@ use Rattle.trace_types.specs.text.Name.{Text}
 use Rattle.trace_types.specs.declared.row.Row.{Row}
 use Rattle.line_protocol.specs.Sink.{Taken}
 use Rattle.line_protocol.specs.Source.{Given}
-use Rattle.trace_export.specs.Export.{BreaksLines, WritesLines}
+use Rattle.line_protocol.specs.declared.stream_fault.StreamFault.{StreamFault}
+use Rattle.line_protocol.specs.declared.stream_fault.StreamFault.TheVariants.{Write, Memory}
+use Rattle.trace_export.specs.Export.{BreaksLines, WritesLines, stream_fault_of_export}
 use Rattle.trace_export.specs.Loading.{IsLoaded, limits_under, request_lines}
-use Rattle.trace_export.specs.Loads.{BreaksLoading, IsExportOfRun, Loads, LoadsAs, load_fault_of_export}
+use Rattle.trace_export.specs.Loads.{BreaksLoading, IsExportOfRun, Loads, LoadsAs}
 use Rattle.trace_export.specs.declared.export_fault.ExportFault.{ExportFault}
-use Rattle.trace_export.specs.declared.load_fault.LoadFault.{LoadFault}
 use Rattle.trace_export.specs.declared.export_fault.ExportFault.TheVariants as export
-use Rattle.trace_export.specs.declared.load_fault.LoadFault.TheVariants.{Write, Memory}
 use Rattle.trace_export.specs.declared.loaded.Loaded.{Loaded}
 use Rattle.trace_export.specs.declared.loaded.Loaded.TheVariants.{Done, No}
 use Rattle.trace_export.specs.declared.reason.Reason.{Reason}
@@ -44,18 +44,18 @@ pub loads_not : (before after : Given) (taken : Taken) (tenant : Text) (number :
 loads_not before after taken tenant number reason rows loads = record { rows = rows; loads = loads; is_export = tt; writes = refl }
 
 -- nothing was written
-pub breaks_before : (fault : LoadFault) (before after : Given) (taken : Taken) (tenant : Text) → fault ≢ Write → BreaksLoading fault before after taken taken tenant
+pub breaks_before : (fault : StreamFault) (before after : Given) (taken : Taken) (tenant : Text) → fault ≢ Write → BreaksLoading fault before after taken taken tenant
 breaks_before fault before after taken tenant no_write = inl (refl, no_write)
 
 -- the requests were written in part
 pub breaks_amid : (cause : ExportFault) (before after : Given) (taken taken' : Taken) (tenant : Text) (count : ℕ) (rows : List Row) → LoadsAs before after (Done count) rows → BreaksLines cause taken taken' (request_lines tenant rows)
-    → BreaksLoading (load_fault_of_export cause) before after taken taken' tenant
+    → BreaksLoading (stream_fault_of_export cause) before after taken taken' tenant
 breaks_amid cause before after taken taken' tenant count rows loads breaks =
     inr (record { cause = cause; told = refl; count = count; rows = rows; loads = loads; is_export = is_export loads; breaks = breaks })
 
 -- a write fault that is told is one
-pub write_fault_is : (result : Result Loaded LoadFault) (cause : ExportFault) → IsErrAnd result (λ fault. fault ≡ load_fault_of_export cause) → result ≡ Err Write → cause ≡ export.Write
+pub write_fault_is : (result : Result Loaded StreamFault) (cause : ExportFault) → IsErrAnd result (λ fault. fault ≡ stream_fault_of_export cause) → result ≡ Err Write → cause ≡ export.Write
 write_fault_is result export.Write is told = refl
 write_fault_is result export.Memory is told =
-    let no : Write ≡ Memory = subst (λ (found : Result Loaded LoadFault). IsErrAnd found (λ fault. fault ≡ Memory)) told is in
+    let no : Write ≡ Memory = subst (λ (found : Result Loaded StreamFault). IsErrAnd found (λ fault. fault ≡ Memory)) told is in
     absurd (cc)

@@ -47,6 +47,11 @@ IsTextFound Whole line text = (text ≡ line) × (length line ≤ 65536)
 IsTextFound TooLongLine line text = 65536 < length text
 IsTextFound End line text = ⊥
 
+-- At the end the one fact holds. Else the other holds of the text that was found.
+abbrev pub HoldsOfFound : Line → Text → (at_end : Type 0) → (of_text : Text → Type 0) → Type 0
+HoldsOfFound End line at_end of_text = at_end
+HoldsOfFound found line at_end of_text = (text : Text) → IsTextFound found line text → of_text text
+
 -- The first line, which has this text, is this header, and there are no events.
 pub record IsHeaded (old new : Collected) (text : Text) : Type 0 where
   pub header : Header
@@ -57,7 +62,7 @@ pub record IsHeaded (old new : Collected) (text : Text) : Type 0 where
   pub kept : IsKeptGraph new.graph
 
 -- A line with this text is right, and its event is kept. It is no header if it is the first one.
-pub record IsKept (old new : Collected) (text : Text) : Type 0 where
+pub record IsEventKept (old new : Collected) (text : Text) : Type 0 where
   pub placed : Placed
   pub no_header : old.header ≡ None → old.graph.placed.items ≡ [] → IsNoHeader text
   pub same : new.header ≡ old.header
@@ -72,12 +77,12 @@ pub record IsRefused (reason : Reason) (old : Collected) (text : Text) : Type 0 
 
 -- The line is a header or that of an event, and is kept; or it is faulty, and the verdict says so.
 abbrev pub IsJudgedAs : Option Verdict → Collected → Collected → Text → Type 0
-IsJudgedAs None old new text = IsHeaded old new text ⊎ IsKept old new text
+IsJudgedAs None old new text = IsHeaded old new text ⊎ IsEventKept old new text
 IsJudgedAs (Some (Yes count)) old new text = ⊥
 IsJudgedAs (Some (No number reason)) old new text =
     (number ≡ lines_ahead old.header + suc (length old.graph.placed.items)) × IsRefused reason old text
 
 -- What is answered if this was found. At the end it is that all lines were right.
 abbrev pub IsJudged : Line → Text → Option Verdict → Collected → Collected → Type 0
-IsJudged End line verdict old new = verdict ≡ Some (Yes (length old.graph.placed.items))
-IsJudged found line verdict old new = (text : Text) → IsTextFound found line text → IsJudgedAs verdict old new text
+IsJudged found line verdict old new =
+    HoldsOfFound found line (verdict ≡ Some (Yes (length old.graph.placed.items))) (IsJudgedAs verdict old new)

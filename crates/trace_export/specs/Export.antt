@@ -7,6 +7,8 @@ use Rattle.trace_types.specs.declared.row.Row.{Row}
 use Rattle.line_protocol.specs.Patience.{flush_calls}
 use Rattle.line_protocol.specs.Sink.{Taken}
 use Rattle.line_protocol.specs.TextsInTurn.{WritesTexts, BeginsFirst, BreaksOffAt}
+use Rattle.line_protocol.specs.declared.stream_fault.StreamFault.{StreamFault}
+use Rattle.line_protocol.specs.declared.stream_fault.StreamFault.TheVariants as stream
 use Rattle.trace_export.specs.Heading.{header_line}
 use Rattle.trace_export.specs.Listing.{Listed, IsReadAgain, listed_line}
 use Rattle.trace_export.specs.declared.export_fault.ExportFault.{ExportFault}
@@ -71,3 +73,8 @@ pub record BreaksLines (fault : ExportFault) (before after : Taken) (lines : Lis
   pub write : fault ≡ Write → BreaksOffAt (length (concat whole)) left patient.more
   pub memory : fault ≡ Memory → (begun ≡ []) × (after.failures ≡ before.failures)
   pub began : Keeps before.began after.began
+
+-- the fault of work that reads and writes that one of writing an export is
+abbrev pub stream_fault_of_export : ExportFault → StreamFault
+stream_fault_of_export Write = stream.Write
+stream_fault_of_export Memory = stream.Memory

@@ -1,10 +1,11 @@
 -- What is kept of right lines, to compare the next one with.
-use Rattle.std.specs.Prelude.{◌≡◌, ℕ, suc, ◌+◌, ◌-◌, ◌*◌, ◌<◌, ◌≤◌, ◌↔◌, ◌⊎◌, List, [], length, map, All, Contains}
+use Rattle.std.specs.Prelude.{◌≡◌, ℕ, suc, ◌+◌, ◌-◌, ◌*◌, ◌<◌, ◌≤◌, ◌↔◌, ◌⊎◌, List, [], ◌∷◌, ◌++◌, length, map, All, Contains}
 use Rattle.std.specs.List.{slice_index_or}
 use Rattle.trace_types.specs.clock.EventTree.{EventTree}
 use Rattle.event_tree.specs.Comparison.{IsBelow}
 use Rattle.trace_export.specs.Bits.{HasBit}
 use Rattle.trace_export.specs.Edges.{Placing, IsPlaced, IsConnected, AreOrderedAlike, listed_preds, listed_tree}
+use Rattle.trace_export.specs.Verdict.{IsOrderedNext}
 use Rattle.trace_export.specs.declared.graph.Graph.{Graph}
 use Rattle.trace_export.specs.declared.placed.Placed.{Placed}
 
@@ -53,6 +54,14 @@ abbrev pub IsKeptGraph : Graph → Type 0
 IsKeptGraph graph =
     IsGraph graph.placed.items (rows_of graph) graph.followed.items × (16384 < 64 * length graph.followed.items)
     × (length graph.sides.items ≡ length graph.placed.items)
+
+-- The event may come next after what is kept, and these are the bits of the events that reach it.
+pub record IsNextWith (graph : Graph) (placed : Placed) (bits : List ℕ) : Type 0 where
+  pub preds : AreEarlier placed.preds (suc (length graph.placed.items))
+  pub few : length graph.placed.items < 16384
+  pub ordered : IsOrderedNext graph.placed.items placed
+  pub reaching : AreReaching (graph.placed.items ++ placed ∷ []) bits (suc (length graph.placed.items))
+  pub short : 64 * length bits ≤ suc (length graph.placed.items) + 63
 
 -- the place is that of an event that some of these follow, or of one that reaches it
 abbrev pub IsReachedBy : List (List ℕ) → List ℕ → ℕ → Type 0

@@ -11,9 +11,9 @@ use Rattle.trace_types.specs.declared.reply.Reply.TheVariants.{Accepted}
 use Rattle.trace_types.specs.declared.row.Row.{Row}
 use Rattle.line_protocol.specs.Sink.{Taken}
 use Rattle.line_protocol.specs.Source.{Given}
-use Rattle.line_protocol.specs.declared.read_fault.ReadFault.{ReadFault}
-use Rattle.line_protocol.specs.declared.read_fault.ReadFault.TheVariants as read_fault
-use Rattle.trace_export.specs.Export.{BreaksLines, WritesLines, listed_row}
+use Rattle.line_protocol.specs.declared.stream_fault.StreamFault.{StreamFault}
+use Rattle.line_protocol.specs.declared.stream_fault.StreamFault.TheVariants.{Write}
+use Rattle.trace_export.specs.Export.{BreaksLines, WritesLines, listed_row, stream_fault_of_export}
 use Rattle.trace_export.specs.Heading.{AreParts}
 use Rattle.trace_export.specs.Laws.{event_line}
 use Rattle.trace_export.specs.Listing.{ListsAs}
@@ -21,22 +21,10 @@ use Rattle.trace_export.specs.Loading.{IsLoaded, limits_under, request_lines, ro
 use Rattle.trace_export.specs.ReadTo.{StopsAtLine, WasReadTo, WasReadToEnd}
 use Rattle.trace_export.specs.Verdict.{IsVerdict}
 use Rattle.trace_export.specs.declared.export_fault.ExportFault.{ExportFault}
-use Rattle.trace_export.specs.declared.export_fault.ExportFault.TheVariants as export
 use Rattle.trace_export.specs.declared.header.Header.{Header}
-use Rattle.trace_export.specs.declared.load_fault.LoadFault.{LoadFault}
-use Rattle.trace_export.specs.declared.load_fault.LoadFault.TheVariants.{Read, Write, TooLong, Memory}
 use Rattle.trace_export.specs.declared.loaded.Loaded.{Loaded}
 use Rattle.trace_export.specs.declared.loaded.Loaded.TheVariants.{Done, No}
 use Rattle.trace_export.specs.declared.verdict.Verdict.TheVariants.{Yes}
-
--- how a fault of reading is told, and one of writing
-abbrev pub load_fault_of : ReadFault → LoadFault
-load_fault_of read_fault.Read = Read
-load_fault_of read_fault.TooLong = TooLong
-
-abbrev pub load_fault_of_export : ExportFault → LoadFault
-load_fault_of_export export.Write = Write
-load_fault_of_export export.Memory = Memory
 
 -- The requests of these rows, run from nothing under the limits, are all accepted, and leave them.
 pub record RunsAnew (limits : Limits) (rows : List Row) : Type 0 where
@@ -95,9 +83,9 @@ pub record Loads (before after : Given) (taken taken' : Taken) (tenant : Text) (
 
 -- All that the reader had was loaded. Some whole lines of the requests to this tenant were written, and a prefix of the
 -- next one. Then this fault came.
-pub record LoadsInPart (fault : LoadFault) (before after : Given) (taken taken' : Taken) (tenant : Text) : Type 0 where
+pub record LoadsInPart (fault : StreamFault) (before after : Given) (taken taken' : Taken) (tenant : Text) : Type 0 where
   pub cause : ExportFault
-  pub told : fault ≡ load_fault_of_export cause
+  pub told : fault ≡ stream_fault_of_export cause
   pub count : ℕ
   pub rows : List Row
   pub loads : LoadsAs before after (Done count) rows
@@ -105,6 +93,6 @@ pub record LoadsInPart (fault : LoadFault) (before after : Given) (taken taken' 
   pub breaks : BreaksLines cause taken taken' (request_lines tenant rows)
 
 -- The fault came while the lines were read, and nothing was written; or while the requests were.
-abbrev pub BreaksLoading : LoadFault → (before after : Given) (taken taken' : Taken) → Text → Type 0
+abbrev pub BreaksLoading : StreamFault → (before after : Given) (taken taken' : Taken) → Text → Type 0
 BreaksLoading fault before after taken taken' tenant =
     ((taken' ≡ taken) × (fault ≢ Write)) ⊎ LoadsInPart fault before after taken taken' tenant

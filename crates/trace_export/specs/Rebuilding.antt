@@ -4,8 +4,7 @@ use Rattle.trace_types.specs.tenant.Tenant.{fresh}
 use Rattle.trace_types.specs.text.Name.{Text}
 use Rattle.trace_types.specs.declared.row.Row.{Row}
 use Rattle.line_protocol.specs.declared.line.Line.{Line}
-use Rattle.line_protocol.specs.declared.line.Line.TheVariants.{End}
-use Rattle.trace_export.specs.Checked.{IsTextFound}
+use Rattle.trace_export.specs.Checked.{HoldsOfFound}
 use Rattle.trace_export.specs.Heading.{IsHeader, IsNoHeader, lines_ahead}
 use Rattle.trace_export.specs.Listing.{Listed}
 use Rattle.trace_export.specs.Loading.{IsDueNext, IsFaultyAfter, IsLoadedNext, limits_under, tenant_with}
@@ -49,7 +48,7 @@ pub record IsBegun (old new : Rebuilt) (text : Text) : Type 0 where
   pub ledger : new.ledger ≡ fresh header.limits
 
 -- The line is no header if it is the first one, and its request was made.
-pub record GoesOn (old new : Rebuilt) (text : Text) : Type 0 where
+pub record IsEventMade (old new : Rebuilt) (text : Text) : Type 0 where
   pub no_header : IsNoFirstLine old text
   pub made : IsLineMade old new text
 
@@ -60,12 +59,12 @@ pub record IsRejected (reason : Reason) (old : Rebuilt) (text : Text) : Type 0 w
 
 -- The line is a header or that of an event, and is loaded; or it is faulty, and the answer says so.
 abbrev pub IsTakenAs : Option Loaded → Rebuilt → Rebuilt → Text → Type 0
-IsTakenAs None old new text = IsBegun old new text ⊎ GoesOn old new text
+IsTakenAs None old new text = IsBegun old new text ⊎ IsEventMade old new text
 IsTakenAs (Some (Done count)) old new text = ⊥
 IsTakenAs (Some (No number reason)) old new text =
     (number ≡ lines_ahead old.header + suc (length old.ledger.rows)) × IsRejected reason old text
 
 -- What is answered if this was found. At the end it is that all is done.
 abbrev pub IsTaken : Line → Text → Option Loaded → Rebuilt → Rebuilt → Type 0
-IsTaken End line loaded old new = (loaded ≡ Some (Done (length old.ledger.rows))) × (new.ledger ≡ old.ledger)
-IsTaken found line loaded old new = (text : Text) → IsTextFound found line text → IsTakenAs loaded old new text
+IsTaken found line loaded old new =
+    HoldsOfFound found line ((loaded ≡ Some (Done (length old.ledger.rows))) × (new.ledger ≡ old.ledger)) (IsTakenAs loaded old new)

@@ -1,6 +1,6 @@
 //! What is kept of the lines of an export.
 ghost use Rattle.std.specs.Prelude.{◌≡◌, ◌+◌, ◌≤◌, ◌⊎◌, [], None, IfOk, IfNone, IfSome, length};
-ghost use Rattle.trace_export.specs.Checked.{IsHeaded, IsKept, IsRefused};
+ghost use Rattle.trace_export.specs.Checked.{IsEventKept, IsHeaded, IsRefused};
 ghost use Rattle.trace_export.specs.Graph.{IsKeptGraph};
 ghost use Rattle.trace_export.specs.Heading.{IsHeader, IsNoHeader, lines_ahead};
 
@@ -48,7 +48,7 @@ impl Collected {
     pub(crate) fn add(&mut self, alloc: Global, line: &[u8]) -> Result<Option<Reason>, Memory>
         requires graph { IsKeptGraph self.old.graph }
         requires short { length line.now ≤ 65536 }
-        ensures right { IfOk result (λ fault. IfNone fault (IsHeaded self.old self.new line.now ⊎ IsKept self.old self.new line.now)) }
+        ensures right { IfOk result (λ fault. IfNone fault (IsHeaded self.old self.new line.now ⊎ IsEventKept self.old self.new line.now)) }
         ensures faulty { IfOk result (λ fault. IfSome fault (λ reason. IsRefused reason self.old line.now)) }
     {
         match self.first_header(alloc, line)? {

@@ -2,8 +2,9 @@
 ghost use Rattle.std.specs.Prelude.{◌≡◌};
 ghost use Rattle.trace_export.specs.declared.export_fault.ExportFault.{ExportFault};
 ghost use Rattle.trace_export.specs.declared.export_fault.ExportFault.TheVariants as variants;
+ghost use Rattle.trace_export.specs.Export.{stream_fault_of_export};
 
-use line_protocol::WriteFault;
+use line_protocol::{StreamFault, WriteFault};
 use std::alloc::{AllocError, AllocFailed};
 use thiserror::Error;
 use trace_types::Memory;
@@ -32,5 +33,16 @@ impl From<Memory> for ExportFault {
 
     fn from(_refused: Memory) -> ExportFault {
         ExportFault::Memory
+    }
+}
+
+impl From<ExportFault> for StreamFault {
+    ghost from_gives = { λ fault stream_fault. stream_fault ≡ stream_fault_of_export fault };
+
+    fn from(fault: ExportFault) -> StreamFault {
+        match fault {
+            ExportFault::Write => StreamFault::Write,
+            ExportFault::Memory => StreamFault::Memory,
+        }
     }
 }

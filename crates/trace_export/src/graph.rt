@@ -3,7 +3,7 @@ ghost use Rattle.std.specs.Prelude.{◌≡◌, ℕ, suc, ◌+◌, ◌*◌, ◌<�
 ghost use Rattle.event_tree.specs.Comparison.{IsBelow};
 ghost use Rattle.trace_export.specs.Bits.{HasBit};
 ghost use Rattle.trace_export.specs.Edges.{IsPlaced, AreOrderedAlike, listed_preds, listed_tree, placed_at};
-ghost use Rattle.trace_export.specs.Graph.{AreKeptLines, IsKeptGraph, AreEarlier, AreReaching, IsReachedBy, IsComparedNext, IsApartFrom, IsRefutedBy, RefutesNext, rows_of, reaching_row};
+ghost use Rattle.trace_export.specs.Graph.{AreKeptLines, IsKeptGraph, AreEarlier, AreReaching, IsReachedBy, IsNextWith, IsApartFrom, IsRefutedBy, rows_of, reaching_row};
 ghost use Rattle.trace_export.specs.Verdict.{IsOrderedNext};
 
 use crate::bits::{add_bit, add_bits, has_bit, no_bits};
@@ -80,11 +80,7 @@ impl Graph {
     /// Adds the event that these reach, for which there is room.
     fn put(&mut self, placed: Placed, reaching: Vec<u64>, sides: Sides)
         requires graph { IsKeptGraph self.old }
-        requires preds { AreEarlier placed.preds (suc (length self.old.placed.items)) }
-        requires few { length self.old.placed.items < 16384 }
-        requires ordered { IsOrderedNext self.old.placed.items placed }
-        requires reaching { AreReaching (self.old.placed.items ++ placed ∷ []) reaching.items (suc (length self.old.placed.items)) }
-        requires short { 64 * length reaching.items ≤ suc (length self.old.placed.items) + 63 }
+        requires next { IsNextWith self.old placed reaching.items }
         requires room { (vec_len self.old.placed < vec_capacity self.old.placed) × (vec_len self.old.reaching < vec_capacity self.old.reaching)
             × (vec_len self.old.sides < vec_capacity self.old.sides) }
         ensures placed { self.new.placed.items ≡ self.old.placed.items ++ placed ∷ [] }
@@ -183,7 +179,7 @@ impl Graph {
     }
 
     /// Whether the event that these reach may come next, so whether its tree and the earlier ones compare as the edges
-    /// say.
+    /// say. They do if its tree is above those of the events that it follows, and apart from the others.
     fn is_ordered(
         &self,
         reaching: &[u64],
@@ -198,24 +194,6 @@ impl Graph {
         ensures ordered { IfOk result (λ is. IsTrue is → IsOrderedNext self.now.placed.items placed.now) }
         ensures refuted { IfOk result (λ is. is ≡ false → ((other : ℕ) × IsPlaced self.now.placed.items other
             × (¬ AreOrderedAlike (self.now.placed.items ++ placed.now ∷ []) other (suc (length self.now.placed.items))))) }
-    {
-        let is = self.is_compared(reaching, placed, own, sides)?;
-        Ok(is)
-    }
-
-    /// Whether the tree is above those of the events that it follows, and apart from the others.
-    fn is_compared(
-        &self,
-        reaching: &[u64],
-        placed: &Placed,
-        own: &mut Sides,
-        sides: &mut [Sides],
-    ) -> Result<bool, AllocError>
-        requires graph { AreKeptLines self.now }
-        requires preds { AreEarlier placed.now.preds (suc (length self.now.placed.items)) }
-        requires sides { length sides.old ≡ length self.now.placed.items }
-        ensures compared { IfOk result (λ is. IsTrue is → IsComparedNext self.now.placed.items self.now.followed.items reaching.now placed.now) }
-        ensures refuted { IfOk result (λ is. is ≡ false → RefutesNext self.now.placed.items reaching.now placed.now) }
     {
         if !self.is_above_all(&placed.preds, &placed.tree) {
             return Ok(false);

@@ -1,7 +1,7 @@
 //! The loading of an export: its requests are made again.
 ghost use Rattle.std.specs.Prelude.{◌≡◌, ◌≢◌, ◌+◌, ◌<◌, ◌≤◌, ◌↔◌, ◌^◌, IfErr, IfOk, IsErrOf, length};
 ghost use Rattle.line_protocol.specs.Source.{StopsAtEnd};
-ghost use Rattle.line_protocol.specs.Writing.{EndsInFault};
+ghost use Rattle.line_protocol.specs.StreamFaults.{PassesNoFaultOver};
 ghost use Rattle.trace_export.specs.Loads.{BreaksLoading, Loads, LoadsAs, StopsLoading};
 ghost use Rattle.trace_export.specs.Rebuilding.{IsTaken, IsUnbegun};
 
@@ -39,10 +39,7 @@ pub fn load<T, R: Source, W: Sink>(
     ensures stops { IfOk result (StopsLoading R.seen reader.old reader.new) }
 
     // When each fault comes. A failed read or write is never passed over.
-    ensures read { IsErrOf result LoadFault.Read ↔ ((R.seen reader.old).failures < (R.seen reader.new).failures) }
-    ensures too_long { IsErrOf result LoadFault.TooLong → (R.seen reader.new).reads ≡ (R.seen reader.old).reads + 2 ^ 30 }
-    ensures write { IsErrOf result LoadFault.Write → EndsInFault (W.seen writer.old) (W.seen writer.new) }
-    ensures write_failed { (W.seen writer.old).failures < (W.seen writer.new).failures → IsErrOf result LoadFault.Write }
+    ensures faults { PassesNoFaultOver (R.seen reader.old) (R.seen reader.new) (W.seen writer.old) (W.seen writer.new) result }
 {
     let mut rebuilt = Rebuilt::new(alloc)?;
     match take_in(rt, alloc, &mut rebuilt, reader)? {

@@ -6,7 +6,7 @@ ghost use Rattle.trace_types.specs.declared.row.Row.{Row};
 ghost use Rattle.trace_export.specs.Heading.{IsHeader, IsNoHeader, lines_ahead};
 ghost use Rattle.trace_export.specs.Listing.{listed_of};
 ghost use Rattle.trace_export.specs.Loading.{IsAsListed, IsFaultyAfter, IsUnfitAfter, MayFollow};
-ghost use Rattle.trace_export.specs.Rebuilding.{GoesOn, IsBegun, IsLineMade, IsMade, IsNoFirstLine, IsRejected, IsUnbegun};
+ghost use Rattle.trace_export.specs.Rebuilding.{IsBegun, IsEventMade, IsLineMade, IsMade, IsNoFirstLine, IsRejected, IsUnbegun};
 
 use crate::add_line::place;
 use crate::event_line::{EventLine, read_listed};
@@ -58,7 +58,7 @@ impl Rebuilt {
         line: &[u8],
     ) -> Result<Option<Reason>, Memory>
         requires short { length line.now ≤ 65536 }
-        ensures right { IfOk result (λ fault. IfNone fault (IsBegun self.old self.new line.now ⊎ GoesOn self.old self.new line.now)) }
+        ensures right { IfOk result (λ fault. IfNone fault (IsBegun self.old self.new line.now ⊎ IsEventMade self.old self.new line.now)) }
         ensures faulty { IfOk result (λ fault. IfSome fault (λ reason. IsRejected reason self.old line.now)) }
     {
         match self.first_header(alloc, line)? {

@@ -1,4 +1,4 @@
-use Rattle.std.proofs.Common.{ap, sym, subst, List, Err}
+use Rattle.std.proofs.Common.{ap, sym, subst, List, Err, rules}
 use Rattle.std.specs.List.{All}
 use Rattle.trace_types.specs.declared.row.Row.{Row}
 use Rattle.trace_export.specs.Export.{BreaksLines, WritesLines}
@@ -26,10 +26,15 @@ returns-in_err-write_requests-in-Done-clause-fault g c =
     IfErr-equal _ _ _ c.from_residual-in_err-write_requests-in-Done.ensures.1
     (breaks_amid cause (g.R.Source.seen c.args.reader.now) (g.R.Source.seen c.take_in.new.reader) (g.W.Sink.seen c.args.writer.now) (g.W.Sink.seen c.write_requests.new.writer) c.args.tenant.now c.in-Done.events rows loads breaks)
 
-pub returns-in_err-write_requests-in-Done-clause-write : goal.returns-in_err-write_requests-in-Done-clause-write
-returns-in_err-write_requests-in-Done-clause-write g c = λ told.
-    c.in_err-write_requests-in-Done.ensures.write
-    (ap Err (write_fault_is c.from_residual-in_err-write_requests-in-Done.result c.in_err-write_requests-in-Done.field-0.0 c.from_residual-in_err-write_requests-in-Done.ensures.1 told))
+pub returns-in_err-write_requests-in-Done-clause-faults : goal.returns-in_err-write_requests-in-Done-clause-faults
+returns-in_err-write_requests-in-Done-clause-faults g c = record {
+  read = search rules;
+  too_long = search rules;
+  write = λ told.
+      c.in_err-write_requests-in-Done.ensures.write
+      (ap Err (write_fault_is c.from_residual-in_err-write_requests-in-Done.result c.in_err-write_requests-in-Done.field-0.0 c.from_residual-in_err-write_requests-in-Done.ensures.1 told));
+  write_failed = search rules;
+}
 
 pub returns-in-Done-clause-loads : goal.returns-in-Done-clause-loads
 returns-in-Done-clause-loads g c =
