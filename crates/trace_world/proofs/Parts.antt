@@ -25,13 +25,13 @@ use Rattle.line_protocol.specs.Writing.{WritesFront, WritesBoth}
 use Rattle.line_protocol.specs.Patience.{SinkCall, FlushesPatiently, GivesUpFlushing}
 use Rattle.line_protocol.specs.declared.read_fault.ReadFault.{ReadFault}
 use Rattle.line_protocol.specs.declared.read_fault.ReadFault.TheVariants as read
-use Rattle.trace_world.specs.Faults.{replay_fault_of}
+use Rattle.line_protocol.specs.StreamFaults.{stream_fault_of}
 use Rattle.trace_world.specs.Texts.{AreTexts, WritesInPart}
 use Rattle.line_protocol.proofs.TextsInTurn.{WroteTexts, WroteTexts-flush, BreaksTexts-text, BreaksTexts-flush}
 use Rattle.line_protocol.proofs.LineReadingLemmas.{HasRead-line, HasRead-end, HasRead-none, has_told_end}
 use Rattle.trace_world.specs.declared.counts.Counts.{Counts}
-use Rattle.trace_world.specs.declared.replay_fault.ReplayFault.{ReplayFault}
-use Rattle.trace_world.specs.declared.replay_fault.ReplayFault.TheVariants.{Read, Write, TooLong, Memory}
+use Rattle.line_protocol.specs.declared.stream_fault.StreamFault.{StreamFault}
+use Rattle.line_protocol.specs.declared.stream_fault.StreamFault.TheVariants.{Read, Write, TooLong, Memory}
 use Rattle.trace_world.specs.Counted.{counted_with}
 use Rattle.trace_world.specs.Replayed.{DoesLine, AreFirstLines, HandsOn, ReplaysInPart, Replays}
 use Rattle.trace_world.proofs.Following.{Follows, no_counts, LeadsTo-none, LeadsTo-line, AreTexts-line, WroteTexts-to, joined_push}
@@ -96,7 +96,7 @@ output-take-le names limits before (line ∷ found) (mark ∷ marks) (suc n) =
 -- all that was found was written
 pub in_part_whole : (before after : Given) (taken taken' : Taken) {given : List ℕ} {calls' : List SinkCall} {old new : World} {held : Held} {counts : Counts} (gave : List ℕ)
     → (follows : Follows before.bytes given taken.bytes taken'.bytes taken.calls calls' old held counts new)
-    → after.bytes ≡ given ++ gave → (IsTrue held.is_ended → (gave ≡ []) × IsTrue after.has_ended) → Keeps before.whole after.whole → (fault : ReplayFault)
+    → after.bytes ≡ given ++ gave → (IsTrue held.is_ended → (gave ≡ []) × IsTrue after.has_ended) → Keeps before.whole after.whole → (fault : StreamFault)
     → (fault ≢ Write → length follows.found ≡ end_count (follows.read.came ++ gave))
     → WritesInPart fault old follows.found follows.marks follows.text taken.calls taken'.calls → Keeps taken.began taken'.began → ReplaysInPart fault before after taken taken' old new
 unfolding AreFirstLines-from
@@ -123,7 +123,7 @@ in_part_whole before after taken taken' {old = old} {counts = counts} gave follo
 }
 
 -- all texts were written
-all_texts : {start given bytes bytes' : List ℕ} {calls calls' : List SinkCall} {old new : World} {held : Held} {counts : Counts} (fault : ReplayFault) → fault ≢ Write
+all_texts : {start given bytes bytes' : List ℕ} {calls calls' : List SinkCall} {old new : World} {held : Held} {counts : Counts} (fault : StreamFault) → fault ≢ Write
     → (follows : Follows start given bytes bytes' calls calls' old held counts new) → WritesInPart fault old follows.found follows.marks follows.text calls calls'
 all_texts {old = old} fault not_write follows = record {
   whole = follows.texts;
@@ -206,7 +206,7 @@ last_texts {old = old} {found = found} {marks = marks} text texts to reply middl
 -- a read failed
 pub in_part_read : (before after : Given) (taken taken' : Taken) {given : List ℕ} {old new : World} {held : Held} {counts : Counts}
     → Follows before.bytes given taken.bytes taken'.bytes taken.calls taken'.calls old held counts new → FindsNone given after.bytes held → Keeps before.whole after.whole
-    → Keeps taken.began taken'.began → (fault : ReplayFault) → fault ≢ Write → ReplaysInPart fault before after taken taken' old new
+    → Keeps taken.began taken'.began → (fault : StreamFault) → fault ≢ Write → ReplaysInPart fault before after taken taken' old new
 in_part_read before after taken taken' follows none kept began fault not_write =
     in_part_whole before after taken taken' none.gave follows none.grows (λ ended. absurd (cc)) kept fault (λ _. HasRead-none follows.read none) (all_texts fault not_write follows) began
 
@@ -317,7 +317,7 @@ replays_all before after taken taken' {old = old} {new = new} {counts = counts} 
 }
 
 -- what was flushed is told so
-pub HandsOn-flushed : {A : Type 0} (result : Result A ReplayFault) (taken : Taken) → IsTrue taken.is_flushed → HandsOn result taken
+pub HandsOn-flushed : {A : Type 0} (result : Result A StreamFault) (taken : Taken) → IsTrue taken.is_flushed → HandsOn result taken
 HandsOn-flushed (Ok counts) taken flushed = flushed
 HandsOn-flushed (Err Read) taken flushed = flushed
 HandsOn-flushed (Err TooLong) taken flushed = flushed
@@ -325,7 +325,7 @@ HandsOn-flushed (Err Write) taken flushed = tt
 HandsOn-flushed (Err Memory) taken flushed = tt
 
 -- what a fault asks for is there where that fault came
-pub HandsOn-fault : {A : Type 0} (result : Result A ReplayFault) (fault : ReplayFault) (taken : Taken) → IsErrAnd result (λ e. e ≡ fault) → HandsOn {A = A} (Err fault) taken → HandsOn result taken
+pub HandsOn-fault : {A : Type 0} (result : Result A StreamFault) (fault : StreamFault) (taken : Taken) → IsErrAnd result (λ e. e ≡ fault) → HandsOn {A = A} (Err fault) taken → HandsOn result taken
 HandsOn-fault (Ok counts) fault taken is holds = absurd is
 HandsOn-fault {A = A} (Err e) fault taken is holds = subst (λ one. HandsOn {A = A} (Err one) taken) (sym is) holds
 
@@ -376,7 +376,7 @@ Follows-flushed same flushes follows = record {
 }
 
 -- no fault of reading is one of writing
-pub is_no_write_fault : (fault : ReadFault) → replay_fault_of fault ≢ Write
+pub is_no_write_fault : (fault : ReadFault) → stream_fault_of fault ≢ Write
 is_no_write_fault read.Read is = absurd (cc)
 is_no_write_fault read.TooLong is = absurd (cc)
 

@@ -8,12 +8,11 @@ use Rattle.trace_types.specs.world.Interleaving.{tenant_after}
 use Rattle.trace_types.specs.world.Replay.{calls_by, entries}
 use Rattle.line_protocol.specs.Sink.{Taken}
 use Rattle.line_protocol.specs.Writing.{EndsInFault, StopsHandingOn}
-use Rattle.trace_export.specs.Export.{BreaksLines, WritesLines, export_lines}
+use Rattle.trace_export.specs.Export.{BreaksLines, WritesLines, export_lines, stream_fault_of_export}
 use Rattle.trace_types.specs.declared.row.Row.{Row}
 use Rattle.trace_export.specs.declared.export_fault.ExportFault.{ExportFault}
 use Rattle.trace_export.specs.declared.export_fault.ExportFault.TheVariants as export
 use Rattle.trace_export.specs.declared.header.Header.{Header}
-use Rattle.trace_world.specs.Faults.{replay_fault_of_export}
 use Rattle.std.proofs.lemmas.List.{append-nil}
 use Rattle.std.specs.Io.KnownBytes.{Keeps}
 use Rattle.std.proofs.KnownBytes.{Keeps-refl}
@@ -105,7 +104,7 @@ rows_left {old = old} takes tenant ledger within is = λ calls after.
     ∙ ap (λ limits. (tenant_after limits (calls ++ calls_by (entries old.names (lines takes.came) takes.marks)) tenant).rows) leads.limits
 
 -- how an export was broken off
-pub stops_export : {taken taken' : Taken} {these : List Text} (fault : ExportFault) → BreaksLines fault taken taken' these → StopsExport (replay_fault_of_export fault) taken taken' these
+pub stops_export : {taken taken' : Taken} {these : List Text} (fault : ExportFault) → BreaksLines fault taken taken' these → StopsExport (stream_fault_of_export fault) taken taken' these
 stops_export export.Write breaks = inl breaks
 stops_export export.Memory breaks = breaks
 

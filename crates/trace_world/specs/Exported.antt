@@ -21,8 +21,8 @@ use Rattle.trace_export.specs.declared.export_fault.ExportFault.TheVariants as e
 use Rattle.trace_export.specs.declared.header.Header.{Header}
 use Rattle.trace_world.specs.Replayed.{AreFirstLines, LeadsTo}
 use Rattle.trace_world.specs.declared.counts.Counts.{Counts}
-use Rattle.trace_world.specs.declared.replay_fault.ReplayFault.{ReplayFault}
-use Rattle.trace_world.specs.declared.replay_fault.ReplayFault.TheVariants.{Write, Memory}
+use Rattle.line_protocol.specs.declared.stream_fault.StreamFault.{StreamFault}
+use Rattle.line_protocol.specs.declared.stream_fault.StreamFault.TheVariants.{Write, Memory}
 
 -- the texts of the stamps of all events of these rows, the first first
 abbrev pub stamp_texts : List Row → List Text
@@ -88,7 +88,7 @@ abbrev pub WritesRight : Taken → Taken → ℕ → Type 0
 WritesRight before after count = (export : List ℕ) × (after.bytes ≡ before.bytes ++ export) × IsVerdict export (Yes count)
 
 -- how the fault came while the lines were written
-abbrev pub StopsExport : ReplayFault → Taken → Taken → List Text → Type 0
+abbrev pub StopsExport : StreamFault → Taken → Taken → List Text → Type 0
 StopsExport Write taken taken' these =
     BreaksLines export.Write taken taken' these
     ⊎ ((between : Taken) × WritesLines taken between these × StopsHandingOn between taken')
@@ -96,7 +96,7 @@ StopsExport Memory taken taken' these = BreaksLines export.Memory taken taken' t
 StopsExport fault taken taken' these = ⊥
 
 -- All lines were done, and the fault came while the export was written: a front of it was, or all of it and the flush failed.
-pub record ExportsInPart (fault : ReplayFault) (before after : Given) (taken taken' : Taken) (old : World) (tenant : ℕ) (new : World) : Type 0 where
+pub record ExportsInPart (fault : StreamFault) (before after : Given) (taken taken' : Taken) (old : World) (tenant : ℕ) (new : World) : Type 0 where
   pub takes : TakesAll before after old new
   pub header : Header
   pub headed : IsHeaderOf old tenant header
@@ -107,7 +107,7 @@ pub record ExportsInPart (fault : ReplayFault) (before after : Given) (taken tak
 
 -- A fault came: while the lines were read, and then nothing was written, and for want of memory nothing was read or done
 -- either; or afterwards.
-abbrev pub BreaksExport : ReplayFault → (before after : Given) (taken taken' : Taken) → World → ℕ → World → Type 0
+abbrev pub BreaksExport : StreamFault → (before after : Given) (taken taken' : Taken) → World → ℕ → World → Type 0
 BreaksExport fault before after taken taken' old tenant new =
     ((taken' ≡ taken) × (fault ≢ Write) × (fault ≡ Memory → (after ≡ before) × (new ≡ old)) × TakesFirst before after old new)
     ⊎ ExportsInPart fault before after taken taken' old tenant new

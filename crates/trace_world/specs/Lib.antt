@@ -1,7 +1,6 @@
 pub mod Texts
 pub mod Replayed
 pub mod Exported
-pub mod Faults
 pub mod Counted
 pub mod Tenants
 pub mod Isolation

@@ -13,8 +13,8 @@ use Rattle.line_protocol.specs.Sink.{Taken}
 use Rattle.line_protocol.specs.TextsInTurn.{WritesTexts}
 use Rattle.trace_world.specs.Texts.{AreTexts, WritesInPart}
 use Rattle.trace_world.specs.declared.counts.Counts.{Counts}
-use Rattle.trace_world.specs.declared.replay_fault.ReplayFault.{ReplayFault}
-use Rattle.trace_world.specs.declared.replay_fault.ReplayFault.TheVariants.{Read, Write, TooLong, Memory}
+use Rattle.line_protocol.specs.declared.stream_fault.StreamFault.{StreamFault}
+use Rattle.line_protocol.specs.declared.stream_fault.StreamFault.TheVariants.{Read, Write, TooLong, Memory}
 
 -- how many replies there are, and how many of each sort
 abbrev pub counts_of : List Reply → Counts
@@ -65,7 +65,7 @@ pub record AreFirstLines (given given' : List ℕ) (has_ended : Bool) (found : L
 -- A fault came in between: the first lines were replayed, a front of their output was written, and at most the last
 -- of them lacks its whole reply. Unless the fault is one of writing, none of them does, and as many lines were replayed
 -- as ends of line came. Of the texts of these lines some were written whole, each patiently, and of the next a front.
-pub record ReplaysInPart (fault : ReplayFault) (before after : Given) (taken taken' : Taken) (old new : World) : Type 0 where
+pub record ReplaysInPart (fault : StreamFault) (before after : Given) (taken taken' : Taken) (old new : World) : Type 0 where
   pub found : List Text
   pub marks : List Bool
   pub text : Text
@@ -92,7 +92,7 @@ pub record AnswersAll (old : World) (bytes written : List ℕ) (new : World) : T
   pub leads : LeadsTo old (lines bytes) marks written counts new
 
 -- All that was answered was handed on, unless a write failed or nothing was read.
-abbrev pub HandsOn : {A : Type 0} → Result A ReplayFault → Taken → Type 0
+abbrev pub HandsOn : {A : Type 0} → Result A StreamFault → Taken → Type 0
 HandsOn (Ok counts) taken = IsTrue taken.is_flushed
 HandsOn (Err Read) taken = IsTrue taken.is_flushed
 HandsOn (Err TooLong) taken = IsTrue taken.is_flushed

@@ -9,8 +9,8 @@ use Rattle.trace_types.specs.world.World.{World, IsAfter}
 use Rattle.trace_types.specs.world.Replay.{Entry, addressee, call_of, entries, reply_to}
 use Rattle.line_protocol.specs.Patience.{SinkCall}
 use Rattle.line_protocol.specs.TextsInTurn.{WritesTexts, BeginsFirst, BreaksOffAt}
-use Rattle.trace_world.specs.declared.replay_fault.ReplayFault.{ReplayFault}
-use Rattle.trace_world.specs.declared.replay_fault.ReplayFault.TheVariants.{Write}
+use Rattle.line_protocol.specs.declared.stream_fault.StreamFault.{StreamFault}
+use Rattle.line_protocol.specs.declared.stream_fault.StreamFault.TheVariants.{Write}
 
 -- two texts for each line: whom its reply names, with the blank, and the reply, with its end of line
 abbrev pub output_texts : List Text → Limits → List Call → List Entry → List Text
@@ -26,7 +26,7 @@ AreTexts old found marks texts =
     (calls : List Call) → IsAfter old calls → texts ≡ output_texts old.names old.limits calls (entries old.names found marks)
 
 -- Of the texts of these lines some were written whole, each patiently, and of the next a front; a write fault came there.
-pub record WritesInPart (fault : ReplayFault) (old : World) (found : List Text) (marks : List Bool) (written : Text) (before after : List SinkCall) : Type 0 where
+pub record WritesInPart (fault : StreamFault) (old : World) (found : List Text) (marks : List Bool) (written : Text) (before after : List SinkCall) : Type 0 where
   pub whole : List Text
   pub left : List Text
   pub begun : Text

@@ -1,7 +1,7 @@
 //! Replays that end in the export of one tenant.
 ghost use Rattle.std.specs.Prelude.{◌≡◌, ◌≢◌, ◌↔◌, ◌+◌, ◌<◌, ◌≤◌, ◌^◌, IfOk, IfErr, IsErrOf, OnOk, OnErr, length};
 ghost use Rattle.line_protocol.specs.Source.{StopsAtEnd};
-ghost use Rattle.line_protocol.specs.Writing.{EndsInFault};
+ghost use Rattle.line_protocol.specs.StreamFaults.{PassesNoFaultOver};
 ghost use Rattle.trace_world.specs.Exported.{BreaksExport, Exports, TakesAll, TakesFirst, WritesRight};
 
 use crate::answer::do_line;
@@ -41,10 +41,7 @@ pub fn replay_export<T: Wait, R: Source, W: Sink>(
     ensures ends { StopsAtEnd (R.seen reader.old) (R.seen reader.new) }
 
     // When each fault comes. A failed read or write is never passed over.
-    ensures read { IsErrOf result ReplayFault.Read ↔ ((R.seen reader.old).failures < (R.seen reader.new).failures) }
-    ensures too_long { IsErrOf result ReplayFault.TooLong → (R.seen reader.new).reads ≡ (R.seen reader.old).reads + 2 ^ 30 }
-    ensures write { IsErrOf result ReplayFault.Write → EndsInFault (W.seen writer.old) (W.seen writer.new) }
-    ensures write_failed { (W.seen writer.old).failures < (W.seen writer.new).failures → IsErrOf result ReplayFault.Write }
+    ensures faults { PassesNoFaultOver (R.seen reader.old) (R.seen reader.new) (W.seen writer.old) (W.seen writer.new) result }
 {
     let header = world.header(tenant);
     take_in(rt, alloc, world, reader)?;

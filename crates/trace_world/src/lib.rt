@@ -26,14 +26,13 @@ mod counts;
 mod exporting;
 pub mod laws;
 mod ledger_stamps;
-mod replay_fault;
 mod replaying;
 mod replaying_bytes;
 mod world;
 
 pub use counts::Counts;
 pub use exporting::replay_export;
-pub use replay_fault::ReplayFault;
+pub use line_protocol::StreamFault as ReplayFault;
 pub use replaying::replay;
 pub use replaying_bytes::replay_bytes;
 pub use world::World;

@@ -1,7 +1,7 @@
 //! Replays of lines of many tenants.
-ghost use Rattle.std.specs.Prelude.{◌≡◌, ◌↔◌, ◌+◌, ◌<◌, ◌≤◌, ◌^◌, IfOk, IfErr, IsErrOf};
+ghost use Rattle.std.specs.Prelude.{◌≡◌, ◌+◌, ◌≤◌, ◌^◌, IfOk, IfErr, IsErrOf};
 ghost use Rattle.line_protocol.specs.Source.{StopsAtEnd};
-ghost use Rattle.line_protocol.specs.Writing.{EndsInFault};
+ghost use Rattle.line_protocol.specs.StreamFaults.{PassesNoFaultOver};
 ghost use Rattle.trace_world.specs.Replayed.{HandsOn, Replays, ReplaysInPart};
 
 use crate::answer::answer_line;
@@ -40,10 +40,7 @@ pub fn replay<T: Wait, R: Source, W: Sink>(
     ensures ends { StopsAtEnd (R.seen reader.old) (R.seen reader.new) }
 
     // When each fault comes. A failed read or write is never passed over.
-    ensures read { IsErrOf result ReplayFault.Read ↔ ((R.seen reader.old).failures < (R.seen reader.new).failures) }
-    ensures too_long { IsErrOf result ReplayFault.TooLong → (R.seen reader.new).reads ≡ (R.seen reader.old).reads + 2 ^ 30 }
-    ensures write { IsErrOf result ReplayFault.Write → EndsInFault (W.seen writer.old) (W.seen writer.new) }
-    ensures write_failed { (W.seen writer.old).failures < (W.seen writer.new).failures → IsErrOf result ReplayFault.Write }
+    ensures faults { PassesNoFaultOver (R.seen reader.old) (R.seen reader.new) (W.seen writer.old) (W.seen writer.new) result }
     ensures memory { IsErrOf result ReplayFault.Memory →
         (reader.new ≡ reader.old) × (writer.new ≡ writer.old) × (world.new ≡ world.old) }
 {

@@ -3,10 +3,13 @@ use Rattle.std.specs.List.{concat}
 use Rattle.trace_types.specs.tenant.Tenant.{Tenant}
 use Rattle.trace_types.specs.declared.row.Row.{Row}
 use Rattle.trace_types.specs.text.Lines.{lines}
-use Rattle.trace_export.specs.Export.{AreReadAgain, BreaksLines, WritesLines}
+use Rattle.line_protocol.specs.Sink.{Taken}
+use Rattle.line_protocol.specs.declared.stream_fault.StreamFault.{StreamFault}
+use Rattle.line_protocol.specs.declared.stream_fault.StreamFault.TheVariants.{Write}
+use Rattle.trace_export.specs.Export.{AreReadAgain, BreaksLines, WritesLines, stream_fault_of_export}
 use Rattle.trace_export.specs.Verdict.{IsVerdict}
 use Rattle.trace_export.specs.declared.verdict.Verdict.TheVariants.{Yes}
-use Rattle.trace_world.specs.Exported.{AreRowsLeft, AreRowsOf, export_of, stamp_texts}
+use Rattle.trace_world.specs.Exported.{AreRowsLeft, AreRowsOf, BreaksExport, StopsExport, export_of, stamp_texts}
 use Rattle.trace_world.proofs.Fronts.{IfErr-equal}
 use Rattle.trace_world.proofs.StampTexts.{length-stamp_texts}
 use Rattle.trace_world.proofs.TakingIn.{ends_held_back, of_ledger, rows_left, stops_export}
@@ -28,6 +31,19 @@ left g c =
 has : (g : Over) (c : After-export_rows g) → AreRowsOf c.take_in.new.world c.args.tenant c.ledger-ledger.result.now.rows
 has g c = ap (option_map (λ (one : Tenant). one.rows)) c.ledger-ledger.ensures
 
+-- a fault came while they were written
+in_part : (g : Over) (c : After-export_rows g) (fault : StreamFault) (taken' : Taken) → StopsExport fault (g.W.Sink.seen c.args.writer.now) taken' (export_of c.header-header.result c.ledger-ledger.result.now.rows)
+    → BreaksExport fault (g.R.Source.seen c.args.reader.now) (g.R.Source.seen c.take_in.new.reader) (g.W.Sink.seen c.args.writer.now) taken' c.args.world.now c.args.tenant c.take_in.new.world
+in_part g c fault taken' stops = inr (record {
+  takes = c.in_ok-take_in.ensures.ok;
+  header = c.header-header.result;
+  headed = c.header-header.ensures;
+  rows = c.ledger-ledger.result.now.rows;
+  left = left g c;
+  has = has g c;
+  stops = stops;
+})
+
 -- all of them were written
 wrote : (g : Over) (c : In_ok-count g) → WritesLines (g.W.Sink.seen c.args.writer.now) (g.W.Sink.seen c.export_rows.new.writer) (export_of c.header-header.result c.ledger-ledger.result.now.rows)
 wrote g c = of_ledger (WritesLines (g.W.Sink.seen c.args.writer.now) (g.W.Sink.seen c.export_rows.new.writer)) c.header-header.result c.rows.result.now c.ledger-ledger.result.now.rows c.rows.ensures.rows c.in_ok-count.ensures.whole
@@ -36,35 +52,24 @@ pub returns-in_err-count-clause-fault : goal.returns-in_err-count-clause-fault
 returns-in_err-count-clause-fault g c =
     let at = goal.at.returns-in_err-count-clause-fault g c in
     IfErr-equal _ _ _ c.from_residual-in_err-count.ensures.1
-    (inr (record {
-      takes = c.in_ok-take_in.ensures.ok;
-      header = c.header-header.result;
-      headed = c.header-header.ensures;
-      rows = c.ledger-ledger.result.now.rows;
-      left = left g at.After-export_rows;
-      has = has g at.After-export_rows;
-      stops = stops_export c.in_err-count.field-0.0
-          (of_ledger (BreaksLines c.in_err-count.field-0.0 (g.W.Sink.seen c.args.writer.now) (g.W.Sink.seen c.export_rows.new.writer)) c.header-header.result c.rows.result.now c.ledger-ledger.result.now.rows c.rows.ensures.rows c.in_err-count.ensures.fault);
-    }))
+    (in_part g at.After-export_rows (stream_fault_of_export c.in_err-count.field-0.0) (g.W.Sink.seen c.export_rows.new.writer) (stops_export c.in_err-count.field-0.0
+    (of_ledger (BreaksLines c.in_err-count.field-0.0 (g.W.Sink.seen c.args.writer.now) (g.W.Sink.seen c.export_rows.new.writer)) c.header-header.result c.rows.result.now c.ledger-ledger.result.now.rows c.rows.ensures.rows c.in_err-count.ensures.fault)))
 
 pub returns-in_err-flush-clause-fault : goal.returns-in_err-flush-clause-fault
 returns-in_err-flush-clause-fault g c =
     let at = goal.at.returns-in_err-flush-clause-fault g c in
     IfErr-equal _ _ _ c.from_residual-in_err-flush.ensures.1
-    (inr (record {
-      takes = c.in_ok-take_in.ensures.ok;
-      header = c.header-header.result;
-      headed = c.header-header.ensures;
-      rows = c.ledger-ledger.result.now.rows;
-      left = left g at.After-export_rows;
-      has = has g at.After-export_rows;
-      stops = inr (g.W.Sink.seen c.export_rows.new.writer, wrote g at.In_ok-count, c.in_err-flush.ensures);
-    }))
+    (in_part g at.After-export_rows Write (g.W.Sink.seen c.flush.new.writer) (inr (g.W.Sink.seen c.export_rows.new.writer, wrote g at.In_ok-count, c.in_err-flush.ensures)))
 
-pub returns-in_err-flush-clause-write : goal.returns-in_err-flush-clause-write
-returns-in_err-flush-clause-write g c =
-    let at = goal.at.returns-in_err-flush-clause-write g c in
-    λ _. ends_held_back (wrote g at.In_ok-count) c.in_err-flush.ensures
+pub returns-in_err-flush-clause-faults : goal.returns-in_err-flush-clause-faults
+returns-in_err-flush-clause-faults g c =
+    let at = goal.at.returns-in_err-flush-clause-faults g c in
+    record {
+      read = search rules;
+      too_long = search rules;
+      write = λ _. ends_held_back (wrote g at.In_ok-count) c.in_err-flush.ensures;
+      write_failed = search rules;
+    }
 
 pub returns-clause-ok : goal.returns-clause-ok
 returns-clause-ok g c =

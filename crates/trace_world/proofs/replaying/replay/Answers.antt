@@ -12,7 +12,7 @@ use Rattle.line_protocol.specs.LineReading.{Finds, LeavesLess, Reads, work_left}
 use Rattle.line_protocol.specs.declared.line.Line.{Line}
 use Rattle.line_protocol.specs.declared.line.Line.TheVariants.{End}
 use Rattle.trace_world.specs.Replayed.{ReplaysInPart}
-use Rattle.trace_world.specs.declared.replay_fault.ReplayFault.TheVariants.{Write}
+use Rattle.line_protocol.specs.declared.stream_fault.StreamFault.TheVariants.{Write}
 use Rattle.trace_types.specs.world.Replay.{is_accepted, is_answered, is_refused}
 use Rattle.std.specs.Io.KnownBytes.{Keeps}
 use Rattle.std.proofs.KnownBytes.{Keeps-refl, Keeps-trans}
