@@ -19,7 +19,7 @@ use Rattle.trace_session.specs.Answers.{AnswersEach, AnswersLine, last_reply}
 use Rattle.trace_session.specs.Asking.{FindsAsked, is_quit, most_requests, request_in}
 use Rattle.trace_session.specs.Faults.{session_fault_by}
 use Rattle.trace_session.specs.Reading.{ReadsLines}
-use Rattle.trace_session.specs.Sessions.{AnswersAsked, AnswersLate, AnswersRequest, Closes, EndsBy, Finishes, BringsNoEnd, Session, WritesUntil, over_reply}
+use Rattle.trace_session.specs.Sessions.{AnswersAsked, AnswersInTime, AnswersLate, Closes, EndsBy, Finishes, BringsNoEnd, Session, WritesUntil, over_reply}
 use Rattle.trace_session.specs.State.{State, state}
 use Rattle.trace_session.specs.Written.{StopsAt, reply_line}
 use Rattle.trace_session.specs.declared.lines.Asked.{Asked}
@@ -217,7 +217,7 @@ Comes-of {S = S} Does start now after old between new count (asked.Request reque
         (ReadsLines-line follows.read finds.1 at_end) (omega (arith, follows.counted, few)) (inr (follows.counted ∙ eqb-true count most_requests late)) (late_reply start.held.bounds.bytes text no_quit)
 
     by : (late : Bool) → (count == most_requests) ≡ late → (came : Result (Option SessionEnd) SessionFault)
-        → MatchBool late (AnswersLate between new now.taken after.taken came) (AnswersRequest Does request between new now.taken after.taken came × BringsNoEnd came) → Comes Does start after old new count came
+        → MatchBool late (AnswersLate between new now.taken after.taken came) (AnswersInTime Does request between new now.taken after.taken came × BringsNoEnd came) → Comes Does start after old new count came
     by true late (Err fault) (new_is, stops, is) =
         over late new_is after.taken (Err fault) (stopped_ends now.taken after.taken (reply_line over_reply) fault start.held.bounds.bytes (Some text) after.held stops no_quit) (stopped_writes after.taken fault over_reply follows.wrote stops)
     by true late (Ok None) (new_is, writes_line, is) = absurd (cc)

@@ -14,7 +14,7 @@ use Rattle.trace_types.specs.text.Name.{Text}
 use Rattle.trace_session.specs.Asking.{most_requests}
 use Rattle.trace_session.specs.Faults.{failed_reads_in, read_fault_in, session_fault_by}
 use Rattle.trace_session.specs.Outputs.{GoesThroughGate, IsSameOutput}
-use Rattle.trace_session.specs.Sessions.{AnswersAsked, AnswersLate, AnswersRequest, BringsNoEnd, Finishes, over_reply}
+use Rattle.trace_session.specs.Sessions.{AnswersAsked, AnswersInTime, AnswersLate, BringsNoEnd, Finishes, over_reply}
 use Rattle.trace_session.specs.Written.{StopsAt, reply_line}
 use Rattle.trace_session.specs.declared.lines.Asked.{Asked}
 use Rattle.trace_session.specs.declared.lines.Asked.TheVariants as asked
@@ -88,6 +88,6 @@ answered_unread Does asked.End count old new before after fault answers = absurd
 answered_unread Does asked.Quit count old new before after fault answers = absurd (let no = answers.0 in cc)
 answered_unread Does (asked.Request request) count old new before after fault answers = by (count == most_requests) answers
   where
-    by : (late : Bool) → MatchBool late (AnswersLate old new before after (Err fault)) (AnswersRequest {E = Option SessionEnd} Does request old new before after (Err fault) × BringsNoEnd (Err fault)) → IsNoRead {A = SessionEnd} (Err fault)
+    by : (late : Bool) → MatchBool late (AnswersLate old new before after (Err fault)) (AnswersInTime {E = Option SessionEnd} Does request old new before after (Err fault) × BringsNoEnd (Err fault)) → IsNoRead {A = SessionEnd} (Err fault)
     by true (same, stops, is) = stops_unread SessionEnd fault before after (reply_line over_reply) stops
     by false (answer, goes) = stops_unread SessionEnd fault before after (reply_line answer.reply) answer.put_out

@@ -75,7 +75,7 @@ AnswersLate old new before after result =
     (new ≡ old) × PutsOut before after result (reply_line over_reply) × IfOk result (λ end. end ≡ Some Over)
 
 -- The request was answered, and the reply was written or held back.
-pub record AnswersRequest {S E : Type 0} (Does : S → Request → Reply → S → Type 0) (request : Option Request) (old new : S) (before after : Taken) (result : Result E SessionFault) : Type 0 where
+pub record AnswersInTime {S E : Type 0} (Does : S → Request → Reply → S → Type 0) (request : Option Request) (old new : S) (before after : Taken) (result : Result E SessionFault) : Type 0 where
   pub reply : Reply
   pub answered : AnswersLine Does old request reply new
   pub put_out : PutsOut before after result (reply_line reply)
@@ -89,7 +89,7 @@ abbrev pub AnswersAsked : {S : Type 0} → (S → Request → Reply → S → Ty
 AnswersAsked Does asked.End requests old new before after result = (result ≡ Ok (Some EndOfInput)) × (new ≡ old) × (after ≡ before)
 AnswersAsked Does asked.Quit requests old new before after result = (result ≡ Ok (Some Quit)) × (new ≡ old) × (after ≡ before)
 AnswersAsked Does (asked.Request request) requests old new before after result =
-    MatchBool (requests == most_requests) (AnswersLate old new before after result) (AnswersRequest Does request old new before after result × BringsNoEnd result)
+    MatchBool (requests == most_requests) (AnswersLate old new before after result) (AnswersInTime Does request old new before after result × BringsNoEnd result)
 
 -- All was handed on at this end, or a write fault came.
 abbrev pub Finishes : SessionEnd → Taken → Taken → Result SessionEnd SessionFault → Type 0
