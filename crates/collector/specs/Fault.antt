@@ -4,12 +4,10 @@ use Rattle.std.specs.declared.io.ErrorKind.{ErrorKind}
 use Rattle.std.specs.declared.io.ErrorKind.TheVariants.{OutOfMemory}
 use Rattle.trace_types.specs.declared.world_fault.WorldFault.{WorldFault}
 use Rattle.trace_types.specs.declared.world_fault.WorldFault.TheVariants as world
-use Rattle.trace_world.specs.declared.replay_fault.ReplayFault.{ReplayFault}
-use Rattle.trace_world.specs.declared.replay_fault.ReplayFault.TheVariants as replay
+use Rattle.line_protocol.specs.declared.stream_fault.StreamFault.{StreamFault}
+use Rattle.line_protocol.specs.declared.stream_fault.StreamFault.TheVariants as stream
 use Rattle.trace_export.specs.declared.check_fault.CheckFault.{CheckFault}
 use Rattle.trace_export.specs.declared.check_fault.CheckFault.TheVariants as check
-use Rattle.trace_export.specs.declared.load_fault.LoadFault.{LoadFault}
-use Rattle.trace_export.specs.declared.load_fault.LoadFault.TheVariants as load
 use Rattle.tcp_door.specs.declared.tcp_door.DoorRefusal.{DoorRefusal}
 use Rattle.tcp_door.specs.declared.tcp_door.DoorRefusal.TheVariants as door
 use Rattle.trace_session.specs.declared.serving.ServeFault.{ServeFault}
@@ -45,25 +43,18 @@ fault_of_world world.Names = Tenants
 fault_of_world world.Capacity = Words
 fault_of_world world.Memory = Memory
 
--- the program's fault if a replay stops
-abbrev pub fault_of_replay : ReplayFault → Fault
-fault_of_replay replay.Read = Read
-fault_of_replay replay.Write = Write
-fault_of_replay replay.TooLong = TooLong
-fault_of_replay replay.Memory = Memory
+-- the program's fault if a replay stops, or an export is not loaded whole
+abbrev pub fault_of_stream : StreamFault → Fault
+fault_of_stream stream.Read = Read
+fault_of_stream stream.Write = Write
+fault_of_stream stream.TooLong = TooLong
+fault_of_stream stream.Memory = Memory
 
 -- the program's fault if a check stops
 abbrev pub fault_of_check : CheckFault → Fault
 fault_of_check check.Read = Read
 fault_of_check check.TooLong = TooLong
 fault_of_check check.Memory = Memory
-
--- the program's fault if an export is not loaded whole
-abbrev pub fault_of_load : LoadFault → Fault
-fault_of_load load.Read = Read
-fault_of_load load.Write = Write
-fault_of_load load.TooLong = TooLong
-fault_of_load load.Memory = Memory
 
 -- the program's fault if no door is opened
 abbrev pub fault_of_refusal : DoorRefusal → Fault

@@ -9,11 +9,11 @@ use Rattle.trace_types.specs.world.World.{World}
 use Rattle.line_protocol.specs.Source.{Given}
 use Rattle.line_protocol.specs.Sink.{Taken}
 use Rattle.line_protocol.specs.Writing.{EndsInFault}
+use Rattle.line_protocol.specs.declared.stream_fault.StreamFault.{StreamFault}
 use Rattle.trace_export.specs.Checked.{Judges, StopsReading}
 use Rattle.trace_export.specs.Loads.{BreaksLoading, Loads, LoadsAs, StopsLoading}
 use Rattle.trace_export.specs.ReadTo.{StopsAtLine}
 use Rattle.trace_export.specs.Reasons.{reason_number}
-use Rattle.trace_export.specs.declared.load_fault.LoadFault.{LoadFault}
 use Rattle.trace_export.specs.declared.loaded.Loaded.{Loaded}
 use Rattle.trace_export.specs.declared.loaded.Loaded.TheVariants as loaded
 use Rattle.trace_export.specs.declared.reason.Reason.{Reason}
@@ -22,9 +22,8 @@ use Rattle.trace_export.specs.declared.verdict.Verdict.TheVariants.{Yes, No}
 use Rattle.trace_world.specs.Exported.{BreaksExport, Exports}
 use Rattle.trace_world.specs.Replayed.{Replays, ReplaysInPart}
 use Rattle.trace_world.specs.declared.counts.Counts.{Counts}
-use Rattle.trace_world.specs.declared.replay_fault.ReplayFault.{ReplayFault}
 use Rattle.command_line.specs.Demand.{Demand, ToReplay, ToServe, ToCheck, ToLoad}
-use Rattle.collector.specs.Fault.{fault_of_load, fault_of_replay, line_of_fault}
+use Rattle.collector.specs.Fault.{fault_of_stream, line_of_fault}
 use Rattle.command_line.specs.Reading.{Work, Loading}
 use Rattle.collector.specs.Serving.{Serves, ServesInPart}
 use Rattle.collector.specs.Showing.{Shows, ShowsAll, ShowsFront}
@@ -43,8 +42,8 @@ pub record ReplaysFresh (limits : Limits) (names : List Text) (before after : Gi
 
 -- A replay for such tenants was broken off by this fault.
 pub record ReplaysFreshInPart (fault : Fault) (limits : Limits) (names : List Text) (before after : Given) (taken taken' : Taken) : Type 0 where
-  pub cause : ReplayFault
-  pub told : fault_of_replay cause ≡ fault
+  pub cause : StreamFault
+  pub told : fault_of_stream cause ≡ fault
   pub later : World
   pub replays : ReplaysInPart cause before after taken taken' (fresh_world limits names) later
 
@@ -65,8 +64,8 @@ pub record ExportsFresh (name : Text) (limits : Limits) (names : List Text) (bef
 pub record ExportsFreshInPart (fault : Fault) (name : Text) (limits : Limits) (names : List Text) (before after : Given) (taken taken' : Taken) : Type 0 where
   pub place : ℕ
   pub there : place_of names name ≡ Some place
-  pub cause : ReplayFault
-  pub told : fault_of_replay cause ≡ fault
+  pub cause : StreamFault
+  pub told : fault_of_stream cause ≡ fault
   pub later : World
   pub breaks : BreaksExport cause before after taken taken' (fresh_world limits names) place later
 
@@ -208,7 +207,7 @@ LoadsUnflushed given tenant reader reader' taken taken' = (loaded : Loaded) × (
 -- on, or there was no memory for the line that tells which line is faulty.
 abbrev pub LoadsExportInPart : {R : Type 0} (given : R → Given) (fault : Fault) (tenant : Text) (reader reader' : R) (taken taken' : Taken) → Type 0
 LoadsExportInPart given fault tenant reader reader' taken taken' =
-    ((cause : LoadFault) × (fault_of_load cause ≡ fault) × BreaksLoading cause (given reader) (given reader') taken taken' tenant)
+    ((cause : StreamFault) × (fault_of_stream cause ≡ fault) × BreaksLoading cause (given reader) (given reader') taken taken' tenant)
     ⊎ ((fault ≡ Write) × LoadsUnflushed given tenant reader reader' taken taken')
     ⊎ ((fault ≡ Memory) × FindsFaultyLine given reader reader' taken taken')
 

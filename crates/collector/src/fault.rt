@@ -1,15 +1,14 @@
 //! The faults of the program.
 ghost use Rattle.std.specs.Prelude.{◌≡◌};
-ghost use Rattle.collector.specs.Fault.{status_of, line_of_fault, fault_of_world, fault_of_replay, fault_of_check, fault_of_load, fault_of_refusal, fault_of_serving};
+ghost use Rattle.collector.specs.Fault.{status_of, line_of_fault, fault_of_world, fault_of_stream, fault_of_check, fault_of_refusal, fault_of_serving};
 ghost use Rattle.collector.specs.Program.{TellsFault};
 
-use line_protocol::{Sink, flush, write_bytes};
+use line_protocol::{Sink, StreamFault, flush, write_bytes};
 use tcp_door::DoorRefusal;
 use thiserror::Error;
-use trace_export::{CheckFault, LoadFault};
+use trace_export::CheckFault;
 use trace_session::ServeFault;
 use trace_types::WorldFault;
-use trace_world::ReplayFault;
 
 /// Why the program does not do what it was asked.
 #[derive(Clone, Copy, Debug, PartialEq, Eq, Error)]
@@ -92,15 +91,15 @@ impl From<WorldFault> for Fault {
     }
 }
 
-impl From<ReplayFault> for Fault {
-    ghost from_gives = { λ fault gives. gives ≡ fault_of_replay fault };
+impl From<StreamFault> for Fault {
+    ghost from_gives = { λ fault gives. gives ≡ fault_of_stream fault };
 
-    fn from(fault: ReplayFault) -> Fault {
+    fn from(fault: StreamFault) -> Fault {
         match fault {
-            ReplayFault::Read => Fault::Read,
-            ReplayFault::Write => Fault::Write,
-            ReplayFault::TooLong => Fault::TooLong,
-            ReplayFault::Memory => Fault::Memory,
+            StreamFault::Read => Fault::Read,
+            StreamFault::Write => Fault::Write,
+            StreamFault::TooLong => Fault::TooLong,
+            StreamFault::Memory => Fault::Memory,
         }
     }
 }
@@ -113,19 +112,6 @@ impl From<CheckFault> for Fault {
             CheckFault::Read => Fault::Read,
             CheckFault::TooLong => Fault::TooLong,
             CheckFault::Memory => Fault::Memory,
-        }
-    }
-}
-
-impl From<LoadFault> for Fault {
-    ghost from_gives = { λ fault gives. gives ≡ fault_of_load fault };
-
-    fn from(fault: LoadFault) -> Fault {
-        match fault {
-            LoadFault::Read => Fault::Read,
-            LoadFault::Write => Fault::Write,
-            LoadFault::TooLong => Fault::TooLong,
-            LoadFault::Memory => Fault::Memory,
         }
     }
 }
