@@ -4,12 +4,12 @@ use Rattle.trace_types.specs.clock.Points.{Left, Right}
 use Rattle.trace_types.specs.clock.EventTree.{EventTree, Node}
 use Rattle.trace_types.specs.declared.memory.Memory.{Memory}
 use Rattle.event_tree.specs.Lifted.{IsLiftedBelow}
-use Rattle.event_tree.specs.Joins.{gives_second, gives_first, IsMade, IsJoin}
+use Rattle.event_tree.specs.Joins.{gives_second, gives_first, StandsInPlace, IsJoin}
 use Rattle.event_tree.specs.declared.ev_tree.joining.Join.{Join}
 use Rattle.event_tree.specs.declared.ev_tree.joining.Join.TheVariants.{Made, Second, First, Either}
 
 -- a join that one of the two trees is needs no tree that was made
-pub given-is : (join : Join) (made : EventTree) (a : ℕ) (e : EventTree) (b : ℕ) (f : EventTree) → (gives_second join || gives_first join) ≡ true → IsMade join made a e b f
+pub given-is : (join : Join) (made : EventTree) (a : ℕ) (e : EventTree) (b : ℕ) (f : EventTree) → (gives_second join || gives_first join) ≡ true → StandsInPlace join made a e b f
 given-is Made made a e b f given = absurd (cc)
 given-is Second made a e b f given = tt
 given-is First made a e b f given = tt
@@ -21,7 +21,7 @@ below_nodes a m b n l r l' r' below (Left ∷ point) = omega (arith, below (Left
 below_nodes a m b n l r l' r' below (Right ∷ point) = omega (arith, below (Right ∷ point))
 
 module _ (made : EventTree) (a m b n : ℕ) (l r l' r' : EventTree) where
-  made_nodes : (join : Join) → IsMade join made 0 (Node (a + m) l r) 0 (Node (b + n) l' r') → IsMade join made a (Node m l r) b (Node n l' r')
+  made_nodes : (join : Join) → StandsInPlace join made 0 (Node (a + m) l r) 0 (Node (b + n) l' r') → StandsInPlace join made a (Node m l r) b (Node n l' r')
   made_nodes Made is =
       let root : 0 + (a + m) ≡ a + m = omega arith in
       let other_root : 0 + (b + n) ≡ b + n = omega arith in

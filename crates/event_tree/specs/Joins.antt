@@ -21,14 +21,14 @@ gives_first First = true
 gives_first Either = true
 
 -- a join that is neither is the tree that was made
-abbrev pub IsMade : Join → EventTree → ℕ → EventTree → ℕ → EventTree → Type 0
-IsMade Made made a e b f = made ≡ joined a e b f
-IsMade Second made a e b f = Unit {0}
-IsMade First made a e b f = Unit {0}
-IsMade Either made a e b f = Unit {0}
+abbrev pub StandsInPlace : Join → EventTree → ℕ → EventTree → ℕ → EventTree → Type 0
+StandsInPlace Made made a e b f = made ≡ joined a e b f
+StandsInPlace Second made a e b f = Unit {0}
+StandsInPlace First made a e b f = Unit {0}
+StandsInPlace Either made a e b f = Unit {0}
 
 -- the join of the first tree lifted by a and of the second lifted by b
 pub record IsJoin (join : Join) (made : EventTree) (a : ℕ) (e : EventTree) (b : ℕ) (f : EventTree) : Type 0 where
-  pub exact : IsMade join made a e b f
+  pub exact : StandsInPlace join made a e b f
   pub second : IsTrue (gives_second join) → IsLiftedBelow a e b f
   pub first : IsTrue (gives_first join) → IsLiftedBelow b f a e
