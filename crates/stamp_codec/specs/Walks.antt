@@ -1,9 +1,10 @@
 -- What a walk over a part of a text gives.
-use Rattle.std.specs.Prelude.{◌≡◌, ℕ, ◌+◌, ◌-◌, ◌*◌, ◌≤◌, ◌⊎◌, min, if◌then◌else◌, List, [], ◌∷◌, ◌++◌, Option, Some, None, Result, Ok, Err}
+use Rattle.std.specs.Prelude.{◌≡◌, ◌≢◌, ℕ, ◌+◌, ◌-◌, ◌*◌, ◌≤◌, ◌⊎◌, min, if◌then◌else◌, List, [], ◌∷◌, ◌++◌, Option, Some, None, Result, Ok, Err, IfErr, IfOk}
 use Rattle.trace_types.specs.clock.Id.{Id}
 use Rattle.trace_types.specs.clock.EventTree.{EventTree, minimum, maximum, IsNormal}
 use Rattle.stamp_codec.specs.StampText.{Written, HasNumbers, written_text, written_tree}
 use Rattle.stamp_codec.specs.Faults.{IsLeast, greatest_sum, IsTooLargeAt, IsNotNormalAt}
+use Rattle.stamp_codec.specs.Reading.{IsNoMemory}
 use Rattle.stamp_codec.specs.Scan.{is_digit_byte}
 use Rattle.stamp_codec.specs.declared.stamp.Stamp.{Stamp}
 use Rattle.stamp_codec.specs.declared.fault.StampFault.{StampFault}
@@ -53,6 +54,11 @@ abbrev pub Walks : {X : Type 0} → Result X StampFault → (X → Type 0) → (
 Walks (Ok built) IsBuilt IsLarge IsUneven known first found rest =
     (found ≡ rest) × ((place : ℕ) → ¬ IsLarge place) × IsFirstWith known IsUneven first × IsBuilt built
 Walks (Err fault) IsBuilt IsLarge IsUneven known first found rest = IsSizeFault fault IsLarge
+
+-- A node that is known not to be normal stays known. Behind one nothing is built, so no memory is lacking.
+pub record BuildsOnlyNormal {X : Type 0} (old new : Option ℕ) (result : Result X StampFault) : Type 0 where
+  pub known : IfOk result (λ _. new ≡ None → old ≡ None)
+  pub nothing : old ≢ None → IfErr result (λ fault. ¬ IsNoMemory fault)
 
 -- what is built of an id, and of a tree, where all nodes so far are normal; of any tree the least value is kept
 abbrev pub IsIdBuilt : Option ℕ → Id → Id → Type 0

@@ -6,7 +6,7 @@ ghost use Rattle.trace_types.specs.clock.EventTree.{minimum};
 ghost use Rattle.stamp_codec.specs.StampText.{Written, id_text};
 ghost use Rattle.stamp_codec.specs.Faults.{most_nested, greatest_sum, IsIdTooDeepAt, IsIdNotNormalAt, IsTreeTooLargeAt, IsTreeNotNormalAt};
 ghost use Rattle.stamp_codec.specs.Reading.{IsNoMemory};
-ghost use Rattle.stamp_codec.specs.Walks.{BeginsTree, Walks, IsIdBuilt, IsTreeBuilt, IsWithin};
+ghost use Rattle.stamp_codec.specs.Walks.{BeginsTree, BuildsOnlyNormal, Walks, IsIdBuilt, IsTreeBuilt, IsWithin};
 
 use crate::StampFault;
 use crate::cursor::Cursor;
@@ -28,8 +28,7 @@ pub fn read_id(alloc: Global, cursor: &mut Cursor, nested: usize) -> Result<IdTr
     ensures exact { (id : Id) (rest : List ℕ) → cursor.old.rest.now ≡ id_text id ++ rest
         → Walks result (IsIdBuilt cursor.new.uneven id) (IsIdTooDeepAt cursor.old.place nested id) (IsIdNotNormalAt cursor.old.place id)
         cursor.old.uneven cursor.new.uneven cursor.new.rest.now rest }
-    ensures known { IfOk result (λ _. cursor.new.uneven ≡ None → cursor.old.uneven ≡ None) }
-    ensures nothing { cursor.old.uneven ≢ None → IfErr result (λ fault. ¬ IsNoMemory fault) }
+    ensures uneven { BuildsOnlyNormal cursor.old.uneven cursor.new.uneven result }
     ensures leaf { 48 ≤ slice_index cursor.old.rest.now 0 → slice_index cursor.old.rest.now 0 ≤ 49 → IsOk result }
 {
     let start = cursor.place;
@@ -79,8 +78,7 @@ pub fn read_tree(
     ensures exact { (tree : Written) (rest : List ℕ) → BeginsTree cursor.old.rest.now tree rest
         → Walks result (IsTreeBuilt cursor.new.uneven tree) (IsTreeTooLargeAt cursor.old.place nested sum tree) (IsTreeNotNormalAt cursor.old.place tree)
         cursor.old.uneven cursor.new.uneven cursor.new.rest.now rest }
-    ensures known { IfOk result (λ _. cursor.new.uneven ≡ None → cursor.old.uneven ≡ None) }
-    ensures nothing { cursor.old.uneven ≢ None → IfErr result (λ fault. ¬ IsNoMemory fault) }
+    ensures uneven { BuildsOnlyNormal cursor.old.uneven cursor.new.uneven result }
     ensures number { slice_index cursor.old.rest.now 0 ≢ 40 → IfErr result (λ fault. ¬ IsNoMemory fault) }
 {
     let start = cursor.place;

@@ -1,4 +1,4 @@
-use Rattle.std.proofs.Common.{arith, sym, ◌∙◌}
+use Rattle.std.proofs.Common.{rules, arith, sym, ◌∙◌}
 use Rattle.std.proofs.lemmas.Result.{err_from_is_err_and}
 use Rattle.stamp_codec.proofs.Firsts.{some_known, none_known, none_before}
 use Rattle.stamp_codec.proofs.WalkIds.{InPair, walks_zero, walks_one, deep_here, ends_left, ends_right, walks_pair}
@@ -37,10 +37,14 @@ returns-clause-exact t c =
     walks_pair _ _ _ _ _ _ _ _ _ _ _ _ c.in_ok-left.left c.in_ok-right.right _ _ _ _ _ _ _ _ _ known c.skip.ensures.uneven c.skip-2.ensures.uneven c.skip-3.ensures.uneven c.in_ok-left.ensures.exact c.skip-2.ensures.rest (omega (arith, c.in_ok-left.ensures.end)) c.in_ok-right.ensures.exact
     (c.note.ensures.rest ∙ c.skip-3.ensures.rest) c.first-left_first.ensures c.first-right_first.ensures c.is_same_leaf.ensures c.note.ensures.uneven (λ none. c.in_ok-fork.ensures.exact)
 
-pub returns-in_err-fork-clause-nothing : goal.returns-in_err-fork-clause-nothing
-returns-in_err-fork-clause-nothing t c = λ some. absurd (some (sym c.skip.ensures.uneven
-    ∙ c.in_ok-left.ensures.known (sym c.skip-2.ensures.uneven ∙ c.in_ok-right.ensures.known (sym c.skip-3.ensures.uneven ∙ none_before _ _ _ c.note.ensures.uneven (none_known _ (sym c.is_some.ensures ∙ c.if-is_some.false))))))
+pub returns-in_err-fork-clause-uneven : goal.returns-in_err-fork-clause-uneven
+returns-in_err-fork-clause-uneven t c = record {
+  known = search rules;
+  nothing = λ some. absurd (some (sym c.skip.ensures.uneven ∙ c.in_ok-left.ensures.uneven.known (sym c.skip-2.ensures.uneven ∙ c.in_ok-right.ensures.uneven.known (sym c.skip-3.ensures.uneven ∙ none_before _ _ _ c.note.ensures.uneven (none_known _ (sym c.is_some.ensures ∙ c.if-is_some.false))))));
+}
 
-pub returns-clause-known : goal.returns-clause-known
-returns-clause-known t c = λ none. sym c.skip.ensures.uneven
-    ∙ c.in_ok-left.ensures.known (sym c.skip-2.ensures.uneven ∙ c.in_ok-right.ensures.known (sym c.skip-3.ensures.uneven ∙ none_before _ _ _ c.note.ensures.uneven none))
+pub returns-clause-uneven : goal.returns-clause-uneven
+returns-clause-uneven t c = record {
+  known = λ none. sym c.skip.ensures.uneven ∙ c.in_ok-left.ensures.uneven.known (sym c.skip-2.ensures.uneven ∙ c.in_ok-right.ensures.uneven.known (sym c.skip-3.ensures.uneven ∙ none_before _ _ _ c.note.ensures.uneven none));
+  nothing = search rules;
+}
