@@ -1,36 +1,33 @@
 //! Event trees, kept normal.
-ghost use Rattle.std.specs.Prelude.{◌≡◌, ◌≢◌, ◌+◌, ◌-◌, ◌^◌, ◌<◌, ◌≤◌, ◌↔◌, min, max, IfOk, IfSome, IfNone, IsOk, IsTrue, false};
-ghost use Rattle.trace_types.specs.clock.Id.{Zero, One};
-ghost use Rattle.trace_types.specs.clock.EventTree.{Leaf, Node as plain_Node, IsNormal, value, minimum, maximum};
+ghost use Rattle.std.specs.Prelude.{◌≡◌, ◌+◌, ◌-◌, ◌^◌, ◌<◌, ◌↔◌, min, IfOk, IfSome, IfNone, IsOk, IsTrue, false};
+ghost use Rattle.trace_types.specs.clock.EventTree.{Leaf, IsNormal, value, maximum};
 ghost use Rattle.event_tree.specs.Comparison.{IsBelow, StandsAs};
-ghost use Rattle.trace_types.specs.clock.Norm.{norm, lowered};
-ghost use Rattle.trace_types.specs.clock.Join.{lifted, join};
-ghost use Rattle.trace_types.specs.clock.Event.{event};
-ghost use Rattle.trace_types.specs.clock.Digest.{digest_of_both};
+ghost use Rattle.trace_types.specs.clock.Join.{join};
 ghost use Rattle.trace_types.specs.clock.Size.{inner_of_tree};
 ghost use Rattle.event_tree.specs.Digest.{tree_digest};
-ghost use Rattle.event_tree.specs.Height.{height};
 ghost use Rattle.event_tree.specs.Leaves.{IsLeafTree};
-ghost use Rattle.event_tree.specs.Risen.{IsRaisedAt};
 ghost use Rattle.event_tree.specs.Parts.{tree_of_parts};
 
-use crate::{Path, Point, RaisedPoint};
+use crate::Path;
 use above::is_below_or_path;
 use comparison::{Directions, compare, is_below, is_below_within};
-use id_tree::IdTree;
 use joining::joined;
 use std::alloc::{AllocError, Global};
+use std::fmt;
 use std::marker::Model;
 use std::sync::Arc;
-use std::{fmt, mem};
-use trace_types::{Memory, Order, digest_of_both};
+use trace_types::{Memory, Order};
 
 mod above;
 mod comparison;
+mod cost;
+mod events;
 mod filling;
+mod forking;
 mod growth;
 mod joining;
 mod risen;
+mod values;
 
 /// An event tree in normal form, whose greatest value is below 2^64 (Almeida, Baquero and Fonte 2008).
 ///
@@ -56,13 +53,6 @@ struct Children {
     left: EvTree,
     right: EvTree,
     spread: u64,
-    digest: u64,
-}
-
-/// The greatest value of a tree, and its digest.
-#[derive(Clone, Copy)]
-struct Facts {
-    high: u64,
     digest: u64,
 }
 
@@ -104,105 +94,6 @@ impl EvTree {
     {
         EvTree {
             node: Node::Leaf(n),
-        }
-    }
-
-    /// The normal form of the tree with `n` added to what `left` and `right` say of the two halves.
-    ///
-    /// It takes one block, or none if it comes to a leaf. Both trees are lost if it returns `Memory`.
-    pub fn fork(alloc: Global, n: u64, left: EvTree, right: EvTree) -> Result<EvTree, Memory>
-        requires { n + max (maximum left) (maximum right) < 2 ^ 64 }
-        ensures exact { IfOk result (λ tree. tree ≡ norm n left right) }
-        ensures leaf { IsLeafTree (norm n left right) → IsOk result }
-    {
-        let mut tree = left;
-        tree.fork_with(alloc, n, right)?;
-        Ok(tree)
-    }
-
-    /// Puts this tree and the one on its right under a node, as [`EvTree::fork`] does. Both are lost if it returns `Memory`.
-    fn fork_with(&mut self, alloc: Global, n: u64, right: EvTree) -> Result<(), Memory>
-        requires { n + max (maximum self.old) (maximum right) < 2 ^ 64 }
-        ensures exact { IfOk result (λ done. self.new ≡ norm n self.old right) }
-        ensures leaf { IsLeafTree (norm n self.old right) → IsOk result }
-    {
-        if let (Node::Leaf(one), Node::Leaf(other)) = (&self.node, &right.node)
-            && one == other
-        {
-            *self = EvTree::leaf(n + *one);
-            return Ok(());
-        }
-        let common = self.min().min(right.min());
-        let mut right = right;
-        self.lower(common);
-        right.lower(common);
-        self.node_with(alloc, n + common, right)
-    }
-
-    /// Puts this tree and the one on its right under the node with this number.
-    fn node_with(&mut self, alloc: Global, base: u64, right: EvTree) -> Result<(), Memory>
-        requires normal { IsNormal (plain_Node base self.old right) }
-        requires fits { base + max (maximum self.old) (maximum right) < 2 ^ 64 }
-        ensures { IfOk result (λ done. self.new ≡ plain_Node base self.old right) }
-    {
-        let (on_left, on_right) = (self.facts(), right.facts());
-        let children = Children {
-            left: mem::replace(self, EvTree::leaf(0)),
-            right,
-            spread: on_left.high.max(on_right.high),
-            digest: digest_of_both(on_left.digest, on_right.digest),
-        };
-        *self = EvTree {
-            node: Node::Fork {
-                base,
-                children: Arc::new(alloc, children)?,
-            },
-        };
-        Ok(())
-    }
-
-    /// What a node keeps of a child.
-    fn facts(&self) -> Facts
-        ensures high { result.high ≡ maximum self.now }
-        ensures digest { result.digest ≡ tree_digest self.now }
-    {
-        match &self.node {
-            Node::Leaf(n) => Facts {
-                high: *n,
-                digest: *n,
-            },
-            Node::Fork { base, children } => Facts {
-                high: *base + children.spread,
-                digest: base.wrapping_add(children.digest),
-            },
-        }
-    }
-
-    /// Lowers the least value by `by`.
-    fn lower(&mut self, by: u64)
-        requires { by ≤ minimum self.old }
-        ensures { self.new ≡ lowered by self.old }
-    {
-        match &mut self.node {
-            Node::Leaf(n) => *n -= by,
-            Node::Fork { base, .. } => *base -= by,
-        }
-    }
-
-    /// The tree with its least value raised by `by`, over the same children.
-    fn lifted(&self, by: u64) -> Result<EvTree, Memory>
-        requires { by + maximum self.now < 2 ^ 64 }
-        ensures exact { IfOk result (λ tree. tree ≡ lifted by self.now) }
-        ensures normal { IsNormal self.now }
-    {
-        match &self.node {
-            Node::Leaf(n) => Ok(EvTree::leaf(*n + by)),
-            Node::Fork { base, children } => Ok(EvTree {
-                node: Node::Fork {
-                    base: *base + by,
-                    children: Arc::try_clone(children)?,
-                },
-            }),
         }
     }
 
@@ -250,51 +141,6 @@ impl EvTree {
         let join = joined(alloc, self, 0, other, 0, &mut made)?;
         join.settle(&mut made, self, 0, other, 0)?;
         Ok(made)
-    }
-
-    /// The tree after an event of this id, by the published `event`: it fills the tree if that changes it, and else grows
-    /// it.
-    ///
-    /// It makes the nodes on the way to what is raised, and shares the rest. Returns `Memory` if it runs out of memory.
-    /// An id of everything takes none.
-    pub fn event(alloc: Global, id: &IdTree, tree: &EvTree) -> Result<EvTree, Memory>
-        requires some { id.now ≢ Zero }
-        requires fits { maximum tree.now + 1 < 2 ^ 64 }
-        ensures exact { IfOk result (λ after. after ≡ event id.now tree.now) }
-        ensures whole { id.now ≡ One → IsOk result }
-    {
-        if let Some(filled) = tree.filled(alloc, id)? {
-            return Ok(filled);
-        }
-        let (grown, _) = tree.grown(alloc, id)?;
-        Ok(grown)
-    }
-
-    /// The tree after the event, as [`EvTree::event`] gives it, and a point of the id that the event raised, with the
-    /// value there.
-    ///
-    /// Finding the point takes no memory. There is none only if one of the two trees is higher than the 128 levels of a
-    /// [`Point`].
-    pub fn event_with_point(
-        alloc: Global,
-        id: &IdTree,
-        tree: &EvTree,
-    ) -> Result<(EvTree, Option<RaisedPoint>), Memory>
-        requires some { id.now ≢ Zero }
-        requires fits { maximum tree.now + 1 < 2 ^ 64 }
-        ensures exact { IfOk result (λ found. found.0 ≡ event id.now tree.now) }
-        ensures raised { IfOk result (λ found. IfSome found.1 (λ raised. IsRaisedAt id.now tree.now found.0 raised.point)) }
-        ensures value { IfOk result (λ found. IfSome found.1 (λ raised. raised.value ≡ value found.0 raised.point)) }
-        ensures deep { IfOk result (λ found. IfNone found.1 (128 < max (height tree.now) (height found.0))) }
-        ensures whole { id.now ≡ One → IsOk result }
-    {
-        tree.normal();
-        id_tree::laws::each_tree_is_normal(id);
-        let Some(filled) = tree.filled(alloc, id)? else {
-            return tree.grown(alloc, id);
-        };
-        let raised = tree.risen_point(id, &filled);
-        Ok((filled, raised))
     }
 
     /// A number that equal trees share, found in one step. Most trees that differ have different numbers.
@@ -345,82 +191,6 @@ impl EvTree {
                     && children.right.same(&other_children.right)
             }
             _ => false,
-        }
-    }
-
-    /// The least value at any point, found in one step.
-    pub fn min(&self) -> u64
-        ensures { result ≡ minimum self.now }
-    {
-        match self.node {
-            Node::Leaf(n) => n,
-            Node::Fork { base, .. } => base,
-        }
-    }
-
-    /// The greatest value at any point, found in one step.
-    pub fn max(&self) -> u64
-        ensures { result ≡ maximum self.now }
-    {
-        match &self.node {
-            Node::Leaf(n) => *n,
-            Node::Fork { base, children } => *base + children.spread,
-        }
-    }
-
-    /// The value at the point, by a walk along the one path to it. It takes no memory.
-    pub fn value_at(&self, point: &Point) -> u64
-        ensures { result ≡ value self.now point.now }
-    {
-        self.normal();
-        let mut tree = self;
-        let mut halves = point.halves();
-        let mut sum: u64 = 0;
-        loop {
-            match &tree.node {
-                Node::Leaf(n) => return sum + *n,
-                Node::Fork { base, children, .. } => {
-                    sum += *base;
-                    tree = if halves % 2 == 0 {
-                        &children.left
-                    } else {
-                        &children.right
-                    };
-                    halves /= 2;
-                }
-            }
-        }
-    }
-
-    /// Whether the value at the point is at least `least`. It walks along the path to the point until the ranges of
-    /// values decide, and takes no memory.
-    pub fn is_at_least(&self, point: &Point, least: u64) -> bool
-        ensures { IsTrue result ↔ (least ≤ value self.now point.now) }
-    {
-        self.normal();
-        let mut tree = self;
-        let mut rest = point.halves();
-        let mut lift: u64 = 0;
-        loop {
-            if least <= lift + tree.min() {
-                return true;
-            }
-            if lift + tree.max() < least {
-                return false;
-            }
-            match &tree.node {
-                // A leaf has one value, so the range has decided.
-                Node::Leaf(_) => unreachable!(),
-                Node::Fork { base, children, .. } => {
-                    lift += *base;
-                    tree = if rest % 2 == 0 {
-                        &children.left
-                    } else {
-                        &children.right
-                    };
-                    rest /= 2;
-                }
-            }
         }
     }
 

@@ -1,12 +1,13 @@
 //! Joins of two lifted trees.
 ghost use Rattle.std.specs.Prelude.{◌≡◌, ◌+◌, ◌^◌, ◌<◌, ◌&&◌, ◌||◌, max, IfOk};
-ghost use Rattle.trace_types.specs.clock.EventTree.{maximum, Node as plain_Node};
+ghost use Rattle.trace_types.specs.clock.EventTree.{maximum, Node as plain_Node, IsNormal};
 ghost use Rattle.trace_types.specs.clock.Norm.{norm};
-ghost use Rattle.trace_types.specs.clock.Join.{joined_number, joined};
+ghost use Rattle.trace_types.specs.clock.Join.{lifted, joined_number, joined};
 ghost use Rattle.event_tree.specs.Joins.{gives_second, gives_first, IsJoin};
 
 use super::{Children, EvTree, Node};
 use std::alloc::Global;
+use std::sync::Arc;
 use trace_types::Memory;
 
 /// Which tree the join of two lifted trees is.
@@ -180,6 +181,23 @@ impl EvTree {
     {
         *made = self.raised_to(alloc, lift, number)?;
         Ok(Join::Made)
+    }
+
+    /// The tree with its least value raised by `by`, over the same children.
+    fn lifted(&self, by: u64) -> Result<EvTree, Memory>
+        requires { by + maximum self.now < 2 ^ 64 }
+        ensures exact { IfOk result (λ tree. tree ≡ lifted by self.now) }
+        ensures normal { IsNormal self.now }
+    {
+        match &self.node {
+            Node::Leaf(n) => Ok(EvTree::leaf(*n + by)),
+            Node::Fork { base, children } => Ok(EvTree {
+                node: Node::Fork {
+                    base: *base + by,
+                    children: Arc::try_clone(children)?,
+                },
+            }),
+        }
     }
 
     /// The join of this tree lifted by `lift` and of `number`.
