@@ -24,7 +24,9 @@ impl EvTree {
         ensures exact { IfOk result (λ after. after ≡ event id.now tree.now) }
         ensures whole { id.now ≡ One → IsOk result }
     {
-        if let Some(filled) = tree.filled(alloc, id)? {
+        let mut found = None;
+        tree.filled(alloc, id, &mut found)?;
+        if let Some(filled) = found {
             return Ok(filled);
         }
         let (grown, _) = tree.grown(alloc, id)?;
@@ -51,7 +53,9 @@ impl EvTree {
     {
         tree.normal();
         id_tree::laws::each_tree_is_normal(id);
-        let Some(filled) = tree.filled(alloc, id)? else {
+        let mut found = None;
+        tree.filled(alloc, id, &mut found)?;
+        let Some(filled) = found else {
             return tree.grown(alloc, id);
         };
         let raised = tree.risen_point(id, &filled);

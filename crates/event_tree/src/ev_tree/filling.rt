@@ -1,5 +1,5 @@
 //! Filling of a tree below an id.
-ghost use Rattle.std.specs.Prelude.{◌≡◌, ◌+◌, ◌^◌, ◌<◌, max, IfOk, IsOk};
+ghost use Rattle.std.specs.Prelude.{◌≡◌, ◌+◌, ◌^◌, ◌<◌, max, None, IfOk, IsOk};
 ghost use Rattle.trace_types.specs.clock.Id.{One, Pair};
 ghost use Rattle.trace_types.specs.clock.EventTree.{Leaf, Node as plain_Node, minimum, maximum, IsNormal};
 ghost use Rattle.trace_types.specs.clock.Norm.{norm};
@@ -19,11 +19,15 @@ struct Filling<'a> {
 }
 
 impl<'a> Filling<'a> {
-    fn of(before: &'a EvTree, after: Option<EvTree>) -> Filling<'a>
+    /// The part, not yet filled.
+    fn of(before: &'a EvTree) -> Filling<'a>
         ensures before { result.before.now ≡ before.now }
-        ensures after { result.after ≡ after }
+        ensures after { result.after ≡ None }
     {
-        Filling { before, after }
+        Filling {
+            before,
+            after: None,
+        }
     }
 
     /// The least value after filling.
@@ -46,23 +50,31 @@ impl<'a> Filling<'a> {
         }
     }
 
-    /// The node over this part and the one on its right, if either is another tree.
+    /// Puts the node over this part and the one on its right into `found`, if either is another tree.
     #[inline(always)]
-    fn beside(self, alloc: Global, base: u64, right: Filling<'_>) -> Result<Option<EvTree>, Memory>
+    fn beside(
+        self,
+        alloc: Global,
+        base: u64,
+        right: Filling<'_>,
+        found: &mut Option<EvTree>,
+    ) -> Result<(), Memory>
+        requires none { found.old ≡ None }
         requires normal { IsNormal (plain_Node base self.before.now right.before.now) }
         requires fits { base + max (maximum (filled_over self.after self.before.now)) (maximum (filled_over right.after right.before.now)) < 2 ^ 64 }
         requires left_normal { IsNormal (filled_over self.after self.before.now) }
         requires right_normal { IsNormal (filled_over right.after right.before.now) }
         requires left_rises { Rises self.after self.before.now }
         requires right_rises { Rises right.after right.before.now }
-        ensures { IfOk result (λ found. GivesFilled found
+        ensures { IfOk result (λ done. GivesFilled found.new
             (plain_Node base self.entry.before.now right.entry.before.now)
             (norm base (filled_over self.entry.after self.entry.before.now) (filled_over right.entry.after right.entry.before.now))) }
     {
         if self.after.is_none() && right.after.is_none() {
-            return Ok(None);
+            return Ok(());
         }
-        Ok(Some(self.node_over(alloc, base, right)?))
+        *found = Some(self.node_over(alloc, base, right)?);
+        Ok(())
     }
 
     /// The node over both parts as they are after filling.
@@ -79,20 +91,27 @@ impl<'a> Filling<'a> {
 }
 
 impl EvTree {
-    /// The filled tree, if that is another one.
+    /// Puts the filled tree into `found`, if that is another one.
     #[cycle(filled)]
     #[inline(always)]
-    pub(super) fn filled(&self, alloc: Global, id: &IdTree) -> Result<Option<EvTree>, Memory>
-        ensures gives { IfOk result (λ found. GivesFilled found self.now (fill id.now self.now)) }
+    pub(super) fn filled(
+        &self,
+        alloc: Global,
+        id: &IdTree,
+        found: &mut Option<EvTree>,
+    ) -> Result<(), Memory>
+        requires { found.old ≡ None }
+        ensures gives { IfOk result (λ done. GivesFilled found.new self.now (fill id.now self.now)) }
         ensures whole { id.now ≡ One → IsOk result }
     {
         match (id.parts(), &self.node) {
-            (IdParts::Zero, _) | (_, Node::Leaf(_)) => Ok(None),
-            (IdParts::One, Node::Fork { .. }) => Ok(Some(EvTree::leaf(self.max()))),
+            (IdParts::Zero, _) | (_, Node::Leaf(_)) => {}
+            (IdParts::One, Node::Fork { .. }) => *found = Some(EvTree::leaf(self.max())),
             (IdParts::Pair(left_id, right_id), Node::Fork { base, children, .. }) => {
-                children.filled_under(alloc, *base, left_id, right_id)
+                children.filled_under(alloc, *base, (left_id, right_id), found)?;
             }
         }
+        Ok(())
     }
 
     /// The leaf that takes the place of this tree if the id owns it whole: its greatest value, but at least `least`. It
@@ -109,34 +128,37 @@ impl EvTree {
 }
 
 impl Children {
-    /// The node over these two with this number, filled, if that is another one.
+    /// Puts the node over these two with this number, filled below an id of these two halves, into `found`, if that is
+    /// another one.
     #[cycle(filled)]
     #[inline(never)]
     fn filled_under(
         &self,
         alloc: Global,
         base: u64,
-        left_id: &IdTree,
-        right_id: &IdTree,
-    ) -> Result<Option<EvTree>, Memory>
+        id: (&IdTree, &IdTree),
+        found: &mut Option<EvTree>,
+    ) -> Result<(), Memory>
+        requires none { found.old ≡ None }
         requires normal { IsNormal (plain_Node base self.now.left self.now.right) }
         requires fits { base + max (maximum self.now.left) (maximum self.now.right) < 2 ^ 64 }
-        ensures { IfOk result (λ found. GivesFilled found (plain_Node base self.now.left self.now.right)
-            (fill (Pair left_id.now right_id.now) (plain_Node base self.now.left self.now.right))) }
+        ensures { IfOk result (λ done. GivesFilled found.new (plain_Node base self.now.left self.now.right)
+            (fill (Pair id.entry.0.now id.entry.1.now) (plain_Node base self.now.left self.now.right))) }
     {
-        let (left, right) = (&self.left, &self.right);
-        if left_id.is_one() {
-            let right = Filling::of(right, right.filled(alloc, right_id)?);
-            let left = Filling::of(left, left.flattened(right.min()));
-            left.beside(alloc, base, right)
-        } else if right_id.is_one() {
-            let left = Filling::of(left, left.filled(alloc, left_id)?);
-            let right = Filling::of(right, right.flattened(left.min()));
-            left.beside(alloc, base, right)
+        let mut left = Filling::of(&self.left);
+        let mut right = Filling::of(&self.right);
+        if id.0.is_one() {
+            self.right.filled(alloc, id.1, &mut right.after)?;
+            left.after = self.left.flattened(right.min());
+            left.beside(alloc, base, right, found)
+        } else if id.1.is_one() {
+            self.left.filled(alloc, id.0, &mut left.after)?;
+            right.after = self.right.flattened(left.min());
+            left.beside(alloc, base, right, found)
         } else {
-            let left = Filling::of(left, left.filled(alloc, left_id)?);
-            let right = Filling::of(right, right.filled(alloc, right_id)?);
-            left.beside(alloc, base, right)
+            self.left.filled(alloc, id.0, &mut left.after)?;
+            self.right.filled(alloc, id.1, &mut right.after)?;
+            left.beside(alloc, base, right, found)
         }
     }
 }
