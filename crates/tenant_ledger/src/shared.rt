@@ -1,5 +1,5 @@
 //! A share that keeps the ids and trees of all tenants together.
-ghost use Rattle.std.specs.Prelude.{◌≡◌, ◌↔◌, IfOk, IsErrOf};
+ghost use Rattle.std.specs.Prelude.{◌≡◌, ◌≢◌, ◌↔◌, IfErr, IfOk, IsErrOf};
 ghost use Rattle.order_cache.specs.Capacity.{IsCapacity};
 
 use crate::{Keep, Share};
@@ -7,9 +7,9 @@ use event_tree::EvTree;
 use id_tree::IdTree;
 use order_cache::{CacheFault, OrderCache};
 use std::alloc::Global;
-use std::sync::Wait;
+use std::sync::{Arc, Wait};
 use trace_query::{Cached, Compare};
-use trace_types::{Memory, Order};
+use trace_types::{Memory, Order, WorldFault};
 use tree_forest::{Forest, Home, Tree};
 
 /// Keeps the ids and trees of all tenants, each once, and remembers how the last pairs of trees stood to each other.
@@ -42,6 +42,21 @@ impl Shared {
             trees,
             orders,
         })
+    }
+
+    /// A share that all tenants own together, as [`Shared::new`] makes it.
+    ///
+    /// Returns `Capacity` if the capacity is outside 1 to 65536, else `Memory` if it runs out of memory.
+    pub fn by_all(alloc: Global, capacity: u64) -> Result<Arc<Shared>, WorldFault>
+        ensures capacity { IsErrOf result WorldFault.Capacity ↔ (IsCapacity capacity → ⊥) }
+        ensures names { IfErr result (λ fault. fault ≢ WorldFault.Names) }
+        ensures room { IfOk result (λ shared. shared.value.orders.capacity ≡ capacity) }
+    {
+        match Shared::new(alloc, capacity) {
+            Ok(shared) => Arc::new(alloc, shared).map_err(|_| WorldFault::Memory),
+            Err(CacheFault::Capacity) => Err(WorldFault::Capacity),
+            Err(CacheFault::Memory) => Err(WorldFault::Memory),
+        }
     }
 
     /// The home of the event trees. It has no bytes.
