@@ -1,5 +1,5 @@
 //! Drafts of events.
-ghost use Rattle.std.specs.Prelude.{◌≡◌, ◌≢◌, suc, ◌+◌, ◌^◌, ◌<◌, ◌≤◌, [], true, IfOk, OnOk, OnErr, IfSome, IfNone, Some, length, slice_get};
+ghost use Rattle.std.specs.Prelude.{◌≡◌, ◌≢◌, suc, ◌+◌, ◌^◌, ◌<◌, ◌≤◌, [], true, IfOk, IfErr, OnOk, OnErr, IfSome, IfNone, Some, length, slice_get};
 ghost use Rattle.trace_types.specs.tenant.Reachability.{increasing};
 ghost use Rattle.trace_types.specs.clock.Clock.{tree_clock};
 ghost use Rattle.trace_types.specs.clock.Stamps.{tree_of, acting_id, takes_in};
@@ -116,30 +116,33 @@ impl<S: Keep> Book<S> {
     {
         let report = self.report(request)?;
         self.make_room(rt)?;
-        let draft = self.draft(rt, &report)?;
-        self.note(report.task, report.kind, report.name)?;
-        Ok(draft)
+        self.draft(rt, &report)
     }
 
-    /// What is to be kept of the report's event.
-    fn draft<R>(&self, rt: &R, report: &Report) -> Result<Draft<S>, Memory>
+    /// Notes the report's message, and gives what is to be kept of its event.
+    fn draft<R>(&mut self, rt: &R, report: &Report) -> Result<Draft<S>, Code>
     where
         S: Share<R>,
-        requires book { IsKept self.now }
-        requires seeded { 0 < self.now.kept_ids }
-        requires report { IsReport self.now report.now }
-        ensures event { IfOk result (λ draft. draft ≡ event_of self.now report.now draft.point) }
-        ensures point { IfOk result (λ draft. MayRaise self.now report.now draft.point) }
+        requires book { IsKept self.old }
+        requires seeded { 0 < self.old.kept_ids }
+        requires report { IsReport self.old report.now }
+        ensures event { IfOk result (λ draft. draft ≡ event_of self.old report.now draft.point) }
+        ensures point { IfOk result (λ draft. MayRaise self.old report.now draft.point) }
+        ensures noted { OnOk result (Notes report.now.task report.now.kind report.now.name (suc (length self.old.rows)) self.old.messages self.new.messages) }
+        ensures err { IfErr result (λ code. (code ≡ Code.NoMemory) × (self.new ≡ self.old)) }
+        ensures others { self.new ≡ record self.old { messages = self.new.messages } }
     {
         let ids = self.ids_made(report)?;
         let id = ids.acting(self.id(report.acting.id));
         let (tree, point) = self.tree_after(report, id)?;
         let tree = self.share.keep_tree(rt, tree)?;
         let (first, second) = ids.keep(rt, &self.share)?;
+        let row = self.row_after(report);
         let event = self.event_count() + 1;
         let place = self.id_count();
+        self.note(report, event)?;
         Ok(Draft {
-            row: self.row_after(report),
+            row,
             tree,
             point,
             first,
@@ -195,21 +198,20 @@ impl<S: Keep> Book<S> {
         }
     }
 
-    /// Notes the message that the next event, of this task, sends or receives.
-    fn note(&mut self, task: Name, kind: Kind, name: Option<Name>) -> Result<(), Memory>
-        requires { MayNote self.old.messages task kind name }
-        ensures noted { OnOk result (Notes task kind name (suc (length self.old.rows)) self.old.messages self.new.messages) }
+    /// Notes the message that the report's event sends or receives.
+    fn note(&mut self, report: &Report, event: u64) -> Result<(), Memory>
+        requires { MayNote self.old.messages report.now.task report.now.kind report.now.name }
+        ensures noted { OnOk result (Notes report.now.task report.now.kind report.now.name event self.old.messages self.new.messages) }
         ensures unchanged { OnErr result (self.new ≡ self.old) }
         ensures others { self.new ≡ record self.old { messages = self.new.messages } }
     {
-        let event = self.event_count() + 1;
-        match (kind, name) {
+        match (report.kind, report.name) {
             (Kind::Send, Some(message)) => {
                 self.messages.send(message, event).map_err(|_| Memory)
             }
             (Kind::Recv, Some(message)) => {
                 self.messages
-                    .receive(&message, task, event)
+                    .receive(&message, report.task, event)
                     .map_err(|_| Memory)
             }
             _ => Ok(()),
