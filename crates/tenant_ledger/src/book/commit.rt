@@ -1,5 +1,5 @@
 //! Drafts are committed, or taken back.
-ghost use Rattle.std.specs.Prelude.{◌≡◌, ℕ, suc, ◌+◌, ◌<◌, ◌≤◌, ◌∷◌, Some, length, option_to_list, vec_len, vec_capacity, ◌++◌};
+ghost use Rattle.std.specs.Prelude.{◌≡◌, ℕ, suc, ◌+◌, ◌<◌, ◌≤◌, ◌∷◌, Some, length, option_to_list, slice_get, true, vec_len, vec_capacity, ◌++◌};
 ghost use Rattle.indexmap.specs.IndexMap.{get, index_map_len, spare};
 ghost use Rattle.trace_types.specs.text.Name.{Text as Characters, is_same};
 ghost use Rattle.trace_types.specs.clock.Clock.{tree_clock};
@@ -40,12 +40,13 @@ impl<S: Keep> Book<S> {
             first,
             second,
             acting,
+            seat,
             named,
         } = draft;
         add_some(&mut self.ids, first);
         add_some(&mut self.ids, second);
         put_some(&mut self.tasks, row.name, named);
-        put(&mut self.tasks, row.task, acting);
+        put_at(&mut self.tasks, seat, row.task, acting);
         self.rows.push_reserved(row);
         self.trees.push_reserved(tree);
         self.points.push_reserved(point);
@@ -95,6 +96,32 @@ fn put(tasks: &mut IndexMap<Name, Task>, name: Name, task: Task)
     ensures room { spare tasks.old ≤ spare tasks.new + 1 }
 {
     tasks.insert(name, task).unwrap();
+}
+
+/// Keeps the task under its name, for which there is room. It is quick if the name has this seat.
+fn put_at(tasks: &mut IndexMap<Name, Task>, seat: usize, name: Name, task: Task)
+    requires { 0 < spare tasks.old }
+    ensures tasks { (other : Characters) → get is_same tasks.new other ≡ task_with name task (get is_same tasks.old) other }
+    ensures count { index_map_len tasks.new ≡ count_with name (get is_same tasks.old) (index_map_len tasks.old) }
+    ensures room { spare tasks.old ≤ spare tasks.new + 1 }
+{
+    if has_seat(tasks, seat, &name)
+        && let Some(kept) = tasks.get_index_mut(seat)
+    {
+        *kept = task;
+    } else {
+        put(tasks, name, task);
+    }
+}
+
+/// Whether the task of this name has this seat.
+fn has_seat(tasks: &IndexMap<Name, Task>, seat: usize, name: &Name) -> bool
+    ensures { result ≡ true → (had : Task) × (slice_get tasks.now.entries seat ≡ Some (name.now, had)) × (get is_same tasks.now name.now ≡ Some had) }
+{
+    match tasks.get_index(seat) {
+        Some((found, _)) => found == name,
+        None => false,
+    }
 }
 
 /// Takes back what the report of this row made of the messages.

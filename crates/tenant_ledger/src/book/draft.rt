@@ -30,8 +30,9 @@ pub(crate) struct Draft<S: Keep> {
     /// The ids that the event makes, which come behind those that the book has.
     pub(super) first: Option<S::Id>,
     pub(super) second: Option<S::Id>,
-    /// What is to be kept of the acting task.
+    /// What is to be kept of the acting task, and its seat in the table of tasks.
     pub(super) acting: Task,
+    pub(super) seat: usize,
     /// What is to be kept of the task that the event names.
     pub(super) named: Option<Task>,
 }
@@ -114,13 +115,13 @@ impl<S: Keep> Book<S> {
         requires report { is_report request.now ≡ true }
         ensures { Prepares result self.old request.now self.new }
     {
-        let report = self.report(request)?;
+        let (report, seat) = self.report(request)?;
         self.make_room(rt)?;
-        self.draft(rt, &report)
+        self.draft(rt, &report, seat)
     }
 
-    /// Notes the report's message, and gives what is to be kept of its event.
-    fn draft<R>(&mut self, rt: &R, report: &Report) -> Result<Draft<S>, Code>
+    /// Notes the report's message, and gives what is to be kept of its event. The acting task has this seat.
+    fn draft<R>(&mut self, rt: &R, report: &Report, seat: usize) -> Result<Draft<S>, Code>
     where
         S: Share<R>,
         requires book { IsKept self.old }
@@ -148,6 +149,7 @@ impl<S: Keep> Book<S> {
             first,
             second,
             acting: report.acting_after(event, place),
+            seat,
             named: report.named_after(event, place),
         })
     }

@@ -45,7 +45,7 @@ impl<S: Keep> Records for Book<S> {
 
     fn task(&self, name: &Name) -> Option<(TaskState, u64)> {
         match self.known_task(name) {
-            Ok(task) => Some((task.state, task.last)),
+            Ok((task, _)) => Some((task.state, task.last)),
             Err(_) => None,
         }
     }

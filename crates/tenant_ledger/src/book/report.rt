@@ -70,15 +70,15 @@ impl Report {
 }
 
 impl<S: Keep> Book<S> {
-    /// The task, if it may report, else `NoTask` or `TaskEnded`.
-    fn live_task(&self, name: &Name) -> Result<Task, Code>
+    /// The task, if it may report, and its seat, else `NoTask` or `TaskEnded`.
+    fn live_task(&self, name: &Name) -> Result<(&Task, usize), Code>
         requires { IsKept self.now }
-        ensures task { IfOk result (λ task. task_in self.now name.now ≡ Some task) }
+        ensures task { IfOk result (λ found. task_in self.now name.now ≡ Some found.0.now) }
         ensures decides { Decides (refusals_of_task (history_in self.now) name.now) result }
     {
-        let task = self.known_task(name)?;
+        let (task, seat) = self.known_task(name)?;
         match task.state {
-            TaskState::Live => Ok(task),
+            TaskState::Live => Ok((task, seat)),
             TaskState::Ended | TaskState::Joined => Err(Code::TaskEnded),
         }
     }
@@ -89,10 +89,10 @@ impl<S: Keep> Book<S> {
         ensures task { IfOk result (λ task. task_in self.now name.now ≡ Some task) }
         ensures decides { Decides (refusals_of_joined (history_in self.now) name.now) result }
     {
-        let task = self.known_task(name)?;
+        let (task, _) = self.known_task(name)?;
         match task.state {
             TaskState::Live => Err(Code::NotEnded),
-            TaskState::Ended => Ok(task),
+            TaskState::Ended => Ok(*task),
             TaskState::Joined => Err(Code::AlreadyJoined),
         }
     }
@@ -175,27 +175,28 @@ impl<S: Keep> Book<S> {
         }
     }
 
-    /// What the request reports, or why it is refused.
-    pub(super) fn report(&self, request: &Request) -> Result<Report, Code>
+    /// What the request reports, and the seat of the acting task, or why it is refused.
+    pub(super) fn report(&self, request: &Request) -> Result<(Report, usize), Code>
         requires book { IsKept self.now }
         requires report { is_report request.now ≡ true }
-        ensures report { IfOk result (IsReport self.now) }
-        ensures answer { IfOk result (λ report. answer_to (history_in self.now) request.now ≡ accepted (history_in self.now) report.task report.kind report.name) }
+        ensures report { IfOk result (λ found. IsReport self.now found.0) }
+        ensures answer { IfOk result (λ found. answer_to (history_in self.now) request.now ≡ accepted (history_in self.now) found.0.task found.0.kind found.0.name) }
         ensures refused { result_err result ≡ refusal_of self.now.limits (history_in self.now) request.now }
     {
         let Some(reported) = request.reported() else {
             return Err(Code::ViewOnly);
         };
-        let acting = self.live_task(&reported.task)?;
+        let (acting, seat) = self.live_task(&reported.task)?;
         let (second, joined) = self.named(&reported.task, reported.kind, &reported.name)?;
         self.check_room()?;
-        Ok(Report {
+        let report = Report {
             task: reported.task,
             kind: reported.kind,
             name: reported.name,
-            acting,
+            acting: *acting,
             second,
             joined,
-        })
+        };
+        Ok((report, seat))
     }
 }

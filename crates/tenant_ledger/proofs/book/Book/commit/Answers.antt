@@ -29,5 +29,5 @@ returns-clause-book g c =
     c.push_reserved-5.ensures.items
     (ap (λ ids. with_seed (map id ids)) ids ∙ seeded-append id book.ids.items made ready.room.seeded)
     (omega (arith, ready.room.seeded, ap length ids, length-append book.ids.items made))
-    (λ name. c.put.ensures.tasks name ∙ ap (λ had. cond (is_same draft.row.task name) (Some draft.acting) had) (c.put_some.ensures.tasks name))
-    (c.put.ensures.count ∙ (λ i. c.put_some.ensures.count i + cond (is_some (c.put_some.ensures.tasks draft.row.task i)) 0 1))
+    (λ name. c.put_at.ensures.tasks name ∙ ap (λ had. cond (is_same draft.row.task name) (Some draft.acting) had) (c.put_some.ensures.tasks name))
+    (c.put_at.ensures.count ∙ (λ i. c.put_some.ensures.count i + cond (is_some (c.put_some.ensures.tasks draft.row.task i)) 0 1))
