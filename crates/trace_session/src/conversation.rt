@@ -35,7 +35,18 @@ pub(crate) struct Opening {
     tenant: Name,
 }
 
-/// Holds the session of this number on the hub.
+/// What a session is held over.
+#[derive(Drop)]
+pub struct Connection<A, B> {
+    /// What the session reads.
+    pub reader: A,
+    /// What it writes to.
+    pub writer: B,
+    /// The number of the session, by which its gate knows it.
+    pub number: u64,
+}
+
+/// Holds a session over the connection on the hub.
 ///
 /// Its first line is `report NAME` or `view NAME`, and gets no reply if the tenant's desk or a view can be lent. Else the
 /// session writes one line that says why, and ends with `Refused`: 400 for the line, 420 for the tenant, 421 for the
@@ -46,25 +57,24 @@ pub fn session<T: Wait, R: Source, W: Sink, G: Gate>(
     rt: &T,
     alloc: Global,
     hub: &Hub,
-    reader: &mut R,
-    writer: &mut W,
+    connection: &mut Connection<R, W>,
     gate: &G,
-    number: u64,
 ) -> Result<SessionEnd, SessionFault>
-    ensures conversed { (IsErrOf result SessionFault.Memory × (reader.new ≡ reader.old) × (writer.new ≡ writer.old))
-        ⊎ ((held : Held) × Converses hub.now (state (R.seen reader.old) fresh_held (W.seen writer.old)) (state (R.seen reader.new) held (W.seen writer.new)) result
-        × Reads (R.seen reader.old) (R.seen reader.new) fresh_held held (failed_reads_in result)) }
-    ensures ends { StopsAtEnd (R.seen reader.old) (R.seen reader.new) }
-    ensures let_out { ((W.seen writer.new).bytes ≡ (W.seen writer.old).bytes) ⊎ G.lets_out gate.now number }
-    ensures gate { IsErrOf result SessionFault.Gate → G.holds_back gate.now number }
+    ensures conversed { (IsErrOf result SessionFault.Memory × (connection.new ≡ connection.old))
+        ⊎ ((held : Held) × Converses hub.now (state (R.seen connection.old.reader) fresh_held (W.seen connection.old.writer)) (state (R.seen connection.new.reader) held (W.seen connection.new.writer)) result
+        × Reads (R.seen connection.old.reader) (R.seen connection.new.reader) fresh_held held (failed_reads_in result)) }
+    ensures ends { StopsAtEnd (R.seen connection.old.reader) (R.seen connection.new.reader) }
+    ensures let_out { ((W.seen connection.new.writer).bytes ≡ (W.seen connection.old.writer).bytes) ⊎ G.lets_out gate.now connection.old.number }
+    ensures gate { IsErrOf result SessionFault.Gate → G.holds_back gate.now connection.old.number }
+    ensures number { connection.new.number ≡ connection.old.number }
 {
     let buffer = Buffer::new(alloc)?;
-    let mut lines = LineReader::over(reader, buffer);
+    let mut lines = LineReader::over(&mut connection.reader, buffer);
     let mut output = Output {
-        writer,
+        writer: &mut connection.writer,
         rt,
         gate,
-        number,
+        number: connection.number,
     };
     output.converse(hub, &mut lines)
 }

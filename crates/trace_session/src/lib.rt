@@ -10,17 +10,18 @@
 //!
 //! ```
 //! use line_protocol::{FromReader, IntoWriter};
-//! use trace_session::{Hub, OpenGate, SessionEnd, session};
+//! use trace_session::{Connection, Hub, OpenGate, SessionEnd, session};
 //! use trace_types::{Limits, Name};
 //!
 //! let names = [Name::read(b"x").ok_or("no name")?];
-//! let mut reader = FromReader::new(b"report x\nlocal root\ncount\nquit\n".as_slice());
-//! let mut writer = IntoWriter::new(Vec::new(alloc));
+//! let reader = FromReader::new(b"report x\nlocal root\ncount\nquit\n".as_slice());
+//! let writer = IntoWriter::new(Vec::new(alloc));
+//! let mut connection = Connection { reader, writer, number: 1 };
 //! let hub = Hub::new(&rt, alloc, &names, Limits::default(), 1024)?;
-//! let end = session(&rt, alloc, &hub, &mut reader, &mut writer, &OpenGate, 1);
+//! let end = session(&rt, alloc, &hub, &mut connection, &OpenGate);
 //! hub.close(&rt);
 //! assert!(rt; end == Ok(SessionEnd::Quit));
-//! assert!(rt; writer.into_inner().as_slice() == b"201 1\n200 1 1 0\n".as_slice());
+//! assert!(rt; connection.writer.into_inner().as_slice() == b"201 1\n200 1 1 0\n".as_slice());
 //! ```
 #![tactic(auto)]
 
@@ -36,7 +37,7 @@ mod output;
 mod resting;
 mod serving;
 
-pub use conversation::session;
+pub use conversation::{Connection, session};
 pub use door::{Door, DoorFault};
 pub use end::{SessionEnd, SessionFault};
 pub use gate::{Gate, OpenGate};

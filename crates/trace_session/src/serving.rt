@@ -2,7 +2,7 @@
 ghost use Rattle.std.specs.Prelude.{◌≡◌, ◌↔◌, ◌+◌, ◌<◌, ◌≤◌, ◌^◌, ◌⊎◌, IfOk, IsErrOf};
 ghost use Rattle.trace_session.specs.Serving.{Accepts, IsWorkers};
 
-use crate::{Door, DoorFault, Gate, Hub, session};
+use crate::{Connection, Door, DoorFault, Gate, Hub, session};
 use crossbeam_channel::{Receiver, Sender, unbounded};
 use line_protocol::{Sink, Source};
 use std::alloc::{AllocError, Global};
@@ -62,14 +62,6 @@ impl From<AllocError> for ServeFault {
     }
 }
 
-/// A connection on its way to a worker.
-#[derive(Drop)]
-struct Connection<A, B> {
-    reader: A,
-    writer: B,
-    number: u64,
-}
-
 /// A place in which workers hold sessions.
 trait Hall<T> {
     /// Holds the session of this connection, and says whether it came to its end.
@@ -87,15 +79,10 @@ impl<T: Wait> Hall<T> for Hub {
         &self,
         rt: &T,
         alloc: Global,
-        connection: Connection<A, B>,
+        mut connection: Connection<A, B>,
         gate: &G,
     ) -> bool {
-        let Connection {
-            mut reader,
-            mut writer,
-            number,
-        } = connection;
-        session(rt, alloc, self, &mut reader, &mut writer, gate, number).is_ok()
+        session(rt, alloc, self, &mut connection, gate).is_ok()
     }
 }
 
