@@ -30,12 +30,12 @@ pub(crate) fn answer_line<R: Wait, W: Sink>(
     let Some(tenant) = world.find_text(name) else {
         return refuse(writer, counts, b"?", code_to_nobody(name));
     };
-    let Some(request) = request else {
+    let Some(request) = &request else {
         return refuse(writer, counts, name, Code::Line);
     };
-    match world.step_briefly(tenant, &request) {
-        Some(reply) => tell(writer, counts, name, &reply),
-        None => answer_at_length(rt, world, tenant, &request, writer, counts),
+    match &world.step_briefly(tenant, request) {
+        Some(reply) => tell(writer, counts, name, reply),
+        None => answer_at_length(rt, world, tenant, request, writer, counts),
     }
 }
 

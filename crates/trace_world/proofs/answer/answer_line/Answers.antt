@@ -1,7 +1,9 @@
-use Rattle.std.proofs.Common.{refl, sym, ap, ◌∙◌, codes}
+use Rattle.std.proofs.Common.{refl, sym, ap, ◌∙◌, subst, codes}
+use Rattle.std.specs.Prelude.{IfSome}
 use Rattle.std.specs.Option.{option_copied}
 use Rattle.trace_types.specs.declared.code.Code.TheVariants.{Line}
 use Rattle.trace_types.specs.declared.reply.Reply.TheVariants.{Refused}
+use Rattle.trace_types.specs.world.World.{StepsOne}
 use Rattle.trace_world.specs.Answered.{code_to_nobody}
 use Rattle.trace_world.proofs.Answering.{answers_no_request, answers_no_tenant, answers_request, where_found, where_too_long}
 use Rattle.trace_world.proofs.answer.answer_line.Goals as goal
@@ -41,12 +43,13 @@ returns-in-Some-step_briefly g c = record {
   does = where_found (option_copied c.args.line) c.in-Some.line.now (ap option_copied c.in-Some.is) (λ short.
       answers_request c.args.world.now c.args.world.now c.in-Some.line.now c.read_addressed-request.result.0.now _ _ c.in-Some-find_text.tenant c.in-Some-request.request _ short
       c.read_addressed-request.ensures c.in-Some-find_text.ensures.name c.in-Some-request.is (sym c.in-Some-find_text.ensures.place)
-      ((c.in-Some-find_text.ensures.stands c.in-Some-find_text.tenant).0 refl) c.in-Some-find_text.ensures.within c.in-Some-step_briefly.ensures);
+      ((c.in-Some-find_text.ensures.stands c.in-Some-find_text.tenant).0 refl) c.in-Some-find_text.ensures.within
+      (subst (λ found. IfSome found (λ reply. StepsOne c.args.world.now c.in-Some-find_text.tenant c.in-Some-request.request reply c.args.world.now)) c.in-Some-step_briefly.is c.step_briefly.ensures));
   tells = c.tell.ensures;
 }
 
-pub returns-in-None : goal.returns-in-None
-returns-in-None g c =
+pub returns : goal.returns
+returns g c =
     let answers = c.answer_at_length.ensures in
     record {
       to = answers.to;
