@@ -115,7 +115,11 @@ impl<S: Keep> Book<S> {
         requires report { is_report request.now ≡ true }
         ensures { Prepares result self.old request.now self.new }
     {
-        let (report, seat) = self.report(request)?;
+        // A `?` would move the report once more.
+        let (report, seat) = match self.report(request) {
+            Ok(found) => found,
+            Err(code) => return Err(code),
+        };
         self.make_room(rt)?;
         self.draft(rt, &report, seat)
     }
