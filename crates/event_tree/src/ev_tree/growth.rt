@@ -215,14 +215,16 @@ impl EvTree {
         };
         if let Some(right) = opened.right.grown_for(alloc, id.1, price, zero, place)? {
             place.lift(1, opened.root);
-            let left = opened.left.share(alloc)?;
-            return Ok(Some(EvTree::fork(alloc, opened.root, left, right)?));
+            let mut tree = opened.left.share(alloc)?;
+            tree.fork_with(alloc, opened.root, right)?;
+            return Ok(Some(tree));
         }
-        let Some(left) = opened.left.grown_for(alloc, id.0, price, zero, place)? else {
+        let Some(mut tree) = opened.left.grown_for(alloc, id.0, price, zero, place)? else {
             return Ok(None);
         };
         place.lift(0, opened.root);
         let right = opened.right.share(alloc)?;
-        Ok(Some(EvTree::fork(alloc, opened.root, left, right)?))
+        tree.fork_with(alloc, opened.root, right)?;
+        Ok(Some(tree))
     }
 }
