@@ -1,5 +1,5 @@
 //! Hubs, from which sessions borrow desks and views.
-ghost use Rattle.std.specs.Prelude.{◌≡◌, ◌≢◌, ◌↔◌, ◌++◌, ◌∷◌, [], true, false, IfErr, IfOk, IfSome, IsErrOf, is_some};
+ghost use Rattle.std.specs.Prelude.{◌≡◌, ◌↔◌, ◌++◌, ◌∷◌, [], true, false, IfOk, IfSome, IsErrOf, is_some};
 ghost use Rattle.std.specs.List.{list_any};
 ghost use Rattle.trace_types.specs.text.Name.{is_same};
 ghost use Rattle.trace_session.specs.Openings.{is_tenant};
@@ -8,7 +8,6 @@ ghost use Rattle.trace_types.specs.world.TenantNames.{can_be_tenants};
 
 use crate::lent::Lent;
 use crate::resting::Resting;
-use order_cache::CacheFault;
 use std::alloc::Global;
 use std::marker::Model;
 use std::sync::{Arc, Mutex, MutexGuard, Wait};
@@ -93,7 +92,7 @@ impl Hub {
         if TenantNames::of(names).is_none() {
             return Err(WorldFault::Names);
         }
-        let shared = shared_by_all(alloc, cache)?;
+        let shared = Shared::by_all(alloc, cache)?;
         Ok(Hub::with_tenants(rt, alloc, names, limits, &shared)?)
     }
 
@@ -186,19 +185,4 @@ fn new_tenant<R: Wait>(
         name,
         resting: Mutex::new(resting),
     })
-}
-
-/// What the tenants are to share.
-fn shared_by_all(alloc: Global, cache: u64) -> Result<Arc<Shared>, WorldFault>
-    ensures capacity { IsErrOf result WorldFault.Capacity ↔ (IsCapacity cache → ⊥) }
-    ensures names { IfErr result (λ fault. fault ≢ WorldFault.Names) }
-{
-    match Shared::new(alloc, cache) {
-        Ok(shared) => match Arc::new(alloc, shared) {
-            Ok(shared) => Ok(shared),
-            Err(_) => Err(WorldFault::Memory),
-        },
-        Err(CacheFault::Capacity) => Err(WorldFault::Capacity),
-        Err(CacheFault::Memory) => Err(WorldFault::Memory),
-    }
 }

@@ -1,5 +1,5 @@
 //! Worlds of tenants.
-ghost use Rattle.std.specs.Prelude.{◌≡◌, ◌≢◌, ◌↔◌, ◌<◌, ℕ, true, false, [], length, map, Some, slice_get, IfOk, IfErr, IfSome, IsErrOf, IsTrue};
+ghost use Rattle.std.specs.Prelude.{◌≡◌, ◌↔◌, ◌<◌, ℕ, true, false, [], length, map, Some, slice_get, IfOk, IfSome, IsErrOf, IsTrue};
 ghost use Rattle.trace_types.specs.text.Name.{is_name};
 ghost use Rattle.order_cache.specs.Capacity.{IsCapacity};
 ghost use Rattle.trace_types.specs.tenant.Tenant.{fresh};
@@ -8,7 +8,6 @@ ghost use Rattle.trace_types.specs.world.World.{StepsOne, IsAfter, IsDue};
 ghost use Rattle.trace_world.specs.Exported.{IsHeaderOf};
 ghost use Rattle.trace_world.specs.Tenants.{IsLedTo, IsShortAt, IsWorld, StepsAt, can_be_tenants};
 
-use order_cache::CacheFault;
 use std::alloc::Global;
 use std::marker::Model;
 use std::sync::{Arc, Wait};
@@ -64,7 +63,7 @@ impl World {
         let Some(names) = TenantNames::of(names) else {
             return Err(WorldFault::Names);
         };
-        let shared = shared_by_all(alloc, cache)?;
+        let shared = Shared::by_all(alloc, cache)?;
         let ledgers = fresh_ledgers(alloc, names.as_slice(), limits, &shared)?;
         Ok(World {
             names,
@@ -165,21 +164,6 @@ impl World {
         ensures { IfSome result (λ reply. StepsOne self.now tenant request.now reply self.now) }
     {
         self.ledgers[tenant].ask_briefly(request)
-    }
-}
-
-/// What the tenants are to share.
-fn shared_by_all(alloc: Global, cache: u64) -> Result<Arc<Shared>, WorldFault>
-    ensures capacity { IsErrOf result WorldFault.Capacity ↔ (IsCapacity cache → ⊥) }
-    ensures names { IfErr result (λ fault. fault ≢ WorldFault.Names) }
-{
-    match Shared::new(alloc, cache) {
-        Ok(shared) => match Arc::new(alloc, shared) {
-            Ok(shared) => Ok(shared),
-            Err(_) => Err(WorldFault::Memory),
-        },
-        Err(CacheFault::Capacity) => Err(WorldFault::Capacity),
-        Err(CacheFault::Memory) => Err(WorldFault::Memory),
     }
 }
 
