@@ -21,3 +21,11 @@ HoldsThere Holds (Some value) = Holds value
 
 pub value_there : {A : Type 0} (option : Option A) (value : A) → option ≡ Some value → (Holds : A → Type 0) → HoldsThere Holds option → Holds value
 value_there option value is Holds holds = subst (HoldsThere Holds) is holds
+
+-- and so is what is seen of the value
+abbrev pub shown_of : {A B : Type 0} → B → (A → B) → Option A → B
+shown_of none shown None = none
+shown_of none shown (Some value) = shown value
+
+pub shown_there : {A B : Type 0} (option : Option A) (value : A) (none seen : B) (shown : A → B) → option ≡ Some value → shown_of none shown option ≡ seen → shown value ≡ seen
+shown_there option value none seen shown is view = subst (λ o. shown_of none shown o ≡ seen) is view

@@ -18,7 +18,6 @@ use Rattle.trace_query.specs.contracts.deciding.Deciding as Deciding
 use Rattle.tree_forest.specs.contracts.tree.Tree as Tree
 use Rattle.tenant_desk.proofs.index.Index.TheSendSync as index
 use Rattle.tenant_desk.specs.contracts.desk.Desk as Desk
-use Rattle.tenant_desk.specs.contracts.desk.Work as Work
 use Rattle.tenant_desk.specs.contracts.event.Event as Event
 use Rattle.tenant_desk.specs.contracts.events.Events as Events
 use Rattle.tenant_desk.specs.contracts.front.Front as Front
@@ -98,8 +97,8 @@ publisher_send = search (
   front_send,
 ) depth 20
 
-work_send : IsSend Work.the_row
-work_send = search (
+pub desk_send : IsSend Desk.the_row
+desk_send = search (
   sendable,
   crosses,
   ledger.the_send,
@@ -110,6 +109,3 @@ work_send = search (
   ev_tree_send,
   kept_id_send,
 ) depth 20
-
-pub desk_send : IsSend Desk.the_row
-desk_send = search (sendable, work_send) depth 20

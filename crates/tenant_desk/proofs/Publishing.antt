@@ -1,5 +1,5 @@
 -- What operations of a desk make of what is published.
-use Rattle.std.proofs.Common.{◌≡◌, ℕ, List, [], ◌∷◌, ◌++◌, length, take, fold, refl, ap, sym, subst, ◌∙◌}
+use Rattle.std.proofs.Common.{◌≡◌, ℕ, Bool, true, false, MatchBool, List, [], ◌∷◌, ◌++◌, length, take, fold, refl, ap, sym, subst, ◌∙◌}
 use Rattle.std.proofs.Math.Seq.{take-append_seam, take-length}
 use Rattle.std.specs.Prelude.{Option, Some, None}
 use Rattle.left_right.specs.Register.{TurnsAt}
@@ -140,3 +140,16 @@ none_are_published events home limits front none no_rows = record {
   events = subst AreSound (sym none) (sound_none home limits);
   rows = no_rows ∙ ap (λ (of : Events). of.rows) (sym none);
 }
+
+-- All that waits is shown, the operation last, or nothing is, and then the operation waits too.
+pub shown_all : (shows : Bool) (published before next : Published) (known known_before now : Option Sight) (waiting waits left : List Operation) (operation : Operation)
+    → MayPublish published known waiting → IsFor published operation → before ≡ published → known_before ≡ known → waits ≡ waiting ++ operation ∷ []
+    → MatchBool shows ((next ≡ fold left_by before waits) × (left ≡ [])) ((next ≡ before) × (left ≡ waits))
+    → MatchBool shows (Sees known_before before next now) (now ≡ known_before)
+    → MayPublish next now left × MatchBool shows (next ≡ made_by operation published) (next ≡ published)
+shown_all true published before next known known_before now waiting waits left operation ready for same seen are values rule = (
+  ready_with_none next now left rule.0 rule.1 values.1,
+  (publishes 0 known published next waiting operation ready for (values.0 ∙ (λ i. fold left_by (same i) (are i)))).0,
+)
+shown_all false published before next known known_before now waiting waits left operation ready for same seen are values rule =
+    (rw (values.0, same, rule, seen, values.1, are) (ready_and published known waiting operation ready for), values.0 ∙ same)

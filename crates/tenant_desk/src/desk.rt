@@ -15,24 +15,6 @@ use std::sync::{Arc, Wait};
 use tenant_ledger::{Keep, Ledger, Prepared, Shared, SharedIds};
 use trace_types::{Code, Limits, Memory, Reply, Request};
 
-/// What a desk works with: the tenant's ledger, what keeps its ids and published trees, and what its views see.
-struct Work {
-    ledger: Ledger<SharedIds>,
-    shared: Arc<Shared>,
-    publisher: Publisher,
-}
-
-impl Model for Work {
-    ghost use Rattle.std.specs.Arc.{arc_value};
-    ghost use Rattle.tenant_desk.specs.Desks.{Desk as Seen, AllArePublished};
-
-    ghost Value = { Seen };
-
-    ghost view = { λ w. record { tenant = w.ledger; published = w.publisher.events.rows; book = w.publisher.front.book } };
-
-    ghost invariant = { λ w. AllArePublished (⟦<Shared as Keep>⟧.home (arc_value w.shared)) w.ledger w.publisher };
-}
-
 /// What is to be published of a report, whose tree this share keeps. Returns `Memory` if it runs out of memory.
 fn event_of<R: Wait>(
     rt: &R,
@@ -56,94 +38,22 @@ fn event_of<R: Wait>(
 fn accept<R: Wait>(
     rt: &R,
     shared: &Shared,
-    prepared: Prepared<SharedIds>,
-    publisher: Publisher,
-) -> (Ledger<SharedIds>, Publisher, Reply)
+    mut prepared: Prepared<SharedIds>,
+    publisher: &mut Publisher,
+) -> (Ledger<SharedIds>, Reply)
     requires legal { AreLegal prepared.tenant.limits (prepared.tenant.rows ++ prepared.row ∷ []) }
-    requires shown { AllArePublished (⟦<Shared as Keep>⟧.home shared.now) prepared.tenant publisher }
-    ensures done { IsDone prepared result.2 result.0 }
-    ensures shown { AllArePublished (⟦<Shared as Keep>⟧.home shared.now) result.0 result.1 }
-    ensures book { result.1.front.book ≡ publisher.front.book }
+    requires shown { AllArePublished (⟦<Shared as Keep>⟧.home shared.now) prepared.tenant publisher.old }
+    ensures done { IsDone prepared result.1 result.0 }
+    ensures shown { AllArePublished (⟦<Shared as Keep>⟧.home shared.now) result.0 publisher.new }
+    ensures book { publisher.new.front.book ≡ publisher.old.front.book }
 {
-    let mut prepared = prepared;
     let Ok(event) = event_of(rt, shared, &mut prepared) else {
-        return (
-            prepared.abandon(),
-            publisher,
-            Reply::Refused(Code::NoMemory),
-        );
+        return (prepared.abandon(), Reply::Refused(Code::NoMemory));
     };
-    let (publisher, shown) = publisher.publish(rt, event);
-    if !shown {
-        return (
-            prepared.abandon(),
-            publisher,
-            Reply::Refused(Code::NoMemory),
-        );
+    if !publisher.publish(rt, event) {
+        return (prepared.abandon(), Reply::Refused(Code::NoMemory));
     }
-    let (ledger, reply) = prepared.commit();
-    (ledger, publisher, reply)
-}
-
-impl Work {
-    /// Answers a query by what is published, and looks orders up in the cache. The ledger answers `message`, since it keeps
-    /// the receipts of each message, and the published rows would be searched for them.
-    fn ask(&self, request: &Request) -> Reply
-        requires { is_report request.now ≡ false }
-        ensures steps { Steps self.now.tenant request.now result self.now.tenant }
-        ensures legal { AreLegal self.now.tenant.limits self.now.tenant.rows }
-        ensures published { self.now.published ≡ self.now.tenant.rows }
-    {
-        match *request {
-            Request::Message(_) => self.ledger.answer(request),
-            _ => answer_by_cache(self.publisher.events(), &self.shared, request),
-        }
-    }
-
-    /// Takes a report. An accepted one is published before it is committed. The report can be written, so its row is legal.
-    fn report<R: Wait>(self, rt: &R, request: &Request) -> (Work, Reply)
-        requires report { is_report request.now ≡ true }
-        requires written { CanBeWritten request.now }
-        ensures steps { Steps self.tenant request.now result.1 result.0.tenant }
-        ensures legal { AreLegal result.0.tenant.limits result.0.tenant.rows }
-        ensures published { result.0.published ≡ result.0.tenant.rows }
-        ensures book { result.0.book ≡ self.book }
-    {
-        let Work {
-            ledger,
-            shared,
-            publisher,
-        } = self;
-        let (ledger, publisher, reply) = match ledger.prepare(rt, request) {
-            Ok(prepared) => accept(rt, &shared, prepared, publisher),
-            Err((ledger, reply)) => (ledger, publisher, reply),
-        };
-        let work = Work {
-            ledger,
-            shared,
-            publisher,
-        };
-        (work, reply)
-    }
-
-    /// Tells of all rows.
-    fn tell(&self) -> Told
-        ensures { result ≡ record { rows = self.now.tenant.rows; book = self.now.book } }
-    {
-        Told {
-            front: self.publisher.front().again(),
-        }
-    }
-
-    /// Ends the publisher, and drops the rest.
-    fn close<R: Wait>(self, rt: &R) {
-        let Work {
-            ledger: _,
-            shared: _,
-            publisher,
-        } = self;
-        publisher.close(rt);
-    }
+    prepared.commit()
 }
 
 /// The desk of a tenant. It alone takes the tenant's reports, and shows the accepted ones to its [`Views`].
@@ -152,18 +62,28 @@ impl Work {
 /// [`Desk::close`].
 pub struct Desk {
     /// It is there except during a report, which moves it.
-    work: Option<Work>,
+    ledger: Option<Ledger<SharedIds>>,
+    /// What keeps the ids and the published trees.
+    shared: Arc<Shared>,
+    publisher: Publisher,
 }
 
 impl Model for Desk {
     ghost use Rattle.std.specs.Prelude.{Some, None};
-    ghost use Rattle.tenant_desk.specs.Desks.{Desk as Seen, no_desk};
+    ghost use Rattle.std.specs.Arc.{arc_value};
+    ghost use Rattle.tenant_desk.specs.Desks.{Desk as Seen, AllArePublished, no_desk};
 
     ghost Value = { Seen };
 
-    ghost view = { λ d. elim d.work [ None ↦ no_desk | Some work ↦ work ] };
+    ghost view = { λ d. elim d.ledger [
+      | None ↦ no_desk
+      | Some ledger ↦ record { tenant = ledger; published = d.publisher.events.rows; book = d.publisher.front.book }
+    ] };
 
-    ghost invariant = { λ d. elim d.work [ None ↦ ⊥ | Some work ↦ Unit {0} ] };
+    ghost invariant = { λ d. elim d.ledger [
+      | None ↦ ⊥
+      | Some ledger ↦ AllArePublished (⟦<Shared as Keep>⟧.home (arc_value d.shared)) ledger d.publisher
+    ] };
 }
 
 impl Desk {
@@ -186,20 +106,24 @@ impl Desk {
         }
     }
 
-    /// Answers a query from where the desk stands.
+    /// Answers a query by what is published, and looks orders up in the cache. The ledger answers `message`, since it keeps
+    /// the receipts of each message, and the published rows would be searched for them.
     fn ask(&self, request: &Request) -> Reply
         requires { is_report request.now ≡ false }
         ensures steps { Steps self.now.tenant request.now result self.now.tenant }
         ensures legal { AreLegal self.now.tenant.limits self.now.tenant.rows }
         ensures published { self.now.published ≡ self.now.tenant.rows }
     {
-        let Some(work) = &self.work else {
+        let Some(ledger) = &self.ledger else {
             unreachable!()
         };
-        work.ask(request)
+        match *request {
+            Request::Message(_) => ledger.answer(request),
+            _ => answer_by_cache(self.publisher.events(), &self.shared, request),
+        }
     }
 
-    /// Takes a report, which moves all that the desk works with.
+    /// Takes a report. An accepted one is published before it is committed. The report can be written, so its row is legal.
     fn report<R: Wait>(&mut self, rt: &R, request: &Request) -> Reply
         requires report { is_report request.now ≡ true }
         requires written { CanBeWritten request.now }
@@ -208,14 +132,14 @@ impl Desk {
         ensures published { self.new.published ≡ self.new.tenant.rows }
         ensures book { self.new.book ≡ self.old.book }
     {
-        let Some(work) = self.work.take() else {
+        let Some(ledger) = self.ledger.take() else {
             unreachable!()
         };
-        let (work, reply) = work.report(rt, request);
-        match self.work.replace(work) {
-            None => {}
-            Some(_) => unreachable!(),
-        }
+        let (ledger, reply) = match ledger.prepare(rt, request) {
+            Ok(prepared) => accept(rt, &self.shared, prepared, &mut self.publisher),
+            Err(refused) => refused,
+        };
+        self.ledger = Some(ledger);
         reply
     }
 
@@ -223,18 +147,19 @@ impl Desk {
     pub fn tell(&self) -> Told
         ensures { result ≡ record { rows = self.now.tenant.rows; book = self.now.book } }
     {
-        let Some(work) = &self.work else {
-            unreachable!()
-        };
-        work.tell()
+        Told {
+            front: self.publisher.front().again(),
+        }
     }
 
     /// Ends the desk. It waits for views that still read. From then on its views answer every query with `NoPlace` (422).
     pub fn close<R: Wait>(self, rt: &R) {
-        let Desk { work } = self;
-        if let Some(work) = work {
-            work.close(rt);
-        }
+        let Desk {
+            ledger: _,
+            shared: _,
+            publisher,
+        } = self;
+        publisher.close(rt);
     }
 }
 
@@ -255,12 +180,12 @@ pub fn desk_and_views<R: Wait>(
     let mut publisher = Publisher::new(rt, alloc, limits, &shared.home())?;
     match Views::new(alloc, limits, &shared, &mut publisher) {
         Ok(views) => {
-            let work = Work {
-                ledger,
+            let desk = Desk {
+                ledger: Some(ledger),
                 shared,
                 publisher,
             };
-            Ok((Desk { work: Some(work) }, views))
+            Ok((desk, views))
         }
         Err(refused) => {
             publisher.close(rt);

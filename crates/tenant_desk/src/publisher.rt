@@ -1,15 +1,17 @@
 //! What a desk shows to its views.
-ghost use Rattle.std.specs.Prelude.{◌≡◌, [], Some, None, IfOk, IsTrue, MatchBool, drop};
+ghost use Rattle.std.specs.Prelude.{◌≡◌, [], Some, None, IfOk, IsTrue, MatchBool, drop, fold};
+ghost use Rattle.crossbeam_utils.specs.Register.{TurnsAt};
 ghost use Rattle.left_right.specs.Sides.{view as known_at};
 ghost use Rattle.tenant_desk.specs.Events.{AreSound, no_events};
-ghost use Rattle.tenant_desk.specs.Publications.{IsFor, IsNext, MayPublish, made_by, with_next};
-ghost use Rattle.tenant_desk.specs.Rules.{IsPublished, sight_of};
+ghost use Rattle.tenant_desk.specs.Publications.{IsFor, IsNext, MayPublish, left_by, made_by, with_next};
+ghost use Rattle.tenant_desk.specs.Rules.{Holds, IsPublished, Sees, sight_of};
 
 use crate::event::Event;
 use crate::events::Events;
 use crate::front::{Front, Head, new_log};
 use crate::published::{Operation, Published};
 use crate::rule::{Knows, Learning, Noting, Publishing, Seeing};
+use core::mem::replace_with;
 use left_right::reader::{Reader, Reading};
 use left_right::writer::Writer;
 use std::alloc::Global;
@@ -71,21 +73,33 @@ fn leave(writer: &mut DeskWriter, operation: Operation) -> bool
     true
 }
 
-/// Shows what the operation makes, and says whether it did. It does not if it runs out of memory.
-fn show<R: Wait>(rt: &R, writer: DeskWriter, operation: Operation) -> (DeskWriter, bool)
-    requires ready { MayPublish writer.desk.shown.value (known_at writer.desk.place) (drop writer.behind writer.log.items) }
-    requires operation { IsFor writer.desk.shown.value operation }
-    ensures ready { MayPublish result.0.desk.shown.value (known_at result.0.desk.place) (drop result.0.behind result.0.log.items) }
-    ensures shown { MatchBool result.1 (result.0.desk.shown.value ≡ made_by operation writer.desk.shown.value) (result.0.desk.shown.value ≡ writer.desk.shown.value) }
+/// Shows all that waits, and says whether it did. It does not if it runs out of memory.
+fn advance<R: Wait>(writer: DeskWriter, rt: &R) -> (DeskWriter, bool)
+    requires { (next : Published) → next ≡ fold left_by writer.desk.shown.value (drop writer.behind writer.log.items)
+        → TurnsAt Holds writer.desk.place.id (known_at writer.desk.place) writer.desk.shown.value next Sees }
+    ensures values { MatchBool result.1
+        ((result.0.desk.shown.value ≡ fold left_by writer.desk.shown.value (drop writer.behind writer.log.items)) × (drop result.0.behind result.0.log.items ≡ []))
+        ((result.0.desk.shown.value ≡ writer.desk.shown.value) × (drop result.0.behind result.0.log.items ≡ drop writer.behind writer.log.items)) }
+    ensures rule { MatchBool result.1 (Sees (known_at writer.desk.place) writer.desk.shown.value result.0.desk.shown.value (known_at result.0.desk.place))
+        (known_at result.0.desk.place ≡ known_at writer.desk.place) }
 {
-    let mut writer = writer;
-    let Ok(()) = writer.append(operation) else {
-        return (writer, false);
-    };
     match writer.publish_as::<Seeing, R>(rt) {
         (writer, Ok(())) => (writer, true),
         (writer, Err(_)) => (writer, false),
     }
+}
+
+/// Shows what the operation makes, and says whether it did. It does not if it runs out of memory.
+fn show<R: Wait>(rt: &R, writer: &mut DeskWriter, operation: Operation) -> bool
+    requires ready { MayPublish writer.old.desk.shown.value (known_at writer.old.desk.place) (drop writer.old.behind writer.old.log.items) }
+    requires operation { IsFor writer.old.desk.shown.value operation }
+    ensures ready { MayPublish writer.new.desk.shown.value (known_at writer.new.desk.place) (drop writer.new.behind writer.new.log.items) }
+    ensures shown { MatchBool result (writer.new.desk.shown.value ≡ made_by operation writer.old.desk.shown.value) (writer.new.desk.shown.value ≡ writer.old.desk.shown.value) }
+{
+    let Ok(()) = writer.append(operation) else {
+        return false;
+    };
+    replace_with(writer, rt, advance)
 }
 
 /// An operation that changes nothing if there are no events.
@@ -126,11 +140,11 @@ fn warm_up<R: Wait>(rt: &R, writer: DeskWriter, front: &Front) -> (DeskWriter, b
     if !known || !leave(&mut writer, still(front)) {
         return (writer, false);
     }
-    let (writer, shown) = show(rt, writer, still(front));
-    if !shown {
+    if !show(rt, &mut writer, still(front)) {
         return (writer, false);
     }
-    show(rt, writer, still(front))
+    let shown = show(rt, &mut writer, still(front));
+    (writer, shown)
 }
 
 /// A writer that shows no events, in a log without rows.
@@ -208,37 +222,24 @@ impl Publisher {
     }
 
     /// Shows the next event too, and says whether it did. It takes no memory beyond what was taken when this was made.
-    pub(crate) fn publish<R: Wait>(self, rt: &R, event: Event) -> (Publisher, bool)
-        requires { IsNext self.events event }
-        ensures { MatchBool result.1 (result.0 ≡ with_next event self) (result.0 ≡ self) }
+    pub(crate) fn publish<R: Wait>(&mut self, rt: &R, event: Event) -> bool
+        requires { IsNext self.old.events event }
+        ensures { MatchBool result (self.new ≡ with_next event self.old) (self.new ≡ self.old) }
     {
-        let Publisher {
-            writer,
-            head,
-            front,
-        } = self;
-        let before = writer.published().events.count();
-        let Some(longer) = front.grown(&head, &event.row) else {
-            let publisher = Publisher {
-                writer,
-                head,
-                front,
-            };
-            return (publisher, false);
+        let before = self.writer.published().events.count();
+        let Some(longer) = self.front.grown(&self.head, &event.row) else {
+            return false;
         };
         let operation = Operation {
             before,
             event: Some(event),
             front: longer.again(),
         };
-        let (writer, shown) = show(rt, writer, operation);
-        let front = if shown { longer } else { front };
-        let publisher = Publisher {
-            writer,
-            head,
-            front,
-        };
-        (publisher, shown)
+        let shown = show(rt, &mut self.writer, operation);
+        if shown {
+            self.front = longer;
+        }
+        shown
     }
 
     /// Waits for the views that read. From then on it shows nothing.
