@@ -2,7 +2,7 @@
 ghost use Rattle.std.specs.Prelude.{◌≡◌, ◌∷◌, false, codes, take, option_map, position, ◌==◌};
 ghost use Rattle.std.specs.Option.{option_copied};
 ghost use Rattle.trace_types.specs.text.Name.{is_same};
-ghost use Rattle.trace_types.specs.text.Reading.{request_of, words, number_of, is_digit, name_of, only, only_two, request_of_words, with_names, with_numbers};
+ghost use Rattle.trace_types.specs.text.Reading.{request_of, words, number_of, is_digit, name_of, only, only_two, request_of_words, with_name, with_names, with_numbers};
 ghost use Rattle.line_protocol.specs.Words.{Addresses, LeadingNumber, first_number, may_be_number, words_after};
 
 use trace_types::{Name, Request};
@@ -31,9 +31,33 @@ fn read_order(arguments: &[u8]) -> Option<Request>
     }
 }
 
-/// Any other request.
+/// Any other request. The reports that come most are told by how the line begins.
 #[inline(never)]
 fn read_other(line: &[u8]) -> Option<Request>
+    requires count { is_same line.now (codes "count") ≡ false }
+    requires order { is_same (take 6 line.now) (codes "order ") ≡ false }
+    ensures { result ≡ request_of line.now }
+{
+    match line {
+        [b'l', b'o', b'c', b'a', b'l', b' ', arguments @ ..] => read_local(arguments),
+        [b's', b'e', b'n', b'd', b' ', arguments @ ..] => read_send(arguments),
+        [b'r', b'e', b'c', b'v', b' ', arguments @ ..] => read_recv(arguments),
+        [b's', b'p', b'a', b'w', b'n', b' ', arguments @ ..] => read_spawn(arguments),
+        _ => read_rare(line),
+    }
+}
+
+/// The arguments of a local report.
+#[inline(always)]
+fn read_local(arguments: &[u8]) -> Option<Request>
+    ensures { result ≡ with_name Request.Local (words arguments.now) }
+{
+    Some(Request::Local(only_name(arguments)?))
+}
+
+/// Any other request, by its keyword.
+#[inline(always)]
+fn read_rare(line: &[u8]) -> Option<Request>
     requires count { is_same line.now (codes "count") ≡ false }
     requires order { is_same (take 6 line.now) (codes "order ") ≡ false }
     ensures { result ≡ request_of line.now }
@@ -50,7 +74,7 @@ fn read_arguments(keyword: &[u8], arguments: &[u8]) -> Option<Request>
     ensures { result ≡ request_of_words (keyword.now ∷ words arguments.now) }
 {
     if is_word(keyword, b"local") {
-        return Some(Request::Local(only_name(arguments)?));
+        return read_local(arguments);
     }
     if is_word(keyword, b"spawn") {
         return read_spawn(arguments);
@@ -92,7 +116,7 @@ fn read_arguments(keyword: &[u8], arguments: &[u8]) -> Option<Request>
 }
 
 /// The arguments of a spawn.
-#[inline(never)]
+#[inline(always)]
 fn read_spawn(arguments: &[u8]) -> Option<Request>
     ensures { result ≡ with_names Request.Spawn (words arguments.now) }
 {
@@ -100,7 +124,7 @@ fn read_spawn(arguments: &[u8]) -> Option<Request>
 }
 
 /// The arguments of a send.
-#[inline(never)]
+#[inline(always)]
 fn read_send(arguments: &[u8]) -> Option<Request>
     ensures { result ≡ with_names Request.Send (words arguments.now) }
 {
@@ -108,7 +132,7 @@ fn read_send(arguments: &[u8]) -> Option<Request>
 }
 
 /// The arguments of a receive.
-#[inline(never)]
+#[inline(always)]
 fn read_recv(arguments: &[u8]) -> Option<Request>
     ensures { result ≡ with_names Request.Recv (words arguments.now) }
 {
@@ -116,7 +140,6 @@ fn read_recv(arguments: &[u8]) -> Option<Request>
 }
 
 /// The arguments of a join.
-#[inline(never)]
 fn read_join(arguments: &[u8]) -> Option<Request>
     ensures { result ≡ with_names Request.Join (words arguments.now) }
 {
@@ -138,6 +161,7 @@ pub fn read_addressed(line: &[u8]) -> (&[u8], Option<Request>)
 }
 
 /// The name, if there is one argument and no more.
+#[inline(always)]
 fn only_name(arguments: &[u8]) -> Option<Name>
     ensures { result ≡ only name_of (words arguments.now) }
 {
@@ -148,6 +172,7 @@ fn only_name(arguments: &[u8]) -> Option<Name>
 }
 
 /// The two names, if there are two arguments and no more.
+#[inline(always)]
 fn two_names(arguments: &[u8]) -> Option<(Name, Name)>
     ensures { result ≡ only_two name_of (words arguments.now) }
 {
@@ -169,6 +194,7 @@ fn only_number(arguments: &[u8]) -> Option<u64>
 }
 
 /// The bytes before the first blank, and the bytes after it, if there is one.
+#[inline(always)]
 fn split_first(bytes: &[u8]) -> (&[u8], Option<&[u8]>)
     ensures { words bytes.now ≡ result.0.now ∷ words_after (option_copied result.1) }
 {
@@ -179,7 +205,7 @@ fn split_first(bytes: &[u8]) -> (&[u8], Option<&[u8]>)
 }
 
 /// The place of the first blank in the bytes.
-#[inline(never)]
+#[inline(always)]
 fn first_blank(bytes: &[u8]) -> Option<usize>
     ensures { result ≡ position (λ byte. byte == 32) bytes.now }
 {

@@ -2,7 +2,7 @@ use Rattle.std.proofs.Common.{◌≡◌, false}
 use Rattle.std.specs.Prelude.{codes}
 use Rattle.trace_types.specs.text.Name.{is_same}
 use Rattle.line_protocol.proofs.FirstWordLemmas.{alone_none, begins_as, not_first}
-use Rattle.line_protocol.proofs.request.read_other.Goals as goal
+use Rattle.line_protocol.proofs.request.read_rare.Goals as goal
 
 pub read_arguments-requires : goal.read_arguments-requires
 read_arguments-requires c =
