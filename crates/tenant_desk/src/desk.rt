@@ -11,6 +11,7 @@ use crate::publisher::Publisher;
 use crate::views::Views;
 use std::alloc::Global;
 use std::marker::Model;
+use std::mem::ManuallyDrop;
 use std::sync::{Arc, Wait};
 use tenant_ledger::{Keep, Ledger, Prepared, Shared, SharedIds};
 use trace_types::{Code, Limits, Memory, Reply, Request};
@@ -160,6 +161,17 @@ impl Desk {
             publisher,
         } = self;
         publisher.close(rt);
+    }
+
+    /// Ends the desk as [`Desk::close`] does, and leaves its memory to the end of the process. Use it if the process ends
+    /// next: to give the trees back one by one would only take time.
+    pub fn leave<R: Wait>(self, rt: &R) {
+        let Desk {
+            ledger,
+            shared: _,
+            publisher,
+        } = self;
+        let _ = ManuallyDrop::new((ledger, publisher.close(rt)));
     }
 }
 

@@ -242,13 +242,13 @@ impl Publisher {
         shown
     }
 
-    /// Waits for the views that read. From then on it shows nothing.
-    pub(crate) fn close<R: Wait>(self, rt: &R) {
+    /// Waits for the views that read, and gives out what was shown. From then on it shows nothing.
+    pub(crate) fn close<R: Wait>(self, rt: &R) -> Box<Published> {
         let Publisher {
             writer,
             head: _,
             front: _,
         } = self;
-        writer.take(rt);
+        writer.take(rt)
     }
 }
