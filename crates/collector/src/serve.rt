@@ -59,7 +59,8 @@ where
     let names = TenantNames::read(&wanted.tenants).ok_or(Fault::Tenants)?;
     let hub = Hub::new(rt, alloc, names.as_slice(), wanted.limits, wanted.cache)?;
     let served = serve_hub(rt, alloc, &hub, wanted, writer);
-    hub.close(rt);
+    // The program ends next, as after a replay.
+    hub.leave(rt);
     served
 }
 

@@ -50,6 +50,12 @@ impl Tenant {
         let Tenant { name: _, resting } = self;
         resting.into_inner().close(rt);
     }
+
+    /// Ends the desk, and leaves its memory to the end of the process.
+    fn leave<R: Wait>(self, rt: &R) {
+        let Tenant { name: _, resting } = self;
+        resting.into_inner().leave(rt);
+    }
 }
 
 /// The desks and views of all tenants. A session borrows what it needs. What is not borrowed rests under the tenant's
@@ -151,6 +157,15 @@ impl Hub {
         let Hub { mut tenants } = self;
         while let Some(tenant) = tenants.pop() {
             tenant.close(rt);
+        }
+        tenants.destroy_empty();
+    }
+
+    /// Ends the hub as [`Hub::close`] does, and leaves the memory of its desks to the end of the process.
+    pub fn leave<R: Wait>(self, rt: &R) {
+        let Hub { mut tenants } = self;
+        while let Some(tenant) = tenants.pop() {
+            tenant.leave(rt);
         }
         tenants.destroy_empty();
     }

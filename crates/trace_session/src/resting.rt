@@ -102,6 +102,14 @@ impl Resting {
             desk.close(rt);
         }
     }
+
+    /// Ends the desk, and leaves its memory to the end of the process.
+    pub(crate) fn leave<R: Wait>(self, rt: &R) {
+        let Resting { desk, views: _ } = self;
+        if let Some(desk) = desk {
+            desk.leave(rt);
+        }
+    }
 }
 
 /// All the views that are left. Returns `Memory` if it runs out of memory.
