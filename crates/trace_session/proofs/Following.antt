@@ -1,5 +1,5 @@
 -- Line after line of a session.
-use Rattle.std.proofs.Common.{◌≡◌, ◌≢◌, ◌≤◌, ◌<◌, ◌+◌, Bool, true, false, List, [], ◌∷◌, ◌++◌, ◌⊎◌, inl, inr, length, map, refl, sym, ap, ◌∙◌, subst, arith, eqb-true, eq-eqb, ◌==◌}
+use Rattle.std.proofs.Common.{◌≡◌, ◌≢◌, ◌≤◌, ◌<◌, ◌+◌, Bool, true, false, List, [], ◌∷◌, ◌++◌, inl, inr, length, map, refl, sym, ap, ◌∙◌, subst, arith, eqb-true, eq-eqb, ◌==◌}
 use Rattle.std.proofs.lemmas.List.{append-nil, length-append, map-append}
 use Rattle.std.specs.List.{AllByRecursion}
 use Rattle.std.specs.Prelude.{ℕ, IsTrue, Option, Some, None, IfNone, IfSome, Result, Ok, Err, IsErrAnd, MatchBool}
@@ -27,7 +27,7 @@ use Rattle.trace_session.specs.declared.lines.Asked.TheVariants as asked
 use Rattle.trace_session.specs.declared.end.SessionEnd.{SessionEnd}
 use Rattle.trace_session.specs.declared.end.SessionEnd.TheVariants.{Quit, EndOfInput, Over}
 use Rattle.trace_session.specs.declared.end.SessionFault.{SessionFault}
-use Rattle.trace_session.specs.declared.end.SessionFault.TheVariants.{Read, Write, TooLong, Memory, Gate}
+use Rattle.trace_session.specs.declared.end.SessionFault.TheVariants.{Read, Write, TooLong, Gate}
 
 -- These lines are requests, and were answered so, where lines have at most so many bytes.
 pub record Answered {S : Type 0} (Does : S → Request → Reply → S → Type 0) (most : ℕ) (old new : S) (requests : List Text) (answers : List Reply) : Type 0 where

@@ -1,5 +1,5 @@
 -- How sessions go on, whatever they do.
-use Rattle.std.proofs.Common.{◌≡◌, ◌⊎◌, ◌==◌, Bool, true, false, inl, inr, refl, sym, subst, ◌∙◌, Result, Ok, Err}
+use Rattle.std.proofs.Common.{◌≡◌, ◌==◌, Bool, true, false, inl, inr, refl, sym, subst, ◌∙◌, Result, Ok, Err}
 use Rattle.std.specs.Prelude.{ℕ, Option, None, IsErrOf, MatchBool}
 use Rattle.line_protocol.specs.HandingOn.{HandsOnBefore}
 use Rattle.line_protocol.specs.HandingOn as lines
