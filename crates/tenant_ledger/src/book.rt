@@ -191,13 +191,13 @@ impl<S: Keep> Book<S> {
         self.ids.len()
     }
 
-    /// The task of this name, and its seat in the table of tasks, or `NoTask` if there is none.
+    /// The task of this name, and its index in the table of tasks, or `NoTask` if there is none.
     fn known_task(&self, name: &Name) -> Result<(&Task, usize), Code>
         ensures ok { IfOk result (λ found. task_in self.now name.now ≡ Some found.0.now) }
         ensures err { IfErr result (λ code. (code ≡ Code.NoTask) × (task_in self.now name.now ≡ None)) }
     {
         match self.tasks.get_full(name) {
-            Some((seat, _, task)) => Ok((task, seat)),
+            Some((index, _, task)) => Ok((task, index)),
             None => Err(Code::NoTask),
         }
     }

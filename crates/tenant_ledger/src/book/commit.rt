@@ -40,13 +40,13 @@ impl<S: Keep> Book<S> {
             first,
             second,
             acting,
-            seat,
+            index,
             named,
         } = draft;
         add_some(&mut self.ids, first);
         add_some(&mut self.ids, second);
         put_some(&mut self.tasks, row.name, named);
-        put_at(&mut self.tasks, seat, row.task, acting);
+        put_at(&mut self.tasks, index, row.task, acting);
         self.rows.push_reserved(row);
         self.trees.push_reserved(tree);
         self.points.push_reserved(point);
@@ -98,15 +98,15 @@ fn put(tasks: &mut IndexMap<Name, Task>, name: Name, task: Task)
     tasks.insert(name, task).unwrap();
 }
 
-/// Keeps the task under its name, for which there is room. It is quick if the name has this seat.
-fn put_at(tasks: &mut IndexMap<Name, Task>, seat: usize, name: Name, task: Task)
+/// Keeps the task under its name, for which there is room. It is quick if the name has this index.
+fn put_at(tasks: &mut IndexMap<Name, Task>, index: usize, name: Name, task: Task)
     requires { 0 < spare tasks.old }
     ensures tasks { (other : Characters) → get is_same tasks.new other ≡ task_with name task (get is_same tasks.old) other }
     ensures count { index_map_len tasks.new ≡ count_with name (get is_same tasks.old) (index_map_len tasks.old) }
     ensures room { spare tasks.old ≤ spare tasks.new + 1 }
 {
-    if has_seat(tasks, seat, &name)
-        && let Some(kept) = tasks.get_index_mut(seat)
+    if is_at(tasks, index, &name)
+        && let Some(kept) = tasks.get_index_mut(index)
     {
         *kept = task;
     } else {
@@ -114,11 +114,11 @@ fn put_at(tasks: &mut IndexMap<Name, Task>, seat: usize, name: Name, task: Task)
     }
 }
 
-/// Whether the task of this name has this seat.
-fn has_seat(tasks: &IndexMap<Name, Task>, seat: usize, name: &Name) -> bool
-    ensures { result ≡ true → (had : Task) × (slice_get tasks.now.entries seat ≡ Some (name.now, had)) × (get is_same tasks.now name.now ≡ Some had) }
+/// Whether the task of this name has this index.
+fn is_at(tasks: &IndexMap<Name, Task>, index: usize, name: &Name) -> bool
+    ensures { result ≡ true → (had : Task) × (slice_get tasks.now.entries index ≡ Some (name.now, had)) × (get is_same tasks.now name.now ≡ Some had) }
 {
-    match tasks.get_index(seat) {
+    match tasks.get_index(index) {
         Some((found, _)) => found == name,
         None => false,
     }

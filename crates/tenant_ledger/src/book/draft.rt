@@ -30,9 +30,9 @@ pub(crate) struct Draft<S: Keep> {
     /// The ids that the event makes, which come behind those that the book has.
     pub(super) first: Option<S::Id>,
     pub(super) second: Option<S::Id>,
-    /// What is to be kept of the acting task, and its seat in the table of tasks.
+    /// What is to be kept of the acting task, and its index in the table of tasks.
     pub(super) acting: Task,
-    pub(super) seat: usize,
+    pub(super) index: usize,
     /// What is to be kept of the task that the event names.
     pub(super) named: Option<Task>,
 }
@@ -116,16 +116,16 @@ impl<S: Keep> Book<S> {
         ensures { Prepares result self.old request.now self.new }
     {
         // A `?` would move the report once more.
-        let (report, seat) = match self.report(request) {
+        let (report, index) = match self.report(request) {
             Ok(found) => found,
             Err(code) => return Err(code),
         };
         self.make_room(rt)?;
-        self.draft(rt, &report, seat)
+        self.draft(rt, &report, index)
     }
 
-    /// Notes the report's message, and gives what is to be kept of its event. The acting task has this seat.
-    fn draft<R>(&mut self, rt: &R, report: &Report, seat: usize) -> Result<Draft<S>, Code>
+    /// Notes the report's message, and gives what is to be kept of its event. The acting task has this index.
+    fn draft<R>(&mut self, rt: &R, report: &Report, index: usize) -> Result<Draft<S>, Code>
     where
         S: Share<R>,
         requires book { IsKept self.old }
@@ -153,7 +153,7 @@ impl<S: Keep> Book<S> {
             first,
             second,
             acting: report.acting_after(event, place),
-            seat,
+            index,
             named: report.named_after(event, place),
         })
     }

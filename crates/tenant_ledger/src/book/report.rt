@@ -70,15 +70,15 @@ impl Report {
 }
 
 impl<S: Keep> Book<S> {
-    /// The task, if it may report, and its seat, else `NoTask` or `TaskEnded`.
+    /// The task, if it may report, and its index, else `NoTask` or `TaskEnded`.
     fn live_task(&self, name: &Name) -> Result<(&Task, usize), Code>
         requires { IsKept self.now }
         ensures task { IfOk result (λ found. task_in self.now name.now ≡ Some found.0.now) }
         ensures decides { Decides (refusals_of_task (history_in self.now) name.now) result }
     {
-        let (task, seat) = self.known_task(name)?;
+        let (task, index) = self.known_task(name)?;
         match task.state {
-            TaskState::Live => Ok((task, seat)),
+            TaskState::Live => Ok((task, index)),
             TaskState::Ended | TaskState::Joined => Err(Code::TaskEnded),
         }
     }
@@ -175,7 +175,7 @@ impl<S: Keep> Book<S> {
         }
     }
 
-    /// What the request reports, and the seat of the acting task, or why it is refused.
+    /// What the request reports, and the index of the acting task, or why it is refused.
     pub(super) fn report(&self, request: &Request) -> Result<(Report, usize), Code>
         requires book { IsKept self.now }
         requires report { is_report request.now ≡ true }
@@ -186,7 +186,7 @@ impl<S: Keep> Book<S> {
         let Some(reported) = request.reported() else {
             return Err(Code::ViewOnly);
         };
-        let (acting, seat) = self.live_task(&reported.task)?;
+        let (acting, index) = self.live_task(&reported.task)?;
         let (second, joined) = self.named(&reported.task, reported.kind, &reported.name)?;
         self.check_room()?;
         let report = Report {
@@ -197,6 +197,6 @@ impl<S: Keep> Book<S> {
             second,
             joined,
         };
-        Ok((report, seat))
+        Ok((report, index))
     }
 }
