@@ -1,5 +1,5 @@
 -- The number that a word spells is the one that clap takes and reads.
-use Rattle.std.proofs.Common.{◌≡◌, ◌∙◌, ℕ, ◌^◌, ◌<◌, ◌≤◌, Bool, true, false, ◌&&◌, ◌||◌, not, leb, List, [], ◌∷◌, length, get_or, Option, Some, None, Result, Ok, Err, refl, sym, ap, subst, arith, if◌then◌else◌}
+use Rattle.std.proofs.Common.{◌≡◌, ◌∙◌, ℕ, ◌^◌, ◌<◌, ◌≤◌, true, ◌&&◌, ◌||◌, not, leb, List, [], ◌∷◌, length, get_or, Option, Some, None, Result, Ok, Err, refl, sym, ap, subst, arith}
 use Rattle.std.specs.Prelude.{nat_lt, ◌==◌}
 use Rattle.std.specs.List.{list_all}
 use Rattle.std.specs.Char.{digit_value}
@@ -12,6 +12,7 @@ use Rattle.trace_types.specs.text.Name.{Text, is_between}
 use Rattle.trace_types.specs.text.Reading.{is_digit, number_onto, is_number, number_of}
 use Rattle.command_line.specs.Demand.{is_plain}
 use Rattle.command_line.specs.Reading.{amount_spelled}
+use Rattle.command_line.proofs.Optional.{if_some}
 
 between : (low high n : ℕ) → is_between low high n ≡ true → (low ≤ n) × (n ≤ high)
 between low high n within = let parts = and_parts (leb low n) (leb n high) within in (leb-true low n parts.0, leb-true n high parts.1)
@@ -44,7 +45,7 @@ first_digit (byte ∷ bytes) some all =
     (digit.0, not_from_false _ (ne_eqb byte 45 (λ e. omega arith)))
 
 pub spells : (word : Text) (number : ℕ) → number_of word ≡ Some number → Spells word number
-spells word number of = go (is_number word) refl of
+spells word number of = let is = if_some (is_number word) (number_onto 0 word) number of in known is.1 is.0
   where
     known : is_number word ≡ true → number_onto 0 word ≡ number → Spells word number
     known is value =
@@ -61,13 +62,6 @@ spells word number of = go (is_number word) refl of
           small = subst (λ n. n < 10 ^ 9) value short;
           plain = first.1;
         }
-
-    some : {a b : ℕ} → Some a ≡ Some b → a ≡ b
-    some {a} e = ap (λ o. Rattle.std.specs.Prelude.unwrap_or o a) e
-
-    go : (b : Bool) → is_number word ≡ b → (if b then Some (number_onto 0 word) else None) ≡ Some number → Spells word number
-    go true is e = known is (some e)
-    go false is e = cc
 
 all_digits : (word : Text) → AllDigits 10 word → list_all (λ digit. nat_lt (digit_value digit) 10) word ≡ true
 all_digits [] digits = refl
@@ -107,24 +101,18 @@ each_digit (byte ∷ bytes) all =
     (ltb-true (digit_value byte) 10 parts.0, each_digit bytes parts.1)
 
 amount : (word : Text) (number : ℕ) → amount_spelled word ≡ Some number → IsAmount word number
-amount word number of = go (is_unsigned_in 0 18446744073709551615 word) refl of
-  where
-    digits : Text
-    digits = without_leading_plus word
-
-    go : (b : Bool) → is_unsigned_in 0 18446744073709551615 word ≡ b → (if b then Some (digits_value 10 digits) else None) ≡ Some number → IsAmount word number
-    go true is e =
-        let n = digits_value 10 digits in
-        let parts = and_parts (nat_lt 0 (length digits) && list_all (λ digit. nat_lt (digit_value digit) 10) digits) (nat_lt n (2 ^ 64) && (leb 0 n && leb n 18446744073709551615)) is in
-        let numeral = and_parts (nat_lt 0 (length digits)) (list_all (λ digit. nat_lt (digit_value digit) 10) digits) parts.0 in
-        let range = and_parts (nat_lt n (2 ^ 64)) (leb 0 n && leb n 18446744073709551615) parts.1 in
-        let value : n ≡ number = ap (λ o. Rattle.std.specs.Prelude.unwrap_or o n) e in
-        record {
-          numeral = (ltb-true 0 (length digits) numeral.0, each_digit digits numeral.1);
-          value = value;
-          small = subst (λ m. m < 2 ^ 64) value (ltb-true n (2 ^ 64) range.0);
-        }
-    go false is e = cc
+amount word number of =
+    let digits = without_leading_plus word in
+    let n = digits_value 10 digits in
+    let is = if_some (is_unsigned_in 0 18446744073709551615 word) n number of in
+    let parts = and_parts (nat_lt 0 (length digits) && list_all (λ digit. nat_lt (digit_value digit) 10) digits) (nat_lt n (2 ^ 64) && (leb 0 n && leb n 18446744073709551615)) is.1 in
+    let numeral = and_parts (nat_lt 0 (length digits)) (list_all (λ digit. nat_lt (digit_value digit) 10) digits) parts.0 in
+    let range = and_parts (nat_lt n (2 ^ 64)) (leb 0 n && leb n 18446744073709551615) parts.1 in
+    record {
+      numeral = (ltb-true 0 (length digits) numeral.0, each_digit digits numeral.1);
+      value = is.0;
+      small = subst (λ m. m < 2 ^ 64) is.0 (ltb-true n (2 ^ 64) range.0);
+    }
 
 -- and its number is read
 pub reads : (E : Type 0) (G : List ℕ → Result ℕ E → Type 0) (word : Text) (number : ℕ) (r : Option ℕ)

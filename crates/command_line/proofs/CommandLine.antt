@@ -6,6 +6,7 @@ use Rattle.std.proofs.lemmas.Slice.Eq.{bytes_eq-Decides}
 use Rattle.std.specs.List.{filter, list_all, list_any}
 use Rattle.std.specs.Str.{bytes_eq}
 use Rattle.clap.specs.Words.{App, Row, Rule, Text, is_simple, subcommand_of, takes}
+use Rattle.clap.specs.declared.builder.value_parser.Reading.{Reading}
 use Rattle.clap.specs.declared.builder.value_parser.Reading.TheVariants.{AsWritten}
 use Rattle.clap.specs.declared.parser.matches.ValueSource.TheVariants.{CommandLine}
 use Rattle.trace_types.specs.text.Name.{is_between}
@@ -14,11 +15,12 @@ use Rattle.clap.specs.Lexer.{long_of, short_of, usize_max}
 use Rattle.clap.specs.ValueTests.{is_unsigned_in}
 use Rattle.clap.specs.Simple.{Shape, built, built_leaf, inherited, marked_built, with_leaf_noted, names_of, entered, with_index, filled}
 use Rattle.clap.specs.Takes.{walk_passes, turn_passes, word_passes, step_passes, values_pass, settle_passes, default_passes, is_given, is_valid, level_passes, entered_passes, use_passes}
-use Rattle.clap.specs.Walk.{Walk, Held, Waiting, walked, walk_from, nothing_held, idle, option, positional, positional_held, after_step, plain_word, subcommand_met, subcommand_or_other, finished, has_row, settled, settled_rows, stop_after, value, values_or_missing, walk, with_default, with_values, without}
+use Rattle.clap.specs.Walk.{Walk, Held, Waiting, walked, walk_from, nothing_held, idle, option, positional, positional_held, reading_by, after_step, plain_word, subcommand_met, subcommand_or_other, default_rows, finished, has_row, settled, settled_rows, stop_after, value, values_or_missing, walk, with_default, with_values, without}
 use Rattle.clap.proofs.WalkLemmas.{both as and_is_true, walk_stopped}
-use Rattle.command_line.specs.Demand.{Role, Tenant, Events, Tasks, Messages, Cache, Export, Port, Workers, Sessions, Part, is_plain, is_role, option_of, replay_options, service_options, words_for}
+use Rattle.command_line.specs.Demand.{Role, Tenant, Events, Tasks, Messages, Cache, Export, Port, Workers, Sessions, Part, is_plain, is_role, most_of, number_up_to, option_of, replay_options, service_options, words_for}
 use Rattle.command_line.specs.Reading.{load_app, program_app, replay_app, serve_app, tenant_rule}
 use Rattle.command_line.proofs.Amounts.{passes, spells}
+use Rattle.command_line.proofs.Optional.{kept}
 use Rattle.command_line.proofs.Rows.{grown, row_beside, row_in, row_with, twice, unfound}
 
 -- the commands that take tenants
@@ -73,17 +75,6 @@ id_of Port = codes "port"
 id_of Workers = codes "workers"
 id_of Sessions = codes "sessions"
 
-abbrev pub most_of : Role → ℕ
-most_of Tenant = 0
-most_of Events = 16384
-most_of Tasks = 2048
-most_of Messages = 16384
-most_of Cache = 65536
-most_of Export = 0
-most_of Port = 65535
-most_of Workers = 32
-most_of Sessions = 1048576
-
 -- the words of a part, and those after it
 abbrev pub spelled_with : Role → Text → List Text → List Text
 spelled_with Tenant word words = word ∷ words
@@ -112,38 +103,21 @@ with_word seen role word other = if is_role other role then seen other ++ word �
 
 itself : (role : Role) → bytes_eq (id_of role) (id_of role) ≡ true
 itself Tenant = refl
-itself Events = refl
-itself Tasks = refl
-itself Messages = refl
-itself Cache = refl
-itself Export = refl
-itself Port = refl
-itself Workers = refl
-itself Sessions = refl
+itself role = refl
+
+pub is_itself : (role : Role) → is_role role role ≡ true
+is_itself Tenant = refl
+is_itself role = refl
 
 pub same_role : (a b : Role) → is_role a b ≡ true → a ≡ b
-same_role Tenant Tenant e = refl
-same_role Events Events e = refl
-same_role Tasks Tasks e = refl
-same_role Messages Messages e = refl
-same_role Cache Cache e = refl
-same_role Export Export e = refl
-same_role Port Port e = refl
-same_role Workers Workers e = refl
-same_role Sessions Sessions e = refl
+same_role Tenant Tenant e = cc
+same_role a Tenant e = cc
 same_role a b e = cc
 
 apart : (a b : Role) → is_role a b ≡ false → bytes_eq (id_of b) (id_of a) ≡ false
 apart Tenant Tenant e = cc
-apart Events Events e = cc
-apart Tasks Tasks e = cc
-apart Messages Messages e = cc
-apart Cache Cache e = cc
-apart Export Export e = cc
-apart Port Port e = cc
-apart Workers Workers e = cc
-apart Sessions Sessions e = cc
-apart a b e = refl
+apart a Tenant e = cc
+apart a b e = cc
 
 grown_is : (role : Role) (word : Text) (words : List Text) → Some (grown (id_of role) AsWritten (word ∷ []) (row_of role words)) ≡ row_of role (words ++ word ∷ [])
 grown_is role word [] = refl
@@ -178,15 +152,15 @@ record Holds (verb : Verb) (seen : Seen) (count : ℕ) (held : Held) : Type 0 wh
   settles : settle_passes (rules verb) false held ≡ true
   pending : pending_length held.pending ≤ count
 
--- what is asked of the word of an option: its number is in the range
-abbrev FitsOption : Role → Text → Type 0
-FitsOption Export word = Unit {0}
-FitsOption role word = is_unsigned_in 1 (most_of role) word ≡ true
+-- whether the word of an option fits it: its number is in the range
+abbrev fits_option : Role → Text → Bool
+fits_option Export word = true
+fits_option role word = is_unsigned_in 1 (most_of role) word
 
 -- what is asked of a word in its role
 abbrev FitsNow : Role → List Text → Text → Type 0
 FitsNow Tenant before word = is_plain word ≡ true
-FitsNow role before word = (before ≡ []) × (is_plain word ≡ true) × FitsOption role word
+FitsNow role before word = (before ≡ []) × (is_plain word ≡ true) × (fits_option role word ≡ true)
 
 no_values : (words : List Text) → values_or_missing tenant_built words ≡ words
 no_values [] = refl
@@ -200,14 +174,12 @@ texts_pass (word ∷ words) = texts_pass words
 tenant_rows : (verb : Verb) (words : List Text) (rows : List Row)
     → settled_rows (rules verb) (Some (codes "TENANT", words)) rows ≡ with_values (codes "TENANT") AsWritten CommandLine (values_or_missing tenant_built words) rows
 tenant_rows Replays words rows = refl
-tenant_rows Serves words rows = refl
-tenant_rows Loads words rows = refl
+tenant_rows verb words rows = refl
 
 tenant_settles : (verb : Verb) (words : List Text) (rows : List Row) (skip : ℕ)
     → settle_passes (rules verb) false (record { rows = rows; pending = Some (codes "TENANT", words); skip = skip }) ≡ use_passes false tenant_built words rows
 tenant_settles Replays words rows skip = refl
-tenant_settles Serves words rows skip = refl
-tenant_settles Loads words rows skip = refl
+tenant_settles verb words rows skip = refl
 
 -- one more tenant among those that are pending
 more_rows : (verb : Verb) (word : Text) (words : List Text) (rows : List Row)
@@ -272,39 +244,19 @@ fresh_rows seen role word rows are none =
 -- the row of an option after its use
 option_rows : (verb : Verb) (role : Role) (word : Text) (rows : List Row) → has_option verb role ≡ true
     → settled_rows (rules verb) (Some (id_of role, word ∷ [])) rows ≡ with_values (id_of role) AsWritten CommandLine (word ∷ []) (without (id_of role) rows)
-option_rows Replays Events word rows has = refl
-option_rows Replays Tasks word rows has = refl
-option_rows Replays Messages word rows has = refl
-option_rows Replays Cache word rows has = refl
-option_rows Replays Export word rows has = refl
-option_rows Serves Port word rows has = refl
-option_rows Serves Workers word rows has = refl
-option_rows Serves Sessions word rows has = refl
-option_rows Serves Events word rows has = refl
-option_rows Serves Tasks word rows has = refl
-option_rows Serves Messages word rows has = refl
-option_rows Serves Cache word rows has = refl
+option_rows Replays Tenant word rows has = cc
+option_rows verb Tenant word rows has = cc
 option_rows verb role word rows has = cc
 
 -- its use passes
-option_settles : (verb : Verb) (role : Role) (word : Text) (rows : List Row) (skip : ℕ) → has_option verb role ≡ true → has_row (id_of role) rows ≡ false → FitsOption role word
+option_settles : (verb : Verb) (role : Role) (word : Text) (rows : List Row) (skip : ℕ) → has_option verb role ≡ true → has_row (id_of role) rows ≡ false → fits_option role word ≡ true
     → settle_passes (rules verb) false (record { rows = rows; pending = Some (id_of role, word ∷ []); skip = skip }) ≡ true
-option_settles Replays Events word rows skip has fresh fits = ap₂ ◌&&◌ (ap (λ b. not b || false) fresh) (ap (λ b. b && true) fits)
-option_settles Replays Tasks word rows skip has fresh fits = ap₂ ◌&&◌ (ap (λ b. not b || false) fresh) (ap (λ b. b && true) fits)
-option_settles Replays Messages word rows skip has fresh fits = ap₂ ◌&&◌ (ap (λ b. not b || false) fresh) (ap (λ b. b && true) fits)
-option_settles Replays Cache word rows skip has fresh fits = ap₂ ◌&&◌ (ap (λ b. not b || false) fresh) (ap (λ b. b && true) fits)
-option_settles Replays Export word rows skip has fresh fits = ap₂ ◌&&◌ (ap (λ b. not b || false) fresh) refl
-option_settles Serves Port word rows skip has fresh fits = ap₂ ◌&&◌ (ap (λ b. not b || false) fresh) (ap (λ b. b && true) fits)
-option_settles Serves Workers word rows skip has fresh fits = ap₂ ◌&&◌ (ap (λ b. not b || false) fresh) (ap (λ b. b && true) fits)
-option_settles Serves Sessions word rows skip has fresh fits = ap₂ ◌&&◌ (ap (λ b. not b || false) fresh) (ap (λ b. b && true) fits)
-option_settles Serves Events word rows skip has fresh fits = ap₂ ◌&&◌ (ap (λ b. not b || false) fresh) (ap (λ b. b && true) fits)
-option_settles Serves Tasks word rows skip has fresh fits = ap₂ ◌&&◌ (ap (λ b. not b || false) fresh) (ap (λ b. b && true) fits)
-option_settles Serves Messages word rows skip has fresh fits = ap₂ ◌&&◌ (ap (λ b. not b || false) fresh) (ap (λ b. b && true) fits)
-option_settles Serves Cache word rows skip has fresh fits = ap₂ ◌&&◌ (ap (λ b. not b || false) fresh) (ap (λ b. b && true) fits)
-option_settles verb role word rows skip has fresh fits = cc
+option_settles Replays Tenant word rows skip has fresh fits = cc
+option_settles verb Tenant word rows skip has fresh fits = cc
+option_settles verb role word rows skip has fresh fits = search (ap₂ ◌&&◌ (ap (λ b. not b || false) fresh) (ap (λ b. b && true) fits))
 
 option_held : (verb : Verb) (seen : Seen) (count : ℕ) (role : Role) (word : Text) (held : Held) → Holds verb seen count held → has_option verb role ≡ true → seen role ≡ []
-    → FitsOption role word → suc count ≤ usize_max
+    → fits_option role word ≡ true → suc count ≤ usize_max
     → Holds verb (with_word seen role word) (suc count) (record (settled (rules verb) held) { pending = Some (id_of role, word ∷ []) })
 option_held verb seen count role word held holds has none fits few =
     let rows = settled_rows (rules verb) held.pending held.rows in
@@ -318,14 +270,7 @@ option_held verb seen count role word held holds has none fits few =
 keeps : (verb : Verb) (seen : Seen) (count : ℕ) (role : Role) (word : Text) (held : Held) → has_role verb role ≡ true → Holds verb seen count held
     → FitsNow role (seen role) word → suc count ≤ usize_max → Holds verb (with_word seen role word) (suc count) (met verb role word held)
 keeps verb seen count Tenant word held has holds fits few = keeps_tenant verb seen count held.skip word held.pending held.rows holds few
-keeps verb seen count Events word held has holds fits few = option_held verb seen count Events word held holds has fits.0 fits.2 few
-keeps verb seen count Tasks word held has holds fits few = option_held verb seen count Tasks word held holds has fits.0 fits.2 few
-keeps verb seen count Messages word held has holds fits few = option_held verb seen count Messages word held holds has fits.0 fits.2 few
-keeps verb seen count Cache word held has holds fits few = option_held verb seen count Cache word held holds has fits.0 fits.2 few
-keeps verb seen count Export word held has holds fits few = option_held verb seen count Export word held holds has fits.0 fits.2 few
-keeps verb seen count Port word held has holds fits few = option_held verb seen count Port word held holds has fits.0 fits.2 few
-keeps verb seen count Workers word held has holds fits few = option_held verb seen count Workers word held holds has fits.0 fits.2 few
-keeps verb seen count Sessions word held has holds fits few = option_held verb seen count Sessions word held holds has fits.0 fits.2 few
+keeps verb seen count role word held has holds fits few = option_held verb seen count role word held holds has fits.0 fits.2 few
 
 -- ---- the walk
 
@@ -373,11 +318,9 @@ tenant_step : (verb : Verb) (after_tenant : Bool) (word : Text) (held : Held) �
     → walked (rules verb) [] (at held after_tenant) word ≡ at (met verb Tenant word held) true
 unfolding walked
 tenant_step Replays true word held plain = ap (λ step. after_step (rules Replays) word (at held true) step.0 step.1) (plain_met Replays positional word held plain)
+tenant_step verb true word held plain = ap (λ step. after_step (rules verb) word (at held true) step.0 step.1) (plain_met verb positional word held plain)
 tenant_step Replays false word held plain = ap (λ step. after_step (rules Replays) word (at held false) step.0 step.1) (plain_met Replays idle word held plain)
-tenant_step Serves true word held plain = ap (λ step. after_step (rules Serves) word (at held true) step.0 step.1) (plain_met Serves positional word held plain)
-tenant_step Serves false word held plain = ap (λ step. after_step (rules Serves) word (at held false) step.0 step.1) (plain_met Serves idle word held plain)
-tenant_step Loads true word held plain = ap (λ step. after_step (rules Loads) word (at held true) step.0 step.1) (plain_met Loads positional word held plain)
-tenant_step Loads false word held plain = ap (λ step. after_step (rules Loads) word (at held false) step.0 step.1) (plain_met Loads idle word held plain)
+tenant_step verb false word held plain = ap (λ step. after_step (rules verb) word (at held false) step.0 step.1) (plain_met verb idle word held plain)
 
 plain_passes : (verb : Verb) (waiting : Waiting) (word : Text) (held : Held) → is_plain word ≡ true → subcommand_met [] waiting word ≡ None
     → word_passes (shape verb) [] false waiting word held ≡ true
@@ -386,8 +329,7 @@ plain_passes verb waiting word held plain no_name = rw (no_name, no_dashes word 
 -- a tenant may come
 tenant_place : (verb : Verb) (held : Held) → settle_passes (rules verb) false held ≡ true → step_passes (shape verb) 1 held value ≡ true
 tenant_place Replays held settles = or_right _ _ settles
-tenant_place Serves held settles = or_right _ _ settles
-tenant_place Loads held settles = or_right _ _ settles
+tenant_place verb held settles = or_right _ _ settles
 
 tenant_turn : (verb : Verb) (after_tenant : Bool) (word : Text) (held : Held) → is_plain word ≡ true → settle_passes (rules verb) false held ≡ true
     → turn_passes (shape verb) [] (at held after_tenant) word ≡ true
@@ -401,19 +343,10 @@ tenant_turn verb false word held plain settles =
 value_step : (verb : Verb) (role : Role) (word : Text) (held : Held) → has_option verb role ≡ true → is_plain word ≡ true
     → walked (rules verb) [] (before_value verb role held) word ≡ at (record (settled (rules verb) held) { pending = Some (id_of role, word ∷ []) }) false
 unfolding walked
-value_step Replays Events word held has plain = ap (λ step. after_step (rules Replays) word (before_value Replays Events held) step.0 step.1) (plain_met Replays (option (id_of Events)) word (before_value Replays Events held).held plain)
-value_step Replays Tasks word held has plain = ap (λ step. after_step (rules Replays) word (before_value Replays Tasks held) step.0 step.1) (plain_met Replays (option (id_of Tasks)) word (before_value Replays Tasks held).held plain)
-value_step Replays Messages word held has plain = ap (λ step. after_step (rules Replays) word (before_value Replays Messages held) step.0 step.1) (plain_met Replays (option (id_of Messages)) word (before_value Replays Messages held).held plain)
-value_step Replays Cache word held has plain = ap (λ step. after_step (rules Replays) word (before_value Replays Cache held) step.0 step.1) (plain_met Replays (option (id_of Cache)) word (before_value Replays Cache held).held plain)
-value_step Replays Export word held has plain = ap (λ step. after_step (rules Replays) word (before_value Replays Export held) step.0 step.1) (plain_met Replays (option (id_of Export)) word (before_value Replays Export held).held plain)
-value_step Serves Port word held has plain = ap (λ step. after_step (rules Serves) word (before_value Serves Port held) step.0 step.1) (plain_met Serves (option (id_of Port)) word (before_value Serves Port held).held plain)
-value_step Serves Workers word held has plain = ap (λ step. after_step (rules Serves) word (before_value Serves Workers held) step.0 step.1) (plain_met Serves (option (id_of Workers)) word (before_value Serves Workers held).held plain)
-value_step Serves Sessions word held has plain = ap (λ step. after_step (rules Serves) word (before_value Serves Sessions held) step.0 step.1) (plain_met Serves (option (id_of Sessions)) word (before_value Serves Sessions held).held plain)
-value_step Serves Events word held has plain = ap (λ step. after_step (rules Serves) word (before_value Serves Events held) step.0 step.1) (plain_met Serves (option (id_of Events)) word (before_value Serves Events held).held plain)
-value_step Serves Tasks word held has plain = ap (λ step. after_step (rules Serves) word (before_value Serves Tasks held) step.0 step.1) (plain_met Serves (option (id_of Tasks)) word (before_value Serves Tasks held).held plain)
-value_step Serves Messages word held has plain = ap (λ step. after_step (rules Serves) word (before_value Serves Messages held) step.0 step.1) (plain_met Serves (option (id_of Messages)) word (before_value Serves Messages held).held plain)
-value_step Serves Cache word held has plain = ap (λ step. after_step (rules Serves) word (before_value Serves Cache held) step.0 step.1) (plain_met Serves (option (id_of Cache)) word (before_value Serves Cache held).held plain)
-value_step verb role word held has plain = cc
+value_step Replays Tenant word held has plain = cc
+value_step verb Tenant word held has plain = cc
+value_step verb role word held has plain =
+    first_of (search (ap (λ step. after_step (rules verb) word (before_value verb role held) step.0 step.1) (plain_met verb (option (id_of role)) word (before_value verb role held).held plain)), cc)
 
 value_turn : (verb : Verb) (role : Role) (word : Text) (held : Held) → is_plain word ≡ true → turn_passes (shape verb) [] (before_value verb role held) word ≡ true
 value_turn verb role word held plain =
@@ -436,60 +369,18 @@ one_more verb walk later word words turns steps = (
 -- the name of an option waits for its value
 name_turn : (verb : Verb) (role : Role) (after_tenant : Bool) (held : Held) → has_option verb role ≡ true → settle_passes (rules verb) false held ≡ true
     → turn_passes (shape verb) [] (at held after_tenant) (option_of role) ≡ true
-name_turn Replays Events true held has settles = ap (λ b. b && true) settles
-name_turn Replays Events false held has settles = ap (λ b. b && true) settles
-name_turn Replays Tasks true held has settles = ap (λ b. b && true) settles
-name_turn Replays Tasks false held has settles = ap (λ b. b && true) settles
-name_turn Replays Messages true held has settles = ap (λ b. b && true) settles
-name_turn Replays Messages false held has settles = ap (λ b. b && true) settles
-name_turn Replays Cache true held has settles = ap (λ b. b && true) settles
-name_turn Replays Cache false held has settles = ap (λ b. b && true) settles
-name_turn Replays Export true held has settles = ap (λ b. b && true) settles
-name_turn Replays Export false held has settles = ap (λ b. b && true) settles
-name_turn Serves Port true held has settles = ap (λ b. b && true) settles
-name_turn Serves Port false held has settles = ap (λ b. b && true) settles
-name_turn Serves Workers true held has settles = ap (λ b. b && true) settles
-name_turn Serves Workers false held has settles = ap (λ b. b && true) settles
-name_turn Serves Sessions true held has settles = ap (λ b. b && true) settles
-name_turn Serves Sessions false held has settles = ap (λ b. b && true) settles
-name_turn Serves Events true held has settles = ap (λ b. b && true) settles
-name_turn Serves Events false held has settles = ap (λ b. b && true) settles
-name_turn Serves Tasks true held has settles = ap (λ b. b && true) settles
-name_turn Serves Tasks false held has settles = ap (λ b. b && true) settles
-name_turn Serves Messages true held has settles = ap (λ b. b && true) settles
-name_turn Serves Messages false held has settles = ap (λ b. b && true) settles
-name_turn Serves Cache true held has settles = ap (λ b. b && true) settles
-name_turn Serves Cache false held has settles = ap (λ b. b && true) settles
-name_turn verb role after_tenant held has settles = cc
+name_turn Replays Tenant after_tenant held has settles = cc
+name_turn verb Tenant after_tenant held has settles = cc
+name_turn verb role true held has settles = search (ap (λ b. b && true) settles)
+name_turn verb role false held has settles = search (ap (λ b. b && true) settles)
 
 name_step : (verb : Verb) (role : Role) (after_tenant : Bool) (held : Held) → has_option verb role ≡ true
     → walked (rules verb) [] (at held after_tenant) (option_of role) ≡ before_value verb role held
 unfolding walked
-name_step Replays Events true held has = refl
-name_step Replays Events false held has = refl
-name_step Replays Tasks true held has = refl
-name_step Replays Tasks false held has = refl
-name_step Replays Messages true held has = refl
-name_step Replays Messages false held has = refl
-name_step Replays Cache true held has = refl
-name_step Replays Cache false held has = refl
-name_step Replays Export true held has = refl
-name_step Replays Export false held has = refl
-name_step Serves Port true held has = refl
-name_step Serves Port false held has = refl
-name_step Serves Workers true held has = refl
-name_step Serves Workers false held has = refl
-name_step Serves Sessions true held has = refl
-name_step Serves Sessions false held has = refl
-name_step Serves Events true held has = refl
-name_step Serves Events false held has = refl
-name_step Serves Tasks true held has = refl
-name_step Serves Tasks false held has = refl
-name_step Serves Messages true held has = refl
-name_step Serves Messages false held has = refl
-name_step Serves Cache true held has = refl
-name_step Serves Cache false held has = refl
-name_step verb role after_tenant held has = cc
+name_step Replays Tenant after_tenant held has = cc
+name_step verb Tenant after_tenant held has = cc
+name_step verb role true held has = first_of (search refl, cc)
+name_step verb role false held has = first_of (search refl, cc)
 
 option_step : (verb : Verb) (after_tenant : Bool) (held : Held) (words : List Text) (role : Role) (word : Text) → has_option verb role ≡ true
     → settle_passes (rules verb) false held ≡ true → is_plain word ≡ true
@@ -510,14 +401,7 @@ part_step : (verb : Verb) (after_tenant : Bool) (held : Held) (words : List Text
 part_step verb after_tenant held words before Tenant word has settles fits =
     one_more verb (at held after_tenant) (at (met verb Tenant word held) true) word words (tenant_turn verb after_tenant word held fits settles)
     (tenant_step verb after_tenant word held fits)
-part_step verb after_tenant held words before Events word has settles fits = option_step verb after_tenant held words Events word has settles fits.1
-part_step verb after_tenant held words before Tasks word has settles fits = option_step verb after_tenant held words Tasks word has settles fits.1
-part_step verb after_tenant held words before Messages word has settles fits = option_step verb after_tenant held words Messages word has settles fits.1
-part_step verb after_tenant held words before Cache word has settles fits = option_step verb after_tenant held words Cache word has settles fits.1
-part_step verb after_tenant held words before Export word has settles fits = option_step verb after_tenant held words Export word has settles fits.1
-part_step verb after_tenant held words before Port word has settles fits = option_step verb after_tenant held words Port word has settles fits.1
-part_step verb after_tenant held words before Workers word has settles fits = option_step verb after_tenant held words Workers word has settles fits.1
-part_step verb after_tenant held words before Sessions word has settles fits = option_step verb after_tenant held words Sessions word has settles fits.1
+part_step verb after_tenant held words before role word has settles fits = option_step verb after_tenant held words role word has settles fits.1
 
 -- ---- all the parts
 
@@ -537,7 +421,7 @@ seen_is (part ∷ parts) seen role = seen_is parts (with_word seen part.role par
 -- the number of an option is in its range, and stands once
 abbrev pub FitsOnce : ℕ → List Text → Type 0
 FitsOnce most [] = Unit {0}
-FitsOnce most (word ∷ []) = (number : ℕ) × (number_of word ≡ Some number) × (is_between 1 most number ≡ true)
+FitsOnce most (word ∷ []) = (number : ℕ) × (number_up_to most word ≡ Some number)
 FitsOnce most (word ∷ other ∷ words) = ⊥
 
 -- the name of an option is plain, and stands once
@@ -548,20 +432,15 @@ PlainOnce (word ∷ other ∷ words) = ⊥
 
 abbrev pub Fits : Role → List Text → Type 0
 Fits Tenant words = list_all is_plain words ≡ true
-Fits Events words = FitsOnce 16384 words
-Fits Tasks words = FitsOnce 2048 words
-Fits Messages words = FitsOnce 16384 words
-Fits Cache words = FitsOnce 65536 words
 Fits Export words = PlainOnce words
-Fits Port words = FitsOnce 65535 words
-Fits Workers words = FitsOnce 32 words
-Fits Sessions words = FitsOnce 1048576 words
+Fits role words = FitsOnce (most_of role) words
 
 once : (most : ℕ) (before : List Text) (word : Text) (words : List Text) → FitsOnce most (before ++ word ∷ words)
     → (before ≡ []) × (is_plain word ≡ true) × (is_unsigned_in 1 most word ≡ true)
 once most [] word [] fits =
-    let is = spells word fits.0 fits.1 in
-    (refl, is.plain, passes most word fits.0 is fits.2)
+    let is = kept (is_between 1 most) (number_of word) fits.0 fits.1 in
+    let spelled = spells word fits.0 is.0 in
+    (refl, spelled.plain, passes most word fits.0 spelled is.1)
 once most [] word (other ∷ words) fits = absurd fits
 once most (first ∷ []) word words fits = absurd fits
 once most (first ∷ second ∷ before) word words fits = absurd fits
@@ -578,28 +457,11 @@ last_plain (first ∷ before) word words plain = last_plain before word words (a
 
 fits_now : (role : Role) (before : List Text) (word : Text) (words : List Text) → Fits role (before ++ word ∷ words) → FitsNow role before word
 fits_now Tenant before word words fits = last_plain before word words fits
-fits_now Events before word words fits = once 16384 before word words fits
-fits_now Tasks before word words fits = once 2048 before word words fits
-fits_now Messages before word words fits = once 16384 before word words fits
-fits_now Cache before word words fits = once 65536 before word words fits
-fits_now Export before word words fits = let is = plain_once before word words fits in (is.0, is.1, tt)
-fits_now Port before word words fits = once 65535 before word words fits
-fits_now Workers before word words fits = once 32 before word words fits
-fits_now Sessions before word words fits = once 1048576 before word words fits
+fits_now Export before word words fits = let is = plain_once before word words fits in (is.0, is.1, refl)
+fits_now role before word words fits = once (most_of role) before word words fits
 
 first_word : (part : Part) (parts : List Part) → words_for part.role (part ∷ parts) ≡ part.word ∷ words_for part.role parts
-first_word part parts = rw (itself_role part.role) refl
-  where
-    itself_role : (role : Role) → is_role role role ≡ true
-    itself_role Tenant = refl
-    itself_role Events = refl
-    itself_role Tasks = refl
-    itself_role Messages = refl
-    itself_role Cache = refl
-    itself_role Export = refl
-    itself_role Port = refl
-    itself_role Workers = refl
-    itself_role Sessions = refl
+first_word part parts = rw (is_itself part.role) refl
 
 -- whether the command has the roles of all parts
 abbrev pub have_roles : Verb → List Part → Bool
@@ -650,33 +512,27 @@ from_nothing verb parts have fits few =
 
 -- ---- the end
 
-same_either : {X : Type 0} (b : Bool) (x : X) → (if b then x else x) ≡ x
-same_either true x = refl
-same_either false x = refl
+abbrev is_nothing : List Text → Bool
+is_nothing [] = true
+is_nothing (first ∷ others) = false
+
+with_no_default : (used : Bool) (id : Text) (how : Reading) (defaults : List Text) (rows : List Row) → is_nothing defaults ≡ true
+    → (if used then rows else default_rows id how defaults rows) ≡ rows
+with_no_default true id how defaults rows none = refl
+with_no_default false id how [] rows none = refl
+with_no_default false id how (first ∷ others) rows none = cc
+
+unchanged : (rules : List Rule) (rows : List Row) → list_all (λ (rule : Rule). is_nothing rule.defaults) rules ≡ true → fold with_default rows rules ≡ rows
+unchanged [] rows none = refl
+unchanged (rule ∷ rules) rows none =
+    let parts = and_is_true _ _ none in
+    ap (λ left. fold with_default left rules) (with_no_default (has_row rule.id rows) rule.id (reading_by rule) rule.defaults rows parts.0) ∙ unchanged rules rows parts.1
 
 -- no argument has a default
+
 no_defaults : (verb : Verb) (rows : List Row) → fold with_default rows (rules verb) ≡ rows
-no_defaults Replays rows =
-    ap (λ left. fold with_default left (Rattle.std.specs.Prelude.drop 1 (rules Replays))) (same_either (has_row (codes "events") rows) rows)
-    ∙ (ap (λ left. fold with_default left (Rattle.std.specs.Prelude.drop 2 (rules Replays))) (same_either (has_row (codes "tasks") rows) rows)
-    ∙ (ap (λ left. fold with_default left (Rattle.std.specs.Prelude.drop 3 (rules Replays))) (same_either (has_row (codes "messages") rows) rows)
-    ∙ (ap (λ left. fold with_default left (Rattle.std.specs.Prelude.drop 4 (rules Replays))) (same_either (has_row (codes "cache") rows) rows)
-    ∙ (ap (λ left. fold with_default left (Rattle.std.specs.Prelude.drop 5 (rules Replays))) (same_either (has_row (codes "export") rows) rows)
-    ∙ (ap (λ left. fold with_default left (Rattle.std.specs.Prelude.drop 6 (rules Replays))) (same_either (has_row (codes "TENANT") rows) rows)
-    ∙ same_either (has_row (codes "help") rows) rows)))))
-no_defaults Serves rows =
-    ap (λ left. fold with_default left (Rattle.std.specs.Prelude.drop 1 (rules Serves))) (same_either (has_row (codes "port") rows) rows)
-    ∙ (ap (λ left. fold with_default left (Rattle.std.specs.Prelude.drop 2 (rules Serves))) (same_either (has_row (codes "workers") rows) rows)
-    ∙ (ap (λ left. fold with_default left (Rattle.std.specs.Prelude.drop 3 (rules Serves))) (same_either (has_row (codes "sessions") rows) rows)
-    ∙ (ap (λ left. fold with_default left (Rattle.std.specs.Prelude.drop 4 (rules Serves))) (same_either (has_row (codes "events") rows) rows)
-    ∙ (ap (λ left. fold with_default left (Rattle.std.specs.Prelude.drop 5 (rules Serves))) (same_either (has_row (codes "tasks") rows) rows)
-    ∙ (ap (λ left. fold with_default left (Rattle.std.specs.Prelude.drop 6 (rules Serves))) (same_either (has_row (codes "messages") rows) rows)
-    ∙ (ap (λ left. fold with_default left (Rattle.std.specs.Prelude.drop 7 (rules Serves))) (same_either (has_row (codes "cache") rows) rows)
-    ∙ (ap (λ left. fold with_default left (Rattle.std.specs.Prelude.drop 8 (rules Serves))) (same_either (has_row (codes "TENANT") rows) rows)
-    ∙ same_either (has_row (codes "help") rows) rows)))))))
-no_defaults Loads rows =
-    ap (λ left. fold with_default left (Rattle.std.specs.Prelude.drop 1 (rules Loads))) (same_either (has_row (codes "TENANT") rows) rows)
-    ∙ same_either (has_row (codes "help") rows) rows
+no_defaults Replays rows = unchanged (rules Replays) rows refl
+no_defaults verb rows = unchanged (rules verb) rows refl
 
 -- the rows in the end
 rows_end : (verb : Verb) (parts : List Part) (leads : Leads verb nothing_held false nothing_seen 0 parts) (role : Role)
@@ -695,15 +551,15 @@ given verb role parts leads word words are =
     ap (λ row. Rattle.std.specs.Option.option_map_or (λ (r : Row). Rattle.clap.specs.Facts.explicit_source r.source) row false)
     (rows_end verb parts leads role ∙ ap (row_of role) are)
 
--- There is a tenant.
-abbrev pub HasTenant : List Part → Type 0
-HasTenant parts = (tenant : Text) × (tenants : List Text) × (words_for Tenant parts ≡ tenant ∷ tenants)
+-- There is a word.
+abbrev pub HasFirst : List Text → Type 0
+HasFirst words = (first : Text) × (others : List Text) × (words ≡ first ∷ others)
 
 -- What has to be there is there.
 abbrev pub Needs : Verb → List Part → Type 0
-Needs Replays parts = HasTenant parts
-Needs Serves parts = HasTenant parts × ((port : Text) × (words_for Port parts ≡ port ∷ []))
-Needs Loads parts = HasTenant parts
+Needs Replays parts = HasFirst (words_for Tenant parts)
+Needs Serves parts = HasFirst (words_for Tenant parts) × ((port : Text) × (words_for Port parts ≡ port ∷ []))
+Needs Loads parts = HasFirst (words_for Tenant parts)
 
 valid : (verb : Verb) (parts : List Part) (leads : Leads verb nothing_held false nothing_seen 0 parts) → Needs verb parts
     → list_all default_passes (rules verb) && is_valid (shape verb) (finished (rules verb) leads.end) false ≡ true
@@ -715,23 +571,20 @@ valid Loads parts leads needs = ap (λ b. b && true) (given Loads Tenant parts l
 level : (verb : Verb) (parts : List Part) (leads : Leads verb nothing_held false nothing_seen 0 parts) → Needs verb parts
     → level_passes (shape verb) [] nothing_held (spelled parts) false ≡ true
 level Replays parts leads needs = ap₂ ◌&&◌ leads.passes (ap (ends_well Replays) leads.walks ∙ ap₂ ◌&&◌ leads.holds.settles (valid Replays parts leads needs))
-level Serves parts leads needs = ap₂ ◌&&◌ leads.passes (ap (ends_well Serves) leads.walks ∙ ap₂ ◌&&◌ leads.holds.settles (valid Serves parts leads needs))
-level Loads parts leads needs = ap₂ ◌&&◌ leads.passes (ap (ends_well Loads) leads.walks ∙ ap₂ ◌&&◌ leads.holds.settles (valid Loads parts leads needs))
+level verb parts leads needs = ap₂ ◌&&◌ leads.passes (ap (ends_well verb) leads.walks ∙ ap₂ ◌&&◌ leads.holds.settles (valid verb parts leads needs))
 
 -- ---- the whole command line
 
 -- the walk over the words of the whole command line stops at the command
 stop_is : (verb : Verb) (words : List Text) → stop_after (built program_app).top.rules (names_of (built program_app)) (name_of verb ∷ words) ≡ Some (name_of verb, words)
 unfolding walked
-stop_is Replays words = ap (λ (w : Walk). w.stopped) (sym (walk_stopped (built program_app).top.rules (names_of (built program_app)) (walk_from nothing_held) (codes "replay") [] words))
-stop_is Serves words = ap (λ (w : Walk). w.stopped) (sym (walk_stopped (built program_app).top.rules (names_of (built program_app)) (walk_from nothing_held) (codes "serve") [] words))
-stop_is Loads words = ap (λ (w : Walk). w.stopped) (sym (walk_stopped (built program_app).top.rules (names_of (built program_app)) (walk_from nothing_held) (codes "load") [] words))
+stop_is Replays words = ap (λ (w : Walk). w.stopped) (sym (walk_stopped (built program_app).top.rules (names_of (built program_app)) (walk_from nothing_held) (name_of Replays) [] words))
+stop_is verb words = ap (λ (w : Walk). w.stopped) (sym (walk_stopped (built program_app).top.rules (names_of (built program_app)) (walk_from nothing_held) (name_of verb) [] words))
 
 -- the command is found with the rows in which its walk ends
 entered_is : (verb : Verb) (words : List Text) → entered (built program_app) (Some (name_of verb, words)) ≡ Some (name_of verb, finished (rules verb) (fold (walked (rules verb) []) (walk_from nothing_held) words).held)
 entered_is Replays words = refl
-entered_is Serves words = refl
-entered_is Loads words = refl
+entered_is verb words = refl
 
 -- what is found
 pub finds : (verb : Verb) (parts : List Part) → have_roles verb parts ≡ true → ((role : Role) → Fits role (words_for role parts)) → length parts ≤ usize_max
@@ -758,12 +611,10 @@ top_ends_well end = settle_passes (built program_app).top.rules (built program_a
 
 top_level : (verb : Verb) (words : List Text) → level_passes (built program_app).top (names_of (built program_app)) nothing_held (name_of verb ∷ words) true ≡ true
 unfolding walk_passes walked
-top_level Replays words = ap₂ ◌&&◌ (stopped_passes (walk_from nothing_held) (codes "replay") [] words)
-    (ap top_ends_well (sym (walk_stopped (built program_app).top.rules (names_of (built program_app)) (walk_from nothing_held) (codes "replay") [] words)))
-top_level Serves words = ap₂ ◌&&◌ (stopped_passes (walk_from nothing_held) (codes "serve") [] words)
-    (ap top_ends_well (sym (walk_stopped (built program_app).top.rules (names_of (built program_app)) (walk_from nothing_held) (codes "serve") [] words)))
-top_level Loads words = ap₂ ◌&&◌ (stopped_passes (walk_from nothing_held) (codes "load") [] words)
-    (ap top_ends_well (sym (walk_stopped (built program_app).top.rules (names_of (built program_app)) (walk_from nothing_held) (codes "load") [] words)))
+top_level Replays words = ap₂ ◌&&◌ (stopped_passes (walk_from nothing_held) (name_of Replays) [] words)
+    (ap top_ends_well (sym (walk_stopped (built program_app).top.rules (names_of (built program_app)) (walk_from nothing_held) (name_of Replays) [] words)))
+top_level verb words = ap₂ ◌&&◌ (stopped_passes (walk_from nothing_held) (name_of verb) [] words)
+    (ap top_ends_well (sym (walk_stopped (built program_app).top.rules (names_of (built program_app)) (walk_from nothing_held) (name_of verb) [] words)))
 
 -- the words are taken
 pub takes_parts : (verb : Verb) (parts : List Part) → Needs verb parts → have_roles verb parts ≡ true → ((role : Role) → Fits role (words_for role parts))
@@ -779,5 +630,4 @@ takes_parts verb parts needs have fits few =
         → (entered_passes (built program_app) (Some (name_of verb, words))
         && level_passes (built program_app).top (names_of (built program_app)) nothing_held (name_of verb ∷ words) (is_some (entered (built program_app) (Some (name_of verb, words))))) ≡ true
     entered_level Replays words low top = ap₂ ◌&&◌ low top
-    entered_level Serves words low top = ap₂ ◌&&◌ low top
-    entered_level Loads words low top = ap₂ ◌&&◌ low top
+    entered_level verb words low top = ap₂ ◌&&◌ low top

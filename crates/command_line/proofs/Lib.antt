@@ -2,5 +2,6 @@ mod Amounts
 mod Asking
 mod CommandLine
 mod KindsOfWords
+mod Optional
 mod Rows
 mod Works

@@ -1,6 +1,6 @@
 -- Whether a command is found, by its name.
 use Rattle.std.proofs.Common.{◌≡◌, ◌∙◌, ◌↔◌, true, List, Option, Some, None, option_map, refl, sym, ap}
-use Rattle.std.specs.Prelude.{Box, unwrap_or}
+use Rattle.std.specs.Prelude.{Box}
 use Rattle.std.specs.Box.{box_value}
 use Rattle.std.proofs.lemmas.Slice.Eq.{bytes_eq-Decides}
 use Rattle.clap.specs.Words.{Row, subcommand_rows, subcommand_rows_of}
@@ -10,9 +10,7 @@ use Rattle.clap.specs.declared.parser.matches.ArgMatches.TheViews.{out-ArgMatche
 use Rattle.clap.specs.declared.parser.matches.SubCommand.{SubCommand}
 use Rattle.trace_types.specs.text.Name.{Text}
 use Rattle.command_line.specs.Reading.{is_found}
-
-some_same : {X : Type 0} {a b : X} → Some a ≡ Some b → a ≡ b
-some_same {X} {a} e = ap (λ o. unwrap_or o a) e
+use Rattle.command_line.proofs.Optional.{some_same}
 
 name_of : {Z : Type 0} (sub : Option (Box SubCommand Z))
     → option_map (λ (named : Text × List Row). named.0) (subcommand_rows sub) ≡ option_map (λ b. (out-SubCommand (box_value b)).name.now) sub

@@ -113,25 +113,45 @@ words_for role parts = map (λ part. part.word) (filter (λ part. is_role role p
 abbrev pub number_up_to : ℕ → Text → Option ℕ
 number_up_to most word = option_and_then (λ number. if is_between 1 most number then Some number else None) (number_of word)
 
--- the limit by the words of its option, which is used once at most
-abbrev pub limit_by : ℕ → ℕ → List Text → Option ℕ
-limit_by default most [] = Some default
-limit_by default most (word ∷ []) = number_up_to most word
-limit_by default most words = None
+-- the number of an option that is not used; a port has none
+abbrev pub default_of : Role → Option ℕ
+default_of Events = Some default_limits.events
+default_of Tasks = Some default_limits.tasks
+default_of Messages = Some default_limits.messages
+default_of Cache = Some 1024
+default_of Workers = Some 4
+default_of Sessions = Some 1048576
+default_of role = None
+
+-- the most that the number of an option may be
+abbrev pub most_of : Role → ℕ
+most_of Events = 16384
+most_of Tasks = 2048
+most_of Messages = 16384
+most_of Cache = 65536
+most_of Port = 65535
+most_of Workers = 32
+most_of Sessions = 1048576
+most_of role = 0
+
+-- the number by the words of its option, which is used once at most
+abbrev pub number_by_words : Option ℕ → ℕ → List Text → Option ℕ
+number_by_words default most [] = default
+number_by_words default most (word ∷ []) = number_up_to most word
+number_by_words default most words = None
+
+-- the number that the parts ask for in this role
+abbrev pub number_by : Role → List Part → Option ℕ
+number_by role parts = number_by_words (default_of role) (most_of role) (words_for role parts)
 
 -- the limits of these three numbers, if each is there
 abbrev pub limits_of : Option ℕ → Option ℕ → Option ℕ → Option Limits
 limits_of (Some events) (Some tasks) (Some messages) = Some (record { events = events; tasks = tasks; messages = messages })
 limits_of events tasks messages = None
 
--- the limits that the parts ask for, and the default if an option is not used
+-- the limits that the parts ask for
 abbrev pub limits_by : List Part → Option Limits
-limits_by parts = limits_of (limit_by default_limits.events 16384 (words_for Events parts))
-    (limit_by default_limits.tasks 2048 (words_for Tasks parts)) (limit_by default_limits.messages 16384 (words_for Messages parts))
-
--- how many comparisons the parts ask to be remembered, and the default if the option is not used
-abbrev pub cache_by : List Part → Option ℕ
-cache_by parts = limit_by 1024 65536 (words_for Cache parts)
+limits_by parts = limits_of (number_by Events parts) (number_by Tasks parts) (number_by Messages parts)
 
 -- the tenant to be exported, if any, by the words of its option, which is used once at most
 abbrev pub export_by : List Text → Option (Option Text)
@@ -139,28 +159,20 @@ export_by [] = Some None
 export_by (word ∷ []) = if is_plain word then Some (Some word) else None
 export_by words = None
 
--- what these tenants, limits, number of comparisons and export ask for, if there is a tenant
-abbrev pub asked_with : List Text → Limits → ℕ → Option Text → Option AskedReplay
-asked_with [] limits cache export = None
-asked_with tenants limits cache export = Some (record { limits = limits; cache = cache; tenants = tenants; export = export })
+-- the replay that these ask for, if each is there, and a tenant is
+abbrev pub replay_with : List Text → Option Limits → Option ℕ → Option (Option Text) → Option AskedReplay
+replay_with [] limits cache export = None
+replay_with tenants (Some limits) (Some cache) (Some export) =
+    Some (record { limits = limits; cache = cache; tenants = tenants; export = export })
+replay_with tenants limits cache export = None
 
--- what these tenants ask for with these limits, this number and this export, if each is there
-abbrev pub asked_by_options : List Text → Option Limits → Option ℕ → Option (Option Text) → Option AskedReplay
-asked_by_options tenants (Some limits) (Some cache) (Some export) = asked_with tenants limits cache export
-asked_by_options tenants limits cache export = None
-
--- what the parts ask for
+-- the replay that the parts ask for
 abbrev pub replay_asked_by : List Part → Option AskedReplay
-replay_asked_by parts = asked_by_options (words_for Tenant parts) (limits_by parts) (cache_by parts) (export_by (words_for Export parts))
+replay_asked_by parts = replay_with (words_for Tenant parts) (limits_by parts) (number_by Cache parts) (export_by (words_for Export parts))
 
 -- the replay that the words after `replay` ask for, if they are options, each with its number or name, and tenants
 abbrev pub replay_asked_in : List Text → Option AskedReplay
 replay_asked_in words = option_and_then replay_asked_by (parts_after replay_options None words)
-
--- the port by the words of its option, which is used once
-abbrev pub port_by : List Text → Option ℕ
-port_by (word ∷ []) = number_up_to 65535 word
-port_by words = None
 
 -- the service that these ask for, if each is there, and a tenant is
 abbrev pub service_with : List Text → Option ℕ → Option ℕ → Option ℕ → Option Limits → Option ℕ → Option AskedService
@@ -171,8 +183,8 @@ service_with tenants port workers sessions limits cache = None
 
 -- the service that the parts ask for
 abbrev pub service_asked_by : List Part → Option AskedService
-service_asked_by parts = service_with (words_for Tenant parts) (port_by (words_for Port parts)) (limit_by 4 32 (words_for Workers parts))
-    (limit_by 1048576 1048576 (words_for Sessions parts)) (limits_by parts) (cache_by parts)
+service_asked_by parts = service_with (words_for Tenant parts) (number_by Port parts) (number_by Workers parts) (number_by Sessions parts)
+    (limits_by parts) (number_by Cache parts)
 
 -- the service that the words after `serve` ask for, if they are options, each with its number, and tenants
 abbrev pub service_asked_in : List Text → Option AskedService
