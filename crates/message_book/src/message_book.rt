@@ -86,6 +86,19 @@ impl MessageBook {
         Ok(self.add(name, event)?)
     }
 
+    /// Adds a message that can be sent, by this event.
+    ///
+    /// Returns `Memory`, and changes nothing, if it runs out of memory.
+    pub fn add(&mut self, name: Name, event: u64) -> Result<(), Memory>
+        requires { refusal_of_send self.old name ≡ None }
+        ensures ok { OnOk result (self.new ≡ record self.old { messages = with_message name event self.old.messages }) }
+        ensures err { OnErr result (self.new ≡ self.old) }
+    {
+        let entry = Entry::new(*self.messages.allocator(), event);
+        self.messages.insert(name, entry)?;
+        Ok(())
+    }
+
     /// The event that sent the message of this name, if the task can receive it. Else it is `NoMessage` (405) if there is
     /// no such message, and `AlreadyReceived` (407) if the task received it before. It takes no memory.
     pub fn check_receive(&self, name: &Name, task: &Name) -> Result<u64, Code>
@@ -133,16 +146,5 @@ impl MessageBook {
         if let Some(entry) = self.messages.get_mut(name) {
             entry.remove_last_receipt();
         }
-    }
-
-    /// Adds a message that can be sent.
-    fn add(&mut self, name: Name, event: u64) -> Result<(), Memory>
-        requires { refusal_of_send self.old name ≡ None }
-        ensures ok { OnOk result (self.new ≡ record self.old { messages = with_message name event self.old.messages }) }
-        ensures err { OnErr result (self.new ≡ self.old) }
-    {
-        let entry = Entry::new(*self.messages.allocator(), event);
-        self.messages.insert(name, entry)?;
-        Ok(())
     }
 }
