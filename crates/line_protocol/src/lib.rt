@@ -55,8 +55,10 @@ pub use line::Line;
 pub use line_fault::LineFault;
 pub use line_reader::LineReader;
 pub use read_fault::ReadFault;
-pub use reply::{flush, write_answer, write_bytes, write_prefix, write_reply};
-pub use request::{read_addressed, read_request};
+pub use reply::{
+    flush, write_answer, write_bytes, write_count, write_order, write_prefix, write_reply,
+};
+pub use request::{is_count, read_addressed, read_order, read_request, split_first};
 pub use sink::Sink;
 pub use source::Source;
 pub use stop::Stop;

@@ -6,10 +6,10 @@ ghost use Rattle.line_protocol.specs.Writing.{Writes, WritesBoth, Flushes, Gathe
 
 use crate::gather::{gather_bytes, gather_numbers};
 use crate::pieces::{write_piece, write_pieces};
-use crate::reply_head::push_head;
+use crate::reply_head::{push_count, push_head, push_order};
 use crate::reply_text::ReplyText;
 use crate::{Sink, Stop, WriteFault};
-use trace_types::{Name, Reply};
+use trace_types::{Name, Order, Reply};
 
 /// How many interruptions end a call.
 const MOST_INTERRUPTIONS: u64 = 1048576;
@@ -64,6 +64,42 @@ pub fn write_answer<W: Sink>(
     text.push(b" ");
     let to_len = text.len();
     push_head(&mut text, reply);
+    text.push(b"\n");
+    write_both(writer, text.as_bytes(), to_len)
+}
+
+/// Writes the answer that says how two events stand, as [`write_answer`] does.
+#[inline(always)]
+pub fn write_order<W: Sink>(
+    writer: &mut W,
+    addressee: &Name,
+    order: Order,
+) -> Result<(), WriteFault>
+    ensures { WritesBoth (W.seen writer.old) (W.seen writer.new) result (addressee.now ++ codes " ") (reply_text (Reply.Ordering order) ++ codes "\n") }
+{
+    let mut text = ReplyText::new();
+    text.push(addressee.as_bytes());
+    text.push(b" ");
+    let to_len = text.len();
+    push_order(&mut text, order);
+    text.push(b"\n");
+    write_both(writer, text.as_bytes(), to_len)
+}
+
+/// Writes the answer that counts a tenant's events, tasks and messages, as [`write_answer`] does.
+#[inline(always)]
+pub fn write_count<W: Sink>(
+    writer: &mut W,
+    addressee: &Name,
+    counts: (u64, u64, u64),
+) -> Result<(), WriteFault>
+    ensures { WritesBoth (W.seen writer.old) (W.seen writer.new) result (addressee.now ++ codes " ") (reply_text (Reply.Count counts.0 counts.1 counts.2) ++ codes "\n") }
+{
+    let mut text = ReplyText::new();
+    text.push(addressee.as_bytes());
+    text.push(b" ");
+    let to_len = text.len();
+    push_count(&mut text, counts.0, counts.1, counts.2);
     text.push(b"\n");
     write_both(writer, text.as_bytes(), to_len)
 }

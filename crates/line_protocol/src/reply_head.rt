@@ -1,6 +1,6 @@
 //! Replies up to their lists or stamps, as texts.
 ghost use Rattle.std.specs.Prelude.{◌≡◌, ◌+◌, ◌≤◌, ◌++◌, decimal, codes, length};
-ghost use Rattle.trace_types.specs.text.Text.{reply_text, order_text, state_text, name_text};
+ghost use Rattle.trace_types.specs.text.Text.{reply_text, state_text, name_text};
 ghost use Rattle.line_protocol.specs.Answer.{reply_head};
 
 use crate::reply_text::ReplyText;
@@ -15,7 +15,7 @@ pub(crate) fn push_head(text: &mut ReplyText, reply: &Reply)
 {
     match reply {
         Reply::Accepted(event) => text.push_before_number(b"201 ", *event),
-        Reply::Ordering(order) => push_pieces(text, b"200 ", order_text(*order)),
+        Reply::Ordering(order) => push_order(text, *order),
         Reply::List(events) => text.push_before_number(b"200 ", events.as_slice().len() as u64),
         Reply::Event(row) => push_event(text, row),
         Reply::Stamp(_) => text.push(b"200 "),
@@ -27,6 +27,22 @@ pub(crate) fn push_head(text: &mut ReplyText, reply: &Reply)
         ),
         Reply::Count(events, tasks, messages) => push_count(text, *events, *tasks, *messages),
         Reply::Refused(code) => push_refusal(text, *code),
+    }
+}
+
+/// Adds the words for an order.
+#[inline(always)]
+pub(crate) fn push_order(text: &mut ReplyText, order: Order)
+    requires { length text.old ≤ 25 }
+    ensures text { text.new ≡ text.old ++ reply_text (Reply.Ordering order) }
+    ensures short { length text.new ≤ 127 }
+{
+    // Each text is a constant, so that the compiler copies it without a call.
+    match order {
+        Order::Same => text.push(b"200 same"),
+        Order::Before => text.push(b"200 before"),
+        Order::After => text.push(b"200 after"),
+        Order::Concurrent => text.push(b"200 concurrent"),
     }
 }
 
@@ -77,7 +93,7 @@ fn push_message(text: &mut ReplyText, sent: u64, receipt_count: u64)
 
 /// Adds the three numbers of a count.
 #[inline(always)]
-fn push_count(text: &mut ReplyText, events: u64, tasks: u64, messages: u64)
+pub(crate) fn push_count(text: &mut ReplyText, events: u64, tasks: u64, messages: u64)
     requires { length text.old ≤ 25 }
     ensures text { text.new ≡ text.old ++ reply_text (Reply.Count events tasks messages) }
     ensures short { length text.new ≤ 127 }
@@ -95,19 +111,6 @@ fn push_refusal(text: &mut ReplyText, code: Code)
 {
     text.push_number(code.number());
     push_pieces(text, b" ", code.text().as_bytes());
-}
-
-/// The words for an order.
-fn order_text(order: Order) -> &'static [u8]
-    ensures text { result.now ≡ order_text order }
-    ensures short { length result.now ≤ 24 }
-{
-    match order {
-        Order::Same => b"same",
-        Order::Before => b"before",
-        Order::After => b"after",
-        Order::Concurrent => b"concurrent",
-    }
 }
 
 /// The word for how far a task has come.

@@ -1,8 +1,8 @@
 //! Requests, which are read in place.
-ghost use Rattle.std.specs.Prelude.{◌≡◌, ◌∷◌, false, codes, take, option_map, position, ◌==◌};
+ghost use Rattle.std.specs.Prelude.{◌≡◌, ◌∷◌, IfSome, IsTrue, Some, false, codes, take, option_map, position, ◌==◌};
 ghost use Rattle.std.specs.Option.{option_copied};
 ghost use Rattle.trace_types.specs.text.Name.{is_same};
-ghost use Rattle.trace_types.specs.text.Reading.{request_of, words, number_of, is_digit, name_of, only, only_two, request_of_words, with_name, with_names, with_numbers};
+ghost use Rattle.trace_types.specs.text.Reading.{request_of, words, number_of, is_digit, name_of, only, only_two, request_of_words, with_name, with_names};
 ghost use Rattle.line_protocol.specs.Words.{Addresses, LeadingNumber, first_number, may_be_number, words_after};
 
 use trace_types::{Name, Request};
@@ -14,20 +14,30 @@ pub fn read_request(line: &[u8]) -> Option<Request>
     // The compiler zeroes all locals of a function on entry. What is asked most does without those of `read_other`.
     match line {
         b"count" => Some(Request::Count),
-        [b'o', b'r', b'd', b'e', b'r', b' ', arguments @ ..] => read_order(arguments),
+        [b'o', b'r', b'd', b'e', b'r', b' ', arguments @ ..] => {
+            two_numbers(arguments).map(|(first, second)| Request::Order(first, second))
+        }
         _ => read_other(line),
     }
 }
 
-/// The arguments of an order.
+/// Whether the line is `count`.
 #[inline(always)]
-fn read_order(arguments: &[u8]) -> Option<Request>
-    ensures { result ≡ with_numbers Request.Order (words arguments.now) }
+pub fn is_count(line: &[u8]) -> bool
+    ensures count { result ≡ is_same line.now (codes "count") }
+    ensures spelled { IsTrue result → request_of line.now ≡ Some Request.Count }
 {
-    let (first, rest) = first_number(arguments)?;
-    match first_number(rest?)? {
-        (second, None) => Some(Request::Order(first, second)),
-        (_, Some(_)) => None,
+    matches!(line, b"count")
+}
+
+/// The two events of an order, if the line spells one.
+#[inline(always)]
+pub fn read_order(line: &[u8]) -> Option<(u64, u64)>
+    ensures { IfSome result (λ events. request_of line.now ≡ Some (Request.Order events.0 events.1)) }
+{
+    match line {
+        [b'o', b'r', b'd', b'e', b'r', b' ', arguments @ ..] => two_numbers(arguments),
+        _ => None,
     }
 }
 
@@ -193,9 +203,21 @@ fn only_number(arguments: &[u8]) -> Option<u64>
     }
 }
 
+/// The two numbers, if there are two arguments and no more.
+#[inline(always)]
+fn two_numbers(arguments: &[u8]) -> Option<(u64, u64)>
+    ensures { result ≡ only_two number_of (words arguments.now) }
+{
+    let (first, rest) = first_number(arguments)?;
+    match first_number(rest?)? {
+        (second, None) => Some((first, second)),
+        (_, Some(_)) => None,
+    }
+}
+
 /// The bytes before the first blank, and the bytes after it, if there is one.
 #[inline(always)]
-fn split_first(bytes: &[u8]) -> (&[u8], Option<&[u8]>)
+pub fn split_first(bytes: &[u8]) -> (&[u8], Option<&[u8]>)
     ensures { words bytes.now ≡ result.0.now ∷ words_after (option_copied result.1) }
 {
     match first_blank(bytes) {

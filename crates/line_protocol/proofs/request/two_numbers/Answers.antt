@@ -1,7 +1,7 @@
 use Rattle.std.proofs.Common.{refl, sym}
 use Rattle.line_protocol.proofs.FirstNumberLemmas.{two_numbers-more}
 use Rattle.trace_types.specs.text.Reading.{words}
-use Rattle.line_protocol.proofs.request.read_order.Goals as goal
+use Rattle.line_protocol.proofs.request.two_numbers.Goals as goal
 
 pub returns-in_default-Some : goal.returns-in_default-Some
 returns-in_default-Some c =
