@@ -1,11 +1,13 @@
 -- Filling raises only points of the id, keeps trees normal and their greatest value, and rises somewhere or changes nothing.
-use Rattle.std.proofs.Common.{◌≡◌, ◌≢◌, ℕ, ◌+◌, ◌≤◌, ◌⊎◌, false, ◌&&◌, is_none, Option, Some, None, max, inl, inr, refl, arith}
+use Rattle.std.proofs.Common.{◌≡◌, ◌≢◌, ℕ, ◌+◌, ◌≤◌, ◌⊎◌, true, ◌||◌, max, inl, inr, refl, arith}
 use Rattle.trace_types.specs.clock.Id.{Id, Zero, One, Pair}
 use Rattle.trace_types.specs.clock.EventTree.{EventTree, Leaf, Node, minimum, maximum, IsNormal}
 use Rattle.trace_types.specs.clock.Norm.{norm}
 use Rattle.trace_types.specs.clock.Fill.{node_filled, fill}
-use Rattle.event_tree.specs.Filled.{filled_over, Rises, GivesFilled}
+use Rattle.event_tree.specs.Filled.{filled_over, is_filled, Rises, GivesFilled}
 use Rattle.event_tree.specs.Raised.{RisesSomewhere}
+use Rattle.event_tree.specs.declared.ev_tree.begun.Begun.{Begun}
+use Rattle.event_tree.specs.declared.ev_tree.begun.Begun.TheVariants.{Unfilled, Filled}
 use Rattle.event_tree.proofs.Bounds.{minimum-le-maximum}
 use Rattle.event_tree.proofs.Canonical.{same_from_values}
 use Rattle.event_tree.proofs.Decided.{below_or_above}
@@ -84,15 +86,15 @@ otherwise_fill id tree normal =
       | inr rises ↦ inr rises
     ]
 
--- what is given over a normal tree rises, or is nothing
+-- a tree over a normal one, of which a half is filled, rises
 module _ (n : ℕ) (l r : EventTree) (normal : IsNormal (Node n l r)) (x y : EventTree) (x_normal : IsNormal x) (y_normal : IsNormal y) where
-  pub rises_beside : (left right : Option EventTree) → Rises left l → Rises right r → x ≡ filled_over left l → y ≡ filled_over right r → (is_none left && is_none right) ≡ false → RisesSomewhere (Node n l r) (norm n x y)
-  rises_beside (Some a) right on_left on_right x_is y_is some = rises_norm n l r x y x_normal y_normal (rises_left n l r x y (rw x_is on_left))
-  rises_beside None (Some b) on_left on_right x_is y_is some = rises_norm n l r x y x_normal y_normal (rises_right n l r x y (rw y_is on_right))
-  rises_beside None None on_left on_right x_is y_is some = absurd (cc)
+  pub rises_beside : (left right : Begun) → Rises left l → Rises right r → x ≡ filled_over left l → y ≡ filled_over right r → (is_filled left || is_filled right) ≡ true → RisesSomewhere (Node n l r) (norm n x y)
+  rises_beside (Filled a) right on_left on_right x_is y_is some = rises_norm n l r x y x_normal y_normal (rises_left n l r x y (rw x_is on_left))
+  rises_beside (Unfilled p) (Filled b) on_left on_right x_is y_is some = rises_norm n l r x y x_normal y_normal (rises_right n l r x y (rw y_is on_right))
+  rises_beside (Unfilled p) (Unfilled q) on_left on_right x_is y_is some = absurd (cc)
 
 -- a number that bounds a normal node is given in its place
-pub gives_number : (n : ℕ) (l r : EventTree) (m : ℕ) → IsNormal (Node n l r) → maximum (Node n l r) ≤ m → GivesFilled (Some (Leaf m)) (Node n l r) (Leaf m)
+pub gives_number : (n : ℕ) (l r : EventTree) (m : ℕ) → IsNormal (Node n l r) → maximum (Node n l r) ≤ m → GivesFilled (Filled (Leaf m)) (Node n l r) (Leaf m)
 gives_number n l r m normal bound = record { exact = refl; rises = rises_flat n l r m normal bound }
 
 -- halves that the id owns only in part are filled each by itself

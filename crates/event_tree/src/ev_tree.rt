@@ -19,10 +19,9 @@ use std::sync::Arc;
 use trace_types::{Memory, Order};
 
 mod above;
+mod begun;
 mod comparison;
-mod cost;
 mod events;
-mod filling;
 mod forking;
 mod growth;
 mod joining;

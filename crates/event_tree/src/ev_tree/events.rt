@@ -7,6 +7,7 @@ ghost use Rattle.event_tree.specs.Height.{height};
 ghost use Rattle.event_tree.specs.Risen.{IsRaisedAt};
 
 use super::EvTree;
+use super::begun::Begun;
 use crate::RaisedPoint;
 use id_tree::IdTree;
 use std::alloc::Global;
@@ -24,13 +25,8 @@ impl EvTree {
         ensures exact { IfOk result (λ after. after ≡ event id.now tree.now) }
         ensures whole { id.now ≡ One → IsOk result }
     {
-        let mut found = None;
-        tree.filled(alloc, id, &mut found)?;
-        if let Some(filled) = found {
-            return Ok(filled);
-        }
-        let (grown, _) = tree.grown(alloc, id)?;
-        Ok(grown)
+        let (after, _) = EvTree::event_with_point(alloc, id, tree)?;
+        Ok(after)
     }
 
     /// The tree after the event, as [`EvTree::event`] gives it, and a point of the id that the event raised, with the
@@ -53,12 +49,14 @@ impl EvTree {
     {
         tree.normal();
         id_tree::laws::each_tree_is_normal(id);
-        let mut found = None;
-        tree.filled(alloc, id, &mut found)?;
-        let Some(filled) = found else {
-            return tree.grown(alloc, id);
-        };
-        let raised = tree.risen_point(id, &filled);
-        Ok((filled, raised))
+        let mut found = Begun::Unfilled(None);
+        tree.begun(alloc, id, &mut found)?;
+        match found {
+            Begun::Unfilled(price) => tree.grown(alloc, id, price),
+            Begun::Filled(filled) => {
+                let raised = tree.risen_point(id, &filled);
+                Ok((filled, raised))
+            }
+        }
     }
 }

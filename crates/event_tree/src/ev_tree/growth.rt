@@ -9,7 +9,7 @@ ghost use Rattle.event_tree.specs.Height.{height};
 ghost use Rattle.event_tree.specs.Grew.{GrewAt};
 ghost use Rattle.event_tree.specs.Risen.{IsRaisedAt};
 
-use super::cost::Cost;
+use super::begun::Cost;
 use super::{EvTree, Node};
 use crate::point::LEVELS;
 use crate::{Point, RaisedPoint};
@@ -82,50 +82,16 @@ impl EvTree {
         }
     }
 
-    /// The least cost of growing the tree. `zero` stands below a number.
-    #[cycle(growth_cost)]
-    #[inline(always)]
-    pub(super) fn growth_cost(&self, id: &IdTree, zero: &EvTree) -> Result<Option<Cost>, Memory>
-        requires { zero.now ≡ Leaf 0 }
-        ensures exact { IfOk result (λ price. price ≡ cost id.now self.now) }
-        ensures whole { id.now ≡ One → IsOk result }
-    {
-        match id.parts() {
-            IdParts::Zero => Ok(None),
-            IdParts::One => Ok(Some(Cost::NOTHING)),
-            IdParts::Pair(left_id, right_id) => self.growth_cost_below(left_id, right_id, zero),
-        }
-    }
-
-    /// The least cost of growing the tree below an id of these two halves.
-    #[cycle(growth_cost)]
-    #[inline(never)]
-    fn growth_cost_below(
-        &self,
-        left_id: &IdTree,
-        right_id: &IdTree,
-        zero: &EvTree,
-    ) -> Result<Option<Cost>, Memory>
-        requires { zero.now ≡ Leaf 0 }
-        ensures { IfOk result (λ price. price ≡ cost (Pair left_id.now right_id.now) self.now) }
-    {
-        let opened = self.opened(zero);
-        let left = opened.left.growth_cost(left_id, zero)?;
-        let right = opened.right.growth_cost(right_id, zero)?;
-        match Cost::cheaper(left, right) {
-            Some(cost) => Ok(Some(cost.further(opened.expansion)?)),
-            None => Ok(None),
-        }
-    }
-
-    /// The tree grown at the least cost, in normal form, and a point of the id that was raised. There is no point only if
+    /// The tree grown at its least cost, in normal form, and a point of the id that was raised. There is no point only if
     /// what grew lies below the levels of a point.
     pub(super) fn grown(
         &self,
         alloc: Global,
         id: &IdTree,
+        price: Option<Cost>,
     ) -> Result<(EvTree, Option<RaisedPoint>), Memory>
         requires some { id.now ≢ Zero }
+        requires price { price ≡ cost id.now self.now }
         requires fits { maximum self.now + 1 < 2 ^ 64 }
         ensures exact { IfOk result (λ found. found.0 ≡ normalised (grown id.now self.now)) }
         ensures raised { IfOk result (λ found. IfSome found.1 (λ raised. IsRaisedAt id.now self.now found.0 raised.point)) }
@@ -135,7 +101,7 @@ impl EvTree {
     {
         id_tree::laws::each_tree_is_normal(id);
         let zero = EvTree::leaf(0);
-        let Some(price) = self.growth_cost(id, &zero)? else {
+        let Some(price) = price else {
             unreachable!();
         };
         let mut place = Place::ROOT;

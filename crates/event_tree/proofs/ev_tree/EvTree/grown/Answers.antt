@@ -10,7 +10,7 @@ use Rattle.event_tree.proofs.ev_tree.EvTree.grown.Goals as goal
 
 pub unreachable-requires : goal.unreachable-requires
 unreachable-requires c =
-    let none = sym c.in_ok-price.ensures.exact ∙ c.in_default.is in
+    let none = sym c.requires.price ∙ c.in_default.is in
     let some = rw none at (cost-some c.args.id.now c.args.self.now c.each_tree_is_normal.ensures c.requires.some) in
     absurd (cc)
 
@@ -19,7 +19,7 @@ returns-clause-raised c =
     elim c.if-price-le-LEVELS.branch [
       | then-price-le-LEVELS w ↦
           let raises = raises_grown c.args.id.now c.args.self.now c.each_tree_is_normal.ensures c.requires.some in
-          let price = sym c.in-Some.is ∙ c.in_ok-price.ensures.exact in
+          let price = sym c.in-Some.is ∙ c.requires.price in
           let made = grown_for-cost c.in-Some.price c.args.id.now c.args.self.now price in
           let found = rw c.in-Some-2.is at c.in_ok-tree.ensures.exact in
           let tree : c.in-Some-2.tree ≡ normalised (grown c.args.id.now c.args.self.now) = cc in
