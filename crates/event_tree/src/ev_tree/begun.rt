@@ -232,8 +232,9 @@ impl Children {
                 *found = Begun::Unfilled(Cost::above(*one, *other, 0)?);
                 Ok(())
             }
-            (Begun::Filled(_), _) => self.fill_over(alloc, base, left, right, found),
-            (_, Begun::Filled(_)) => self.fill_over(alloc, base, left, right, found),
+            (Begun::Filled(_), _) | (_, Begun::Filled(_)) => {
+                self.fill_over(alloc, base, left, right, found)
+            }
         }
     }
 
