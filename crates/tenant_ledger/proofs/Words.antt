@@ -11,7 +11,7 @@ pub use Rattle.message_book.specs.Book.{entry_of, entry_with_receipt, has_receip
 pub use Rattle.tenant_ledger.specs.Answers.{code_of}
 pub use Rattle.tenant_ledger.specs.ClockLaws.{ClockLaws, OwnsSome, Raises}
 pub use Rattle.tenant_ledger.specs.Invariant.{EventsHavePrivatePoints, HasPrivatePoint, HolderIsAhead, holds, Invariant, IsPrivate, OneHolder, TreesRise, value_of}
-pub use Rattle.tenant_ledger.specs.Ledger.{acting_after, AreMessages, ArePoints, Contents, count_with, count_with_some, Decides, Event, event_of, HasRoom, history_in, id_after, id_for, id_left, ids_made, IsKept, IsKeptWith, IsMessage, IsReady, IsReport, IsTask, joined_by, made_ids, MayHavePoint, MayRaise, named_after, Notes, of_each, Prepares, receipts_by_task, refusals_of_named, refusals_of_received, refusals_of_report, refusals_of_room, row_of_report, start_of, task_count_with, task_in, task_with, task_with_some, tasks_with, tenant_of, with_event, with_seed}
+pub use Rattle.tenant_ledger.specs.Ledger.{acting_after, AreMessages, ArePoints, Contents, count_with, count_with_some, Decides, Event, event_of, HasIndex, HasRoom, history_in, id_after, id_for, id_left, ids_made, IsKept, IsKeptWith, IsMessage, IsReady, IsReport, IsTask, joined_by, made_ids, MayHavePoint, MayRaise, named_after, Notes, of_each, Prepares, receipts_by_task, refusals_of_named, refusals_of_received, refusals_of_report, refusals_of_room, row_of_report, start_of, task_count_with, task_in, task_with, task_with_some, tasks_with, tenant_of, with_event, with_seed}
 pub use Rattle.tenant_ledger.specs.Legal.{Allows, AllowsNamed, IsLegal, IsLive}
 pub use Rattle.tenant_ledger.specs.declared.book.report.Report.{Report}
 pub use Rattle.tenant_ledger.specs.declared.book.task.Task.{Task}

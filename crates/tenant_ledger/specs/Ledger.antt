@@ -75,6 +75,10 @@ tenant_of book = record { limits = book.limits; rows = book.rows }
 abbrev pub task_in : Contents → Text → Option Task
 task_in book name = lookup (is_same name) book.tasks
 
+-- the task of this name has this index in the table of tasks
+abbrev pub HasIndex : List (Text × Task) → Text → ℕ → Type 0
+HasIndex tasks name index = (task : Task) × (slice_get tasks index ≡ Some (name, task))
+
 -- what is kept of a name: nothing where there is no such task; of a joined task the id is not told
 abbrev pub IsTask : List Id → History → Text → Option Task → Type 0
 IsTask ids history name None = is_known history name ≡ false
@@ -220,6 +224,7 @@ pub record IsReport (book : Contents) (report : Report) : Type 0 where
   pub legal : AreLegal book.limits (book.rows ++ row_of_report book report ∷ [])
   pub few : length book.rows < 16384
   pub acting : task_in book report.task ≡ Some report.acting
+  pub at : HasIndex book.tasks report.task report.index
   pub second : report.second ≡ second_event (history_in book) report.kind report.name
   pub joined : report.joined ≡ joined_by (task_in book) report.kind report.name
   pub may : MayNote book.messages report.task report.kind report.name
@@ -271,6 +276,8 @@ pub record Event : Type 0 where
   pub point : Option Deciding
   pub ids : List Id
   pub acting : Task
+  -- the index of its task
+  pub index : ℕ
   pub named : Option Task
 
 -- what is to be kept of a report, with this point
@@ -282,6 +289,7 @@ event_of book report point = record {
   point = point;
   ids = made_ids (ids_made report.kind (id_of tree_clock (history_in book) report.task) (of_named Zero (id_of tree_clock (history_in book)) report.name));
   acting = acting_after report.kind (suc (length (history_in book))) (length book.ids) report.acting;
+  index = report.index;
   named = named_after report.kind (suc (length (history_in book))) (length book.ids) report.joined;
 }
 
@@ -338,6 +346,7 @@ id_left kept (id ∷ made) place = Some id
 -- can be dropped.
 pub record IsReady (book : Contents) (event : Event) : Type 0 where
   pub home : event.home ≡ book.home
+  pub at : HasIndex book.tasks event.row.task event.index
   pub before : message_book.Book
   pub was : IsKept (record book { messages = before })
   pub notes : Notes event.row.task event.row.kind event.row.name (suc (length book.rows)) before book.messages

@@ -3,7 +3,7 @@ ghost use Rattle.std.specs.Prelude.{◌≡◌, ◌-◌, ◌<◌, ◌≤◌, true
 ghost use Rattle.trace_types.specs.tenant.Limits.{are_limits};
 ghost use Rattle.trace_types.specs.tenant.Rows.{is_event};
 ghost use Rattle.trace_types.specs.tenant.Tenant.{fresh};
-ghost use Rattle.tenant_ledger.specs.Ledger.{IsKept, history_in, id_after, task_in, tenant_of};
+ghost use Rattle.tenant_ledger.specs.Ledger.{HasIndex, IsKept, history_in, id_after, task_in, tenant_of};
 
 mod commit;
 mod draft;
@@ -194,6 +194,7 @@ impl<S: Keep> Book<S> {
     /// The task of this name, and its index in the table of tasks, or `NoTask` if there is none.
     fn known_task(&self, name: &Name) -> Result<(&Task, usize), Code>
         ensures ok { IfOk result (λ found. task_in self.now name.now ≡ Some found.0.now) }
+        ensures index { IfOk result (λ found. HasIndex self.now.tasks name.now found.1) }
         ensures err { IfErr result (λ code. (code ≡ Code.NoTask) × (task_in self.now name.now ≡ None)) }
     {
         match self.tasks.get_full(name) {

@@ -106,6 +106,7 @@ module _ (book : Contents) (kept : IsKept book) (report : Report) (is : IsReport
       → (point : Option Deciding) → MayRaise book report point → IsReady (record book { messages = after }) (event_of book report point)
   report_is_ready after notes room point raised = record {
     home = refl;
+    at = is.at;
     before = book.messages;
     was = kept;
     notes = notes;

@@ -1,12 +1,12 @@
 //! Drafts are committed, or taken back.
-ghost use Rattle.std.specs.Prelude.{◌≡◌, ℕ, suc, ◌+◌, ◌<◌, ◌≤◌, ◌∷◌, Some, length, option_to_list, slice_get, true, vec_len, vec_capacity, ◌++◌};
+ghost use Rattle.std.specs.Prelude.{◌≡◌, ℕ, suc, ◌+◌, ◌<◌, ◌≤◌, ◌∷◌, Some, length, option_to_list, vec_len, vec_capacity, ◌++◌};
 ghost use Rattle.indexmap.specs.IndexMap.{get, index_map_len, spare};
 ghost use Rattle.trace_types.specs.text.Name.{Text as Characters, is_same};
 ghost use Rattle.trace_types.specs.clock.Clock.{tree_clock};
 ghost use Rattle.trace_types.specs.clock.Stamps.{id_of};
 ghost use Rattle.trace_types.specs.tenant.Tenant.{with_row};
 ghost use Rattle.message_book.specs.Book.{Book as Messages};
-ghost use Rattle.tenant_ledger.specs.Ledger.{IsKept, history_in, tenant_of, task_with, count_with, task_with_some, count_with_some, Notes, IsReady};
+ghost use Rattle.tenant_ledger.specs.Ledger.{HasIndex, IsKept, history_in, tenant_of, task_with, count_with, task_with_some, count_with_some, Notes, IsReady};
 
 use super::{Book, Draft, Task};
 use crate::share::Keep;
@@ -45,8 +45,8 @@ impl<S: Keep> Book<S> {
         } = draft;
         add_some(&mut self.ids, first);
         add_some(&mut self.ids, second);
-        put_some(&mut self.tasks, row.name, named);
-        put_at(&mut self.tasks, index, row.task, acting);
+        put_some(&mut self.tasks, &row.name, named);
+        put_at(&mut self.tasks, index, acting);
         self.rows.push_reserved(row);
         self.trees.push_reserved(tree);
         self.points.push_reserved(point);
@@ -77,13 +77,13 @@ fn add_some<T>(items: &mut Vec<T>, item: Option<T>)
 }
 
 /// Keeps the task that a report names, if it names one. There is room for it.
-fn put_some(tasks: &mut IndexMap<Name, Task>, name: Option<Name>, task: Option<Task>)
+fn put_some(tasks: &mut IndexMap<Name, Task>, name: &Option<Name>, task: Option<Task>)
     requires { 0 < spare tasks.old }
-    ensures tasks { (other : Characters) → get is_same tasks.new other ≡ task_with_some task name (get is_same tasks.old) other }
-    ensures count { index_map_len tasks.new ≡ count_with_some task name (get is_same tasks.old) (index_map_len tasks.old) }
-    ensures room { spare tasks.old ≤ spare tasks.new + 1 }
+    ensures tasks { (other : Characters) → get is_same tasks.new other ≡ task_with_some task name.now (get is_same tasks.old) other }
+    ensures count { index_map_len tasks.new ≡ count_with_some task name.now (get is_same tasks.old) (index_map_len tasks.old) }
+    ensures places { (other : Characters) (index : ℕ) → HasIndex tasks.old.entries other index → HasIndex tasks.new.entries other index }
 {
-    if let (Some(task), Some(name)) = (task, name) {
+    if let (Some(task), Some(name)) = (task, *name) {
         put(tasks, name, task);
     }
 }
@@ -93,34 +93,20 @@ fn put(tasks: &mut IndexMap<Name, Task>, name: Name, task: Task)
     requires { 0 < spare tasks.old }
     ensures tasks { (other : Characters) → get is_same tasks.new other ≡ task_with name task (get is_same tasks.old) other }
     ensures count { index_map_len tasks.new ≡ count_with name (get is_same tasks.old) (index_map_len tasks.old) }
-    ensures room { spare tasks.old ≤ spare tasks.new + 1 }
+    ensures places { (other : Characters) (index : ℕ) → HasIndex tasks.old.entries other index → HasIndex tasks.new.entries other index }
 {
     tasks.insert(name, task).unwrap();
 }
 
-/// Keeps the task under its name, for which there is room. It is quick if the name has this index.
-fn put_at(tasks: &mut IndexMap<Name, Task>, index: usize, name: Name, task: Task)
-    requires { 0 < spare tasks.old }
-    ensures tasks { (other : Characters) → get is_same tasks.new other ≡ task_with name task (get is_same tasks.old) other }
-    ensures count { index_map_len tasks.new ≡ count_with name (get is_same tasks.old) (index_map_len tasks.old) }
-    ensures room { spare tasks.old ≤ spare tasks.new + 1 }
+/// Keeps the task at the index of its name.
+fn put_at(tasks: &mut IndexMap<Name, Task>, index: usize, task: Task)
+    ensures tasks { (name : Characters) → HasIndex tasks.old.entries name index → (other : Characters) →
+        get is_same tasks.new other ≡ task_with name task (get is_same tasks.old) other }
+    ensures count { (name : Characters) → HasIndex tasks.old.entries name index →
+        index_map_len tasks.new ≡ count_with name (get is_same tasks.old) (index_map_len tasks.old) }
 {
-    if is_at(tasks, index, &name)
-        && let Some(kept) = tasks.get_index_mut(index)
-    {
+    if let Some(kept) = tasks.get_index_mut(index) {
         *kept = task;
-    } else {
-        put(tasks, name, task);
-    }
-}
-
-/// Whether the task of this name has this index.
-fn is_at(tasks: &IndexMap<Name, Task>, index: usize, name: &Name) -> bool
-    ensures { result ≡ true → (had : Task) × (slice_get tasks.now.entries index ≡ Some (name.now, had)) × (get is_same tasks.now name.now ≡ Some had) }
-{
-    match tasks.get_index(index) {
-        Some((found, _)) => found == name,
-        None => false,
     }
 }
 

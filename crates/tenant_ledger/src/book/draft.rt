@@ -55,6 +55,7 @@ impl<S: Keep> Model for Draft<S> {
       point = d.point;
       ids = map S.Id.id (option_to_list d.first ++ option_to_list d.second);
       acting = d.acting;
+      index = d.index;
       named = d.named;
     } };
 }
@@ -116,16 +117,16 @@ impl<S: Keep> Book<S> {
         ensures { Prepares result self.old request.now self.new }
     {
         // A `?` would move the report once more.
-        let (report, index) = match self.report(request) {
-            Ok(found) => found,
+        let report = match self.report(request) {
+            Ok(report) => report,
             Err(code) => return Err(code),
         };
         self.make_room(rt)?;
-        self.draft(rt, &report, index)
+        self.draft(rt, &report)
     }
 
-    /// Notes the report's message, and gives what is to be kept of its event. The acting task has this index.
-    fn draft<R>(&mut self, rt: &R, report: &Report, index: usize) -> Result<Draft<S>, Code>
+    /// Notes the report's message, and gives what is to be kept of its event.
+    fn draft<R>(&mut self, rt: &R, report: &Report) -> Result<Draft<S>, Code>
     where
         S: Share<R>,
         requires book { IsKept self.old }
@@ -153,7 +154,7 @@ impl<S: Keep> Book<S> {
             first,
             second,
             acting: report.acting_after(event, place),
-            index,
+            index: report.index,
             named: report.named_after(event, place),
         })
     }
@@ -212,9 +213,7 @@ impl<S: Keep> Book<S> {
         ensures others { self.new ≡ record self.old { messages = self.new.messages } }
     {
         match (report.kind, report.name) {
-            (Kind::Send, Some(message)) => {
-                self.messages.send(message, event).map_err(|_| Memory)
-            }
+            (Kind::Send, Some(message)) => self.messages.add(message, event),
             (Kind::Recv, Some(message)) => {
                 self.messages
                     .receive(&message, report.task, event)

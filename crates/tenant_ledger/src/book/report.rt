@@ -6,7 +6,7 @@ ghost use Rattle.trace_types.specs.tenant.Reachability.{second_event};
 ghost use Rattle.trace_types.specs.tenant.Refusal.{refusal_of};
 ghost use Rattle.trace_types.specs.tenant.Tenant.{is_report, answer_to, accepted};
 ghost use Rattle.message_book.specs.Book.{refusal_of_send, refusal_of_receive};
-ghost use Rattle.tenant_ledger.specs.Ledger.{IsKept, history_in, task_in, Decides, refusals_of_task, refusals_of_child, refusals_of_sent, refusals_of_received, refusals_of_joined, refusals_of_named, refusals_of_room, MayNote, joined_by, IsReport, acting_after, named_after};
+ghost use Rattle.tenant_ledger.specs.Ledger.{HasIndex, IsKept, history_in, task_in, Decides, refusals_of_task, refusals_of_child, refusals_of_sent, refusals_of_received, refusals_of_joined, refusals_of_named, refusals_of_room, MayNote, joined_by, IsReport, acting_after, named_after};
 
 use super::{Book, Task};
 use crate::share::Keep;
@@ -18,7 +18,9 @@ pub(super) struct Report {
     pub(super) task: Name,
     pub(super) kind: Kind,
     pub(super) name: Option<Name>,
+    /// The acting task, and its index in the table of tasks.
     pub(super) acting: Task,
+    pub(super) index: usize,
     /// The event that it follows beside the acting task's last one, or 0.
     pub(super) second: u64,
     /// The task that it joins.
@@ -74,6 +76,7 @@ impl<S: Keep> Book<S> {
     fn live_task(&self, name: &Name) -> Result<(&Task, usize), Code>
         requires { IsKept self.now }
         ensures task { IfOk result (λ found. task_in self.now name.now ≡ Some found.0.now) }
+        ensures index { IfOk result (λ found. HasIndex self.now.tasks name.now found.1) }
         ensures decides { Decides (refusals_of_task (history_in self.now) name.now) result }
     {
         let (task, index) = self.known_task(name)?;
@@ -175,12 +178,12 @@ impl<S: Keep> Book<S> {
         }
     }
 
-    /// What the request reports, and the index of the acting task, or why it is refused.
-    pub(super) fn report(&self, request: &Request) -> Result<(Report, usize), Code>
+    /// What the request reports, or why it is refused.
+    pub(super) fn report(&self, request: &Request) -> Result<Report, Code>
         requires book { IsKept self.now }
         requires report { is_report request.now ≡ true }
-        ensures report { IfOk result (λ found. IsReport self.now found.0) }
-        ensures answer { IfOk result (λ found. answer_to (history_in self.now) request.now ≡ accepted (history_in self.now) found.0.task found.0.kind found.0.name) }
+        ensures report { IfOk result (IsReport self.now) }
+        ensures answer { IfOk result (λ report. answer_to (history_in self.now) request.now ≡ accepted (history_in self.now) report.task report.kind report.name) }
         ensures refused { result_err result ≡ refusal_of self.now.limits (history_in self.now) request.now }
     {
         let Some(reported) = request.reported() else {
@@ -189,14 +192,14 @@ impl<S: Keep> Book<S> {
         let (acting, index) = self.live_task(&reported.task)?;
         let (second, joined) = self.named(&reported.task, reported.kind, &reported.name)?;
         self.check_room()?;
-        let report = Report {
+        Ok(Report {
             task: reported.task,
             kind: reported.kind,
             name: reported.name,
             acting: *acting,
+            index,
             second,
             joined,
-        };
-        Ok((report, index))
+        })
     }
 }

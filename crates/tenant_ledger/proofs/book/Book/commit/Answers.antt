@@ -19,6 +19,7 @@ returns-clause-book g c =
     let book = c.self.inside in
     let draft = c.draft.inside in
     let ready = transport (λ i. IsReady (sym c.self.view_is i) (sym c.draft.view_is i)) c.requires in
+    let at = c.put_some.ensures.places draft.row.task draft.index ready.at in
     let made = option_to_list draft.first ++ option_to_list draft.second in
     let ids : c.add_some-2.new.items.items ≡ book.ids.items ++ made =
     c.add_some-2.ensures.items ∙ ap (λ ids. ids ++ option_to_list draft.second) c.add_some.ensures.items ∙ append_assoc book.ids.items _ _ in
@@ -29,5 +30,5 @@ returns-clause-book g c =
     c.push_reserved-5.ensures.items
     (ap (λ ids. with_seed (map id ids)) ids ∙ seeded-append id book.ids.items made ready.room.seeded)
     (omega (arith, ready.room.seeded, ap length ids, length-append book.ids.items made))
-    (λ name. c.put_at.ensures.tasks name ∙ ap (λ had. cond (is_same draft.row.task name) (Some draft.acting) had) (c.put_some.ensures.tasks name))
-    (c.put_at.ensures.count ∙ (λ i. c.put_some.ensures.count i + cond (is_some (c.put_some.ensures.tasks draft.row.task i)) 0 1))
+    (λ name. c.put_at.ensures.tasks draft.row.task at name ∙ ap (λ had. cond (is_same draft.row.task name) (Some draft.acting) had) (c.put_some.ensures.tasks name))
+    (c.put_at.ensures.count draft.row.task at ∙ (λ i. c.put_some.ensures.count i + cond (is_some (c.put_some.ensures.tasks draft.row.task i)) 0 1))

@@ -29,10 +29,10 @@ draft-requires-clause-book g c = kept_with_room c.args.self.now c.requires.book 
 
 pub draft-requires-clause-report : goal.draft-requires-clause-report
 draft-requires-clause-report g c =
-    report_with_room c.args.self.now c.requires.book c.make_room.new.self c.make_room.ensures.same c.in-Ok.found.0 c.in-Ok.ensures.report
+    report_with_room c.args.self.now c.requires.book c.make_room.new.self c.make_room.ensures.same c.in-Ok.report c.in-Ok.ensures.report
 
 pub returns : goal.returns
 returns g c =
-    by_draft c.args.self.now c.make_room.new.self c.draft.new.self c.args.request.now c.in-Ok.found.0 c.requires.report c.requires.book
+    by_draft c.args.self.now c.make_room.new.self c.draft.new.self c.args.request.now c.in-Ok.report c.requires.report c.requires.book
     c.make_room.ensures.same c.make_room.ensures.seeded c.in_ok-make_room.ensures.room c.in-Ok.ensures.report c.in-Ok.ensures.answer c.in-Ok.ensures.refused
     c.draft.result c.draft.ensures.event c.draft.ensures.point c.draft.ensures.noted c.draft.ensures.err c.draft.ensures.others

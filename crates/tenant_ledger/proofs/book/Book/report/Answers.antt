@@ -38,6 +38,7 @@ returns-clause-report g c =
           (not_refused g (goal.at.returns-clause-report g c).In_ok-check_room) (ap (λ answer. answer.1) of_report.0) c.requires.book.legal;
       few = c.in_ok-check_room.ensures.room;
       acting = c.in_ok-acting.ensures.task;
+      at = c.in_ok-acting.ensures.index;
       second = ap (λ found. found.0) c.in_ok-second.ensures.found;
       joined = ap (λ found. found.1) c.in_ok-second.ensures.found;
       may = c.in_ok-second.ensures.may;
