@@ -160,6 +160,7 @@ impl<S: Keep> Book<S> {
     }
 
     /// The row of the report, which follows the last event of its task and the second event.
+    #[inline(always)]
     fn row_after(&self, report: &Report) -> Row
         requires book { IsKept self.now }
         requires report { IsReport self.now report.now }
@@ -206,6 +207,7 @@ impl<S: Keep> Book<S> {
     }
 
     /// Notes the message that the report's event sends or receives.
+    #[inline(always)]
     fn note(&mut self, report: &Report, event: u64) -> Result<(), Memory>
         requires { MayNote self.old.messages report.now.task report.now.kind report.now.name }
         ensures noted { OnOk result (Notes report.now.task report.now.kind report.now.name event self.old.messages self.new.messages) }

@@ -30,6 +30,7 @@ pub(super) struct Report {
 impl Report {
     /// What is to be kept of the acting task. This event is its last, and the first of the ids that are made is at this
     /// place.
+    #[inline(always)]
     pub(super) fn acting_after(&self, event: u64, place: usize) -> Task
         ensures { result ≡ acting_after self.now.kind event place self.now.acting }
     {
@@ -48,6 +49,7 @@ impl Report {
     }
 
     /// What is to be kept of the task that the report starts or joins.
+    #[inline(always)]
     pub(super) fn named_after(&self, event: u64, place: usize) -> Option<Task>
         requires { place < 18446744073709551615 }
         ensures { result ≡ named_after self.now.kind event place self.now.joined }
