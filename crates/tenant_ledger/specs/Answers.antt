@@ -1,11 +1,14 @@
 -- What is answered from what is kept, and which answers are short.
-use Rattle.std.specs.Prelude.{ℕ, Bool, true, false, List, Option, Some, None, if◌then◌else◌}
+use Rattle.std.specs.Prelude.{ℕ, Bool, true, false, List, Option, Some, None, Result, Ok, Err, if◌then◌else◌}
 use Rattle.trace_types.specs.text.Name.{Text}
 use Rattle.trace_types.specs.tenant.Rows.{History, is_known, state_of, last_event, is_sent, send_event, receipts}
 use Rattle.trace_types.specs.declared.code.Code.{Code}
 use Rattle.trace_types.specs.declared.code.Code.TheVariants.{NoEvent, NoMemory}
 use Rattle.trace_types.specs.declared.request.Request.{Request}
-use Rattle.trace_types.specs.declared.request.Request.TheVariants.{Order, Count}
+use Rattle.trace_types.specs.declared.request.Request.TheVariants as request
+use Rattle.trace_types.specs.declared.order.Order.{Order}
+use Rattle.trace_types.specs.declared.reply.Reply.{Reply}
+use Rattle.trace_types.specs.declared.reply.Reply.TheVariants as reply
 use Rattle.trace_types.specs.declared.task_state.TaskState.{TaskState}
 use Rattle.trace_query.specs.declared.query_fault.QueryFault.{QueryFault}
 use Rattle.trace_query.specs.declared.query_fault.QueryFault.TheVariants.{Unknown, Memory}
@@ -23,8 +26,13 @@ abbrev pub code_of : QueryFault → Code
 code_of Unknown = NoEvent
 code_of Memory = NoMemory
 
+-- the reply that tells an order, or why there is none
+abbrev pub order_answer : Result Order Code → Reply
+order_answer (Ok order) = reply.Ordering order
+order_answer (Err code) = reply.Refused code
+
 -- the request is one whose answer is short
 abbrev pub is_brief : Request → Bool
-is_brief (Order first second) = true
-is_brief Count = true
+is_brief (request.Order first second) = true
+is_brief request.Count = true
 is_brief other = false

@@ -6,7 +6,7 @@ ghost use Rattle.trace_types.specs.clock.Clock.{tree_clock};
 ghost use Rattle.trace_types.specs.clock.Stamps.{tree_of};
 ghost use Rattle.trace_types.specs.tenant.Rows.{history_of, is_event, is_sent, message_count, task_count};
 ghost use Rattle.trace_types.specs.tenant.Tenant.{Answers, AreLegal, Tenant, reply_to_view};
-ghost use Rattle.tenant_ledger.specs.Answers.{code_of, is_brief, message_due, task_due};
+ghost use Rattle.tenant_ledger.specs.Answers.{code_of, is_brief, message_due, order_answer, task_due};
 ghost use Rattle.tenant_ledger.specs.Ledger.{ArePoints, id_after, of_each, start_of};
 
 use id_tree::IdTree;
@@ -15,7 +15,9 @@ use std::alloc::Global;
 use trace_query::{
     Compare, Deciding, Meant, QueryFault, concurrent_by_points, cut_by_points, past_by_points,
 };
-use trace_types::{Code, Memory, Name, Numbers, Receipts, Reply, Request, Row, TaskState, Text};
+use trace_types::{
+    Code, Memory, Name, Numbers, Order, Receipts, Reply, Request, Row, TaskState, Text,
+};
 
 /// What a tenant's queries are answered from: its rows, what is kept of each event, and what is kept under each name.
 pub trait Records {
@@ -136,6 +138,24 @@ pub fn answer_briefly<R: Records, C: Compare<R::Kept>>(
     }
 }
 
+/// How the first event stands to the second, as [`answer`] answers. It takes no memory.
+#[inline(always)]
+pub fn order_of<R: Records, C: Compare<R::Kept>>(
+    records: &R,
+    compare: &C,
+    first: u64,
+    second: u64,
+) -> Result<Order, Code>
+    requires sound { R.is_sound records.now }
+    requires admitted { (kept : R.Kept) → R.keeps records.now kept → C.admits compare.now kept }
+    ensures { order_answer result ≡ reply_to_view (R.tenant records.now) (Request.Order first second) }
+{
+    match trace_query::order(compare, records.trees(), first, second) {
+        Ok(order) => Ok(order),
+        Err(fault) => Err(code_of(fault)),
+    }
+}
+
 /// How the first event stands to the second.
 #[inline(always)]
 fn order<R: Records, C: Compare<R::Kept>>(
@@ -148,9 +168,9 @@ fn order<R: Records, C: Compare<R::Kept>>(
     requires admitted { (kept : R.Kept) → R.keeps records.now kept → C.admits compare.now kept }
     ensures { result ≡ reply_to_view (R.tenant records.now) (Request.Order first second) }
 {
-    match trace_query::order(compare, records.trees(), first, second) {
+    match order_of(records, compare, first, second) {
         Ok(order) => Reply::Ordering(order),
-        Err(fault) => Reply::Refused(code_of(fault)),
+        Err(code) => Reply::Refused(code),
     }
 }
 
@@ -261,7 +281,17 @@ fn count<R: Records>(records: &R) -> Reply
     requires { R.is_sound records.now }
     ensures { result ≡ reply_to_view (R.tenant records.now) Request.Count }
 {
-    Reply::Count(
+    let (events, tasks, messages) = counts_of(records);
+    Reply::Count(events, tasks, messages)
+}
+
+/// How many events, tasks ever and messages there are.
+#[inline(always)]
+pub fn counts_of<R: Records>(records: &R) -> (u64, u64, u64)
+    requires { R.is_sound records.now }
+    ensures { Reply.Count result.0 result.1 result.2 ≡ reply_to_view (R.tenant records.now) Request.Count }
+{
+    (
         records.rows().len() as u64,
         records.task_count(),
         records.message_count(),

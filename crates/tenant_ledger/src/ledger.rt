@@ -7,17 +7,17 @@ ghost use Rattle.trace_types.specs.clock.Size.{inner_of_id, inner_of_tree};
 ghost use Rattle.trace_types.specs.clock.Stamps.{stamp_of, tree_of};
 ghost use Rattle.trace_types.specs.tenant.Tenant.{fresh, step, Steps, Answers, AreLegal, is_report, with_row};
 ghost use Rattle.event_tree.specs.Comparison.{StandsAs};
-ghost use Rattle.tenant_ledger.specs.Answers.{is_brief};
+ghost use Rattle.tenant_ledger.specs.Answers.{order_answer};
 ghost use Rattle.tenant_ledger.specs.Size.{AreShort, AreSized, HaveShortParts, IsShort, NestBySpawns, spawns_up_to};
 
-use crate::answers::{Records, answer, answer_briefly, place_of};
+use crate::answers::{Records, answer, counts_of, order_of, place_of};
 use crate::book::Book;
 use crate::share::{Keep, MeantId, Own, Share};
 use crate::{PlainShare, Prepared, laws};
 use std::alloc::Global;
 use std::marker::Model;
 use trace_query::{Compare, Meant};
-use trace_types::{Limits, Memory, Reply, Request, Row};
+use trace_types::{Code, Limits, Memory, Order, Reply, Request, Row};
 
 /// What one tenant has reported. The ledger owns a share, which keeps its ids and trees.
 #[derive(Drop)]
@@ -144,16 +144,23 @@ impl<S: Keep> Ledger<S> {
         }
     }
 
-    /// Answers `order` and `count`, whose answers are short, as [`Ledger::report`] does. Returns `None` for any other
-    /// request. It takes no memory.
+    /// How the first event stands to the second, as [`Ledger::report`] answers. It takes no memory.
     #[inline(always)]
-    #[tactic(auto, using(crate::proofs::keeping::Refused::brief_steps))]
-    pub fn ask_briefly(&self, request: &Request) -> Option<Reply>
-        ensures steps { IfSome result (λ reply. Steps self.now request.now reply self.now) }
-        ensures brief { is_some result ≡ is_brief request.now }
+    #[tactic(auto, using(crate::proofs::keeping::Refused::order_steps))]
+    pub fn order(&self, first: u64, second: u64) -> Result<Order, Code>
+        ensures { Steps self.now (Request.Order first second) (order_answer result) self.now }
     {
         let book = &*self.book;
-        answer_briefly(book, &Own(book.share()), request)
+        order_of(book, &Own(book.share()), first, second)
+    }
+
+    /// How many events, tasks ever and messages there are, as [`Ledger::report`] answers.
+    #[inline(always)]
+    #[tactic(auto, using(crate::proofs::keeping::Refused::count_steps))]
+    pub fn counts(&self) -> (u64, u64, u64)
+        ensures { Steps self.now Request.Count (Reply.Count result.0 result.1 result.2) self.now }
+    {
+        counts_of(&*self.book)
     }
 
     /// Does all of a report that may be refused, and leaves the rows as they are. What it returns is to be committed or

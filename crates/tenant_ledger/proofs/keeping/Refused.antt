@@ -1,12 +1,10 @@
 -- Which refusal is due, and what a request that is not refused steps to.
-use Rattle.std.proofs.Common.{◌≡◌, suc, Bool, true, false, List, [], ◌∷◌, ◌++◌, length, Option, Some, None, is_some, Result, Ok, Err, IsTrue, refl, sym, ap, ◌∙◌, subst, inl, inr}
-use Rattle.std.specs.Prelude.{IfSome}
+use Rattle.std.proofs.Common.{◌≡◌, ℕ, suc, Bool, true, false, List, [], ◌∷◌, ◌++◌, length, Option, Some, None, Result, Ok, Err, IsTrue, refl, sym, ap, ◌∙◌, subst, inl, inr}
 use Rattle.std.specs.Result.{result_err, IsErrAnd}
-use Rattle.tenant_ledger.proofs.Words.{AllByRecursion, cases_Bool, cond-false, length-reverse, Limits, History, history_of, first_code, refusals, refusal_of, reported, Steps, step_unless, answer_to, accepted, row_after, with_row, may_lack_memory, Tenant, Answers, is_report, step, Text, Code, NoMemory, Reply, Reported, Request, Row, Kind, Contents, Event, IsKept, Decides, Prepares, refusals_of_report, history_in, tenant_of, fresh, after, AreLegal, Accepted, Refused}
+use Rattle.tenant_ledger.proofs.Words.{AllByRecursion, cases_Bool, cond-false, length-reverse, Limits, History, history_of, first_code, refusals, refusal_of, reported, Steps, step_unless, answer_to, accepted, row_after, with_row, may_lack_memory, Tenant, Answers, reply_to_view, is_report, step, Text, Code, NoMemory, Reply, Reported, Request, Row, Kind, Contents, Event, IsKept, Decides, Prepares, refusals_of_report, history_in, tenant_of, fresh, after, AreLegal, Accepted, Refused}
 use Rattle.trace_types.specs.declared.request.Request.TheVariants as request
 use Rattle.trace_types.specs.text.Text.{CanBeWritten}
 use Rattle.trace_types.proofs.Interleaving.{after-push, limits-after}
-use Rattle.tenant_ledger.specs.Answers.{is_brief}
 
 -- the first code that applies, or else the first of what comes after
 abbrev or_later : Option Code → Option Code → Option Code
@@ -75,15 +73,12 @@ query_steps tenant request answer query (inl answered) =
     by None = ap (with_row tenant) (query_leaves tenant request query)
     by (Some code) = refl
 
--- so does one whose answer is short
-brief_is_query : (request : Request) → is_brief request ≡ true → is_report request ≡ false
-brief_is_query request.Count brief = refl
-brief_is_query request brief = cc
+pub order_steps : (tenant : Tenant) (first second : ℕ) (answer : Reply) → answer ≡ reply_to_view tenant (request.Order first second)
+    → Steps tenant (request.Order first second) answer tenant
+order_steps tenant first second answer answered = query_steps tenant (request.Order first second) answer refl (inl answered)
 
-pub brief_steps : (tenant : Tenant) (request : Request) (answer : Option Reply) → is_some answer ≡ is_brief request
-    → IfSome answer (λ reply. Answers tenant request reply) → IfSome answer (λ reply. Steps tenant request reply tenant)
-brief_steps tenant request None brief answered = tt
-brief_steps tenant request (Some reply) brief answered = query_steps tenant request reply (brief_is_query request (sym brief)) answered
+pub count_steps : (tenant : Tenant) (answer : Reply) → answer ≡ reply_to_view tenant request.Count → Steps tenant request.Count answer tenant
+count_steps tenant answer answered = query_steps tenant request.Count answer refl (inl answered)
 
 -- ---- legal rows stay legal with the row of a report that is not refused
 
