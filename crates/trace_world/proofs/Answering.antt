@@ -1,10 +1,11 @@
 -- The answers to lines that name a tenant.
-use Rattle.std.proofs.Common.{◌≡◌, ◌<◌, slice_get, ℕ, Bool, true, false, List, [], length, get_or, Option, Some, None, refl, sym, ap, ◌∙◌, subst, codes}
+use Rattle.std.proofs.Common.{◌≡◌, ◌<◌, slice_get, ℕ, Bool, true, false, List, [], ◌∷◌, ◌++◌, length, get_or, Option, Some, None, Result, refl, sym, ap, ◌∙◌, subst, codes}
+use Rattle.std.proofs.Math.Path.{transport}
 use Rattle.std.proofs.lemmas.List.{append-nil, length-set}
 use Rattle.std.specs.Prelude.{IfSome, if◌then◌else◌}
 use Rattle.trace_types.specs.text.Name.{Text, is_name}
 use Rattle.trace_types.specs.text.Lines.{is_too_long}
-use Rattle.trace_types.specs.text.Reading.{addressed_by, request_of_words}
+use Rattle.trace_types.specs.text.Reading.{addressed_by, request_of, request_of_words, words}
 use Rattle.trace_types.specs.world.Replay.{NoTenants, NoRequest, Asks, asked, asked_by, place_of}
 use Rattle.trace_types.specs.world.World.{World, StepsOne, tells_want}
 use Rattle.trace_types.proofs.Interleaving.{IsDue-from_step}
@@ -15,7 +16,13 @@ use Rattle.trace_types.specs.declared.request.Request.{Request}
 use Rattle.trace_types.specs.declared.reply.Reply.{Reply}
 use Rattle.trace_types.specs.declared.reply.Reply.TheVariants.{Refused}
 use Rattle.line_protocol.specs.Words.{Addresses}
-use Rattle.trace_world.specs.Answered.{IsFound, code_to_nobody}
+use Rattle.line_protocol.specs.Sink.{Taken}
+use Rattle.line_protocol.specs.Writing.{WritesBoth}
+use Rattle.trace_types.specs.text.Text.{reply_text}
+use Rattle.trace_world.specs.Answered.{AnswersFound, AnswersRequest, DoesRequest, IsFound, TellsReply, code_to_nobody}
+use Rattle.trace_world.specs.Counted.{counted_with}
+use Rattle.trace_world.specs.declared.counts.Counts.{Counts}
+use Rattle.trace_world.proofs.Fronts.{WritesBoth-no_failure, WritesBoth-fault, WritesBoth-interruptions}
 use Rattle.trace_world.specs.Replayed.{DoesLine}
 use Rattle.trace_types.proofs.Places.{IsPlace, IsPlace-place_of}
 
@@ -64,6 +71,28 @@ answers_no_request world line name asks_for tenant short addresses is_named spel
       leads = λ calls after. rw (asks, append-nil calls) after;
     }
 
+-- a line names a tenant, and the rest of it was done
+pub answers_rest : (old new : World) (line name rest to : Text) (tenant : ℕ) (asks_for : Option Request) (reply : Reply)
+    → is_too_long line ≡ false → words line ≡ name ∷ words rest → is_name name ≡ true → request_of rest ≡ asks_for → place_of old.names name ≡ Some tenant
+    → slice_get old.names tenant ≡ Some to → tenant < length old.tenants → DoesRequest old tenant asks_for reply new → DoesLine old line to reply new
+answers_rest old new line name rest to tenant (Some request) reply short splits is_named spelled found at within does =
+    answers_request old new line name to (request_of rest) tenant request reply short (record { rest = words rest; splits = splits; spells = refl }) is_named spelled found at within does
+answers_rest old new line name rest to tenant None reply short splits is_named spelled found at within does =
+    let same : name ≡ to = named old.names name tenant found ∙ get_or_from_slice_get old.names tenant to [] at in
+    let refused = answers_no_request old line name (request_of rest) tenant short (record { rest = words rest; splits = splits; spells = refl }) is_named spelled found in
+    transport (λ i. DoesLine old line (same i) (sym does.0 i) (sym does.1 i)) refused
+
+-- a reply that was written and counted is told
+pub tells : {E : Type 0} (before after : Taken) (to : Text) (reply : Reply) (counts counts' : Counts) (result : Result (Unit {0}) E) → counts' ≡ counted_with counts reply
+    → WritesBoth before after result (to ++ codes " ") (reply_text reply ++ codes "\n") → TellsReply before after to reply counts counts' result
+tells before after to reply counts counts' result counted writes = record {
+  counted = counted;
+  writes = writes;
+  no_failure = WritesBoth-no_failure before after result _ _ writes;
+  fault = WritesBoth-fault before after result _ _ writes;
+  interruptions = WritesBoth-interruptions before after result _ _ writes;
+}
+
 -- a line belongs to no tenant
 answers_nobody : (world : World) (line : Text) (code : Code) → asked world.names line ≡ NoTenants code → DoesLine world line (codes "?") (Refused code) world
 answers_nobody world line code asks = record {
@@ -102,3 +131,14 @@ where_found {old} {new} {to} {reply} found text is does line found_is =
 -- a line that is too long is done
 pub where_too_long : {world : World} (found : Option Text) → found ≡ None → (line : Text) → IsFound found line → DoesLine world line (codes "?") (Refused code.Line) world
 where_too_long {world} found is line found_is = answers_too_long world line (subst (λ (found : Option Text). IsFound found line) is found_is)
+
+-- a line that was found is answered as its tenant's request is
+pub answers_found : {E : Type 0} {found : Option Text} {old new : World} {line name : Text} {tenant : ℕ} {request : Option Request} {before after : Taken} {counts counts' : Counts} {result : Result (Unit {0}) E}
+    → (rest : Text) → found ≡ Some line → words line ≡ name ∷ words rest → is_name name ≡ true → request_of rest ≡ request → place_of old.names name ≡ Some tenant → tenant < length old.tenants
+    → AnswersRequest old tenant request new before after counts counts' result → AnswersFound found old new before after counts counts' result
+answers_found {found = found} {old = old} {new = new} {line = line} {name = name} {tenant = tenant} {request = request} rest is splits is_named spells at within answers = record {
+  to = answers.to;
+  reply = answers.reply;
+  does = where_found found line is (λ short. answers_rest old new line name rest answers.to tenant request answers.reply short splits is_named spells at answers.named within answers.does);
+  tells = answers.tells;
+}

@@ -1,5 +1,5 @@
 -- What holds of every world.
-use Rattle.std.proofs.Common.{take, drop, ◌++◌, ◌≡◌, ℕ, ◌<◌, zero, suc, true, List, Option, None, IfSome, [], ◌∷◌, length, map, slice_get, slice_set, Some, refl, sym, ap, ◌∙◌, arith, length-set, inl, inr, subst}
+use Rattle.std.proofs.Common.{take, drop, ◌++◌, ◌≡◌, ℕ, ◌<◌, zero, suc, true, List, [], ◌∷◌, length, map, slice_get, slice_set, Some, refl, sym, ap, ◌∙◌, arith, length-set, inl, inr, subst}
 use Rattle.std.specs.Prelude.{slice_index_or}
 use Rattle.std.specs.List.{All}
 use Rattle.std.proofs.Math.Seq.{take-append_seam}
@@ -66,10 +66,9 @@ IsWorld-at world place request reply later is step =
     (IsWorld-set world place step.later is (record { has = has; legal = subst (λ limits. AreLegal limits step.later.rows) has step.legal }))
 
 -- what was answered leaves its tenant as it was
-pub StepsOne-stays : (world : World) (place : ℕ) (tenant : Tenant) (request : Request) (found : Option Reply)
-    → slice_get world.tenants place ≡ Some tenant → IfSome found (λ reply. Steps tenant request reply tenant) → IfSome found (λ reply. StepsOne world place request reply world)
-StepsOne-stays world place tenant request None was steps = tt
-StepsOne-stays world place tenant request (Some reply) was steps =
+pub StepsOne-stays : (world : World) (place : ℕ) (tenant : Tenant) (request : Request) (reply : Reply)
+    → slice_get world.tenants place ≡ Some tenant → Steps tenant request reply tenant → StepsOne world place request reply world
+StepsOne-stays world place tenant request reply was steps =
     record { before = tenant; later = tenant; was = was; steps = steps; is = ap (λ tenants. record world { tenants = tenants }) (sym stays) }
   where
     at : slice_index_or world.tenants place tenant ≡ tenant

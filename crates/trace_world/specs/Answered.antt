@@ -8,6 +8,7 @@ use Rattle.trace_types.specs.declared.code.Code.{Code}
 use Rattle.trace_types.specs.declared.code.Code.TheVariants as code
 use Rattle.trace_types.specs.declared.request.Request.{Request}
 use Rattle.trace_types.specs.declared.reply.Reply.{Reply}
+use Rattle.trace_types.specs.declared.reply.Reply.TheVariants as reply
 use Rattle.line_protocol.specs.Sink.{Taken}
 use Rattle.line_protocol.specs.Writing.{EndsInFault, WritesBoth}
 use Rattle.trace_world.specs.Counted.{counted_with}
@@ -38,12 +39,17 @@ pub record AnswersFound {E : Type 0} (found : Option Text) (old new : World) (be
   pub does : (line : Text) → IsFound found line → DoesLine old line to reply new
   pub tells : TellsReply before after to reply counts counts' result
 
--- The tenant at the place did what it asks for, and the reply that is due was told to it.
-pub record AnswersRequest {E : Type 0} (old : World) (tenant : ℕ) (request : Request) (new : World) (before after : Taken) (counts counts' : Counts) (result : Result (Unit {0}) E) : Type 0 where
+-- The tenant at the place did the request, or was refused one that no line spells.
+abbrev pub DoesRequest : World → ℕ → Option Request → Reply → World → Type 0
+DoesRequest old tenant None answer new = (answer ≡ reply.Refused code.Line) × (new ≡ old)
+DoesRequest old tenant (Some request) answer new = StepsOne old tenant request answer new
+
+-- The tenant at the place did what it asks for, if anything, and the reply that is due was told to it.
+pub record AnswersRequest {E : Type 0} (old : World) (tenant : ℕ) (request : Option Request) (new : World) (before after : Taken) (counts counts' : Counts) (result : Result (Unit {0}) E) : Type 0 where
   pub to : Text
   pub reply : Reply
   pub named : slice_get old.names tenant ≡ Some to
-  pub steps : StepsOne old tenant request reply new
+  pub does : DoesRequest old tenant request reply new
   pub tells : TellsReply before after to reply counts counts' result
 
 -- why a line is refused whose first word names no tenant

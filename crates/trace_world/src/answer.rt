@@ -1,12 +1,16 @@
 //! Answers to lines.
-ghost use Rattle.std.specs.Prelude.{◌≡◌, ◌<◌, false, length};
+ghost use Rattle.std.specs.Prelude.{◌≡◌, ◌<◌, Some, false, length};
 ghost use Rattle.std.specs.Option.{option_copied};
 ghost use Rattle.trace_types.specs.text.Lines.{is_too_long};
+ghost use Rattle.trace_types.specs.text.Reading.{request_of};
 ghost use Rattle.trace_world.specs.Answered.{AnswersFound, AnswersRequest, CarriesOut, TellsReply, code_to_nobody};
 ghost use Rattle.trace_world.specs.Counted.{CanCount};
 
 use crate::{Counts, World};
-use line_protocol::{Sink, WriteFault, read_addressed, write_answer};
+use line_protocol::{
+    Sink, WriteFault, is_count, read_addressed, read_order, read_request, split_first,
+    write_answer, write_count, write_order,
+};
 use std::sync::Wait;
 use trace_types::{Code, Name, Reply, Request};
 
@@ -26,15 +30,18 @@ pub(crate) fn answer_line<R: Wait, W: Sink>(
     let Some(line) = line else {
         return refuse(writer, counts, b"?", Code::Line);
     };
-    let (name, request) = read_addressed(line);
+    let (name, rest) = split_first(line);
     let Some(tenant) = world.find_text(name) else {
         return refuse(writer, counts, b"?", code_to_nobody(name));
     };
-    let Some(request) = &request else {
+    let Some(request) = rest else {
         return refuse(writer, counts, name, Code::Line);
     };
-    match &world.step_briefly(tenant, request) {
-        Some(reply) => tell(writer, counts, name, reply),
+    if is_count(request) {
+        return tell_count(writer, counts, world, tenant);
+    }
+    match read_order(request) {
+        Some(events) => tell_order(writer, counts, world, tenant, events),
         None => answer_at_length(rt, world, tenant, request, writer, counts),
     }
 }
@@ -46,16 +53,57 @@ fn answer_at_length<R: Wait, W: Sink>(
     rt: &R,
     world: &mut World,
     tenant: usize,
-    request: &Request,
+    request: &[u8],
     writer: &mut W,
     counts: &mut Counts,
 ) -> Result<(), WriteFault>
     requires tenant { tenant < length world.old.tenants }
     requires counts { CanCount counts.old }
-    ensures { AnswersRequest world.old tenant request.now world.new (W.seen writer.old) (W.seen writer.new) counts.old counts.new result }
+    ensures { AnswersRequest world.old tenant (request_of request.now) world.new (W.seen writer.old) (W.seen writer.new) counts.old counts.new result }
 {
-    let reply = world.step(rt, tenant, request);
+    let Some(request) = read_request(request) else {
+        return refuse(writer, counts, world.name(tenant).as_bytes(), Code::Line);
+    };
+    let reply = world.step(rt, tenant, &request);
     tell(writer, counts, world.name(tenant).as_bytes(), &reply)
+}
+
+/// Tells the tenant how many events, tasks and messages it has.
+#[inline(always)]
+fn tell_count<W: Sink>(
+    writer: &mut W,
+    counts: &mut Counts,
+    world: &World,
+    tenant: usize,
+) -> Result<(), WriteFault>
+    requires tenant { tenant < length world.now.tenants }
+    requires counts { CanCount counts.old }
+    ensures { AnswersRequest world.now tenant (Some Request.Count) world.now (W.seen writer.old) (W.seen writer.new) counts.old counts.new result }
+{
+    counts.count_answered();
+    write_count(writer, world.name(tenant), world.ledger(tenant).counts())
+}
+
+/// Tells the tenant how the first event stands to the second.
+#[inline(always)]
+fn tell_order<W: Sink>(
+    writer: &mut W,
+    counts: &mut Counts,
+    world: &World,
+    tenant: usize,
+    events: (u64, u64),
+) -> Result<(), WriteFault>
+    requires tenant { tenant < length world.now.tenants }
+    requires counts { CanCount counts.old }
+    ensures { AnswersRequest world.now tenant (Some (Request.Order events.0 events.1)) world.now (W.seen writer.old) (W.seen writer.new) counts.old counts.new result }
+{
+    match world.ledger(tenant).order(events.0, events.1) {
+        Ok(order) => {
+            counts.count_answered();
+            write_order(writer, world.name(tenant), order)
+        }
+        Err(code) => refuse(writer, counts, world.name(tenant).as_bytes(), code),
+    }
 }
 
 /// Does what a line asks of the tenants, and writes no reply.

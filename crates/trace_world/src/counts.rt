@@ -1,7 +1,7 @@
 //! Counts of a replay.
-ghost use Rattle.std.specs.Prelude.{◌≡◌};
+ghost use Rattle.std.specs.Prelude.{◌≡◌, ℕ};
 
-use trace_types::Reply;
+use trace_types::{Order, Reply};
 
 /// How many lines were replayed, and how they were answered. The three other counts add up to the lines.
 #[derive(Clone, Copy, Debug, PartialEq, Eq)]
@@ -29,6 +29,17 @@ impl Counts {
             answered: 0,
             refused: 0,
         }
+    }
+
+    /// Counts one more line, which got an order or a count.
+    #[inline(always)]
+    pub(crate) fn count_answered(&mut self)
+        requires { CanCount self.old }
+        ensures order { (order : Order) → self.new ≡ counted_with self.old (Reply.Ordering order) }
+        ensures count { (events tasks messages : ℕ) → self.new ≡ counted_with self.old (Reply.Count events tasks messages) }
+    {
+        self.lines += 1;
+        self.answered += 1;
     }
 
     /// Counts one more line, which got this reply.

@@ -117,6 +117,7 @@ impl World {
     }
 
     /// The ledger of the tenant at this place.
+    #[inline(always)]
     pub(crate) fn ledger(&self, tenant: usize) -> &SharedLedger
         requires { tenant < length self.now.tenants }
         ensures { slice_get self.now.tenants tenant ≡ Some result.now }
@@ -155,15 +156,6 @@ impl World {
         ensures led { IsLedTo self.old }
     {
         report(rt, &mut self.ledgers, tenant, request)
-    }
-
-    /// Does as [`World::step`] a request that [`Ledger::ask_briefly`] answers. It is `None` for any other.
-    #[inline(always)]
-    pub(crate) fn step_briefly(&self, tenant: usize, request: &Request) -> Option<Reply>
-        requires { tenant < length self.now.tenants }
-        ensures { IfSome result (λ reply. StepsOne self.now tenant request.now reply self.now) }
-    {
-        self.ledgers[tenant].ask_briefly(request)
     }
 }
 

@@ -1,3 +1,4 @@
+use Rattle.std.proofs.Common.{◌∙◌, ap, sym, Some}
 use Rattle.trace_types.specs.declared.request.Request.TheVariants as request
 use Rattle.trace_types.specs.declared.reply.Reply.TheVariants as reply
 use Rattle.trace_world.proofs.Answering.{tells}
@@ -19,7 +20,7 @@ pub returns-in-Err : goal.returns-in-Err
 returns-in-Err g c = record {
   to = c.as_bytes.result.now;
   reply = reply.Refused c.in-Err.code;
-  named = rw (sym c.as_bytes.ensures.text) c.name-in-Err.ensures;
+  named = c.name-in-Err.ensures ∙ ap Some (sym c.as_bytes.ensures.text);
   does = StepsOne-stays c.args.world.now c.args.tenant c.ledger.result.now (request.Order c.args.events.0 c.args.events.1) (reply.Refused c.in-Err.code) c.ledger.ensures (rw c.in-Err.is at c.order.ensures);
   tells = c.refuse.ensures;
 }
