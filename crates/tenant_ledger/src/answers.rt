@@ -1,5 +1,5 @@
 //! Answers to the queries of a tenant, from what is kept of its events.
-ghost use Rattle.std.specs.Prelude.{◌≡◌, ◌<◌, All, IfErr, IfOk, IfSome, OnErr, is_some, length, map, suc, true};
+ghost use Rattle.std.specs.Prelude.{◌≡◌, ◌<◌, All, IfErr, IfOk, IfSome, OnErr, false, is_some, length, map, suc, true};
 ghost use Rattle.trace_query.specs.Deciding.{DecideInOrder};
 ghost use Rattle.trace_query.specs.Queries.{StandInOrder};
 ghost use Rattle.trace_types.specs.clock.Clock.{tree_clock};
@@ -94,9 +94,25 @@ pub trait Records {
 ///
 /// `past`, `concurrent`, `cut`, `stamp` and `message` are refused with `NoMemory` (507) if they run out of memory. The
 /// others take none.
+#[inline(always)]
 pub fn answer<R: Records, C: Compare<R::Kept>>(records: &R, compare: &C, request: &Request) -> Reply
     requires sound { R.is_sound records.now }
     requires admitted { (kept : R.Kept) → R.keeps records.now kept → C.admits compare.now kept }
+    ensures { Answers (R.tenant records.now) request.now result }
+{
+    // The compiler zeroes all locals of a function on entry. The two short answers do without those of the others.
+    match *request {
+        Request::Order(first, second) => order(records, compare, first, second),
+        Request::Count => count(records),
+        _ => answer_at_length(records, request),
+    }
+}
+
+/// Answers any other request.
+#[inline(never)]
+fn answer_at_length<R: Records>(records: &R, request: &Request) -> Reply
+    requires sound { R.is_sound records.now }
+    requires long { is_brief request.now ≡ false }
     ensures { Answers (R.tenant records.now) request.now result }
 {
     match *request {
@@ -106,7 +122,7 @@ pub fn answer<R: Records, C: Compare<R::Kept>>(records: &R, compare: &C, request
         | Request::Recv(..)
         | Request::End(_)
         | Request::Join(..) => Reply::Refused(Code::ViewOnly),
-        Request::Order(first, second) => order(records, compare, first, second),
+        Request::Order(..) | Request::Count => unreachable!(),
         Request::Past(event) => past(records, event),
         Request::Concurrent(event) => concurrent_with(records, event),
         Request::Cut(event) => cut(records, event),
@@ -114,27 +130,6 @@ pub fn answer<R: Records, C: Compare<R::Kept>>(records: &R, compare: &C, request
         Request::Stamp(event) => stamp(records, event),
         Request::Task(name) => task(records, &name),
         Request::Message(name) => message(records, &name),
-        Request::Count => count(records),
-    }
-}
-
-/// Answers `order` and `count`, whose answers are short, as [`answer`] does. Returns `None` for any other request. It takes
-/// no memory.
-#[inline(always)]
-pub fn answer_briefly<R: Records, C: Compare<R::Kept>>(
-    records: &R,
-    compare: &C,
-    request: &Request,
-) -> Option<Reply>
-    requires sound { R.is_sound records.now }
-    requires admitted { (kept : R.Kept) → R.keeps records.now kept → C.admits compare.now kept }
-    ensures answer { IfSome result (λ reply. Answers (R.tenant records.now) request.now reply) }
-    ensures brief { is_some result ≡ is_brief request.now }
-{
-    match *request {
-        Request::Order(first, second) => Some(order(records, compare, first, second)),
-        Request::Count => Some(count(records)),
-        _ => None,
     }
 }
 

@@ -36,7 +36,7 @@ mod share;
 mod shared;
 mod shared_ids;
 
-pub use answers::{Records, answer, answer_briefly, counts_of, order_of};
+pub use answers::{Records, answer, counts_of, order_of};
 pub use ledger::Ledger;
 pub use plain_share::PlainShare;
 pub use prepared::Prepared;
