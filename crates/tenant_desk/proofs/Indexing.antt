@@ -1,16 +1,11 @@
 -- What an index keeps of tasks and messages is what the rows say, where they are legal.
-use Rattle.std.proofs.Common.{◌≡◌, ℕ, suc, ◌≤◌, ◌<◌, Bool, true, false, cond, List, [], ◌∷◌, ◌++◌, length, take, drop, get_or, Option, Some, None, option_map, refl, sym, ap, ◌∙◌, subst, inl, inr, arith}
+use Rattle.std.proofs.Common.{◌≡◌, ℕ, suc, Bool, true, false, cond, List, [], ◌∷◌, ◌++◌, length, Option, Some, None, option_map, refl, sym, ap, ◌∙◌, subst, inl, inr, arith}
 use Rattle.std.proofs.lemmas.Bool.{cases_Bool, false≢true, false_from_ne_true, cond-true, cond-false}
 use Rattle.std.proofs.lemmas.Bool.Decides.{nat_tests}
-use Rattle.std.proofs.lemmas.List.{reverse-append, take-append-drop}
-use Rattle.std.proofs.lemmas.List.Sums.{sum_by-append}
 use Rattle.std.proofs.lemmas.Option.{same_Some}
-use Rattle.std.proofs.Math.Seq.{take-suc}
-use Rattle.std.specs.List.{count_by}
-use Rattle.trace_types.specs.tenant.Limits.{Limits}
 use Rattle.trace_types.specs.text.Name.{Text, is_same}
 use Rattle.trace_types.proofs.Names.{is_same_iff}
-use Rattle.trace_types.specs.tenant.Rows.{History, history_of, starts_task, sends_message, starts, ends_task, joins, sends, receives, receives_message, is_known, is_ended, is_joined, is_sent, last_event, send_event, receipts}
+use Rattle.trace_types.specs.tenant.Rows.{History, starts, ends_task, joins, sends, receives, receives_message, is_known, is_ended, is_joined, is_sent, last_event, send_event, receipts}
 use Rattle.trace_types.specs.declared.row.Row.{Row}
 use Rattle.trace_types.specs.declared.row.Kind.{Kind}
 use Rattle.trace_types.specs.declared.row.Kind.TheVariants.{Spawn, Send}
@@ -21,7 +16,7 @@ use Rattle.tenant_ledger.proofs.clock.Tasks.{last_event-acting, last_event-bysta
 use Rattle.tenant_ledger.proofs.keeping.Known.{joined_was, unended_is_not_joined, unknown_has_not_ended}
 use Rattle.tenant_ledger.proofs.keeping.Messages.{unsent_has_no_events}
 use Rattle.tenant_ledger.specs.Answers.{message_due, task_due}
-use Rattle.tenant_desk.specs.Indexes.{AreWithin, FoundTask, FoundMessage, state_after, naming_after, indexed_task, indexed_message, sent_due}
+use Rattle.tenant_desk.specs.Indexes.{FoundTask, FoundMessage, state_after, naming_after, indexed_task, indexed_message, sent_due}
 use Rattle.tenant_desk.specs.Spans.{span_of, with_later}
 use Rattle.tenant_desk.specs.declared.span.Span.{Span}
 use Rattle.tenant_desk.proofs.Spans.{span_of-later}
@@ -182,26 +177,6 @@ kept_message_due (row ∷ earlier) message legal = elim (cases_Bool (sends messa
         ∙ sym (due_with row earlier message not_sent (receipts earlier message) (cond-false (receives message row) _ _ not))
   ]
 ]
-
--- ---- the first rows
-
--- with the next row they are one more
-pub first_with_next : (rows : List Row) (place : ℕ) (row : Row) → place < length rows → row ≡ get_or rows place row
-    → history_of (take (suc place) rows) ≡ row ∷ history_of (take place rows)
-first_with_next rows place row within is =
-    ap history_of (take-suc rows place row within ∙ ap (λ one. take place rows ++ one ∷ []) (sym is)) ∙ reverse-append (take place rows) (row ∷ [])
-
--- and they are within limits where all are
-pub first_are_within : (limits : Limits) (rows : List Row) (count : ℕ) → AreWithin limits (history_of rows) → AreWithin limits (history_of (take count rows))
-first_are_within limits rows count all =
-    let joined : history_of rows ≡ history_of (drop count rows) ++ history_of (take count rows) =
-    ap history_of (sym (take-append-drop count rows)) ∙ reverse-append (take count rows) (drop count rows) in
-    let counted : (test : Row → Bool) → count_by test (history_of (take count rows)) ≤ count_by test (history_of rows) =
-    λ test. omega (arith, ap (count_by test) joined, sum_by-append (λ row. cond (test row) 1 0) (history_of (drop count rows)) (history_of (take count rows))) in
-    record {
-      tasks = omega (arith, counted (λ row. starts_task row.kind), all.tasks);
-      messages = omega (arith, counted (λ row. sends_message row.kind), all.messages);
-    }
 
 -- ---- what is answered of a message
 

@@ -1,5 +1,5 @@
 -- What is published of a tenant's events.
-use Rattle.std.specs.Prelude.{◌≡◌, ℕ, List, [], ◌∷◌, ◌++◌, take, map, Option, All}
+use Rattle.std.specs.Prelude.{◌≡◌, ℕ, List, [], ◌∷◌, ◌++◌, map, Option, All}
 use Rattle.trace_types.specs.tenant.Limits.{Limits}
 use Rattle.trace_types.specs.tenant.Rows.{history_of}
 use Rattle.trace_types.specs.tenant.Tenant.{Tenant, AreLegal}
@@ -41,16 +41,7 @@ pub record AreSound (events : Events) : Type 0 where
 abbrev pub no_events : List ℕ → Limits → Events
 no_events home limits = record { home = home; limits = limits; rows = []; trees = []; points = []; starts = []; ids = [] }
 
--- the first events, and one more behind them
-abbrev pub first_events : ℕ → Events → Events
-first_events count events = record events {
-  rows = take count events.rows;
-  trees = take count events.trees;
-  points = take count events.points;
-  starts = take count events.starts;
-  ids = take count events.ids;
-}
-
+-- the events with one more behind them
 abbrev pub events_with : Event → Events → Events
 events_with event events = record events {
   rows = events.rows ++ event.row ∷ [];

@@ -1,12 +1,12 @@
 -- What a desk publishes, and how an operation changes it.
-use Rattle.std.specs.Prelude.{◌≡◌, ℕ, suc, List, [], ◌∷◌, ◌++◌, length, Option, Some, None}
+use Rattle.std.specs.Prelude.{◌≡◌, suc, [], ◌∷◌, ◌++◌, length, Option, Some, None}
 use Rattle.trace_types.specs.tenant.Rows.{history_of}
 use Rattle.trace_types.specs.tenant.Tenant.{AreLegal}
 use Rattle.trace_types.specs.clock.Clock.{tree_clock}
 use Rattle.trace_types.specs.clock.Stamps.{id_of, tree_of}
 use Rattle.tenant_ledger.specs.Ledger.{MayHavePoint, start_of}
 use Rattle.tenant_desk.specs.Histories.{longer_by}
-use Rattle.tenant_desk.specs.Events.{Events, first_events, events_with}
+use Rattle.tenant_desk.specs.Events.{Events, events_with}
 use Rattle.tenant_desk.specs.Rules.{Follows, IsPublished, sight_of}
 use Rattle.tenant_desk.specs.declared.rule.Sight.{Sight}
 use Rattle.tenant_desk.specs.declared.event.Event.{Event}
@@ -18,17 +18,9 @@ abbrev pub with_some : Option Event → Events → Events
 with_some None events = events
 with_some (Some event) events = events_with event events
 
--- what is published after an operation: the events before the operation's own, and that one
+-- what is published after an operation: the events with its own, and how far its front goes
 abbrev pub left_by : Published → Operation → Published
-left_by published operation = record {
-  events = with_some operation.event (first_events operation.before published.events);
-  front = operation.front;
-}
-
--- each operation is for the event after so many
-abbrev pub EachNext : ℕ → List Operation → Type 0
-EachNext count [] = Unit {0}
-EachNext count (operation ∷ operations) = (operation.before ≡ count) × EachNext count operations
+left_by published operation = record { events = with_some operation.event published.events; front = operation.front }
 
 -- The event can be published after these: with it the rows are legal, and it has what is to be kept of it.
 pub record IsNext (events : Events) (event : Event) : Type 0 where
@@ -43,18 +35,12 @@ pub record IsNext (events : Events) (event : Event) : Type 0 where
 abbrev pub with_next : Event → Published → Published
 with_next event published = record { events = with_some (Some event) published.events; front = longer_by event.row published.front }
 
--- what an operation makes of events that are all kept
-abbrev pub made_by : Operation → Published → Published
-made_by operation published = record { events = with_some operation.event published.events; front = operation.front }
-
--- The operation is for the event after those that are published, and what it makes of them may be published after them.
+-- What the operation makes of what is published may be published after it.
 pub record IsFor (published : Published) (operation : Operation) : Type 0 where
-  pub before : operation.before ≡ length published.events.rows
-  pub sound : IsPublished (made_by operation published)
-  pub follows : Follows published (made_by operation published)
+  pub sound : IsPublished (left_by published operation)
+  pub follows : Follows published (left_by published operation)
 
--- What is shown is as published values are, the writer knows of it, and each operation that waits is for the event after it.
-pub record MayPublish (shown : Published) (known : Option Sight) (waiting : List Operation) : Type 0 where
+-- What is shown is as published values are, and the writer knows of it.
+pub record IsShown (shown : Published) (known : Option Sight) : Type 0 where
   pub sound : IsPublished shown
   pub seen : known ≡ Some (sight_of shown)
-  pub next : EachNext (length shown.events.rows) waiting

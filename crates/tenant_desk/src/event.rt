@@ -1,10 +1,8 @@
 //! Published events.
-ghost use Rattle.std.specs.Prelude.{◌≡◌, IfOk};
-
 use event_tree::EvTree;
 use id_tree::IdTree;
 use trace_query::Deciding;
-use trace_types::{Memory, Row};
+use trace_types::Row;
 use tree_forest::Tree;
 
 /// What is published of one event.
@@ -20,20 +18,4 @@ pub struct Event {
     pub start: u64,
     /// The id that the event's task has after it.
     pub id: Tree<IdTree>,
-}
-
-impl Event {
-    /// An equal event. It takes no block of memory. Returns `Memory` if one of its trees would stand in more places than
-    /// can be counted.
-    pub fn share(&self) -> Result<Event, Memory>
-        ensures { IfOk result (λ event. event ≡ self.now) }
-    {
-        Ok(Event {
-            row: self.row.share(),
-            tree: self.tree.share()?,
-            point: self.point.as_ref().map(|point| point.share()),
-            start: self.start,
-            id: self.id.share()?,
-        })
-    }
 }

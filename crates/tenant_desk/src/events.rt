@@ -1,7 +1,7 @@
 //! What is published of a tenant's events.
-ghost use Rattle.std.specs.Prelude.{◌≡◌, ◌↔◌, ◌<◌, ◌∷◌, length, take, IfOk, IsOk, MatchResult};
+ghost use Rattle.std.specs.Prelude.{◌≡◌, ◌<◌, ◌∷◌, length, IfOk, MatchResult};
 ghost use Rattle.trace_types.specs.tenant.Rows.{history_of};
-ghost use Rattle.tenant_desk.specs.Events.{AreSound, published_tenant, no_events, first_events, events_with};
+ghost use Rattle.tenant_desk.specs.Events.{AreSound, published_tenant, no_events, events_with};
 ghost use Rattle.tenant_desk.specs.Indexes.{AreWithin};
 
 use crate::event::Event;
@@ -78,49 +78,26 @@ impl Events {
         })
     }
 
-    /// How many events there are.
-    pub fn count(&self) -> usize
-        ensures { result ≡ length self.now.rows }
+    /// Adds the event behind the others. It takes no block of memory. Returns `Memory`, and leaves the events as they were, if
+    /// it, its task or its message is above the limits, or if one of its trees would stand in more places than can be counted.
+    pub fn put(&mut self, event: &Event) -> Result<(), Memory>
+        ensures room { IfOk result (λ _. (length self.old.rows < self.old.limits.events) × AreWithin self.old.limits (event.now.row ∷ history_of self.old.rows)) }
+        ensures events { MatchResult result (λ _. self.new ≡ events_with event.now self.old) (λ _. self.new ≡ self.old) }
     {
-        self.rows.len()
-    }
-
-    /// Keeps the first `count` events. It takes no memory.
-    pub fn truncate(&mut self, count: usize)
-        ensures { self.new ≡ first_events count self.old }
-    {
-        self.index.truncate(&self.rows, count);
-        self.rows.truncate(count);
-        self.trees.truncate(count);
-        self.points.truncate(count);
-        self.starts.truncate(count);
-        self.ids.truncate(count);
-    }
-
-    /// Keeps the first `before` events, and adds this one behind them. It needs no memory. The event comes back if it, its
-    /// task or its message is above the limits.
-    pub fn put(&mut self, before: usize, event: Event) -> Result<(), Event>
-        ensures room { IsOk result ↔ ((before < self.old.limits.events) × AreWithin self.old.limits (event.row ∷ history_of (take before self.old.rows))) }
-        ensures events { MatchResult result
-            (λ _. self.new ≡ events_with event (first_events before self.old))
-            (λ back. (back ≡ event) × (self.new ≡ self.old)) }
-    {
-        if before as u64 >= self.limits.events() {
-            return Err(event);
+        if self.rows.len() as u64 >= self.limits.events() {
+            return Err(Memory);
         }
-        if !self.index.put(&self.rows, before, &event.row) {
-            return Err(event);
+        let tree = event.tree.share()?;
+        let id = event.id.share()?;
+        if !self.index.put(&self.rows, &event.row) {
+            return Err(Memory);
         }
-        self.rows.truncate(before);
-        self.trees.truncate(before);
-        self.points.truncate(before);
-        self.starts.truncate(before);
-        self.ids.truncate(before);
-        self.rows.push_reserved(event.row);
-        self.trees.push_reserved(event.tree);
-        self.points.push_reserved(event.point);
+        self.rows.push_reserved(event.row.share());
+        self.trees.push_reserved(tree);
+        self.points
+            .push_reserved(event.point.as_ref().map(|point| point.share()));
         self.starts.push_reserved(event.start);
-        self.ids.push_reserved(event.id);
+        self.ids.push_reserved(id);
         Ok(())
     }
 }

@@ -1,10 +1,10 @@
 //! Tasks and messages by their names.
-ghost use Rattle.std.specs.Prelude.{◌≡◌, ◌+◌, ◌≤◌, ◌<◌, ℕ, true, [], ◌∷◌, suc, length, take, Some, if◌then◌else◌, IfOk, MatchBool};
+ghost use Rattle.std.specs.Prelude.{◌≡◌, ◌+◌, ◌≤◌, ◌<◌, ℕ, true, [], ◌∷◌, suc, length, Some, if◌then◌else◌, IfOk, MatchBool};
 ghost use Rattle.indexmap.specs.IndexMap.{get, index_map_len, spare};
 ghost use Rattle.trace_types.specs.text.Name.{Text as Characters, is_same};
 ghost use Rattle.trace_types.specs.tenant.Limits.{Limits as Bounds};
 ghost use Rattle.trace_types.specs.tenant.Rows.{History, history_of, starts_task, sends_message};
-ghost use Rattle.tenant_desk.specs.Indexes.{AreWithin, HasRoomForNames, IsIndexOf, acting_after, capacity, message_after, naming_after, state_after};
+ghost use Rattle.tenant_desk.specs.Indexes.{AreWithin, IsIndexOf, acting_after, capacity, message_after, naming_after, state_after};
 
 use crate::span::Span;
 use indexmap::IndexMap;
@@ -32,67 +32,30 @@ impl Index {
     pub(crate) fn new(alloc: Global, limits: Limits) -> Result<Index, Memory>
         ensures { IfOk result (IsIndexOf limits []) }
     {
-        let mut index = Index {
+        let mut tasks = IndexMap::with_capacity(alloc, limits.tasks() as usize)?;
+        put(&mut tasks, Name::root(), (TaskState::Live, 0));
+        Ok(Index {
             limits,
-            tasks: IndexMap::with_capacity(alloc, limits.tasks() as usize)?,
+            tasks,
             messages: IndexMap::with_capacity(alloc, limits.messages() as usize)?,
-            task_count: 0,
+            task_count: 1,
             message_count: 0,
-        };
-        index.clear();
-        Ok(index)
+        })
     }
 
-    /// Makes it the index of no rows.
-    fn clear(&mut self)
-        requires { HasRoomForNames self.old }
-        ensures { IsIndexOf self.old.limits [] self.new }
-    {
-        let _ = self.limits.events();
-        self.tasks.clear();
-        self.messages.clear();
-        put(&mut self.tasks, Name::root(), (TaskState::Live, 0));
-        self.task_count = 1;
-        self.message_count = 0;
-    }
-
-    /// Makes it the index of these rows.
-    fn read(&mut self, rows: &[Row])
-        requires room { HasRoomForNames self.old }
-        requires within { AreWithin self.old.limits (history_of rows.now) }
-        ensures { IsIndexOf self.old.limits (history_of rows.now) self.new }
-    {
-        self.clear();
-        for (place, row) in rows.iter().enumerate() {
-            self.add(row, place as u64 + 1);
-        }
-    }
-
-    /// Makes the index of the rows that of the first `count`.
-    pub(crate) fn truncate(&mut self, rows: &[Row], count: usize)
+    /// Makes the index of the rows that of these and of this row behind them, and says whether these are within the limits.
+    /// If they are not, it stays the index of the rows.
+    pub(crate) fn put(&mut self, rows: &[Row], row: &Row) -> bool
         requires { IsIndexOf self.old.limits (history_of rows.now) self.old }
-        ensures { IsIndexOf self.old.limits (history_of (take count rows.now)) self.new }
-    {
-        if count < rows.len() {
-            self.read(&rows[..count]);
-        }
-    }
-
-    /// Makes the index of the rows that of the first `before` and of this row behind them, and says whether these are
-    /// within the limits. If they are not, it stays the index of the rows.
-    pub(crate) fn put(&mut self, rows: &[Row], before: usize, row: &Row) -> bool
-        requires { IsIndexOf self.old.limits (history_of rows.now) self.old }
-        ensures within { MatchBool result (AreWithin self.old.limits (row.now ∷ history_of (take before rows.now)))
-            (AreWithin self.old.limits (row.now ∷ history_of (take before rows.now)) → ⊥) }
-        ensures index { MatchBool result (IsIndexOf self.old.limits (row.now ∷ history_of (take before rows.now)) self.new)
+        ensures within { MatchBool result (AreWithin self.old.limits (row.now ∷ history_of rows.now))
+            (AreWithin self.old.limits (row.now ∷ history_of rows.now) → ⊥) }
+        ensures index { MatchBool result (IsIndexOf self.old.limits (row.now ∷ history_of rows.now) self.new)
             (IsIndexOf self.old.limits (history_of rows.now) self.new) }
     {
-        self.truncate(rows, before);
         if !self.has_room(row) {
-            self.read(rows);
             return false;
         }
-        self.add(row, before.min(rows.len()) as u64 + 1);
+        self.add(row, rows.len() as u64 + 1);
         true
     }
 

@@ -15,10 +15,9 @@ pub(crate) struct Published {
     pub(crate) front: Front,
 }
 
-/// Keeps the first `before` events, and puts its own behind them, if it has one. `front` is how far the log is then.
+/// Puts its event, if it has one, behind those that are there. `front` is how far the log is then.
 #[derive(Drop)]
 pub(crate) struct Operation {
-    pub(crate) before: usize,
     pub(crate) event: Option<Event>,
     pub(crate) front: Front,
 }
@@ -35,38 +34,10 @@ impl Absorb<Operation> for Published {
         operation: &Operation,
         _other: &Published,
     ) -> Result<(), AllocError> {
-        match &operation.event {
-            Some(event) => {
-                let event = event.share().map_err(|_| AllocError)?;
-                self.events
-                    .put(operation.before, event)
-                    .map_err(|_| AllocError)?;
-            }
-            None => self.events.truncate(operation.before),
+        if let Some(event) = &operation.event {
+            self.events.put(event).map_err(|_| AllocError)?;
         }
         self.front = operation.front.again();
-        Ok(())
-    }
-
-    fn absorb_second(&mut self, operation: Operation, _other: &Published) -> Result<(), Operation> {
-        let Operation {
-            before,
-            event,
-            front,
-        } = operation;
-        match event {
-            Some(event) => {
-                if let Err(event) = self.events.put(before, event) {
-                    return Err(Operation {
-                        before,
-                        event: Some(event),
-                        front,
-                    });
-                }
-            }
-            None => self.events.truncate(before),
-        }
-        self.front = front;
         Ok(())
     }
 }

@@ -1,10 +1,9 @@
 //! What a desk shows to its views.
-ghost use Rattle.std.specs.Prelude.{◌≡◌, [], Some, None, IfOk, IsTrue, MatchBool, drop, fold};
-ghost use Rattle.crossbeam_utils.specs.Register.{TurnsAt};
+ghost use Rattle.std.specs.Prelude.{◌≡◌, [], Some, IfOk, IsTrue, MatchBool, drop};
 ghost use Rattle.left_right.specs.Sides.{view as known_at};
 ghost use Rattle.tenant_desk.specs.Events.{AreSound, no_events};
-ghost use Rattle.tenant_desk.specs.Publications.{IsFor, IsNext, MayPublish, left_by, made_by, with_next};
-ghost use Rattle.tenant_desk.specs.Rules.{Holds, IsPublished, Sees, sight_of};
+ghost use Rattle.tenant_desk.specs.Publications.{IsFor, IsNext, IsShown, left_by, with_next};
+ghost use Rattle.tenant_desk.specs.Rules.{IsPublished, sight_of};
 
 use crate::event::Event;
 use crate::events::Events;
@@ -34,17 +33,16 @@ pub(crate) type DeskReading = Reading<Published, Knows, Publishing>;
 pub(crate) struct Publisher {
     writer: DeskWriter,
     head: Head,
-    front: Front,
 }
 
 impl Model for Publisher {
-    ghost use Rattle.std.specs.Prelude.{◌≡◌, drop};
+    ghost use Rattle.std.specs.Prelude.{◌≡◌};
     ghost use Rattle.std.specs.Coded.{codes};
     ghost use Rattle.event_tree.specs.EventTreeCode.{event_tree_code};
     ghost use Rattle.id_tree.specs.IdCode.{id_code};
     ghost use Rattle.left_right.specs.Sides.{view as known_at};
     ghost use Rattle.tenant_desk.specs.Histories.{head_of};
-    ghost use Rattle.tenant_desk.specs.Publications.{MayPublish};
+    ghost use Rattle.tenant_desk.specs.Publications.{IsShown};
     ghost use Rattle.tenant_desk.specs.declared.published.Published.{Published};
 
     ghost Value = { Published };
@@ -53,98 +51,40 @@ impl Model for Publisher {
 
     ghost view = { λ p. p.writer.desk.shown.value };
 
-    ghost invariant = { λ p. (p.front ≡ p.writer.desk.shown.value.front) × (p.head ≡ head_of p.front.book)
-        × MayPublish p.writer.desk.shown.value (known_at p.writer.desk.place) (drop p.writer.behind p.writer.log.items) };
+    ghost invariant = { λ p. (p.head ≡ head_of p.writer.desk.shown.value.front.book) × IsShown p.writer.desk.shown.value (known_at p.writer.desk.place) };
 }
 
 /// How many views a desk has. Each has a place to read from.
 pub(crate) const VIEWS: usize = 8;
 
-/// Leaves the operation to the next publication, and says whether there was room for it.
-fn leave(writer: &mut DeskWriter, operation: Operation) -> bool
-    requires ready { MayPublish writer.old.desk.shown.value (known_at writer.old.desk.place) (drop writer.old.behind writer.old.log.items) }
-    requires operation { IsFor writer.old.desk.shown.value operation }
-    ensures ready { MayPublish writer.new.desk.shown.value (known_at writer.new.desk.place) (drop writer.new.behind writer.new.log.items) }
-    ensures shown { writer.new.desk.shown.value ≡ writer.old.desk.shown.value }
-{
-    let Ok(()) = writer.append(operation) else {
-        return false;
-    };
-    true
-}
-
-/// Shows all that waits, and says whether it did. It does not if it runs out of memory.
-fn advance<R: Wait>(writer: DeskWriter, rt: &R) -> (DeskWriter, bool)
-    requires { (next : Published) → next ≡ fold left_by writer.desk.shown.value (drop writer.behind writer.log.items)
-        → TurnsAt Holds writer.desk.place.id (known_at writer.desk.place) writer.desk.shown.value next Sees }
-    ensures values { MatchBool result.1
-        ((result.0.desk.shown.value ≡ fold left_by writer.desk.shown.value (drop writer.behind writer.log.items)) × (drop result.0.behind result.0.log.items ≡ []))
-        ((result.0.desk.shown.value ≡ writer.desk.shown.value) × (drop result.0.behind result.0.log.items ≡ drop writer.behind writer.log.items)) }
-    ensures rule { MatchBool result.1 (Sees (known_at writer.desk.place) writer.desk.shown.value result.0.desk.shown.value (known_at result.0.desk.place))
-        (known_at result.0.desk.place ≡ known_at writer.desk.place) }
-{
-    match writer.publish_as::<Seeing, R>(rt) {
-        (writer, Ok(())) => (writer, true),
-        (writer, Err(_)) => (writer, false),
-    }
-}
-
 /// Shows what the operation makes, and says whether it did. It does not if it runs out of memory.
 fn show<R: Wait>(rt: &R, writer: &mut DeskWriter, operation: Operation) -> bool
-    requires ready { MayPublish writer.old.desk.shown.value (known_at writer.old.desk.place) (drop writer.old.behind writer.old.log.items) }
+    requires waiting { drop writer.old.behind writer.old.log.items ≡ [] }
     requires operation { IsFor writer.old.desk.shown.value operation }
-    ensures ready { MayPublish writer.new.desk.shown.value (known_at writer.new.desk.place) (drop writer.new.behind writer.new.log.items) }
-    ensures shown { MatchBool result (writer.new.desk.shown.value ≡ made_by operation writer.old.desk.shown.value) (writer.new.desk.shown.value ≡ writer.old.desk.shown.value) }
+    ensures shown { MatchBool result (writer.new.desk.shown.value ≡ left_by writer.old.desk.shown.value operation) (writer.new.desk.shown.value ≡ writer.old.desk.shown.value) }
+    ensures known { MatchBool result (known_at writer.new.desk.place ≡ Some (sight_of writer.new.desk.shown.value)) (known_at writer.new.desk.place ≡ known_at writer.old.desk.place) }
+    ensures waiting { IsTrue result → drop writer.new.behind writer.new.log.items ≡ [] }
 {
     let Ok(()) = writer.append(operation) else {
         return false;
     };
-    replace_with(writer, rt, advance)
+    replace_with(writer, rt, Writer::publish_as::<Seeing, R>).is_ok()
 }
 
-/// An operation that changes nothing if there are no events.
-fn still(front: &Front) -> Operation
-    ensures { result ≡ record { before = 0; event = None; front = front.now } }
-{
-    Operation {
-        before: 0,
-        event: None,
-        front: front.again(),
-    }
-}
-
-/// Has the writer know what it shows, and says whether it does.
-fn look<R: Wait>(rt: &R, writer: DeskWriter) -> (DeskWriter, bool)
-    requires sound { IsPublished writer.desk.shown.value }
-    requires waiting { drop writer.behind writer.log.items ≡ [] }
-    ensures ready { IsTrue result.1 → MayPublish result.0.desk.shown.value (known_at result.0.desk.place) (drop result.0.behind result.0.log.items) }
-    ensures shown { result.0.desk.shown.value ≡ writer.desk.shown.value }
-{
-    match writer.publish_as::<Seeing, R>(rt) {
-        (writer, Ok(())) => (writer, true),
-        (writer, Err(_)) => (writer, false),
-    }
-}
-
-/// Shows three times what is shown, and says whether it did. At the end one operation more waits than later reports ever
-/// leave, so there is room for those.
+/// Shows again what is shown, and says whether it did. It does not if it runs out of memory.
 #[tactic(auto, using(crate::proofs::Publishing::is_for_none))]
-fn warm_up<R: Wait>(rt: &R, writer: DeskWriter, front: &Front) -> (DeskWriter, bool)
-    requires sound { IsPublished writer.desk.shown.value }
-    requires waiting { drop writer.behind writer.log.items ≡ [] }
-    requires front { (front.now ≡ writer.desk.shown.value.front) × (front.now.rows ≡ []) }
-    ensures ready { IsTrue result.1 → MayPublish result.0.desk.shown.value (known_at result.0.desk.place) (drop result.0.behind result.0.log.items) }
-    ensures shown { result.0.desk.shown.value ≡ writer.desk.shown.value }
+fn show_again<R: Wait>(rt: &R, writer: &mut DeskWriter) -> bool
+    requires sound { IsPublished writer.old.desk.shown.value }
+    requires waiting { drop writer.old.behind writer.old.log.items ≡ [] }
+    ensures same { writer.new.desk.shown.value ≡ writer.old.desk.shown.value }
+    ensures shown { IsTrue result → IsShown writer.new.desk.shown.value (known_at writer.new.desk.place) }
+    ensures waiting { IsTrue result → drop writer.new.behind writer.new.log.items ≡ [] }
 {
-    let (mut writer, known) = look(rt, writer);
-    if !known || !leave(&mut writer, still(front)) {
-        return (writer, false);
-    }
-    if !show(rt, &mut writer, still(front)) {
-        return (writer, false);
-    }
-    let shown = show(rt, &mut writer, still(front));
-    (writer, shown)
+    let operation = Operation {
+        event: None,
+        front: writer.published().front.again(),
+    };
+    show(rt, writer, operation)
 }
 
 /// A writer that shows no events, in a log without rows.
@@ -182,24 +122,20 @@ impl Publisher {
         ensures rows { IfOk result (λ publisher. publisher.front.rows ≡ []) }
     {
         let (head, front) = new_log();
-        let writer = new_writer(alloc, limits, home, &front)?;
-        let (writer, ready) = warm_up(rt, writer, &front);
-        if !ready {
+        let mut writer = new_writer(alloc, limits, home, &front)?;
+        // The second operation stands in the log behind the first one, as that of a report behind the last report's.
+        if !show_again(rt, &mut writer) || !show_again(rt, &mut writer) {
             writer.take(rt);
             return Err(Memory);
         }
-        Ok(Publisher {
-            writer,
-            head,
-            front,
-        })
+        Ok(Publisher { writer, head })
     }
 
     /// How far the log is shown.
     pub(crate) fn front(&self) -> &Front
         ensures { result.now ≡ self.now.front }
     {
-        &self.front
+        &self.writer.published().front
     }
 
     /// The events that are shown.
@@ -222,33 +158,29 @@ impl Publisher {
     }
 
     /// Shows the next event too, and says whether it did. It takes no memory beyond what was taken when this was made.
+    /// Nothing is shown any more behind an event that could not be.
     pub(crate) fn publish<R: Wait>(&mut self, rt: &R, event: Event) -> bool
         requires { IsNext self.old.events event }
         ensures { MatchBool result (self.new ≡ with_next event self.old) (self.new ≡ self.old) }
     {
-        let before = self.writer.published().events.count();
-        let Some(longer) = self.front.grown(&self.head, &event.row) else {
+        if self.writer.has_pending_operations() {
+            return false;
+        }
+        let Some(front) = self.front().grown(&self.head, &event.row) else {
             return false;
         };
         let operation = Operation {
-            before,
             event: Some(event),
-            front: longer.again(),
+            front,
         };
-        let shown = show(rt, &mut self.writer, operation);
-        if shown {
-            self.front = longer;
-        }
-        shown
+        show(rt, &mut self.writer, operation)
     }
 
     /// Waits for the views that read, and gives out what was shown. From then on it shows nothing.
-    pub(crate) fn close<R: Wait>(self, rt: &R) -> Box<Published> {
-        let Publisher {
-            writer,
-            head: _,
-            front: _,
-        } = self;
+    pub(crate) fn close<R: Wait>(self, rt: &R) -> Box<Published>
+        ensures { result.value ≡ self }
+    {
+        let Publisher { writer, head: _ } = self;
         writer.take(rt)
     }
 }
