@@ -48,13 +48,17 @@ impl Tenant {
     /// Ends the desk.
     fn close<R: Wait>(self, rt: &R) {
         let Tenant { name: _, resting } = self;
-        resting.into_inner().close(rt);
+        if let Some(desk) = resting.into_inner().into_desk() {
+            desk.close(rt);
+        }
     }
 
     /// Ends the desk, and leaves its memory to the end of the process.
     fn leave<R: Wait>(self, rt: &R) {
         let Tenant { name: _, resting } = self;
-        resting.into_inner().leave(rt);
+        if let Some(desk) = resting.into_inner().into_desk() {
+            desk.leave(rt);
+        }
     }
 }
 

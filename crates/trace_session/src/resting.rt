@@ -15,7 +15,7 @@ use trace_types::{Limits, Memory};
 
 /// The desk and the views of one tenant, as far as no session has them. All of them are sound.
 ///
-/// It cannot be dropped: end it by [`Resting::close`].
+/// It cannot be dropped: take the desk by [`Resting::into_desk`] and end that.
 pub(crate) struct Resting {
     desk: Option<Desk>,
     views: Vec<View>,
@@ -95,20 +95,12 @@ impl Resting {
         let _ = self.views.push(view);
     }
 
-    /// Ends the desk.
-    pub(crate) fn close<R: Wait>(self, rt: &R) {
+    /// The desk, if no session has it.
+    pub(crate) fn into_desk(self) -> Option<Desk>
+        ensures { result ≡ self.desk }
+    {
         let Resting { desk, views: _ } = self;
-        if let Some(desk) = desk {
-            desk.close(rt);
-        }
-    }
-
-    /// Ends the desk, and leaves its memory to the end of the process.
-    pub(crate) fn leave<R: Wait>(self, rt: &R) {
-        let Resting { desk, views: _ } = self;
-        if let Some(desk) = desk {
-            desk.leave(rt);
-        }
+        desk
     }
 }
 

@@ -87,6 +87,7 @@ impl<T: Wait> Hall<T> for Hub {
 }
 
 /// What the workers share.
+#[derive(Drop)]
 struct Shop<'x, T, H, G, A, B> {
     rt: &'x T,
     alloc: Global,
@@ -229,14 +230,7 @@ pub fn serve<T: Threads + Wait + Sync, D: Door, G: Gate + Sync>(
         faults: Mutex::new(0u64),
     };
     let Served { door: _, sessions } = serve_in_scope(&shop, door, workers, to);
-    let Shop {
-        rt: _,
-        alloc: _,
-        hall: _,
-        gate: _,
-        from: _,
-        faults,
-    } = shop;
+    let Shop { faults, .. } = shop;
     Ok(ServeCounts {
         sessions: sessions?,
         faults: faults.into_inner(),
