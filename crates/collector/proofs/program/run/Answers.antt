@@ -41,52 +41,26 @@ done_taken before after false is = cc
 
 status_taken : (before after : Taken) (fault : Fault) (taken : Bool) → TellsFault before after fault → (status_of fault ≡ 2 → (fault ≡ Tenants) × (taken ≡ false)) → (status_of fault ≡ 3 → taken ≡ true)
     → (status_of fault ≡ 4 → taken ≡ true) → RefusesTenants taken before after (status_of fault)
-status_taken before after Words true told refused in_part lacks = let no = (refused refl).1 in cc
-status_taken before after Words false told refused in_part lacks = let no = (refused refl).0 in cc
-status_taken before after Tenants true told refused in_part lacks = let no = (refused refl).1 in cc
 status_taken before after Tenants false told refused in_part lacks = (refl, told)
-status_taken before after Port true told refused in_part lacks = λ e. omega arith
-status_taken before after Port false told refused in_part lacks = let no = in_part refl in cc
-status_taken before after Accept true told refused in_part lacks = λ e. omega arith
-status_taken before after Accept false told refused in_part lacks = let no = in_part refl in cc
-status_taken before after Read true told refused in_part lacks = λ e. omega arith
-status_taken before after Read false told refused in_part lacks = let no = in_part refl in cc
-status_taken before after Write true told refused in_part lacks = λ e. omega arith
-status_taken before after Write false told refused in_part lacks = let no = in_part refl in cc
-status_taken before after TooLong true told refused in_part lacks = λ e. omega arith
-status_taken before after TooLong false told refused in_part lacks = let no = in_part refl in cc
-status_taken before after Memory true told refused in_part lacks = λ e. omega arith
+status_taken before after Tenants true told refused in_part lacks = let no = (refused refl).1 in cc
+status_taken before after Words taken told refused in_part lacks = let no = (refused refl).0 in cc
 status_taken before after Memory false told refused in_part lacks = let no = lacks refl in cc
+status_taken before after fault true told refused in_part lacks = λ e. omega arith
+status_taken before after fault false told refused in_part lacks = let no = in_part refl in cc
 
 three_only : (fault : Fault) → 2 < status_of fault → status_of fault ≢ 4 → status_of fault ≡ 3
 three_only Words more four = absurd (omega arith)
 three_only Tenants more four = absurd (omega arith)
-three_only Port more four = refl
-three_only Accept more four = refl
-three_only Read more four = refl
-three_only Write more four = refl
-three_only TooLong more four = refl
 three_only Memory more four = absurd (four refl)
+three_only fault more four = refl
 
 four_only : (fault : Fault) → status_of fault ≡ 4 → fault ≡ Memory
-four_only Words four = absurd (omega arith)
-four_only Tenants four = absurd (omega arith)
-four_only Port four = absurd (omega arith)
-four_only Accept four = absurd (omega arith)
-four_only Read four = absurd (omega arith)
-four_only Write four = absurd (omega arith)
-four_only TooLong four = absurd (omega arith)
 four_only Memory four = refl
+four_only fault four = absurd (omega arith)
 
 two_at_least : (fault : Fault) → 2 ≤ status_of fault
 two_at_least Words = omega arith
-two_at_least Tenants = omega arith
-two_at_least Port = omega arith
-two_at_least Accept = omega arith
-two_at_least Read = omega arith
-two_at_least Write = omega arith
-two_at_least TooLong = omega arith
-two_at_least Memory = omega arith
+two_at_least fault = omega arith
 
 -- what is known of what was read, as an answer to the words
 abbrev IsReadAs : List Text → Asked → Type 0
@@ -96,19 +70,10 @@ IsReadAs words asked = IsAnswer (kinds_of words) (work_of words) (Ok asked)
 
 -- so the words ask for it
 asked_by : (words : List Text) (asked : Asked) (demand : Demand) → demand_of asked ≡ Some demand → IsReadAs words asked → IsInRange demand → IsAskedBy words demand
-asked_by words (Replay replay) demand is read ranges =
-    subst (IsAskedBy words) (some_same is)
-    (record { taken = read.0.0; work = read.0.1; found = read.2; exact = read.1; ranges = subst IsInRange (sym (some_same is)) ranges })
-asked_by words (Serve service) demand is read ranges =
-    subst (IsAskedBy words) (some_same is)
-    (record { taken = read.0.0; work = read.0.1; found = read.2; exact = read.1; ranges = subst IsInRange (sym (some_same is)) ranges })
-asked_by words Check demand is read ranges =
-    subst (IsAskedBy words) (some_same is)
-    (record { taken = read.0.0; work = read.0.1; found = read.2; exact = read.1; ranges = subst IsInRange (sym (some_same is)) ranges })
-asked_by words (Load tenant) demand is read ranges =
-    subst (IsAskedBy words) (some_same is)
-    (record { taken = read.0.0; work = read.0.1; found = read.2; exact = read.1; ranges = subst IsInRange (sym (some_same is)) ranges })
 asked_by words (Show text) demand is read ranges = cc
+asked_by words asked demand is read ranges =
+    subst (IsAskedBy words) (some_same is)
+    (record { taken = read.0.0; work = read.0.1; found = read.2; exact = read.1; ranges = subst IsInRange (sym (some_same is)) ranges })
 
 -- tenants that are not refused are taken
 taken_unless : (before after : Taken) (taken : Bool) (status : ℕ) → RefusesTenants taken before after status → status ≢ 2 → taken ≡ true

@@ -83,10 +83,8 @@ exported_taken (Some other) name limits cache tenants place is at names = and_fr
 lacking : (cause : StreamFault) (name : Text) (limits : Limits) (tenants : List Text) (before after : Given) (taken taken' : Taken)
     → status_of (fault_of_stream cause) ≡ 4 → ExportsFreshInPart (fault_of_stream cause) name limits tenants before after taken taken'
     → ExportsFreshInPart program.Memory name limits tenants before after taken taken'
-lacking Read name limits tenants before after taken taken' four part = cc
-lacking Write name limits tenants before after taken taken' four part = cc
-lacking TooLong name limits tenants before after taken taken' four part = cc
 lacking Memory name limits tenants before after taken taken' four part = part
+lacking cause name limits tenants before after taken taken' four part = cc
 
 pub replay_export-requires : goal.replay_export-requires
 replay_export-requires g c =
