@@ -1,9 +1,10 @@
 -- Words with more bits.
-use Rattle.std.proofs.Common.{◌≡◌, ◌≢◌, ◌↔◌, ◌⊎◌, ℕ, ◌*◌, ◌^◌, ◌/◌, ◌%◌, ◌<◌, ◌≤◌, List, length, slice_index_or, slice_set, bit_or, sym, ap, subst, inl, inr, ◌∙◌, arith, w64}
-use Rattle.std.specs.Int.{bit_at}
+use Rattle.std.proofs.Common.{◌≡◌, ◌≢◌, ◌↔◌, ◌⊎◌, ℕ, ◌+◌, ◌-◌, ◌*◌, ◌^◌, ◌/◌, ◌%◌, ◌<◌, ◌≤◌, List, length, slice_index_or, slice_set, bit_and, bit_or, sym, ap, subst, inl, inr, ◌∙◌, arith, w64}
+use Rattle.std.specs.Int.{bit_at, trailing_ones}
 use Rattle.std.proofs.lemmas.Bool.{cases_eq, cases_lt}
 use Rattle.std.proofs.lemmas.List.{get_or-set_same, get_or-set_other, get_or_past}
-use Rattle.std.proofs.lemmas.Nat.Bits.{bit_at-lt, bit_at-zero, bit_at_or, bit_at_set_same, bit_at_set_other}
+use Rattle.std.proofs.lemmas.Nat.{and_le_l, shr-shr, shr_le, trailing_le}
+use Rattle.std.proofs.lemmas.Nat.Bits.{bit_at-lt, bit_at-zero, bit_at_and, bit_at_or, bit_at_above, bit_at_ones, bit_at-trailing_ones, bit_at_set_same, bit_at_set_other}
 use Rattle.trace_export.specs.Bits.{HasBit}
 
 -- the word in which the number's bit stands
@@ -66,3 +67,29 @@ added-iff words words' others added same m = elim (cases_lt (m / 64) (length oth
       let still = ap (λ word. bit_at word (m % 64)) (same (m / 64) past) in
       (λ has. inl (sym still ∙ has), λ either. elim either [ inl has ↦ still ∙ has | inr has ↦ absurd (no_bit-past others m past has) ])
 ]
+
+-- each of the ones at the low end of a word
+low_ones : (word i : ℕ) → word < 2 ^ 64 → i < trailing_ones w64 word → bit_at word i ≡ 1
+low_ones word i fits low = elim (cases_lt (word + 1) (2 ^ 64)) [
+  | inl below ↦ (bit_at-trailing_ones w64 word below).2 i low
+  | inr full ↦
+      let ones : word ≡ 2 ^ 64 - 1 = omega (arith, fits, full) in
+      rw ones (bit_at_ones 64 i (omega (arith, low, trailing_le 64 (2 ^ 64 - 1 - word))))
+]
+
+-- those of what two words share from a place on
+both_ones : (a b s i : ℕ) → a < 2 ^ 64 → i < trailing_ones w64 (bit_and a b / 2 ^ s) → (s + i < 64) × (bit_at a (s + i) ≡ 1) × (bit_at b (s + i) ≡ 1)
+both_ones a b s i fits low =
+    let both : bit_at (bit_and a b) (s + i) ≡ 1 = ap (λ n. n % 2) (sym (shr-shr (bit_and a b) s i)) ∙ low_ones (bit_and a b / 2 ^ s) i (omega (arith, fits, and_le_l a b, shr_le (bit_and a b) s)) low in
+    let one : bit_at a (s + i) ≡ 1 = omega (arith, both, bit_at_and a b (s + i), bit_at-lt a (s + i)) in
+    let within : s + i < 64 = elim (cases_lt (s + i) 64) [ inl within ↦ within | inr past ↦ absurd (omega (arith, one, bit_at_above a 64 (s + i) fits past)) ] in
+    (within, one, omega (arith, both, bit_at_and a b (s + i), bit_at-lt b (s + i)))
+
+-- the numbers that two sets share from one on
+pub run_has : (one other : List ℕ) (a b from n : ℕ) → slice_index_or one (from / 64) 0 ≡ a → slice_index_or other (from / 64) 0 ≡ b → a < 2 ^ 64
+    → from ≤ n → n < from + trailing_ones w64 (bit_and a b / 2 ^ (from % 64)) → HasBit one n × HasBit other n
+run_has one other a b from n first second fits least low =
+    let ones = both_ones a b (from % 64) (n - from) fits (omega (arith, least, low)) in
+    let word : n / 64 ≡ from / 64 = omega (arith, least, ones.0) in
+    let place : n % 64 ≡ from % 64 + (n - from) = omega (arith, least, ones.0) in
+    rw (word, place, first, second) (ones.1, ones.2)

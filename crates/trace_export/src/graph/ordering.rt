@@ -7,7 +7,7 @@ ghost use Rattle.trace_export.specs.Graph.{AreKeptLines, AreEarlier, AreReaching
 ghost use Rattle.trace_export.specs.Verdict.{IsOrderedNext};
 
 use super::Graph;
-use crate::bits::has_bit;
+use crate::bits::{has_bit, run_of_both};
 use crate::placed::Placed;
 use crate::sides::{Sides, is_below};
 use event_tree::EvTree;
@@ -69,10 +69,14 @@ impl Graph {
         ensures refuted { IfOk result (λ is. is ≡ false → ((event : ℕ) × IsPlaced self.now.placed.items event
             × IsRefutedBy self.now.placed.items reaching.now tree.now event)) }
     {
-        for event in 1..self.placed.len() + 1 {
-            if !self.is_apart_from(reaching, tree, event, own, &mut sides[event - 1])? {
+        let mut place = 0;
+        while place < self.placed.len() {
+            // What is followed and reaches the event is apart, whatever its tree.
+            let run = run_of_both(&self.followed, reaching, place);
+            if run == 0 && !self.is_apart_from(reaching, tree, place + 1, own, &mut sides[place])? {
                 return Ok(false);
             }
+            place += run.max(1);
         }
         Ok(true)
     }
