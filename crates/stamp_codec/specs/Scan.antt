@@ -1,5 +1,5 @@
 -- One step of the scan for shape: what is awaited after a byte, or nothing where no stamp goes on with it.
-use Rattle.std.specs.Prelude.{ℕ, Bool, ◌==◌, ◌&&◌, nat_le, if◌then◌else◌, List, [], ◌∷◌, Option, Some, None}
+use Rattle.std.specs.Prelude.{◌≡◌, ℕ, Bool, true, false, ◌==◌, ◌&&◌, nat_le, if◌then◌else◌, List, [], ◌∷◌, Option, Some, None}
 use Rattle.stamp_codec.specs.declared.shape.Part.{Part}
 use Rattle.stamp_codec.specs.declared.shape.Part.TheVariants.{Id, Tree}
 use Rattle.stamp_codec.specs.declared.shape.nesting.Side.{Side}
@@ -66,3 +66,8 @@ stepped Number inside byte = number_begun Comma NumberDigits inside byte
 stepped NumberDigits inside byte = if is_digit_byte byte then Some (awaiting NumberDigits inside) else number_ended inside byte
 stepped Comma inside byte = number_ended inside byte
 stepped Nothing inside byte = None
+
+-- the scan went on to the next one, or no stamp goes on
+abbrev pub GoesOn : Bool → Scan → Option Scan → Type 0
+GoesOn true scan next = next ≡ Some scan
+GoesOn false scan next = next ≡ None

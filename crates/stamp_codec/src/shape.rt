@@ -1,5 +1,5 @@
 //! The shape of a stamp.
-ghost use Rattle.std.specs.Prelude.{◌≡◌, ◌≢◌, ◌↔◌, [], ◌∷◌, IfOk, IsOk, IsTrue, MatchOption};
+ghost use Rattle.std.specs.Prelude.{◌≡◌, ◌≢◌, ◌↔◌, [], ◌∷◌, true, IfOk, IsOk, IsTrue, MatchOption};
 ghost use Rattle.stamp_codec.specs.Flat.{OpensNowhere};
 ghost use Rattle.stamp_codec.specs.StampText.{IsShaped};
 ghost use Rattle.stamp_codec.specs.Faults.{IsShapeFault};
@@ -46,7 +46,7 @@ struct Scan {
 }
 
 impl Scan {
-    ghost use Rattle.stamp_codec.specs.Scan.{awaiting, stepped, closed, id_begun, number_begun, tree_begun, number_ended, is_digit_byte};
+    ghost use Rattle.stamp_codec.specs.Scan.{awaiting, stepped, closed, id_begun, number_begun, tree_begun, GoesOn};
     ghost use Rattle.stamp_codec.specs.Flat.{IsFlat};
     ghost use Rattle.stamp_codec.specs.declared.shape.nesting.Side.TheVariants.{Left};
     ghost use Rattle.stamp_codec.specs.declared.shape.Awaited.TheVariants as awaits;
@@ -60,108 +60,85 @@ impl Scan {
         }
     }
 
-    /// What is awaited after the byte, or `None` if no stamp goes on with it.
-    fn step(self, byte: u8) -> Result<Option<Scan>, Memory>
-        ensures exact { IfOk result (λ next. next ≡ stepped self.awaited self.inside byte) }
-        ensures flat { IsFlat self → byte ≢ 40 → IsOk result }
+    /// Goes on to what is awaited after the byte, and says whether a stamp may go on with it.
+    fn step(&mut self, byte: u8) -> Result<bool, Memory>
+        ensures exact { IfOk result (λ goes_on. GoesOn goes_on self.new (stepped self.old.awaited self.old.inside byte)) }
+        ensures flat { IsFlat self.old → byte ≢ 40 → IsOk result }
     {
         match self.awaited {
-            Awaited::Start if byte == b'[' => Ok(Some(self.then(Awaited::Node(Part::Id)))),
+            Awaited::Start if byte == b'[' => Ok(self.then(Awaited::Node(Part::Id))),
             Awaited::Node(Part::Id) => self.begin_id(byte),
-            Awaited::Node(Part::Tree) => self.begin_tree(byte),
+            Awaited::Node(Part::Tree) => Ok(self.begin_tree(byte)),
             Awaited::NodeEnd(part) => self.close(part, byte),
-            Awaited::LeafDigits if byte.is_ascii_digit() => Ok(Some(self)),
+            Awaited::LeafDigits if byte.is_ascii_digit() => Ok(true),
             Awaited::LeafDigits => self.close(Part::Tree, byte),
             Awaited::Number => Ok(self.begin_number(Awaited::Comma, Awaited::NumberDigits, byte)),
-            Awaited::NumberDigits if byte.is_ascii_digit() => Ok(Some(self)),
-            Awaited::NumberDigits | Awaited::Comma => self.end_number(byte),
-            Awaited::Start | Awaited::Nothing => Ok(None),
+            Awaited::NumberDigits if byte.is_ascii_digit() => Ok(true),
+            Awaited::NumberDigits | Awaited::Comma if byte == b',' => self.open(Part::Tree),
+            _ => Ok(false),
         }
     }
 
-    fn then(self, awaited: Awaited) -> Scan
-        ensures { result ≡ awaiting awaited self.inside }
+    fn then(&mut self, awaited: Awaited) -> bool
+        ensures { (result ≡ true) × (self.new ≡ awaiting awaited self.old.inside) }
     {
-        Scan {
-            awaited,
-            inside: self.inside,
-        }
+        self.awaited = awaited;
+        true
     }
 
-    fn opened(self, part: Part) -> Result<Scan, Memory>
-        ensures { IfOk result (λ next. next ≡ awaiting (awaits.Node part) (Left ∷ self.inside)) }
+    fn open(&mut self, part: Part) -> Result<bool, Memory>
+        ensures { IfOk result (λ goes_on. (goes_on ≡ true) × (self.new ≡ awaiting (awaits.Node part) (Left ∷ self.old.inside))) }
     {
-        let mut inside = self.inside;
-        inside.push(Side::Left)?;
-        Ok(Scan {
-            awaited: Awaited::Node(part),
-            inside,
-        })
+        self.inside.push(Side::Left)?;
+        Ok(self.then(Awaited::Node(part)))
     }
 
-    fn begin_id(self, byte: u8) -> Result<Option<Scan>, Memory>
-        ensures exact { IfOk result (λ next. next ≡ id_begun self.inside byte) }
+    fn begin_id(&mut self, byte: u8) -> Result<bool, Memory>
+        ensures exact { IfOk result (λ goes_on. GoesOn goes_on self.new (id_begun self.old.inside byte)) }
         ensures flat { byte ≢ 40 → IsOk result }
     {
-        if byte == b'(' {
-            Ok(Some(self.opened(Part::Id)?))
-        } else if byte == b'0' || byte == b'1' {
-            Ok(Some(self.then(Awaited::NodeEnd(Part::Id))))
-        } else {
-            Ok(None)
+        match byte {
+            b'(' => self.open(Part::Id),
+            b'0' | b'1' => Ok(self.then(Awaited::NodeEnd(Part::Id))),
+            _ => Ok(false),
         }
     }
 
-    fn begin_tree(self, byte: u8) -> Result<Option<Scan>, Memory>
-        ensures exact { IfOk result (λ next. next ≡ tree_begun self.inside byte) }
-        ensures done { IsOk result }
+    fn begin_tree(&mut self, byte: u8) -> bool
+        ensures { GoesOn result self.new (tree_begun self.old.inside byte) }
     {
         if byte == b'(' {
-            Ok(Some(self.then(Awaited::Number)))
+            self.then(Awaited::Number)
         } else {
-            Ok(self.begin_number(Awaited::NodeEnd(Part::Tree), Awaited::LeafDigits, byte))
+            self.begin_number(Awaited::NodeEnd(Part::Tree), Awaited::LeafDigits, byte)
         }
     }
 
     /// Awaits `alone` behind a 0, which no digit follows, and `with_digits` behind another digit.
-    fn begin_number(self, alone: Awaited, with_digits: Awaited, byte: u8) -> Option<Scan>
-        ensures { result ≡ number_begun alone with_digits self.inside byte }
+    fn begin_number(&mut self, alone: Awaited, with_digits: Awaited, byte: u8) -> bool
+        ensures { GoesOn result self.new (number_begun alone with_digits self.old.inside byte) }
     {
-        if byte == b'0' {
-            Some(self.then(alone))
-        } else if byte.is_ascii_digit() {
-            Some(self.then(with_digits))
-        } else {
-            None
+        match byte {
+            b'0' => self.then(alone),
+            b'1'..=b'9' => self.then(with_digits),
+            _ => false,
         }
     }
 
-    fn end_number(self, byte: u8) -> Result<Option<Scan>, Memory>
-        ensures { IfOk result (λ next. next ≡ number_ended self.inside byte) }
+    fn close(&mut self, part: Part, byte: u8) -> Result<bool, Memory>
+        ensures exact { IfOk result (λ goes_on. GoesOn goes_on self.new (closed part self.old.inside byte)) }
+        ensures flat { self.old.inside ≡ [] → IsOk result }
     {
-        if byte == b',' {
-            Ok(Some(self.opened(Part::Tree)?))
-        } else {
-            Ok(None)
-        }
-    }
-
-    fn close(self, part: Part, byte: u8) -> Result<Option<Scan>, Memory>
-        ensures exact { IfOk result (λ next. next ≡ closed part self.inside byte) }
-        ensures flat { self.inside ≡ [] → IsOk result }
-    {
-        let mut inside = self.inside;
-        let awaited = match (inside.pop(), part) {
-            (None, Part::Id) if byte == b';' => Awaited::Node(Part::Tree),
-            (None, Part::Tree) if byte == b']' => Awaited::Nothing,
+        match (self.inside.pop(), part) {
+            (None, Part::Id) if byte == b';' => Ok(self.then(Awaited::Node(Part::Tree))),
+            (None, Part::Tree) if byte == b']' => Ok(self.then(Awaited::Nothing)),
             (Some(Side::Left), _) if byte == b',' => {
-                inside.push(Side::Right)?;
-                Awaited::Node(part)
+                self.inside.push(Side::Right)?;
+                Ok(self.then(Awaited::Node(part)))
             }
-            (Some(Side::Right), _) if byte == b')' => Awaited::NodeEnd(part),
-            _ => return Ok(None),
-        };
-        Ok(Some(Scan { awaited, inside }))
+            (Some(Side::Right), _) if byte == b')' => Ok(self.then(Awaited::NodeEnd(part))),
+            _ => Ok(false),
+        }
     }
 
     fn is_complete(&self) -> bool
@@ -181,9 +158,8 @@ pub fn shape_fault(alloc: Global, text: &[u8]) -> Result<Option<usize>, Memory>
 {
     let mut scan = Scan::start(alloc);
     for (place, byte) in text.iter().enumerate() {
-        match scan.step(*byte)? {
-            Some(next) => scan = next,
-            None => return Ok(Some(place)),
+        if !scan.step(*byte)? {
+            return Ok(Some(place));
         }
     }
     if scan.is_complete() {
