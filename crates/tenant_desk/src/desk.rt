@@ -5,7 +5,6 @@ ghost use Rattle.trace_types.specs.text.Text.{CanBeWritten};
 ghost use Rattle.tenant_desk.specs.Desks.{IsDone, IsEventOf, AllArePublished};
 
 use crate::Told;
-use crate::by_cache::answer_by_cache;
 use crate::event::Event;
 use crate::publisher::Publisher;
 use crate::views::Views;
@@ -13,7 +12,7 @@ use std::alloc::Global;
 use std::marker::Model;
 use std::mem::ManuallyDrop;
 use std::sync::{Arc, Wait};
-use tenant_ledger::{Keep, Ledger, Prepared, Shared, SharedIds};
+use tenant_ledger::{Keep, Ledger, Own, Prepared, Shared, SharedIds, answer};
 use trace_types::{Code, Limits, Memory, Reply, Request};
 
 /// What is to be published of a report, whose tree this share keeps. Returns `Memory` if it runs out of memory.
@@ -120,7 +119,7 @@ impl Desk {
         };
         match *request {
             Request::Message(_) => ledger.answer(request),
-            _ => answer_by_cache(self.publisher.events(), &self.shared, request),
+            _ => answer(self.publisher.events(), &Own(&*self.shared), request),
         }
     }
 

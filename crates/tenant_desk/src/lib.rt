@@ -23,7 +23,6 @@
 //! ```
 #![tactic(auto)]
 
-mod by_cache;
 mod desk;
 mod event;
 mod events;

@@ -9,7 +9,6 @@ ghost use Rattle.tenant_desk.specs.Rules.{HasEntered, IsOfLog, StaysOf};
 ghost use Rattle.tenant_desk.specs.Views.{Learns, Responds};
 
 use crate::Told;
-use crate::by_cache::answer_by_cache;
 use crate::events::Events;
 use crate::front::Front;
 use crate::met::Met;
@@ -17,7 +16,7 @@ use crate::publisher::{DeskReader, DeskReading, Publisher};
 use crate::rule::Seeing;
 use std::marker::Model;
 use std::sync::{Arc, Wait};
-use tenant_ledger::{Keep, Shared, answer};
+use tenant_ledger::{Keep, Own, Shared, answer};
 use trace_query::Plain;
 use trace_types::{Code, Limits, Memory, Reply, Request};
 
@@ -84,7 +83,7 @@ fn answer_from(events: &Events, shared: &Shared, by_cache: bool, request: &Reque
     ensures { Answers (published_tenant events.now) request.now result }
 {
     if by_cache {
-        answer_by_cache(events, shared, request)
+        answer(events, &Own(shared), request)
     } else {
         answer(events, &Plain, request)
     }
