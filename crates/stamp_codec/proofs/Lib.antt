@@ -10,3 +10,4 @@ pub mod Outcomes
 pub mod RoundTrip
 pub mod Unique
 pub mod Vectors
+pub mod Fronts

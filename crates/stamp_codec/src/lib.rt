@@ -26,6 +26,7 @@
 pub use fault::StampFault;
 pub use reading::read_stamp;
 pub use stamp::Stamp;
+pub use stripping::strip_parts;
 pub use writing::{write_parts, write_stamp};
 
 mod cursor;
@@ -35,5 +36,6 @@ pub mod laws;
 mod reading;
 mod shape;
 mod stamp;
+mod stripping;
 mod walk;
 mod writing;
