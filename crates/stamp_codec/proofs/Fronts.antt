@@ -1,16 +1,24 @@
 -- Looking for bytes at the front of a text, part by part.
-use Rattle.std.proofs.Common.{◌≡◌, ◌≢◌, ℕ, List, ◌++◌, Bor, MatchOption, Option, Some, None, ap, sym, ◌∙◌, append_assoc}
+use Rattle.std.proofs.Common.{◌≡◌, ◌≢◌, ℕ, List, ◌++◌, MatchOption, Option, Some, None, ap, sym, ◌∙◌, append_assoc}
 use Rattle.std.proofs.lemmas.List.{append_cancel_left}
 
--- what is behind these bytes at the front of the text, or nothing exactly if they are not there
-abbrev pub Strips : List ℕ → List ℕ → Option (Bor (List ℕ)) → Type 0
-Strips text spelled found = MatchOption found ((rest : List ℕ) → text ≢ spelled ++ rest) (λ rest. text ≡ spelled ++ rest.now)
+-- the text does not begin with these bytes
+abbrev pub Lacks : List ℕ → List ℕ → Type 0
+Lacks text spelled = (behind : List ℕ) → text ≢ spelled ++ behind
 
 -- the first part is not there
-pub lacks_first : (text first others : List ℕ) → ((rest : List ℕ) → text ≢ first ++ rest) → (rest : List ℕ) → text ≢ (first ++ others) ++ rest
-lacks_first text first others lacks = λ rest whole. lacks (others ++ rest) (whole ∙ append_assoc first others rest)
+pub lacks_first : (text first others : List ℕ) → Lacks text first → Lacks text (first ++ others)
+lacks_first text first others lacks = λ behind whole. lacks (others ++ behind) (whole ∙ append_assoc first others behind)
 
--- the first part is there, and the others are looked for behind it
-pub strips_on : (text first others behind : List ℕ) (found : Option (Bor (List ℕ))) → text ≡ first ++ behind → Strips behind others found → Strips text (first ++ others) found
-strips_on text first others behind None begins lacks = λ rest whole. lacks rest (append_cancel_left first behind (others ++ rest) (sym begins ∙ whole ∙ append_assoc first others rest))
-strips_on text first others behind (Some rest) begins follows = begins ∙ ap (λ bytes. first ++ bytes) follows ∙ sym (append_assoc first others rest.now)
+-- the first part is there, and the others are not after it
+pub lacks_others : (text first others after : List ℕ) → text ≡ first ++ after → Lacks after others → Lacks text (first ++ others)
+lacks_others text first others after begins lacks = λ behind whole. lacks behind (append_cancel_left first after (others ++ behind) (sym begins ∙ whole ∙ append_assoc first others behind))
+
+-- the text begins with these bytes, behind which the rest stands, or nothing was found and it does not
+abbrev pub Begins : List ℕ → List ℕ → List ℕ → Option (Unit {0}) → Type 0
+Begins text spelled rest found = MatchOption found (Lacks text spelled) (λ _. text ≡ spelled ++ rest)
+
+-- the first part is there, and the others are looked for after it
+pub begins_on : (text first others after rest : List ℕ) (found : Option (Unit {0})) → text ≡ first ++ after → Begins after others rest found → Begins text (first ++ others) rest found
+begins_on text first others after rest None begins lacks = lacks_others text first others after begins lacks
+begins_on text first others after rest (Some found) begins follows = begins ∙ ap (λ bytes. first ++ bytes) follows ∙ sym (append_assoc first others rest)

@@ -13,72 +13,78 @@ pub fn strip_parts<'a>(text: &'a [u8], id: &IdTree, tree: &EvTree) -> Option<&'a
     ensures { MatchOption result ((rest : List ℕ) → text.now ≢ text_of_parts id.now tree.now ++ rest)
         (λ rest. text.now ≡ text_of_parts id.now tree.now ++ rest.now) }
 {
-    let text = strip_byte(text, b'[')?;
-    let text = strip_id(text, id)?;
-    let text = strip_byte(text, b';')?;
-    let text = strip_tree(text, tree)?;
-    strip_byte(text, b']')
+    let mut rest = text;
+    skip_byte(&mut rest, b'[')?;
+    skip_id(&mut rest, id)?;
+    skip_byte(&mut rest, b';')?;
+    skip_tree(&mut rest, tree)?;
+    skip_byte(&mut rest, b']')?;
+    Some(rest)
 }
 
-fn strip_id<'a>(text: &'a [u8], id: &IdTree) -> Option<&'a [u8]>
-    ensures { MatchOption result ((rest : List ℕ) → text.now ≢ id_text id.now ++ rest)
-        (λ rest. text.now ≡ id_text id.now ++ rest.now) }
+fn skip_id(rest: &mut &[u8], id: &IdTree) -> Option<()>
+    ensures { MatchOption result ((behind : List ℕ) → rest.old.now ≢ id_text id.now ++ behind)
+        (λ _. rest.old.now ≡ id_text id.now ++ rest.new.now) }
 {
     match id.parts() {
-        IdParts::Zero => strip_byte(text, b'0'),
-        IdParts::One => strip_byte(text, b'1'),
+        IdParts::Zero => skip_byte(rest, b'0'),
+        IdParts::One => skip_byte(rest, b'1'),
         IdParts::Pair(left, right) => {
-            let text = strip_byte(text, b'(')?;
-            let text = strip_id(text, left)?;
-            let text = strip_byte(text, b',')?;
-            let text = strip_id(text, right)?;
-            strip_byte(text, b')')
+            skip_byte(rest, b'(')?;
+            skip_id(rest, left)?;
+            skip_byte(rest, b',')?;
+            skip_id(rest, right)?;
+            skip_byte(rest, b')')
         }
     }
 }
 
-fn strip_tree<'a>(text: &'a [u8], tree: &EvTree) -> Option<&'a [u8]>
-    ensures { MatchOption result ((rest : List ℕ) → text.now ≢ tree_text tree.now ++ rest)
-        (λ rest. text.now ≡ tree_text tree.now ++ rest.now) }
+fn skip_tree(rest: &mut &[u8], tree: &EvTree) -> Option<()>
+    ensures { MatchOption result ((behind : List ℕ) → rest.old.now ≢ tree_text tree.now ++ behind)
+        (λ _. rest.old.now ≡ tree_text tree.now ++ rest.new.now) }
 {
     match tree.parts() {
-        TreeParts::Leaf(n) => strip_number(text, n),
+        TreeParts::Leaf(n) => skip_number(rest, n),
         TreeParts::Node(n, left, right) => {
-            let text = strip_byte(text, b'(')?;
-            let text = strip_number(text, n)?;
-            let text = strip_byte(text, b',')?;
-            let text = strip_tree(text, left)?;
-            let text = strip_byte(text, b',')?;
-            let text = strip_tree(text, right)?;
-            strip_byte(text, b')')
+            skip_byte(rest, b'(')?;
+            skip_number(rest, n)?;
+            skip_byte(rest, b',')?;
+            skip_tree(rest, left)?;
+            skip_byte(rest, b',')?;
+            skip_tree(rest, right)?;
+            skip_byte(rest, b')')
         }
     }
 }
 
-fn strip_number(text: &[u8], n: u64) -> Option<&[u8]>
-    ensures { MatchOption result ((rest : List ℕ) → text.now ≢ decimal n ++ rest) (λ rest. text.now ≡ decimal n ++ rest.now) }
+fn skip_number(rest: &mut &[u8], n: u64) -> Option<()>
+    ensures { MatchOption result ((behind : List ℕ) → rest.old.now ≢ decimal n ++ behind) (λ _. rest.old.now ≡ decimal n ++ rest.new.now) }
 {
     // Most numbers of a stamp have one digit.
     if n < 10 {
-        return strip_byte(text, b'0' + n as u8);
+        return skip_byte(rest, b'0' + n as u8);
     }
-    strip_digits(text, n)
+    skip_digits(rest, n)
 }
 
-/// Strips a number of any length. It is a function of its own, since the buffer is cleared on entry.
+/// Skips a number of any length. It is a function of its own, since the buffer is cleared on entry.
 #[inline(never)]
-fn strip_digits(text: &[u8], n: u64) -> Option<&[u8]>
-    ensures { MatchOption result ((rest : List ℕ) → text.now ≢ decimal n ++ rest) (λ rest. text.now ≡ decimal n ++ rest.now) }
+fn skip_digits(rest: &mut &[u8], n: u64) -> Option<()>
+    ensures { MatchOption result ((behind : List ℕ) → rest.old.now ≢ decimal n ++ behind) (λ _. rest.old.now ≡ decimal n ++ rest.new.now) }
 {
     let mut buffer = Buffer::new();
-    text.strip_prefix(buffer.format(n).as_bytes())
+    *rest = rest.strip_prefix(buffer.format(n).as_bytes())?;
+    Some(())
 }
 
-fn strip_byte(text: &[u8], byte: u8) -> Option<&[u8]>
-    ensures { MatchOption result ((rest : List ℕ) → text.now ≢ byte ∷ rest) (λ rest. text.now ≡ byte ∷ rest.now) }
+fn skip_byte(rest: &mut &[u8], byte: u8) -> Option<()>
+    ensures { MatchOption result ((behind : List ℕ) → rest.old.now ≢ byte ∷ behind) (λ _. rest.old.now ≡ byte ∷ rest.new.now) }
 {
-    match text {
-        [first, rest @ ..] if *first == byte => Some(rest),
+    match *rest {
+        [first, after @ ..] if *first == byte => {
+            *rest = after;
+            Some(())
+        }
         _ => None,
     }
 }
