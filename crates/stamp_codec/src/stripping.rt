@@ -1,6 +1,7 @@
 //! Looking for the text of a stamp at the front of bytes.
 ghost use Rattle.std.specs.Prelude.{◌≡◌, ◌≢◌, ℕ, List, ◌∷◌, ◌++◌, decimal, MatchOption};
 ghost use Rattle.trace_types.specs.text.StampText.{stamp_text as text_of_parts};
+ghost use Rattle.trace_types.specs.clock.EventTree.{Node};
 ghost use Rattle.stamp_codec.specs.StampText.{id_text, tree_text};
 
 use event_tree::{EvTree, Parts as TreeParts};
@@ -39,24 +40,34 @@ fn skip_id(rest: &mut &[u8], id: &IdTree) -> Option<()>
     }
 }
 
+/// It stands in [`skip_node`] twice, so that no call is made for a leaf.
+#[cycle(trees)]
+#[inline(always)]
 fn skip_tree(rest: &mut &[u8], tree: &EvTree) -> Option<()>
     ensures { MatchOption result ((behind : List ℕ) → rest.old.now ≢ tree_text tree.now ++ behind)
         (λ _. rest.old.now ≡ tree_text tree.now ++ rest.new.now) }
 {
     match tree.parts() {
         TreeParts::Leaf(n) => skip_number(rest, n),
-        TreeParts::Node(n, left, right) => {
-            skip_byte(rest, b'(')?;
-            skip_number(rest, n)?;
-            skip_byte(rest, b',')?;
-            skip_tree(rest, left)?;
-            skip_byte(rest, b',')?;
-            skip_tree(rest, right)?;
-            skip_byte(rest, b')')
-        }
+        TreeParts::Node(n, left, right) => skip_node(rest, n, left, right),
     }
 }
 
+#[cycle(trees)]
+fn skip_node(rest: &mut &[u8], n: u64, left: &EvTree, right: &EvTree) -> Option<()>
+    ensures { MatchOption result ((behind : List ℕ) → rest.old.now ≢ tree_text (Node n left.now right.now) ++ behind)
+        (λ _. rest.old.now ≡ tree_text (Node n left.now right.now) ++ rest.new.now) }
+{
+    skip_byte(rest, b'(')?;
+    skip_number(rest, n)?;
+    skip_byte(rest, b',')?;
+    skip_tree(rest, left)?;
+    skip_byte(rest, b',')?;
+    skip_tree(rest, right)?;
+    skip_byte(rest, b')')
+}
+
+#[inline(always)]
 fn skip_number(rest: &mut &[u8], n: u64) -> Option<()>
     ensures { MatchOption result ((behind : List ℕ) → rest.old.now ≢ decimal n ++ behind) (λ _. rest.old.now ≡ decimal n ++ rest.new.now) }
 {
