@@ -1,6 +1,7 @@
 //! Writing of stamps.
-ghost use Rattle.std.specs.Prelude.{◌≡◌, ◌++◌, decimal, IfOk};
+ghost use Rattle.std.specs.Prelude.{◌≡◌, [], ◌∷◌, ◌++◌, decimal, IfOk};
 ghost use Rattle.trace_types.specs.text.StampText.{stamp_text as text_of_parts};
+ghost use Rattle.trace_types.specs.clock.EventTree.{Node};
 ghost use Rattle.stamp_codec.specs.StampText.{id_text, tree_text, stamp_as_text};
 
 use crate::Stamp;
@@ -30,8 +31,7 @@ pub fn write_parts(alloc: Global, id: &IdTree, tree: &EvTree) -> Result<Vec<u8>,
     text.push(b'[')?;
     write_id(&mut text, id)?;
     text.push(b';')?;
-    write_tree(&mut text, tree)?;
-    text.push(b']')?;
+    write_tree(&mut text, tree, b']')?;
     Ok(text)
 }
 
@@ -52,33 +52,47 @@ fn write_id(text: &mut Vec<u8>, id: &IdTree) -> Result<(), Memory>
     Ok(())
 }
 
-fn write_tree(text: &mut Vec<u8>, tree: &EvTree) -> Result<(), Memory>
-    ensures { IfOk result (λ _. text.new.items ≡ text.old.items ++ tree_text tree.now) }
+/// Writes the tree and this byte behind it. It stands in [`write_node`] twice, so that no call is made for a leaf.
+#[cycle(written_trees)]
+#[inline(always)]
+fn write_tree(text: &mut Vec<u8>, tree: &EvTree, end: u8) -> Result<(), Memory>
+    ensures { IfOk result (λ _. text.new.items ≡ text.old.items ++ (tree_text tree.now ++ end ∷ [])) }
 {
     match tree.parts() {
-        TreeParts::Leaf(n) => write_number(text, n)?,
+        TreeParts::Leaf(n) => write_number(text, n, end),
         TreeParts::Node(n, left, right) => {
-            text.push(b'(')?;
-            write_number(text, n)?;
-            text.push(b',')?;
-            write_tree(text, left)?;
-            text.push(b',')?;
-            write_tree(text, right)?;
-            text.push(b')')?;
+            write_node(text, n, left, right)?;
+            text.push(end)?;
+            Ok(())
         }
     }
-    Ok(())
 }
 
-fn write_number(text: &mut Vec<u8>, n: u64) -> Result<(), Memory>
-    ensures { IfOk result (λ _. text.new.items ≡ text.old.items ++ decimal n) }
+#[cycle(written_trees)]
+fn write_node(text: &mut Vec<u8>, n: u64, left: &EvTree, right: &EvTree) -> Result<(), Memory>
+    ensures { IfOk result (λ _. text.new.items ≡ text.old.items ++ tree_text (Node n left.now right.now)) }
+{
+    text.push(b'(')?;
+    write_number(text, n, b',')?;
+    write_tree(text, left, b',')?;
+    write_tree(text, right, b')')
+}
+
+/// Writes the number and this byte behind it.
+#[inline(always)]
+fn write_number(text: &mut Vec<u8>, n: u64, end: u8) -> Result<(), Memory>
+    ensures { IfOk result (λ _. text.new.items ≡ text.old.items ++ (decimal n ++ end ∷ [])) }
 {
     // Most numbers of a stamp have one digit.
     if n < 10 {
-        text.push(b'0' + n as u8)?;
+        text.reserve(2)?;
+        text.push_reserved(b'0' + n as u8);
+        text.push_reserved(end);
         return Ok(());
     }
-    write_digits(text, n)
+    write_digits(text, n)?;
+    text.push(end)?;
+    Ok(())
 }
 
 /// Writes a number of any length. It is a function of its own, since the buffer is cleared on entry.
