@@ -1,5 +1,5 @@
 -- Looking for bytes at the front of a text, part by part.
-use Rattle.std.proofs.Common.{◌≡◌, ◌≢◌, ℕ, List, ◌++◌, MatchOption, Option, Some, None, ap, sym, ◌∙◌, append_assoc}
+use Rattle.std.proofs.Common.{◌≡◌, ◌≢◌, ℕ, List, ◌++◌, MatchOption, Option, Some, None, ap, sym, ◌∙◌, append_assoc, codes}
 use Rattle.std.proofs.lemmas.List.{append_cancel_left}
 
 -- the text does not begin with these bytes
@@ -22,3 +22,7 @@ Begins text spelled rest found = MatchOption found (Lacks text spelled) (λ _. t
 pub begins_on : (text first others after rest : List ℕ) (found : Option (Unit {0})) → text ≡ first ++ after → Begins after others rest found → Begins text (first ++ others) rest found
 begins_on text first others after rest None begins lacks = lacks_others text first others after begins lacks
 begins_on text first others after rest (Some found) begins follows = begins ∙ ap (λ bytes. first ++ bytes) follows ∙ sym (append_assoc first others rest)
+
+-- the text of a node, with each part beside the byte behind it
+pub node_by_parts : (number left right : List ℕ) → codes "(" ++ ((number ++ codes ",") ++ ((left ++ codes ",") ++ (right ++ codes ")"))) ≡ codes "(" ++ (number ++ (codes "," ++ (left ++ (codes "," ++ (right ++ codes ")")))))
+node_by_parts number left right = simp append_assoc

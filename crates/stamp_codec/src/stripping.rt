@@ -1,5 +1,5 @@
 //! Looking for the text of a stamp at the front of bytes.
-ghost use Rattle.std.specs.Prelude.{◌≡◌, ◌≢◌, ℕ, List, ◌∷◌, ◌++◌, decimal, MatchOption};
+ghost use Rattle.std.specs.Prelude.{◌≡◌, ◌≢◌, ℕ, List, [], ◌∷◌, ◌++◌, decimal, MatchOption};
 ghost use Rattle.trace_types.specs.text.StampText.{stamp_text as text_of_parts};
 ghost use Rattle.trace_types.specs.clock.EventTree.{Node};
 ghost use Rattle.stamp_codec.specs.StampText.{id_text, tree_text};
@@ -18,8 +18,7 @@ pub fn strip_parts<'a>(text: &'a [u8], id: &IdTree, tree: &EvTree) -> Option<&'a
     skip_byte(&mut rest, b'[')?;
     skip_id(&mut rest, id)?;
     skip_byte(&mut rest, b';')?;
-    skip_tree(&mut rest, tree)?;
-    skip_byte(&mut rest, b']')?;
+    skip_tree(&mut rest, tree, b']')?;
     Some(rest)
 }
 
@@ -40,16 +39,19 @@ fn skip_id(rest: &mut &[u8], id: &IdTree) -> Option<()>
     }
 }
 
-/// It stands in [`skip_node`] twice, so that no call is made for a leaf.
+/// Skips the tree and this byte behind it. It stands in [`skip_node`] twice, so that no call is made for a leaf.
 #[cycle(trees)]
 #[inline(always)]
-fn skip_tree(rest: &mut &[u8], tree: &EvTree) -> Option<()>
-    ensures { MatchOption result ((behind : List ℕ) → rest.old.now ≢ tree_text tree.now ++ behind)
-        (λ _. rest.old.now ≡ tree_text tree.now ++ rest.new.now) }
+fn skip_tree(rest: &mut &[u8], tree: &EvTree, end: u8) -> Option<()>
+    ensures { MatchOption result ((behind : List ℕ) → rest.old.now ≢ (tree_text tree.now ++ end ∷ []) ++ behind)
+        (λ _. rest.old.now ≡ (tree_text tree.now ++ end ∷ []) ++ rest.new.now) }
 {
     match tree.parts() {
-        TreeParts::Leaf(n) => skip_number(rest, n),
-        TreeParts::Node(n, left, right) => skip_node(rest, n, left, right),
+        TreeParts::Leaf(n) => skip_number(rest, n, end),
+        TreeParts::Node(n, left, right) => {
+            skip_node(rest, n, left, right)?;
+            skip_byte(rest, end)
+        }
     }
 }
 
@@ -59,23 +61,23 @@ fn skip_node(rest: &mut &[u8], n: u64, left: &EvTree, right: &EvTree) -> Option<
         (λ _. rest.old.now ≡ tree_text (Node n left.now right.now) ++ rest.new.now) }
 {
     skip_byte(rest, b'(')?;
-    skip_number(rest, n)?;
-    skip_byte(rest, b',')?;
-    skip_tree(rest, left)?;
-    skip_byte(rest, b',')?;
-    skip_tree(rest, right)?;
-    skip_byte(rest, b')')
+    skip_number(rest, n, b',')?;
+    skip_tree(rest, left, b',')?;
+    skip_tree(rest, right, b')')
 }
 
+/// Skips the number and this byte behind it.
 #[inline(always)]
-fn skip_number(rest: &mut &[u8], n: u64) -> Option<()>
-    ensures { MatchOption result ((behind : List ℕ) → rest.old.now ≢ decimal n ++ behind) (λ _. rest.old.now ≡ decimal n ++ rest.new.now) }
+fn skip_number(rest: &mut &[u8], n: u64, end: u8) -> Option<()>
+    ensures { MatchOption result ((behind : List ℕ) → rest.old.now ≢ (decimal n ++ end ∷ []) ++ behind)
+        (λ _. rest.old.now ≡ (decimal n ++ end ∷ []) ++ rest.new.now) }
 {
     // Most numbers of a stamp have one digit.
     if n < 10 {
-        return skip_byte(rest, b'0' + n as u8);
+        return skip_two(rest, b'0' + n as u8, end);
     }
-    skip_digits(rest, n)
+    skip_digits(rest, n)?;
+    skip_byte(rest, end)
 }
 
 /// Skips a number of any length. It is a function of its own, since the buffer is cleared on entry.
@@ -93,6 +95,18 @@ fn skip_byte(rest: &mut &[u8], byte: u8) -> Option<()>
 {
     match *rest {
         [first, after @ ..] if *first == byte => {
+            *rest = after;
+            Some(())
+        }
+        _ => None,
+    }
+}
+
+fn skip_two(rest: &mut &[u8], byte: u8, next: u8) -> Option<()>
+    ensures { MatchOption result ((behind : List ℕ) → rest.old.now ≢ byte ∷ (next ∷ behind)) (λ _. rest.old.now ≡ byte ∷ (next ∷ rest.new.now)) }
+{
+    match *rest {
+        [first, second, after @ ..] if *first == byte && *second == next => {
             *rest = after;
             Some(())
         }

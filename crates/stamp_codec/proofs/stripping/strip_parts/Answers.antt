@@ -6,29 +6,17 @@ use Rattle.stamp_codec.proofs.stripping.strip_parts.Goals as goal
 pub returns-in_err-skip_byte-2 : goal.returns-in_err-skip_byte-2
 returns-in_err-skip_byte-2 c =
     let id = id_text c.args.id.now in
-    let tree = tree_text c.args.tree.now in
+    let tree = tree_text c.args.tree.now ++ codes "]" in
     rw c.from_residual-in_err-skip_byte-2.ensures
-    (lacks_others _ (codes "[") (id ++ (codes ";" ++ (tree ++ codes "]"))) _ c.in_ok-skip_byte.ensures
-    (lacks_others _ id (codes ";" ++ (tree ++ codes "]")) _ c.in_ok-skip_id.ensures
-    (lacks_first _ (codes ";") (tree ++ codes "]") c.in_err-skip_byte-2.ensures)))
+    (lacks_others _ (codes "[") (id ++ (codes ";" ++ tree)) _ c.in_ok-skip_byte.ensures
+    (lacks_others _ id (codes ";" ++ tree) _ c.in_ok-skip_id.ensures
+    (lacks_first _ (codes ";") tree c.in_err-skip_byte-2.ensures)))
 
 pub returns-in_err-skip_tree : goal.returns-in_err-skip_tree
 returns-in_err-skip_tree c =
     let id = id_text c.args.id.now in
-    let tree = tree_text c.args.tree.now in
+    let tree = tree_text c.args.tree.now ++ codes "]" in
     rw c.from_residual-in_err-skip_tree.ensures
-    (lacks_others _ (codes "[") (id ++ (codes ";" ++ (tree ++ codes "]"))) _ c.in_ok-skip_byte.ensures
-    (lacks_others _ id (codes ";" ++ (tree ++ codes "]")) _ c.in_ok-skip_id.ensures
-    (lacks_others _ (codes ";") (tree ++ codes "]") _ c.in_ok-skip_byte-2.ensures
-    (lacks_first _ tree (codes "]") c.in_err-skip_tree.ensures))))
-
-pub returns-in_err-skip_byte-3 : goal.returns-in_err-skip_byte-3
-returns-in_err-skip_byte-3 c =
-    let id = id_text c.args.id.now in
-    let tree = tree_text c.args.tree.now in
-    rw c.from_residual-in_err-skip_byte-3.ensures
-    (lacks_others _ (codes "[") (id ++ (codes ";" ++ (tree ++ codes "]"))) _ c.in_ok-skip_byte.ensures
-    (lacks_others _ id (codes ";" ++ (tree ++ codes "]")) _ c.in_ok-skip_id.ensures
-    (lacks_others _ (codes ";") (tree ++ codes "]") _ c.in_ok-skip_byte-2.ensures
-    (lacks_others _ tree (codes "]") _ c.in_ok-skip_tree.ensures
-    c.in_err-skip_byte-3.ensures))))
+    (lacks_others _ (codes "[") (id ++ (codes ";" ++ tree)) _ c.in_ok-skip_byte.ensures
+    (lacks_others _ id (codes ";" ++ tree) _ c.in_ok-skip_id.ensures
+    (lacks_others _ (codes ";") tree _ c.in_ok-skip_byte-2.ensures c.in_err-skip_tree.ensures)))
