@@ -31,7 +31,7 @@ tree_is_plain (Node n left right) fits =
     (plain_append (decimal n) (codes "," ++ (tree_text left ++ (codes "," ++ (tree_text right ++ codes ")")))) (decimal_is_plain n (omega (arith, fits)))
     (plain_append (codes ",") (tree_text left ++ (codes "," ++ (tree_text right ++ codes ")"))) refl behind))
 
-stamp_is_plain : (id : Id) (tree : EventTree) → maximum tree < 2 ^ 64 → ArePlain (stamp_text id tree)
+pub stamp_is_plain : (id : Id) (tree : EventTree) → maximum tree < 2 ^ 64 → ArePlain (stamp_text id tree)
 stamp_is_plain id tree fits =
     plain_append (codes "[") (id_text id ++ (codes ";" ++ (tree_text tree ++ codes "]"))) refl
     (plain_append (id_text id) (codes ";" ++ (tree_text tree ++ codes "]")) (id_is_plain id)

@@ -15,6 +15,7 @@ pub mod Numbers
 pub mod OneLine
 pub mod Ordering
 pub mod Placings
+pub mod PlainLines
 pub mod Reached
 pub mod ReadAgain
 pub mod Refusing

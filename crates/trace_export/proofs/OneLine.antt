@@ -61,7 +61,7 @@ escape_byte-plain byte plain =
     cond-false (nat_lt 0 (escape_letter byte)) _ _ (ap (nat_lt 0) (no_letter byte plain))
     ∙ cond-false (nat_lt byte 32) _ _ (le-ltb byte 32 (plain_parts byte plain).0)
 
-escape-plain : (text : Text) → ArePlain text → escape text ≡ text
+pub escape-plain : (text : Text) → ArePlain text → escape text ≡ text
 escape-plain [] plain = refl
 escape-plain (byte ∷ text) plain =
     let parts = and_parts (is_plain byte) (list_all is_plain text) plain in

@@ -1,5 +1,6 @@
 pub mod Bits
 pub mod Checked
+pub mod DueLine
 pub mod Edges
 pub mod Export
 pub mod Graph
