@@ -1,13 +1,15 @@
 -- The line of a listed event is read again as it, by the grammar of JSON alone: no call has to read it.
-use Rattle.std.proofs.Common.{◌≡◌, ℕ, ◌^◌, ◌<◌, ◌≤◌, Bool, true, false, List, [], ◌∷◌, ◌++◌, Option, Some, option_and_then, refl, sym, ap, ◌∙◌, arith, append-nil, codes, IsUtf8}
+use Rattle.std.proofs.Common.{◌≡◌, ◌≢◌, ℕ, ◌^◌, ◌<◌, ◌≤◌, ◌==◌, ◌↔◌, Bor, Bool, true, false, IsTrue, List, [], ◌∷◌, ◌++◌, ◌-◌, drop, length, slice_index, take, Option, None, Some, IfSome, MatchOption, option_and_then, refl, subst, sym, ap, ◌∙◌, arith, append_assoc, append-nil, codes, IsUtf8}
 use Rattle.std.specs.Fmt.{decimal}
 use Rattle.std.specs.List.{All}
+use Rattle.std.proofs.lemmas.Bool.{eqb-true}
 use Rattle.std.proofs.lemmas.Fmt.{IsAscii-decimal}
+use Rattle.std.proofs.lemmas.List.{append_cancel_left, take_all}
 use Rattle.std.proofs.lemmas.List.Elements.{All-head, All-tail}
 use Rattle.std.proofs.lemmas.Str.{IsUtf8-append, IsUtf8-from_ascii, IsUtf8-nil}
 use Rattle.json.specs.Json as json
 use Rattle.json.specs.Lex.{tokens}
-use Rattle.json.specs.Print.{quoted}
+use Rattle.json.specs.Print.{escape, escape_byte, quoted}
 use Rattle.json.specs.Token.{Token}
 use Rattle.json.specs.Tree as tree
 use Rattle.json.proofs.Printed.Decimals.{IsNumber-decimal}
@@ -21,12 +23,19 @@ use Rattle.serde_json.proofs.Numbers.{number_of-decimal}
 use Rattle.serde_json.proofs.Texts.{print-outline}
 use Rattle.trace_types.specs.clock.Id.{Id, Zero, One, Pair}
 use Rattle.trace_types.specs.clock.EventTree.{EventTree, Leaf, Node, maximum}
-use Rattle.trace_types.specs.text.Name.{Text}
+use Rattle.trace_types.specs.tenant.Tenant.{is_report}
+use Rattle.trace_types.specs.text.Name.{Text, is_name}
 use Rattle.trace_types.specs.text.StampText.{id_text, stamp_text, tree_text}
 use Rattle.trace_types.specs.text.Text.{kind_text, name_text}
 use Rattle.trace_types.specs.declared.row.Kind.{Kind}
 use Rattle.trace_types.specs.declared.row.Kind.TheVariants.{Local, Spawn, Send, Recv, End, Join}
+use Rattle.trace_types.specs.declared.row.Row.{Row}
+use Rattle.trace_export.specs.DueLine.{due_line, due_listed, due_text}
 use Rattle.trace_export.specs.Listing.{Listed, IsReadAgain, listed_json, numbers_json}
+use Rattle.trace_export.specs.Loading.{request_for}
+use Rattle.trace_export.proofs.GoodStamps.{stamp_is_plain}
+use Rattle.trace_export.proofs.OneLine.{ArePlain, escape-plain, name_is_plain}
+use Rattle.trace_export.proofs.WrittenRows.{IsUtf8-name}
 
 -- ---- reading
 
@@ -180,3 +189,164 @@ pub stamp_utf8 : (id : Id) (tree : EventTree) → maximum tree < 2 ^ 64 → IsUt
 stamp_utf8 id tree small =
     joined (codes "[") (id_text id) (codes ";" ++ (tree_text tree ++ codes "]")) (IsUtf8-are_ascii (codes "[") refl) (id_utf8 id)
     (joined (codes ";") (tree_text tree) (codes "]") (IsUtf8-are_ascii (codes ";") refl) (tree_utf8 tree small) (IsUtf8-are_ascii (codes "]") refl))
+
+-- ---- words that need no escapes
+
+-- The words of the event stand for themselves in a string of JSON.
+pub record HasPlainWords (listed : Listed) : Type 0 where
+  pub name : ArePlain (name_text listed.name)
+  pub stamp : ArePlain listed.stamp
+  pub task : ArePlain listed.task
+
+kind_is_plain : (kind : Kind) → ArePlain (kind_text kind)
+kind_is_plain Local = refl
+kind_is_plain Spawn = refl
+kind_is_plain Send = refl
+kind_is_plain Recv = refl
+kind_is_plain End = refl
+kind_is_plain Join = refl
+
+-- the text of an event, if what stands for its words in strings of JSON is this
+abbrev quoted_parts : Text → Text → Text → Text → Text → Text → Text
+quoted_parts event kind name preds stamp task =
+    codes "{\"event\":" ++ (event ++ (codes ",\"kind\":" ++ ((34 ∷ (kind ++ 34 ∷ [])) ++ (codes ",\"name\":" ++ ((34 ∷ (name ++ 34 ∷ [])) ++ (codes ",\"preds\":[" ++ (preds
+    ++ (codes ",\"stamp\":" ++ ((34 ∷ (stamp ++ 34 ∷ [])) ++ (codes ",\"task\":" ++ ((34 ∷ (task ++ 34 ∷ [])) ++ codes "}")))))))))))
+
+parts_regrouped : (event kind name preds stamp task : Text)
+    → quoted_parts event kind name preds stamp task
+    ≡ (codes "{\"event\":" ++ (event ++ (codes ",\"kind\":\"" ++ kind)))
+    ++ ((codes "\",\"name\":\"" ++ (name ++ (codes "\",\"preds\":[" ++ preds))) ++ (codes ",\"stamp\":\"" ++ (stamp ++ (codes "\",\"task\":\"" ++ (task ++ codes "\"}")))))
+parts_regrouped event kind name preds stamp task = simp append_assoc
+
+-- what the parts of an event's text are
+parts_quoted : (listed : Listed)
+    → compact_text (listed_json listed)
+    ≡ quoted_parts (decimal listed.event) (escape (kind_text listed.kind)) (escape (name_text listed.name)) (items_text false (numbers_json listed.preds)) (escape listed.stamp) (escape listed.task)
+unfolding escape_byte
+parts_quoted listed = refl
+
+-- the text of such an event is its parts, one behind the other
+pub text_of_parts : (listed : Listed) → HasPlainWords listed → compact_text (listed_json listed) ≡ due_text listed.event listed.kind (name_text listed.name) listed.preds listed.stamp listed.task
+text_of_parts listed plain =
+    let event = decimal listed.event in
+    let preds = items_text false (numbers_json listed.preds) in
+    parts_quoted listed
+    ∙ ap (λ kind. quoted_parts event kind (escape (name_text listed.name)) preds (escape listed.stamp) (escape listed.task)) (escape-plain (kind_text listed.kind) (kind_is_plain listed.kind))
+    ∙ ap (λ name. quoted_parts event (kind_text listed.kind) name preds (escape listed.stamp) (escape listed.task)) (escape-plain (name_text listed.name) plain.name)
+    ∙ ap (λ stamp. quoted_parts event (kind_text listed.kind) (name_text listed.name) preds stamp (escape listed.task)) (escape-plain listed.stamp plain.stamp)
+    ∙ ap (λ task. quoted_parts event (kind_text listed.kind) (name_text listed.name) preds listed.stamp task) (escape-plain listed.task plain.task)
+    ∙ parts_regrouped event (kind_text listed.kind) (name_text listed.name) preds listed.stamp listed.task
+
+-- the first of some numbers, and the others
+abbrev pub others_of : List ℕ → List ℕ
+others_of numbers = take (length numbers - 1) (drop 1 numbers)
+
+pub items_text-first : (later : Bool) (numbers : List ℕ) → 1 ≤ length numbers
+    → items_text later (numbers_json numbers) ≡ comma_if later ++ (decimal (slice_index numbers 0) ++ items_text true (numbers_json (others_of numbers)))
+items_text-first later [] some = absurd (omega arith)
+items_text-first later (n ∷ numbers) some =
+    ap (λ others. comma_if later ++ (decimal n ++ items_text true (numbers_json others))) (sym (take_all (length (n ∷ numbers) - 1) numbers (omega arith)))
+
+-- ---- the line of an event that is due
+
+-- The words of the row are names, and the numbers fit 64 bits.
+pub record IsSpelled (event : ℕ) (row : Row) (tree : EventTree) : Type 0 where
+  pub number : event < 2 ^ 64
+  pub name : IfSome row.name (λ name. IsTrue (is_name name))
+  pub preds : All (λ n. n < 2 ^ 64) row.preds
+  pub task : IsTrue (is_name row.task)
+  pub values : maximum tree < 2 ^ 64
+
+name_text_is_plain : (name : Option Text) → IfSome name (λ name. IsTrue (is_name name)) → ArePlain (name_text name)
+name_text_is_plain None named = refl
+name_text_is_plain (Some name) named = (name_is_plain name named).0
+
+name_text_utf8 : (name : Option Text) → IfSome name (λ name. IsTrue (is_name name)) → IsUtf8 (name_text name)
+name_text_utf8 None named = IsUtf8-are_ascii (codes "-") refl
+name_text_utf8 (Some name) named = IsUtf8-name name named
+
+-- its line is its parts
+due_line_parts : (event : ℕ) (row : Row) (id : Id) (tree : EventTree) → IsSpelled event row tree
+    → due_line event row id tree ≡ due_text event row.kind (name_text row.name) row.preds (stamp_text id tree) row.task
+due_line_parts event row id tree spelled =
+    text_of_parts (due_listed event row id tree)
+    (record { name = name_text_is_plain row.name spelled.name; stamp = stamp_is_plain id tree spelled.values; task = (name_is_plain row.task spelled.task).0 })
+
+-- and is read again as the event
+pub due_is_read : (event : ℕ) (row : Row) (id : Id) (tree : EventTree) → IsSpelled event row tree → IsReadAgain (due_listed event row id tree)
+due_is_read event row id tree spelled =
+    is_read (due_listed event row id tree)
+    (record {
+      small = record { event = spelled.number; preds = spelled.preds };
+      name = name_text_utf8 row.name spelled.name;
+      stamp = stamp_utf8 id tree spelled.values;
+      task = IsUtf8-name row.task spelled.task;
+    })
+
+-- nothing is left behind a text exactly if it is the whole
+nothing_left : (text front rest : Text) → text ≡ front ++ rest → IsTrue (length rest == 0) ↔ (text ≡ front)
+nothing_left text front [] is = (λ _. is ∙ append-nil front, λ _. refl)
+nothing_left text front (byte ∷ rest) is = (
+  λ none. absurd (omega (arith, eqb-true (length (byte ∷ rest)) 0 none)),
+  λ same. absurd (omega (arith, ap length (append_cancel_left front (byte ∷ rest) [] (sym is ∙ same ∙ sym (append-nil front))))),
+)
+
+-- the words that were looked for are those of the row
+pub record AreWordsOf (row : Row) (name : Text) (preds : List ℕ) (task : Text) : Type 0 where
+  pub name_is : name ≡ name_text row.name
+  pub preds_is : preds ≡ row.preds
+  pub task_is : task ≡ row.task
+
+looked_for : (event : ℕ) (row : Row) (id : Id) (tree : EventTree) (name : Text) (preds : List ℕ) (task : Text) → IsSpelled event row tree → AreWordsOf row name preds task
+    → due_text event row.kind name preds (stamp_text id tree) task ≡ due_line event row id tree
+looked_for event row id tree name preds task spelled words =
+    let stamp = stamp_text id tree in
+    ap (λ word. due_text event row.kind word preds stamp task) words.name_is ∙ ap (λ numbers. due_text event row.kind (name_text row.name) numbers stamp task) words.preds_is
+    ∙ ap (λ word. due_text event row.kind (name_text row.name) row.preds stamp word) words.task_is ∙ sym (due_line_parts event row id tree spelled)
+
+-- a text with these words at its front is the line exactly if nothing is behind them
+pub is_line_if_empty : (event : ℕ) (row : Row) (id : Id) (tree : EventTree) (name : Text) (preds : List ℕ) (task : Text) → IsSpelled event row tree → AreWordsOf row name preds task
+    → (text rest : Text) (empty : Bool) → text ≡ due_text event row.kind name preds (stamp_text id tree) task ++ rest → empty ≡ (length rest == 0)
+    → IsTrue empty ↔ (text ≡ due_line event row id tree)
+is_line_if_empty event row id tree name preds task spelled words text rest empty begins is =
+    let front = due_text event row.kind name preds (stamp_text id tree) task in
+    subst (λ (all : Text). IsTrue empty ↔ (text ≡ all)) (looked_for event row id tree name preds task spelled words)
+    (subst (λ (answer : Bool). IsTrue answer ↔ (text ≡ front)) (sym is) (nothing_left text front rest begins))
+
+-- and without them it is not
+pub is_no_line : (event : ℕ) (row : Row) (id : Id) (tree : EventTree) (name : Text) (preds : List ℕ) (task : Text) → IsSpelled event row tree → AreWordsOf row name preds task
+    → (text : Text) → ((rest : List ℕ) → text ≢ due_text event row.kind name preds (stamp_text id tree) task ++ rest) → IsTrue false ↔ (text ≡ due_line event row id tree)
+is_no_line event row id tree name preds task spelled words text lacks =
+    let front = due_text event row.kind name preds (stamp_text id tree) task in
+    (λ wrong. cc, λ same. absurd (lacks [] (same ∙ sym (looked_for event row id tree name preds task spelled words) ∙ sym (append-nil front))))
+
+-- ---- looking for parts at the front of a text, one behind the other
+
+-- what is behind these bytes at the front of the text, or nothing exactly if they are not there
+abbrev pub Strips : Text → Text → Option (Bor (List ℕ)) → Type 0
+Strips text spelled found = MatchOption found ((rest : List ℕ) → text ≢ spelled ++ rest) (λ rest. text ≡ spelled ++ rest.now)
+
+-- the first part is not there
+pub lacks_first : (text first others : Text) → ((rest : List ℕ) → text ≢ first ++ rest) → (rest : List ℕ) → text ≢ (first ++ others) ++ rest
+lacks_first text first others lacks = λ rest same. lacks (others ++ rest) (same ∙ append_assoc first others rest)
+
+-- the first part is there, and the others are looked for behind it
+pub strips_on : (text first others behind : Text) (found : Option (Bor (List ℕ))) → text ≡ first ++ behind → Strips behind others found → Strips text (first ++ others) found
+strips_on text first others behind None begins lacks =
+    λ rest same. lacks rest (append_cancel_left first behind (others ++ rest) (sym begins ∙ same ∙ append_assoc first others rest))
+strips_on text first others behind (Some rest) begins follows = begins ∙ ap (λ bytes. first ++ bytes) follows ∙ sym (append_assoc first others rest.now)
+
+-- ---- reports
+
+-- what is requested for a row is a report
+pub request_is_report : (kind : Kind) (task : Text) (name : Option Text) → is_report (request_for kind task name) ≡ true
+request_is_report Local task name = refl
+request_is_report End task name = refl
+request_is_report Spawn task (Some child) = refl
+request_is_report Send task (Some message) = refl
+request_is_report Recv task (Some message) = refl
+request_is_report Join task (Some child) = refl
+request_is_report Spawn task None = refl
+request_is_report Send task None = refl
+request_is_report Recv task None = refl
+request_is_report Join task None = refl

@@ -28,6 +28,7 @@ mod bits;
 mod check_fault;
 mod checking;
 mod collected;
+mod due_line;
 mod event_line;
 mod export_fault;
 mod exporting;
