@@ -12,11 +12,12 @@ ghost use Rattle.trace_export.specs.Listing.{IsReadAgain, numbers_json};
 use crate::requests::request_for;
 use event_tree::EvTree;
 use id_tree::IdTree;
+use itoa::Buffer;
 use stamp_codec::strip_parts;
 use trace_types::{Kind, Name, Request, Row};
 
 /// Whether the line is the one that an export has of the event of this number, with this row, this id of its task after it
-/// and this tree. Such a line lists that event and is read again as it. It takes no memory.
+/// and this tree. Such a line is read again as that event, by the grammar of JSON. It takes no memory.
 pub(crate) fn is_due_line(line: &[u8], number: u64, row: &Row, id: &IdTree, tree: &EvTree) -> bool
     ensures is { IsTrue result ↔ (line.now ≡ due_line number row.now id.now tree.now) }
     ensures read { IsReadAgain (due_listed number row.now id.now tree.now) }
@@ -139,15 +140,13 @@ fn strip_later<'a>(text: &'a [u8], numbers: &[u64]) -> Option<&'a [u8]>
     }
 }
 
-/// What follows the digits of the number, the last of which are looked for last.
+/// What follows the digits of the number. It is a function of its own, since the buffer is cleared on entry.
+#[inline(never)]
 fn strip_number(text: &[u8], number: u64) -> Option<&[u8]>
     ensures { MatchOption result ((rest : List ℕ) → text.now ≢ decimal number ++ rest) (λ rest. text.now ≡ decimal number ++ rest.now) }
 {
-    if number < 10 {
-        return strip_byte(text, b'0' + number as u8);
-    }
-    let text = strip_number(text, number / 10)?;
-    strip_byte(text, b'0' + (number % 10) as u8)
+    let mut buffer = Buffer::new();
+    strip(text, buffer.format(number).as_bytes())
 }
 
 /// What follows the byte.
