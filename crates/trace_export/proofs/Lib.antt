@@ -2,6 +2,8 @@ pub mod Alike
 pub mod BitSets
 pub mod Comparing
 pub mod Connecting
+pub mod DueLines
+pub mod Followed
 mod GoodExports
 pub mod GoodStamps
 mod Headings
@@ -21,8 +23,10 @@ pub mod ReadAgain
 pub mod Refusing
 pub mod Remaking
 pub mod Rerunning
+pub mod RightRows
 pub mod SpelledTrees
 pub mod StampReplies
+pub mod StampTrees
 pub mod Stopping
 pub mod WrittenLines
 pub mod WrittenRequests

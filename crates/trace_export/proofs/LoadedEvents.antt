@@ -18,6 +18,7 @@ use Rattle.tenant_ledger.proofs.clock.Consequences.{maximum_of-le}
 use Rattle.tenant_ledger.proofs.clock.Legality.{IsLegal_from_AreLegal}
 use Rattle.tenant_ledger.proofs.keeping.Told.{stamp_knows}
 use Rattle.trace_export.specs.Export.{listed_row}
+use Rattle.trace_export.specs.Following.{placed_of, placing_of}
 use Rattle.trace_export.specs.Laws.{event_line}
 use Rattle.trace_export.specs.Listing.{Listed, ListsAs}
 use Rattle.trace_export.specs.Loading.{AreLoadedAfter, IsLoaded, IsLoadedNext, limits_under}
@@ -26,14 +27,14 @@ use Rattle.trace_export.specs.Verdict.{AreRightAfter, HasTree, IsNumbered, IsRig
 use Rattle.trace_export.specs.declared.loaded.Loaded.TheVariants.{Done}
 use Rattle.trace_export.proofs.Connecting.{length-with_next}
 use Rattle.trace_export.proofs.LegalRows.{AreSound, legal_rows_are_sound}
-use Rattle.trace_export.proofs.Placings.{length-placing, ordered_alike, placed_of, placing_of}
+use Rattle.trace_export.proofs.Placings.{length-placing, ordered_alike}
 use Rattle.trace_export.proofs.Rerunning.{holds_before, loaded_are_legal, loaded_count, row_listed, runs_anew}
 use Rattle.trace_export.proofs.SpelledTrees.{spelled_tree}
 
 -- ---- the newest event
 
 -- the stamp's text of the event that the row adds
-text_due : (rows : List Row) (row : Row) → stamp_text_of (history_of (rows ++ row ∷ [])) (suc (length rows)) ≡ stamp_text_of (row ∷ history_of rows) (suc (length (history_of rows)))
+pub text_due : (rows : List Row) (row : Row) → stamp_text_of (history_of (rows ++ row ∷ [])) (suc (length rows)) ≡ stamp_text_of (row ∷ history_of rows) (suc (length (history_of rows)))
 text_due rows row =
     ap (λ history. stamp_text_of history (suc (length rows))) (reverse-append rows (row ∷ []))
     ∙ ap (λ count. stamp_text_of (row ∷ history_of rows) (suc count)) (sym (length-reverse rows))
@@ -58,7 +59,7 @@ module _ (limits : Limits) (rows : List Row) (line : Text) (row : Row) (next : I
       spelled_tree next.listed.stamp (stamp_of tree_clock history number).0 (tree_of tree_clock history number) next.due.may.0.tree small text_listed fits.tree
 
   -- the line is right, with the event's tree
-  right_next : IsLegal history → AreSound history → IsRightNext (placing_of (history_of rows)) line (placed_of row (history_of rows))
+  pub right_next : IsLegal history → AreSound history → IsRightNext (placing_of (history_of rows)) line (placed_of row (history_of rows))
   right_next legal sound =
       let before = placing_of (history_of rows) in
       let fits = next.due.may.1 in

@@ -4,13 +4,14 @@ use Rattle.std.specs.List.{Contains, All}
 use Rattle.std.specs.Int.{bit_at}
 use Rattle.std.proofs.lemmas.Bool.{cases_eq}
 use Rattle.std.proofs.lemmas.List.{get_or_append_left, get_or-append-add}
-use Rattle.std.proofs.lemmas.List.Elements.{All-contains}
+use Rattle.std.proofs.lemmas.List.Elements.{All-contains, All-weaker}
 use Rattle.trace_types.specs.clock.EventTree.{EventTree}
 use Rattle.event_tree.specs.Comparison.{IsBelow}
+use Rattle.trace_export.specs.declared.graph.Graph.{Graph}
 use Rattle.trace_export.specs.declared.placed.Placed.{Placed}
 use Rattle.trace_export.specs.Bits.{HasBit}
-use Rattle.trace_export.specs.Edges.{Placing, IsPlaced, listed_preds, listed_tree, IsConnected, AreOrderedAlike}
-use Rattle.trace_export.specs.Graph.{AreEarlier, AreReaching, IsFollowed, reaching_row, IsGraph, IsReachedBy, IsComparedNext, RefutesNext}
+use Rattle.trace_export.specs.Edges.{Placing, IsPlaced, placed_at, listed_preds, listed_tree, IsConnected, AreOrderedAlike}
+use Rattle.trace_export.specs.Graph.{AreEarlier, AreReaching, EdgesLeadBack, IsFollowed, IsNextWith, reaching_row, IsGraph, IsReachedBy, IsComparedNext, RefutesNext}
 use Rattle.trace_export.specs.Verdict.{IsOrderedNext}
 use Rattle.trace_export.proofs.Alike.{tree_earlier, tree_next, alike_next}
 use Rattle.trace_export.proofs.Connecting.{with_next, length-with_next, placed_at-earlier, placed_at-next, earlier_pred, connected_before, connected_itself, connected_by, connected-with_next, connected_next, next_connected, back-with_next}
@@ -238,3 +239,20 @@ module _ (placing : Placing) (rows : List (List ℕ)) (followed : List ℕ) (gra
                 (added place).1 (inl ((graph.followed_are place).1 (by.0, old, subst (λ (at : Placed). Contains at.preds (suc place)) (placed_at-earlier placing placed by.0 old) by.2)))
           ]),
         )
+
+-- what is known of the next event, also of a graph that has the same events
+pub next_with : (graph : Graph) (placing : Placing) (placed : Placed) (bits : List ℕ) → graph.placed.items ≡ placing → AreEarlier placed.preds (suc (length placing)) → length placing < 16384 → IsOrderedNext placing placed
+    → AreReaching (placing ++ placed ∷ []) bits (suc (length placing)) → 64 * length bits ≤ suc (length placing) + 63 → IsNextWith graph placed bits
+next_with graph placing placed bits same preds few ordered reaching short = record {
+  preds = subst (λ (events : Placing). AreEarlier placed.preds (suc (length events))) (sym same) preds;
+  few = subst (λ (events : Placing). length events < 16384) (sym same) few;
+  ordered = subst (λ (events : Placing). IsOrderedNext events placed) (sym same) ordered;
+  reaching = subst (λ (events : Placing). AreReaching (events ++ placed ∷ []) bits (suc (length events))) (sym same) reaching;
+  short = subst (λ (events : Placing). 64 * length bits ≤ suc (length events) + 63) (sym same) short;
+}
+
+-- what an event follows comes before the next one
+pub before_next : (placing : Placing) (event : ℕ) (placed : Placed) → EdgesLeadBack placing → IsPlaced placing event → placed ≡ placed_at placing event → AreEarlier placed.preds (suc (length placing))
+before_next placing event placed back within is =
+    All-weaker (λ pred. (0 < pred) × (pred < event)) (λ pred. (0 < pred) × (pred < suc (length placing))) (λ pred known. (known.0, omega (arith, known.1, within.1))) placed.preds
+    (subst (λ (found : Placed). AreEarlier found.preds event) (sym is) (back event within))

@@ -7,26 +7,17 @@ use Rattle.trace_types.specs.clock.Clock.{tree_clock}
 use Rattle.trace_types.specs.clock.Stamps.{tree_of}
 use Rattle.trace_types.specs.tenant.Rows.{History, is_event}
 use Rattle.trace_types.specs.tenant.Reachability.{predecessors_of, LeadsBack}
-use Rattle.trace_types.specs.declared.row.Row.{Row}
 use Rattle.trace_types.proofs.Reachability.{predecessors_of_before, reaches_iff}
 use Rattle.event_tree.specs.Comparison.{IsBelow}
 use Rattle.tenant_ledger.specs.Legal.{IsLegal}
 use Rattle.tenant_ledger.proofs.clock.Consequences.{below_iff_reaches}
 use Rattle.tenant_ledger.proofs.clock.TreeClock.{tree_clock_laws}
 use Rattle.tenant_ledger.proofs.clock.Upheld.{invariant_upheld}
-use Rattle.trace_export.specs.Edges.{Placing, IsPlaced, listed_preds, listed_tree, IsWayBack, IsConnected, ComparesAsConnected, AreOrderedAlike}
+use Rattle.trace_export.specs.Edges.{IsPlaced, listed_preds, listed_tree, IsWayBack, IsConnected, ComparesAsConnected, AreOrderedAlike}
+use Rattle.trace_export.specs.Following.{placed_of, placing_of}
 use Rattle.trace_export.specs.declared.placed.Placed.{Placed}
 use Rattle.trace_export.proofs.Connecting.{with_next, length-with_next, placed_at-earlier, placed_at-next}
 use Rattle.trace_export.proofs.LegalRows.{AreSound}
-
--- what is listed of the event that the row adds
-abbrev pub placed_of : Row → History → Placed
-placed_of row earlier = record { preds = row.preds; tree = tree_of tree_clock (row ∷ earlier) (suc (length earlier)) }
-
--- what is listed of all events
-abbrev pub placing_of : History → Placing
-placing_of [] = []
-placing_of (row ∷ earlier) = with_next (placing_of earlier) (placed_of row earlier)
 
 pub length-placing : (history : History) → length (placing_of history) ≡ length history
 length-placing [] = refl

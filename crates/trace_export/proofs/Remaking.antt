@@ -68,7 +68,7 @@ can_be_written Send task name named fits = subst (λ other. CanBeWritten (reques
 can_be_written Recv task name named fits = subst (λ other. CanBeWritten (request_for Recv task other)) (sym fits.1) (named, fits.2)
 can_be_written Join task name named fits = subst (λ other. CanBeWritten (request_for Join task other)) (sym fits.1) (named, fits.2)
 
-two_replies : (k : ℕ) (code : Code) → Accepted k ≡ Refused code → ⊥
+pub two_replies : (k : ℕ) (code : Code) → Accepted k ≡ Refused code → ⊥
 two_replies k code same = absurd (cc)
 
 same_count : (a b : ℕ) → Accepted a ≡ Accepted b → a ≡ b
@@ -77,7 +77,7 @@ same_count a b same = cc
 same_code : (a b : Code) → Refused a ≡ Refused b → a ≡ b
 same_code a b same = cc
 
-same_row : (a b : Row) → a ∷ [] ≡ b ∷ [] → a ≡ b
+pub same_row : (a b : Row) → a ∷ [] ≡ b ∷ [] → a ≡ b
 same_row a b same = cc
 
 module _ (tenant : Tenant) (kind : Kind) (task : Text) (name : Option Text) where

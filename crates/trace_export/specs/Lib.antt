@@ -3,6 +3,7 @@ pub mod Checked
 pub mod DueLine
 pub mod Edges
 pub mod Export
+pub mod Following
 pub mod Graph
 pub mod Heading
 pub mod Laws

@@ -1,7 +1,8 @@
 //! Checks of exports.
-ghost use Rattle.std.specs.Prelude.{◌≡◌, ◌+◌, ◌<◌, ◌≤◌, ◌↔◌, ◌^◌, IfOk, IsErrOf, length};
+ghost use Rattle.std.specs.Prelude.{◌≡◌, ◌+◌, ◌<◌, ◌≤◌, ◌↔◌, ◌^◌, IfOk, IsErrOf, OnOk, length};
 ghost use Rattle.line_protocol.specs.Source.{StopsAtEnd};
 ghost use Rattle.trace_export.specs.Checked.{Judges, IsJudged, StopsReading};
+ghost use Rattle.trace_export.specs.Following.{KeepsTenant};
 ghost use Rattle.trace_export.specs.Graph.{IsKeptGraph};
 
 use crate::collected::Collected;
@@ -54,8 +55,10 @@ fn judge(
     line: &[u8],
 ) -> Result<Option<Verdict>, Memory>
     requires graph { IsKeptGraph collected.old.graph }
+    requires tenant { KeepsTenant collected.old }
     requires whole { found ≡ Line.Whole → length line.now ≤ 65536 }
-    ensures { IfOk result (λ verdict. IsJudged found line.now verdict collected.old collected.new) }
+    ensures tenant { OnOk result (KeepsTenant collected.new) }
+    ensures judged { IfOk result (λ verdict. IsJudged found line.now verdict collected.old collected.new) }
 {
     let number = collected.len() + 1;
     let fault = match found {

@@ -1,14 +1,21 @@
 //! What is kept of the lines of an export.
-ghost use Rattle.std.specs.Prelude.{◌≡◌, ◌+◌, ◌≤◌, ◌⊎◌, [], None, IfOk, IfNone, IfSome, length};
+ghost use Rattle.std.specs.Prelude.{◌≡◌, ◌+◌, ◌<◌, ◌≤◌, ◌⊎◌, ◌++◌, ◌∷◌, [], None, IfOk, IfNone, IfSome, OnOk, length};
+ghost use Rattle.trace_types.specs.tenant.Rows.{history_of};
 ghost use Rattle.trace_export.specs.Checked.{IsEventKept, IsHeaded, IsRefused};
+ghost use Rattle.trace_export.specs.Following.{IsLastPlaced, IsOneAhead, KeepsTenant, placing_of};
 ghost use Rattle.trace_export.specs.Graph.{IsKeptGraph};
 ghost use Rattle.trace_export.specs.Heading.{IsHeader, IsNoHeader, lines_ahead};
+ghost use Rattle.trace_export.specs.Verdict.{IsFaulty, IsRightNext};
+ghost use Rattle.trace_export.specs.declared.placed.Placed.{Placed as Listed};
 
 use crate::add_line::add_line;
+use crate::following::follow;
 use crate::graph::Graph;
-use crate::header::read_header;
+use crate::header::{limits_under, read_header};
+use crate::placed::Placed;
 use crate::{Header, Reason};
 use std::alloc::{AllocError, Global};
+use tenant_ledger::Ledger;
 use trace_types::Memory;
 
 /// What is kept of the lines so far, which are right.
@@ -18,17 +25,22 @@ pub(crate) struct Collected {
     pub(crate) header: Option<Header>,
     /// What the other lines list.
     pub(crate) graph: Graph,
+    /// The tenant whose lines these are, as long as each line was the one that was due to it and there was memory for it. While
+    /// there is one, nothing has to be compared, since the trees that a tenant keeps compare as its events are ordered.
+    pub(crate) tenant: Option<Ledger>,
 }
 
 impl Collected {
     /// Nothing yet.
     pub(crate) fn new(alloc: Global) -> Result<Collected, AllocError>
+        ensures tenant { IfOk result KeepsTenant }
         ensures graph { IfOk result (λ collected. IsKeptGraph collected.graph) }
         ensures none { IfOk result (λ collected. (collected.header ≡ None) × (collected.graph.placed.items ≡ [])) }
     {
         Ok(Collected {
             header: None,
             graph: Graph::new(alloc)?,
+            tenant: Ledger::new(alloc, limits_under(&None)).ok(),
         })
     }
 
@@ -47,17 +59,60 @@ impl Collected {
     /// tells why the line is faulty.
     pub(crate) fn add(&mut self, alloc: Global, line: &[u8]) -> Result<Option<Reason>, Memory>
         requires graph { IsKeptGraph self.old.graph }
+        requires tenant { KeepsTenant self.old }
         requires short { length line.now ≤ 65536 }
+        ensures tenant { OnOk result (KeepsTenant self.new) }
         ensures right { IfOk result (λ fault. IfNone fault (IsHeaded self.old self.new line.now ⊎ IsEventKept self.old self.new line.now)) }
         ensures faulty { IfOk result (λ fault. IfSome fault (λ reason. IsRefused reason self.old line.now)) }
     {
         match self.first_header(alloc, line)? {
             Some(header) => {
+                self.tenant = Ledger::new(alloc, header.limits).ok();
                 self.header = Some(header);
                 Ok(None)
             }
-            None => add_line(&mut self.graph, alloc, line),
+            None => self.add_event(alloc, line),
         }
+    }
+
+    /// Keeps the event that the line lists if the line is right. Else it tells why the line is faulty.
+    fn add_event(&mut self, alloc: Global, line: &[u8]) -> Result<Option<Reason>, Memory>
+        requires graph { IsKeptGraph self.old.graph }
+        requires tenant { KeepsTenant self.old }
+        requires short { length line.now ≤ 65536 }
+        ensures tenant { OnOk result (KeepsTenant self.new) }
+        ensures header { self.new.header ≡ self.old.header }
+        ensures right { IfOk result (λ fault. IfNone fault ((placed : Listed) × IsRightNext self.old.graph.placed.items line.now placed
+            × (self.new.graph.placed.items ≡ self.old.graph.placed.items ++ placed ∷ []) × IsKeptGraph self.new.graph)) }
+        ensures faulty { IfOk result (λ fault. IfSome fault (λ reason. IsFaulty reason self.old.graph.placed.items line.now)) }
+    {
+        let Some(ledger) = self.tenant.take() else {
+            return add_line(&mut self.graph, alloc, line);
+        };
+        let limits = limits_under(&self.header);
+        let (ledger, is_due) = follow(&(), ledger, &limits, line);
+        if is_due {
+            self.keep_last(alloc, ledger)?;
+            return Ok(None);
+        }
+        // The ids of the tenant are not needed any more, and its trees are those of the graph.
+        drop(ledger);
+        add_line(&mut self.graph, alloc, line)
+    }
+
+    /// Keeps the last event of the tenant, and the tenant.
+    fn keep_last(&mut self, alloc: Global, ledger: Ledger) -> Result<(), Memory>
+        requires graph { IsKeptGraph self.old.graph }
+        requires next { IsOneAhead self.old.header self.old.graph.placed.items ledger }
+        ensures header { self.new.header ≡ self.old.header }
+        ensures tenant { OnOk result (KeepsTenant self.new) }
+        ensures placed { OnOk result (self.new.graph.placed.items ≡ placing_of (history_of ledger.rows)) }
+        ensures graph { OnOk result (IsKeptGraph self.new.graph) }
+    {
+        let placed = last_placed(alloc, &ledger)?;
+        self.graph.add_ordered(alloc, placed)?;
+        self.tenant = Some(ledger);
+        Ok(())
     }
 
     /// The header that the line is, if it is the first line.
@@ -72,4 +127,20 @@ impl Collected {
         }
         read_header(alloc, line)
     }
+}
+
+/// What the last event of the tenant lists.
+fn last_placed(alloc: Global, ledger: &Ledger) -> Result<Placed, Memory>
+    requires { 0 < length ledger.now.rows }
+    ensures { IfOk result (IsLastPlaced ledger.now.rows) }
+{
+    let rows = ledger.rows();
+    let last = rows.len() - 1;
+    let Some(tree) = ledger.tree(last as u64 + 1) else {
+        unreachable!();
+    };
+    Ok(Placed {
+        preds: rows[last].preds.share(),
+        tree: tree.share(alloc)?,
+    })
 }

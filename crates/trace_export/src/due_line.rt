@@ -174,7 +174,7 @@ pub(crate) fn hinted_report(line: &[u8]) -> Option<Request>
     ensures { IfSome result (λ request. is_report request ≡ true) }
 {
     let text = line.strip_prefix(b"{\"event\":")?;
-    let text = behind_digits(text).strip_prefix(b",\"kind\":\"")?;
+    let text = behind_digits(text)?.strip_prefix(b",\"kind\":\"")?;
     let (kind, text) = front_kind(text)?;
     let text = text.strip_prefix(b"\",\"name\":\"")?;
     let name = front_name(text)?;
@@ -182,12 +182,10 @@ pub(crate) fn hinted_report(line: &[u8]) -> Option<Request>
     Some(request_for(kind, task, name))
 }
 
-/// What follows the digits at the front.
-fn behind_digits(text: &[u8]) -> &[u8] {
-    match text {
-        [b'0'..=b'9', rest @ ..] => behind_digits(rest),
-        _ => text,
-    }
+/// What follows the digits at the front, if anything does.
+fn behind_digits(text: &[u8]) -> Option<&[u8]> {
+    let end = text.iter().position(|byte| !byte.is_ascii_digit())?;
+    text.get(end..)
 }
 
 /// The kind whose word is at the front, and what follows it.

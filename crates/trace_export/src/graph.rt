@@ -1,5 +1,5 @@
 //! What is kept of right lines, with which the next one is compared.
-ghost use Rattle.std.specs.Prelude.{◌≡◌, ℕ, suc, ◌+◌, ◌*◌, ◌<◌, ◌≤◌, ◌++◌, ◌∷◌, ◌↔◌, ◌⊎◌, ◌-◌, [], IfOk, IsTrue, length, vec_len, vec_capacity, All, Contains, false};
+ghost use Rattle.std.specs.Prelude.{◌≡◌, ℕ, suc, ◌+◌, ◌*◌, ◌<◌, ◌≤◌, ◌++◌, ◌∷◌, ◌↔◌, ◌⊎◌, ◌-◌, [], IfOk, IsTrue, length, vec_len, vec_capacity, All, Contains, OnOk, false};
 ghost use Rattle.trace_export.specs.Bits.{HasBit};
 ghost use Rattle.trace_export.specs.Edges.{IsPlaced, AreOrderedAlike, placed_at};
 ghost use Rattle.trace_export.specs.Graph.{AreKeptLines, IsKeptGraph, AreEarlier, AreReaching, IsReachedBy, IsNextWith, rows_of, reaching_row};
@@ -25,6 +25,8 @@ pub(crate) struct Graph {
     followed: Vec<u64>,
     /// The sides of each event's tree.
     sides: Vec<Sides>,
+    /// Whether some sides are still those of a tree that was compared with none.
+    lacks_sides: bool,
 }
 
 impl Graph {
@@ -41,6 +43,7 @@ impl Graph {
             reaching: Vec::new(alloc),
             followed: no_bits(alloc, Graph::MOST)?,
             sides: Vec::new(alloc),
+            lacks_sides: false,
         })
     }
 
@@ -62,6 +65,7 @@ impl Graph {
             × (¬ AreOrderedAlike (self.old.placed.items ++ placed ∷ []) other (suc (length self.old.placed.items))))) }
         ensures same { IfOk result (λ added. added ≡ false → self.new.placed.items ≡ self.old.placed.items) }
     {
+        self.find_sides(alloc)?;
         let reaching = self.reaching(alloc, &placed)?;
         let mut own = self.first_sides(alloc, &placed)?;
         let mut sides = mem::replace(&mut self.sides, Vec::new(alloc));
@@ -70,11 +74,58 @@ impl Graph {
         if !ordered? {
             return Ok(false);
         }
+        self.make_room()?;
+        self.put(placed, reaching, own);
+        Ok(true)
+    }
+
+    /// Adds the event that comes next, of which it is known that its tree and the earlier ones compare as the edges say. Its
+    /// sides are found once another event has to be compared.
+    pub(crate) fn add_ordered(&mut self, alloc: Global, placed: Placed) -> Result<(), AllocError>
+        requires graph { IsKeptGraph self.old }
+        requires preds { AreEarlier placed.preds (suc (length self.old.placed.items)) }
+        requires few { length self.old.placed.items < 16384 }
+        requires ordered { IsOrderedNext self.old.placed.items placed }
+        ensures placed { OnOk result (self.new.placed.items ≡ self.old.placed.items ++ placed ∷ []) }
+        ensures graph { OnOk result (IsKeptGraph self.new) }
+    {
+        let reaching = self.reaching(alloc, &placed)?;
+        self.make_room()?;
+        self.put(placed, reaching, Sides::new(alloc));
+        self.lacks_sides = true;
+        Ok(())
+    }
+
+    /// Finds of each event what is known of its tree before it is compared, if that was not done.
+    fn find_sides(&mut self, alloc: Global) -> Result<(), AllocError>
+        requires { IsKeptGraph self.old }
+        ensures placed { self.new.placed ≡ self.old.placed }
+        ensures graph { OnOk result (IsKeptGraph self.new) }
+    {
+        if !self.lacks_sides {
+            return Ok(());
+        }
+        for place in 0..self.placed.len() {
+            let sides = self.first_sides(alloc, self.at(place + 1))?;
+            self.sides[place] = sides;
+        }
+        self.lacks_sides = false;
+        Ok(())
+    }
+
+    /// Makes room for one event.
+    fn make_room(&mut self) -> Result<(), AllocError>
+        ensures placed { self.new.placed.items ≡ self.old.placed.items }
+        ensures reaching { self.new.reaching.items ≡ self.old.reaching.items }
+        ensures followed { self.new.followed ≡ self.old.followed }
+        ensures sides { self.new.sides.items ≡ self.old.sides.items }
+        ensures room { OnOk result ((vec_len self.new.placed < vec_capacity self.new.placed) × (vec_len self.new.reaching < vec_capacity self.new.reaching)
+            × (vec_len self.new.sides < vec_capacity self.new.sides)) }
+    {
         self.placed.reserve(1)?;
         self.reaching.reserve(1)?;
         self.sides.reserve(1)?;
-        self.put(placed, reaching, own);
-        Ok(true)
+        Ok(())
     }
 
     /// Adds the event that these reach, for which there is room.

@@ -2,6 +2,7 @@
 ghost use Rattle.std.specs.Prelude.{◌≡◌, ◌≤◌, IfOk, IsTrue, MatchOption, length};
 ghost use Rattle.serde_json.specs.View.{view};
 ghost use Rattle.trace_export.specs.Heading.{IsHeader, IsHeaderJson, IsNoHeader};
+ghost use Rattle.trace_export.specs.Loading.{limits_under};
 ghost use Rattle.trace_export.specs.declared.header.Header.{Header as Listed};
 
 use crate::json_line::read_json;
@@ -49,4 +50,29 @@ fn header_of(json: &Value) -> Option<Header>
     }
     let limits = Limits::read(events, tasks, messages)?;
     Some(Header { tenant, limits })
+}
+
+/// The limits of the tenant of an export with this header: those of the header, or the greatest if there is none.
+pub(crate) fn limits_under(header: &Option<Header>) -> Limits
+    ensures { result ≡ limits_under header.now }
+{
+    match header {
+        Some(header) => header.limits,
+        None => greatest_limits(),
+    }
+}
+
+/// The greatest limits.
+fn greatest_limits() -> Limits
+    ensures { result ≡ record { events = 16384; tasks = 2048; messages = 16384 } }
+{
+    let greatest = Limits::read(
+        Limits::MOST_EVENTS,
+        Limits::MOST_TASKS,
+        Limits::MOST_MESSAGES,
+    );
+    match greatest {
+        Some(limits) => limits,
+        None => unreachable!(),
+    }
 }

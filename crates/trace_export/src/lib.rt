@@ -32,6 +32,7 @@ mod due_line;
 mod event_line;
 mod export_fault;
 mod exporting;
+mod following;
 mod graph;
 mod header;
 mod json_line;

@@ -2,6 +2,7 @@
 ghost use Rattle.std.specs.Prelude.{◌≡◌, ◌≢◌, ◌+◌, ◌<◌, ◌≤◌, ◌↔◌, ◌^◌, IfErr, IfOk, IsErrOf, length};
 ghost use Rattle.line_protocol.specs.Source.{StopsAtEnd};
 ghost use Rattle.line_protocol.specs.StreamFaults.{PassesNoFaultOver};
+ghost use Rattle.trace_export.specs.Loading.{limits_under};
 ghost use Rattle.trace_export.specs.Loads.{BreaksLoading, Loads, LoadsAs, StopsLoading};
 ghost use Rattle.trace_export.specs.Rebuilding.{IsTaken, IsUnbegun};
 
@@ -41,8 +42,8 @@ pub fn load<T, R: Source, W: Sink>(
     // When each fault comes. A failed read or write is never passed over.
     ensures faults { PassesNoFaultOver (R.seen reader.old) (R.seen reader.new) (W.seen writer.old) (W.seen writer.new) result }
 {
-    let mut rebuilt = Rebuilt::new(alloc)?;
-    match take_in(rt, alloc, &mut rebuilt, reader)? {
+    let (rebuilt, loaded) = take_in(rt, alloc, Rebuilt::new(alloc)?, reader)?;
+    match loaded {
         Loaded::Done(events) => {
             write_requests(alloc, tenant, rebuilt.ledger.rows(), writer)?;
             Ok(Loaded::Done(events))
@@ -55,14 +56,14 @@ pub fn load<T, R: Source, W: Sink>(
 fn take_in<T, R: Source>(
     rt: &T,
     alloc: Global,
-    rebuilt: &mut Rebuilt,
+    mut rebuilt: Rebuilt,
     reader: &mut R,
-) -> Result<Loaded, LoadFault>
-    requires { IsUnbegun rebuilt.old }
-    ensures loads { IfOk result (λ loaded. LoadsAs (R.seen reader.old) (R.seen reader.new) loaded rebuilt.new.ledger.rows) }
+) -> Result<(Rebuilt, Loaded), LoadFault>
+    requires { IsUnbegun rebuilt }
+    ensures loads { IfOk result (λ done. LoadsAs (R.seen reader.old) (R.seen reader.new) done.1 done.0.ledger.rows) }
     ensures reads { (R.seen reader.new).reads ≤ (R.seen reader.old).reads + 2 ^ 30 }
     ensures ends { StopsAtEnd (R.seen reader.old) (R.seen reader.new) }
-    ensures stops { IfOk result (StopsLoading R.seen reader.old reader.new) }
+    ensures stops { IfOk result (λ done. StopsLoading R.seen reader.old reader.new done.1) }
     ensures read { IsErrOf result LoadFault.Read ↔ ((R.seen reader.old).failures < (R.seen reader.new).failures) }
     ensures too_long { IsErrOf result LoadFault.TooLong → (R.seen reader.new).reads ≡ (R.seen reader.old).reads + 2 ^ 30 }
     ensures no_write { IfErr result (λ fault. fault ≢ LoadFault.Write) }
@@ -70,10 +71,36 @@ fn take_in<T, R: Source>(
     let mut lines = Buffer::with_bounds(alloc, MOST_BYTES, MOST_READS)?;
     loop {
         let found = lines.next_line(reader)?;
-        if let Some(loaded) = judge(rt, rebuilt, alloc, found, lines.line())? {
-            return Ok(loaded);
+        let (next, loaded) = take(rt, rebuilt, alloc, found, lines.line())?;
+        rebuilt = next;
+        if let Some(loaded) = loaded {
+            return Ok((rebuilt, loaded));
         }
     }
+}
+
+/// Takes in a line if it is right, else gives what loading answers. It looks first whether the line is the one that is due
+/// next, since most lines are.
+fn take<T>(
+    rt: &T,
+    rebuilt: Rebuilt,
+    alloc: Global,
+    found: Line,
+    line: &[u8],
+) -> Result<(Rebuilt, Option<Loaded>), Memory>
+    requires limits { rebuilt.ledger.limits ≡ limits_under rebuilt.header }
+    requires whole { found ≡ Line.Whole → length line.now ≤ 65536 }
+    ensures { IfOk result (λ taken. IsTaken found line.now taken.1 rebuilt taken.0) }
+{
+    let (mut rebuilt, is_due) = match found {
+        Line::Whole => rebuilt.follow(rt, line),
+        Line::End | Line::TooLong => (rebuilt, false),
+    };
+    if is_due {
+        return Ok((rebuilt, None));
+    }
+    let loaded = judge(rt, &mut rebuilt, alloc, found, line)?;
+    Ok((rebuilt, loaded))
 }
 
 /// Takes in a line if it is right, else gives what loading answers. It gives that at the end too. A line that is too long

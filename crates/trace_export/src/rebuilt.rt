@@ -1,22 +1,23 @@
 //! The tenant that the lines of an export lead to.
-ghost use Rattle.std.specs.Prelude.{suc, ◌≡◌, ◌≢◌, ◌+◌, ◌<◌, ◌≤◌, ◌↔◌, ◌⊎◌, ◌-◌, [], None, Some, IfErr, IfNone, IfOk, IfSome, IsTrue, length, slice_get};
+ghost use Rattle.std.specs.Prelude.{suc, ◌≡◌, ◌≢◌, ◌+◌, ◌<◌, ◌≤◌, ◌↔◌, ◌⊎◌, ◌-◌, [], None, Some, IfErr, IfNone, IfOk, IfSome, IsTrue, false, length, slice_get};
 ghost use Rattle.trace_types.specs.clock.Stamps.{stamp_text_of};
 ghost use Rattle.trace_types.specs.tenant.Rows.{history_of};
 ghost use Rattle.trace_types.specs.declared.row.Row.{Row};
 ghost use Rattle.trace_export.specs.Heading.{IsHeader, IsNoHeader, lines_ahead};
 ghost use Rattle.trace_export.specs.Listing.{listed_of};
-ghost use Rattle.trace_export.specs.Loading.{IsAsListed, IsFaultyAfter, IsUnfitAfter, MayFollow};
+ghost use Rattle.trace_export.specs.Loading.{IsAsListed, IsFaultyAfter, IsUnfitAfter, MayFollow, limits_under};
 ghost use Rattle.trace_export.specs.Rebuilding.{IsBegun, IsEventMade, IsLineMade, IsMade, IsNoFirstLine, IsRejected, IsUnbegun};
 
 use crate::add_line::place;
 use crate::event_line::{EventLine, read_listed};
-use crate::header::read_header;
+use crate::following::follow;
+use crate::header::{limits_under, read_header};
 use crate::json_line::read_json;
 use crate::requests::request_for;
 use crate::{Header, Reason};
 use std::alloc::Global;
 use tenant_ledger::Ledger;
-use trace_types::{Code, Limits, Memory, Reply, Request};
+use trace_types::{Code, Memory, Reply, Request};
 
 /// What the lines so far lead to, which are right.
 #[derive(Drop)]
@@ -34,8 +35,25 @@ impl Rebuilt {
     {
         Ok(Rebuilt {
             header: None,
-            ledger: Ledger::new(alloc, greatest_limits())?,
+            ledger: Ledger::new(alloc, limits_under(&None))?,
         })
+    }
+
+    /// Takes in the line if it is the one that is due next, and says whether it is. Else all is as it was. A first line is
+    /// never taken in, since it may be a header.
+    pub(crate) fn follow<T>(self, rt: &T, line: &[u8]) -> (Rebuilt, bool)
+        requires limits { self.ledger.limits ≡ limits_under self.header }
+        requires short { length line.now ≤ 65536 }
+        ensures due { IsTrue result.1 → IsEventMade self result.0 line.now }
+        ensures left { result.1 ≡ false → result.0 ≡ self }
+    {
+        let Rebuilt { header, ledger } = self;
+        if header.is_none() && ledger.rows().is_empty() {
+            return (Rebuilt { header, ledger }, false);
+        }
+        let limits = limits_under(&header);
+        let (ledger, is_due) = follow(rt, ledger, &limits, line);
+        (Rebuilt { header, ledger }, is_due)
     }
 
     /// The number of the line that comes next.
@@ -160,21 +178,6 @@ impl Rebuilt {
             Reply::Refused(Code::NoMemory) => Err(Memory),
             _ => unreachable!(),
         }
-    }
-}
-
-/// The greatest limits.
-fn greatest_limits() -> Limits
-    ensures { result ≡ record { events = 16384; tasks = 2048; messages = 16384 } }
-{
-    let greatest = Limits::read(
-        Limits::MOST_EVENTS,
-        Limits::MOST_TASKS,
-        Limits::MOST_MESSAGES,
-    );
-    match greatest {
-        Some(limits) => limits,
-        None => unreachable!(),
     }
 }
 

@@ -1,5 +1,5 @@
 -- What holds of every world.
-use Rattle.std.proofs.Common.{take, drop, ◌++◌, ◌≡◌, ℕ, ◌<◌, zero, suc, true, List, [], ◌∷◌, length, map, slice_get, slice_set, Some, refl, sym, ap, ◌∙◌, arith, length-set, inl, inr, subst}
+use Rattle.std.proofs.Common.{take, drop, ◌++◌, ◌≡◌, ℕ, zero, suc, true, List, [], ◌∷◌, length, map, slice_get, slice_set, Some, refl, sym, ap, ◌∙◌, arith, length-set, inl, inr, subst}
 use Rattle.std.specs.Prelude.{slice_index_or}
 use Rattle.std.specs.List.{All}
 use Rattle.std.proofs.Math.Seq.{take-append_seam}

@@ -1,2 +1,1 @@
 pub mod RightExports
-pub mod StampTrees

@@ -43,6 +43,7 @@ loop-collected-init g c =
       found = subst (λ (placing : Placing). FoundRight (g.R.Source.seen c.args.reader.now).bytes (g.R.Source.seen c.args.reader.now).bytes c.in_ok-lines.lines c.in_ok-collected.collected.header placing) (sym c.in_ok-collected.ensures.none.1)
           (subst (λ (header : Option Header). FoundRight (g.R.Source.seen c.args.reader.now).bytes (g.R.Source.seen c.args.reader.now).bytes c.in_ok-lines.lines header []) (sym c.in_ok-collected.ensures.none.0) (found_none _ c.in_ok-lines.lines (ap (λ (h : Held). h.left) held)));
       graph = c.in_ok-collected.ensures.graph;
+      tenant = c.in_ok-collected.ensures.tenant;
       reads = rw held (Reads-none _ _);
       stops = inl refl;
       most = rw held (omega arith);
@@ -54,7 +55,7 @@ returns-in-Some-clause-verdict g c =
     judges_over (g.R.Source.seen c.args.reader.now) (g.R.Source.seen c.loop-collected.reader) (g.R.Source.seen c.next_line.new.source) c.loop-collected.lines c.next_line.new.self c.loop-collected.collected c.judge.new.collected
     c.in_ok-found.found c.in-Some.verdict (found_on g at.After-judge)
     (subst (λ (line : Text). IsJudged c.in_ok-found.found line (Some c.in-Some.verdict) c.loop-collected.collected c.judge.new.collected) c.line.ensures
-    (subst (λ verdict. IsJudged c.in_ok-found.found c.line.result.now verdict c.loop-collected.collected c.judge.new.collected) c.in-Some.is c.in_ok-verdict.ensures))
+    (subst (λ verdict. IsJudged c.in_ok-found.found c.line.result.now verdict c.loop-collected.collected c.judge.new.collected) c.in-Some.is c.in_ok-verdict.ensures.judged))
 
 pub returns-in-Some-clause-stops : goal.returns-in-Some-clause-stops
 returns-in-Some-clause-stops g c =
@@ -62,14 +63,14 @@ returns-in-Some-clause-stops g c =
     stops_over g.R.Source.seen c.args.reader.now c.next_line.new.source c.loop-collected.collected (g.R.Source.seen c.args.reader.now) (g.R.Source.seen c.loop-collected.reader) (g.R.Source.seen c.next_line.new.source) c.loop-collected.lines c.next_line.new.self c.judge.new.collected
     c.in_ok-found.found c.in-Some.verdict (stops_so_far g at.After-judge) (found_on g at.After-judge)
     (subst (λ (line : Text). IsJudged c.in_ok-found.found line (Some c.in-Some.verdict) c.loop-collected.collected c.judge.new.collected) c.line.ensures
-    (subst (λ verdict. IsJudged c.in_ok-found.found c.line.result.now verdict c.loop-collected.collected c.judge.new.collected) c.in-Some.is c.in_ok-verdict.ensures))
+    (subst (λ verdict. IsJudged c.in_ok-found.found c.line.result.now verdict c.loop-collected.collected c.judge.new.collected) c.in-Some.is c.in_ok-verdict.ensures.judged))
 
 pub loop-collected-preserved : goal.loop-collected-preserved
 loop-collected-preserved g c =
     let at = goal.at.loop-collected-preserved g c in
     let judged =
     subst (λ (line : Text). IsJudged c.in_ok-found.found line None c.loop-collected.collected c.judge.new.collected) c.line.ensures
-    (subst (λ verdict. IsJudged c.in_ok-found.found c.line.result.now verdict c.loop-collected.collected c.judge.new.collected) c.in_default.is c.in_ok-verdict.ensures) in
+    (subst (λ verdict. IsJudged c.in_ok-found.found c.line.result.now verdict c.loop-collected.collected c.judge.new.collected) c.in_default.is c.in_ok-verdict.ensures.judged) in
     let right = judged_right (g.R.Source.seen c.args.reader.now) (g.R.Source.seen c.loop-collected.reader) (g.R.Source.seen c.next_line.new.source) c.loop-collected.lines c.next_line.new.self c.loop-collected.collected c.judge.new.collected
     c.in_ok-found.found (found_on g at.After-judge) judged in
     let more = counts_more (g.R.Source.seen c.args.reader.now) (g.R.Source.seen c.loop-collected.reader) (g.R.Source.seen c.next_line.new.source) c.loop-collected.lines c.next_line.new.self c.loop-collected.collected c.judge.new.collected
@@ -77,6 +78,7 @@ loop-collected-preserved g c =
     record {
       found = right.0;
       graph = right.1;
+      tenant = c.in_ok-verdict.ensures.tenant;
       reads = reads_so_far g at.After-judge;
       stops = subst (λ n. StopsAtLine g.R.Source.seen n c.args.reader.now c.next_line.new.source) (sym more) (stops_so_far g at.After-judge);
       most = omega (arith, c.in_ok-found.ensures.finds.reads.most, ap (λ (b : ReadingBounds). b.reads) (reads_so_far g at.After-judge).bounds);

@@ -10,14 +10,14 @@ use Rattle.trace_export.proofs.LoadedLines.{LoadsOn, answered_over, begins_loadi
 use Rattle.trace_export.proofs.Stopping.{stops_next}
 use Rattle.trace_export.proofs.loading.take_in.Goals as goal
 use Rattle.trace_export.proofs.loading.take_in.Given.{Over}
-use Rattle.trace_export.proofs.loading.take_in.Goals.{After-judge}
+use Rattle.trace_export.proofs.loading.take_in.Goals.{After-take}
 
 -- all reads that were made
-reads_so_far : (g : Over) (c : After-judge g) → Reads (g.R.Source.seen c.args.reader.now) (g.R.Source.seen c.next_line.new.source) (fresh_within export_bounds) c.next_line.new.self 0
+reads_so_far : (g : Over) (c : After-take g) → Reads (g.R.Source.seen c.args.reader.now) (g.R.Source.seen c.next_line.new.source) (fresh_within export_bounds) c.next_line.new.self 0
 reads_so_far g c = Reads-on {failed = 0} c.loop-lines.invariant.reads (λ ended. ap g.R.Source.seen (c.next_line.ensures.at_end ended).0) c.in_ok-found.ensures.finds.reads.reads
 
 -- what was found
-found_on : (g : Over) (c : After-judge g)
+found_on : (g : Over) (c : After-take g)
     → LoadsOn (g.R.Source.seen c.args.reader.now) (g.R.Source.seen c.loop-lines.reader) (g.R.Source.seen c.next_line.new.source) c.loop-lines.lines c.next_line.new.self c.loop-lines.rebuilt c.in_ok-found.found
 found_on g c = record {
   so_far = c.loop-lines.invariant.so_far;
@@ -28,7 +28,7 @@ found_on g c = record {
 }
 
 -- the line was looked for
-stops_so_far : (g : Over) (c : After-judge g)
+stops_so_far : (g : Over) (c : After-take g)
     → StopsAtLine g.R.Source.seen (suc (lines_loaded c.loop-lines.rebuilt.header c.loop-lines.rebuilt.ledger)) c.args.reader.now c.next_line.new.source
 stops_so_far g c =
     stops_next g.R.Source.seen c.args.reader.now c.loop-lines.reader c.next_line.new.source _ c.loop-lines.invariant.so_far.read (found_lines_loaded c.loop-lines.invariant.so_far)
@@ -38,7 +38,7 @@ pub loop-lines-init : goal.loop-lines-init
 loop-lines-init g c =
     let held = c.in_ok-lines.ensures in
     record {
-      so_far = begins_loading _ c.in_ok-lines.lines c.args.rebuilt.now (ap (λ (h : Held). h.left) held) c.requires;
+      so_far = begins_loading _ c.in_ok-lines.lines c.args.rebuilt (ap (λ (h : Held). h.left) held) c.requires;
       reads = rw held (Reads-none _ _);
       stops = inl refl;
       most = rw held (omega arith);
@@ -47,31 +47,31 @@ loop-lines-init g c =
 pub returns-in-Some-clause-loads : goal.returns-in-Some-clause-loads
 returns-in-Some-clause-loads g c =
     let at = goal.at.returns-in-Some-clause-loads g c in
-    answered_over (g.R.Source.seen c.args.reader.now) (g.R.Source.seen c.loop-lines.reader) (g.R.Source.seen c.next_line.new.source) c.loop-lines.lines c.next_line.new.self c.loop-lines.rebuilt c.judge.new.rebuilt
-    c.in_ok-found.found c.in-Some.loaded (found_on g at.After-judge)
-    (subst (λ (line : Text). IsTaken c.in_ok-found.found line (Some c.in-Some.loaded) c.loop-lines.rebuilt c.judge.new.rebuilt) c.line.ensures
-    (subst (λ loaded. IsTaken c.in_ok-found.found c.line.result.now loaded c.loop-lines.rebuilt c.judge.new.rebuilt) c.in-Some.is c.in_ok-loaded.ensures))
+    answered_over (g.R.Source.seen c.args.reader.now) (g.R.Source.seen c.loop-lines.reader) (g.R.Source.seen c.next_line.new.source) c.loop-lines.lines c.next_line.new.self c.loop-lines.rebuilt c.in_ok-next.next
+    c.in_ok-found.found c.in-Some.loaded (found_on g at.After-take)
+    (subst (λ (line : Text). IsTaken c.in_ok-found.found line (Some c.in-Some.loaded) c.loop-lines.rebuilt c.in_ok-next.next) c.line.ensures
+    (subst (λ loaded. IsTaken c.in_ok-found.found c.line.result.now loaded c.loop-lines.rebuilt c.in_ok-next.next) c.in-Some.is c.in_ok-next.ensures))
 
 pub returns-in-Some-clause-stops : goal.returns-in-Some-clause-stops
 returns-in-Some-clause-stops g c =
     let at = goal.at.returns-in-Some-clause-stops g c in
-    stops_over g.R.Source.seen c.args.reader.now c.next_line.new.source c.loop-lines.rebuilt (g.R.Source.seen c.args.reader.now) (g.R.Source.seen c.loop-lines.reader) (g.R.Source.seen c.next_line.new.source) c.loop-lines.lines c.next_line.new.self c.judge.new.rebuilt
-    c.in_ok-found.found c.in-Some.loaded (stops_so_far g at.After-judge) (found_on g at.After-judge)
-    (subst (λ (line : Text). IsTaken c.in_ok-found.found line (Some c.in-Some.loaded) c.loop-lines.rebuilt c.judge.new.rebuilt) c.line.ensures
-    (subst (λ loaded. IsTaken c.in_ok-found.found c.line.result.now loaded c.loop-lines.rebuilt c.judge.new.rebuilt) c.in-Some.is c.in_ok-loaded.ensures))
+    stops_over g.R.Source.seen c.args.reader.now c.next_line.new.source c.loop-lines.rebuilt (g.R.Source.seen c.args.reader.now) (g.R.Source.seen c.loop-lines.reader) (g.R.Source.seen c.next_line.new.source) c.loop-lines.lines c.next_line.new.self c.in_ok-next.next
+    c.in_ok-found.found c.in-Some.loaded (stops_so_far g at.After-take) (found_on g at.After-take)
+    (subst (λ (line : Text). IsTaken c.in_ok-found.found line (Some c.in-Some.loaded) c.loop-lines.rebuilt c.in_ok-next.next) c.line.ensures
+    (subst (λ loaded. IsTaken c.in_ok-found.found c.line.result.now loaded c.loop-lines.rebuilt c.in_ok-next.next) c.in-Some.is c.in_ok-next.ensures))
 
 pub loop-lines-preserved : goal.loop-lines-preserved
 loop-lines-preserved g c =
     let at = goal.at.loop-lines-preserved g c in
     let taken =
-    subst (λ (line : Text). IsTaken c.in_ok-found.found line None c.loop-lines.rebuilt c.judge.new.rebuilt) c.line.ensures
-    (subst (λ loaded. IsTaken c.in_ok-found.found c.line.result.now loaded c.loop-lines.rebuilt c.judge.new.rebuilt) c.in_default.is c.in_ok-loaded.ensures) in
-    let more = counts_more (g.R.Source.seen c.args.reader.now) (g.R.Source.seen c.loop-lines.reader) (g.R.Source.seen c.next_line.new.source) c.loop-lines.lines c.next_line.new.self c.loop-lines.rebuilt c.judge.new.rebuilt
-    c.in_ok-found.found (found_on g at.After-judge) taken in
+    subst (λ (line : Text). IsTaken c.in_ok-found.found line None c.loop-lines.rebuilt c.in_ok-next.next) c.line.ensures
+    (subst (λ loaded. IsTaken c.in_ok-found.found c.line.result.now loaded c.loop-lines.rebuilt c.in_ok-next.next) c.in_default.is c.in_ok-next.ensures) in
+    let more = counts_more (g.R.Source.seen c.args.reader.now) (g.R.Source.seen c.loop-lines.reader) (g.R.Source.seen c.next_line.new.source) c.loop-lines.lines c.next_line.new.self c.loop-lines.rebuilt c.in_ok-next.next
+    c.in_ok-found.found (found_on g at.After-take) taken in
     record {
-      so_far = loaded_so_far (g.R.Source.seen c.args.reader.now) (g.R.Source.seen c.loop-lines.reader) (g.R.Source.seen c.next_line.new.source) c.loop-lines.lines c.next_line.new.self c.loop-lines.rebuilt c.judge.new.rebuilt
-          c.in_ok-found.found (found_on g at.After-judge) taken;
-      reads = reads_so_far g at.After-judge;
-      stops = subst (λ n. StopsAtLine g.R.Source.seen n c.args.reader.now c.next_line.new.source) (sym more) (stops_so_far g at.After-judge);
-      most = omega (arith, c.in_ok-found.ensures.finds.reads.most, ap (λ (b : ReadingBounds). b.reads) (reads_so_far g at.After-judge).bounds);
+      so_far = loaded_so_far (g.R.Source.seen c.args.reader.now) (g.R.Source.seen c.loop-lines.reader) (g.R.Source.seen c.next_line.new.source) c.loop-lines.lines c.next_line.new.self c.loop-lines.rebuilt c.in_ok-next.next
+          c.in_ok-found.found (found_on g at.After-take) taken;
+      reads = reads_so_far g at.After-take;
+      stops = subst (λ n. StopsAtLine g.R.Source.seen n c.args.reader.now c.next_line.new.source) (sym more) (stops_so_far g at.After-take);
+      most = omega (arith, c.in_ok-found.ensures.finds.reads.most, ap (λ (b : ReadingBounds). b.reads) (reads_so_far g at.After-take).bounds);
     }

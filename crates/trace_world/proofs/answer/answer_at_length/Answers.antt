@@ -1,4 +1,4 @@
-use Rattle.std.proofs.Common.{◌≡◌, ◌<◌, refl, sym, ap, ◌∙◌, arith, length, slice_get, Some, List}
+use Rattle.std.proofs.Common.{refl, sym, ap, ◌∙◌, arith, length, slice_get, Some, List}
 use Rattle.std.proofs.lemmas.List.{length-set}
 use Rattle.trace_types.specs.text.Name.{Text}
 use Rattle.trace_types.specs.world.World.{World}

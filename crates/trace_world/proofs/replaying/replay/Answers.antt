@@ -1,4 +1,4 @@
-use Rattle.std.proofs.Common.{append_assoc, codes, Result, Ok, Err, ◌++◌, ℕ, List, ◌≡◌, ◌<◌, IsTrue, [], refl, sym, ap, ◌∙◌, subst, arith}
+use Rattle.std.proofs.Common.{append_assoc, codes, Result, Ok, Err, ◌++◌, ◌≡◌, ◌<◌, IsTrue, [], refl, sym, ap, ◌∙◌, subst, arith}
 use Rattle.std.specs.Option.{option_copied}
 use Rattle.trace_types.specs.text.Text.{reply_text}
 use Rattle.line_protocol.specs.Sink.{Taken}

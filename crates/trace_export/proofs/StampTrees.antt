@@ -64,7 +64,7 @@ module _ (row : Row) (earlier : History) (legal : IsLegal (row ∷ earlier)) (fe
     short = omega (arith, length-stamp_text-le id tree 2047 id_inner tree_inner (omega (arith, highest)));
   }
 
-  text_of : stamp_text_of history (suc (length earlier)) ≡ stamp_text id tree
+  pub text_of : stamp_text_of history (suc (length earlier)) ≡ stamp_text id tree
   text_of =
       let newest : Id × EventTree = (id, tree) in
       ap (λ (stamp : Id × EventTree). stamp_text stamp.0 stamp.1)
