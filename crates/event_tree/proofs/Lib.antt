@@ -8,6 +8,7 @@ pub mod Growing
 pub mod Grown
 pub mod Joined
 pub mod Lifts
+pub mod Narrow
 pub mod NormLemmas
 pub mod Paths
 pub mod Places

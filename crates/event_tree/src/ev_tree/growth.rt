@@ -1,13 +1,13 @@
 //! Growth of a tree below an id at the least cost.
-ghost use Rattle.std.specs.Prelude.{◌≡◌, ◌≢◌, ◌+◌, ◌*◌, ◌%◌, ◌^◌, ◌<◌, ◌≤◌, max, false, Some, IfOk, IfSome, IfNone, IsOk};
+ghost use Rattle.std.specs.Prelude.{◌≡◌, ◌≢◌, ◌+◌, ◌*◌, ◌%◌, ◌^◌, ◌<◌, ◌≤◌, max, false, Some, IfOk, IfSome, IfNone, IsOk, IsTrue};
 ghost use Rattle.trace_types.specs.clock.Id.{Zero, One, Pair};
-ghost use Rattle.trace_types.specs.clock.EventTree.{Leaf, value, maximum, IsNormal};
+ghost use Rattle.trace_types.specs.clock.EventTree.{Leaf, maximum, IsNormal};
 ghost use Rattle.trace_types.specs.clock.Grow.{root_number, left_of, right_of, expansion, is_cheaper, cost, grown};
 ghost use Rattle.trace_types.specs.clock.Event.{normalised};
 ghost use Rattle.event_tree.specs.GrownFor.{grown_for};
 ghost use Rattle.event_tree.specs.Height.{height};
 ghost use Rattle.event_tree.specs.Grew.{GrewAt};
-ghost use Rattle.event_tree.specs.Risen.{IsRaisedAt};
+ghost use Rattle.event_tree.specs.PointCode.{halves_of};
 
 use super::begun::Cost;
 use super::{EvTree, Node};
@@ -48,6 +48,55 @@ impl Place {
     }
 }
 
+/// Where a tree grew, and how many levels below its root.
+#[derive(Drop)]
+pub(super) struct Growth {
+    place: Place,
+    steps: u64,
+}
+
+impl Growth {
+    /// Growth of a tree whose greatest value is 0, at its root.
+    pub(super) const ROOT: Growth = Growth {
+        place: Place::ROOT,
+        steps: 0,
+    };
+
+    /// Makes this growth of one half, 0 for left and 1 for right, growth of the node with the number `root`, if the half
+    /// grew. A path that is too long to be counted fits in no memory.
+    #[inline(always)]
+    pub(super) fn lift(&mut self, grew: bool, half: u128, root: u64) -> Result<(), Memory>
+        requires half { half ≤ 1 }
+        requires fits { IsTrue grew → root + self.old.place.value < 2 ^ 64 }
+        ensures steps { IfOk result (λ done. IsTrue grew → self.new.steps ≡ self.old.steps + 1) }
+        ensures halves { IfOk result (λ done. IsTrue grew → self.new.place.halves ≡ 2 * (self.old.place.halves % 2 ^ 127) + half) }
+        ensures value { IfOk result (λ done. IsTrue grew → self.new.place.value ≡ root + self.old.place.value) }
+    {
+        if grew {
+            self.steps = self.steps.checked_add(1).ok_or(Memory)?;
+            self.place.lift(half, root);
+        }
+        Ok(())
+    }
+
+    /// The point that was raised, and the value there, unless it lies below the levels of a point.
+    pub(super) fn raised(&self) -> Option<RaisedPoint>
+        ensures point { IfSome result (λ raised. raised.point ≡ halves_of 128 self.now.place.halves) }
+        ensures value { IfSome result (λ raised. raised.value ≡ self.now.place.value) }
+        ensures few { IfSome result (λ raised. self.now.steps ≤ 128) }
+        ensures deep { IfNone result (128 < self.now.steps) }
+    {
+        if self.steps <= LEVELS {
+            Some(RaisedPoint {
+                point: Point::of(self.place.halves),
+                value: self.place.value,
+            })
+        } else {
+            None
+        }
+    }
+}
+
 /// A tree as a node. A number counts as a node over 0 and 0, and takes an expansion.
 #[derive(Clone, Copy)]
 pub(super) struct Opened<'a> {
@@ -82,21 +131,19 @@ impl EvTree {
         }
     }
 
-    /// The tree grown at its least cost, in normal form, and a point of the id that was raised. There is no point only if
-    /// what grew lies below the levels of a point.
+    /// The tree grown at its least cost, in normal form. `growth` tells where.
     pub(super) fn grown(
         &self,
         alloc: Global,
         id: &IdTree,
         price: Option<Cost>,
-    ) -> Result<(EvTree, Option<RaisedPoint>), Memory>
+        growth: &mut Growth,
+    ) -> Result<EvTree, Memory>
         requires some { id.now ≢ Zero }
         requires price { price ≡ cost id.now self.now }
         requires fits { maximum self.now + 1 < 2 ^ 64 }
-        ensures exact { IfOk result (λ found. found.0 ≡ normalised (grown id.now self.now)) }
-        ensures raised { IfOk result (λ found. IfSome found.1 (λ raised. IsRaisedAt id.now self.now found.0 raised.point)) }
-        ensures value { IfOk result (λ found. IfSome found.1 (λ raised. raised.value ≡ value found.0 raised.point)) }
-        ensures deep { IfOk result (λ found. IfNone found.1 (128 < max (height self.now) (height found.0))) }
+        ensures exact { IfOk result (λ tree. tree ≡ normalised (grown id.now self.now)) }
+        ensures grew { IfOk result (λ tree. GrewAt growth.new.steps self.now tree growth.new.place) }
         ensures whole { id.now ≡ One → IsOk result }
     {
         id_tree::laws::each_tree_is_normal(id);
@@ -104,19 +151,11 @@ impl EvTree {
         let Some(price) = price else {
             unreachable!();
         };
-        let mut place = Place::ROOT;
-        let Some(tree) = self.grown_for(alloc, id, price, &zero, &mut place)? else {
+        let Some(tree) = self.grown_for(alloc, id, price, &zero, &mut growth.place)? else {
             unreachable!();
         };
-        let raised = if price.steps <= LEVELS {
-            Some(RaisedPoint {
-                point: Point::of(place.halves),
-                value: place.value,
-            })
-        } else {
-            None
-        };
-        Ok((tree, raised))
+        growth.steps = price.steps;
+        Ok(tree)
     }
 
     /// The tree grown at its root, below an id that owns everything. It grew at `place`.
