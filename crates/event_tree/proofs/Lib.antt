@@ -6,6 +6,7 @@ pub mod Events
 pub mod Filled
 pub mod Growing
 pub mod Grown
+pub mod JoinBits
 pub mod Joined
 pub mod Lifts
 pub mod Narrow

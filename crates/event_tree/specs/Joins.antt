@@ -1,5 +1,5 @@
 -- What the join of two lifted trees is found to be.
-use Rattle.std.specs.Prelude.{◌≡◌, ℕ, Bool, true, false, IsTrue}
+use Rattle.std.specs.Prelude.{◌≡◌, ℕ, Bool, true, false, IsTrue, ◌==◌, if◌then◌else◌}
 use Rattle.trace_types.specs.clock.EventTree.{EventTree}
 use Rattle.trace_types.specs.clock.Join.{joined}
 use Rattle.event_tree.specs.Lifted.{IsLiftedBelow}
@@ -19,6 +19,17 @@ gives_first Made = false
 gives_first Second = false
 gives_first First = true
 gives_first Either = true
+
+-- whether it is the second, as the lowest bit, and whether it is the first, as the next one
+abbrev pub bits_of : Join → ℕ
+bits_of Made = 0
+bits_of Second = 1
+bits_of First = 2
+bits_of Either = 3
+
+-- the join with these bits
+abbrev pub join_of : ℕ → Join
+join_of bits = if bits == 0 then Made else (if bits == 1 then Second else (if bits == 2 then First else Either))
 
 -- a join that is neither is the tree that was made
 abbrev pub StandsInPlace : Join → EventTree → ℕ → EventTree → ℕ → EventTree → Type 0

@@ -3,7 +3,7 @@ ghost use Rattle.std.specs.Prelude.{◌≡◌, ◌+◌, ◌^◌, ◌<◌, ◌&&�
 ghost use Rattle.trace_types.specs.clock.EventTree.{maximum, Node as plain_Node, IsNormal};
 ghost use Rattle.trace_types.specs.clock.Norm.{norm};
 ghost use Rattle.trace_types.specs.clock.Join.{lifted, joined_number, joined};
-ghost use Rattle.event_tree.specs.Joins.{gives_second, gives_first, IsJoin};
+ghost use Rattle.event_tree.specs.Joins.{gives_second, gives_first, bits_of, join_of, IsJoin};
 
 use super::{Children, EvTree, Node};
 use std::alloc::Global;
@@ -44,16 +44,28 @@ impl Join {
         !matches!(self, Join::Made)
     }
 
-    fn is_second(self) -> bool
-        ensures { result ≡ gives_second self }
+    /// Whether it is the second tree, as the lowest bit, and whether it is the first, as the next one.
+    fn bits(self) -> u8
+        ensures { result ≡ bits_of self }
     {
-        matches!(self, Join::Second | Join::Either)
+        match self {
+            Join::Made => 0,
+            Join::Second => 1,
+            Join::First => 2,
+            Join::Either => 3,
+        }
     }
 
-    fn is_first(self) -> bool
-        ensures { result ≡ gives_first self }
+    /// The join with these bits.
+    fn of_bits(bits: u8) -> Join
+        ensures { result ≡ join_of bits }
     {
-        matches!(self, Join::First | Join::Either)
+        match bits {
+            0 => Join::Made,
+            1 => Join::Second,
+            2 => Join::First,
+            _ => Join::Either,
+        }
     }
 
     /// The join of two nodes whose children on the left have this join.
@@ -61,14 +73,35 @@ impl Join {
         ensures second { gives_second result ≡ (gives_second self && gives_second right) }
         ensures first { gives_first result ≡ (gives_first self && gives_first right) }
     {
-        Join::of(
-            self.is_second() && right.is_second(),
-            self.is_first() && right.is_first(),
-        )
+        Join::of_bits(self.bits() & right.bits())
     }
 
     /// Puts the join itself, of the two trees that were joined, into the place that was lent for it.
+    #[inline(always)]
     pub(super) fn settle(
+        self,
+        made: &mut EvTree,
+        one: &EvTree,
+        one_lift: u64,
+        other: &EvTree,
+        other_lift: u64,
+    ) -> Result<(), Memory>
+        requires one_fits { one_lift + maximum one.now < 2 ^ 64 }
+        requires other_fits { other_lift + maximum other.now < 2 ^ 64 }
+        requires join { IsJoin self made.old one_lift one.now other_lift other.now }
+        ensures { IfOk result (λ done. made.new ≡ joined one_lift one.now other_lift other.now) }
+    {
+        match self {
+            Join::Made => Ok(()),
+            Join::Second | Join::First | Join::Either => {
+                self.put(made, one, one_lift, other, other_lift)
+            }
+        }
+    }
+
+    /// Puts the join itself into the place. It is a function of its own so that the walk has small frames.
+    #[inline(never)]
+    fn put(
         self,
         made: &mut EvTree,
         one: &EvTree,

@@ -1,7 +1,7 @@
 use Rattle.std.proofs.Common.{IsTrue, inl, inr, refl}
 use Rattle.event_tree.specs.Joins.{gives_first}
 use Rattle.event_tree.proofs.Joined.{joined-first, joined-second}
-use Rattle.event_tree.proofs.ev_tree.joining.Join.settle.Goals as goal
+use Rattle.event_tree.proofs.ev_tree.joining.Join.put.Goals as goal
 
 pub returns-in_ok-made-in-Second : goal.returns-in_ok-made-in-Second
 returns-in_ok-made-in-Second c =
