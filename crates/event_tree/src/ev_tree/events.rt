@@ -66,7 +66,7 @@ impl EvTree {
         Ok((filled, raised))
     }
 
-    /// The tree after an event that owns everything in a tree of this one number.
+    /// The tree of this one number after an event of an id that owns every point.
     fn next_number(n: u64) -> (EvTree, Option<RaisedPoint>)
         requires { n + 1 < 2 ^ 64 }
         ensures exact { result.0 ≡ event One (Leaf n) }
@@ -82,11 +82,11 @@ impl EvTree {
         (EvTree::leaf(value), Some(raised))
     }
 
-    /// Puts the tree after an event of the id into `made`, and tells whether it grew. If it did, `growth` tells where, and
-    /// else it was filled.
+    /// Puts the tree after an event of the id into `made`, and tells whether it grew. If it grew, `growth` tells where. If
+    /// not, it was filled.
     ///
-    /// An id that owns points of one half alone leaves the other half as it is. So the way down to the uppermost node of
-    /// which it owns points of both halves is gone once, and up again.
+    /// If the id owns points of one half alone, the event is that of the half, and the other half stays as it is. So one walk
+    /// leads to the uppermost node with points of the id in both halves.
     #[cycle(event_into)]
     #[inline(always)]
     fn event_into(
@@ -147,8 +147,8 @@ impl EvTree {
 }
 
 impl Children {
-    /// The node over these two with this number, after an event of an id that owns points of its right half alone, and
-    /// not all of them.
+    /// Puts the node over these two with this number into `made`, as it is after an event. The id is what the event owns of
+    /// the right half, which is some of its points. It owns none of the left half.
     #[cycle(event_into)]
     #[inline(never)]
     fn event_on_right(
@@ -175,7 +175,8 @@ impl Children {
         Ok(grew)
     }
 
-    /// The same where the id owns points of the left half alone.
+    /// Puts the node after the event into `made` as [`Children::event_on_right`] does, if the event owns points of the left
+    /// half alone.
     #[cycle(event_into)]
     #[inline(never)]
     fn event_on_left(
