@@ -11,3 +11,4 @@ pub mod RoundTrip
 pub mod Unique
 pub mod Vectors
 pub mod Fronts
+pub mod AtOnce

@@ -32,6 +32,7 @@ pub use stamp::Stamp;
 pub use stripping::strip_parts;
 pub use writing::{write_parts, write_stamp};
 
+mod at_once;
 mod cursor;
 mod depth;
 mod fault;

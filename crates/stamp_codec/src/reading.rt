@@ -10,6 +10,7 @@ ghost use Rattle.stamp_codec.specs.declared.stamp.Stamp.{Stamp};
 ghost use Rattle.stamp_codec.specs.Flat.{OpensNowhere};
 ghost use Rattle.stamp_codec.specs.Reading.{ReadsStamp, SpellsNormal, GivesStamp, IsNoMemory};
 
+use crate::at_once::stamp_at_once;
 use crate::cursor::Cursor;
 use crate::depth::is_too_deep;
 use crate::shape::shape_fault;
@@ -21,7 +22,10 @@ use std::alloc::Global;
 ///
 /// It looks first at the shape of the whole text, then at its size, and then at whether each node is normal. It tells the
 /// first fault of the first kind that it finds. The id and the tree may each be nested 2048 deep. The numbers on the way
-/// from the root to a node may have a sum of 2^63 - 1. Two passes without recursion tell the shape and the nesting before
+/// from the root to a node may have a sum of 2^63 - 1.
+///
+/// One pass checks and builds together, and gives the stamp of most texts. It stops at the first byte that does not fit. Any
+/// other text is read again, to tell its fault. Two passes without recursion tell the shape and the nesting then, before
 /// anything is built. Nothing is built of a text that is nested too deep, and nothing below a number that is too great.
 ///
 /// Returns `Memory` if it runs out of memory, for a mark of each open parenthesis or for the stamp. `Memory` may come
@@ -38,6 +42,10 @@ pub fn read_stamp(alloc: Global, text: &[u8]) -> Result<Stamp, StampFault>
     // A text without parentheses takes no memory.
     ensures flat { OpensNowhere text.now → IfErr result (λ fault. ¬ IsNoMemory fault) }
 {
+    // Most texts spell a stamp. The other passes find the fault of one that does not.
+    if let Some(stamp) = stamp_at_once(alloc, text) {
+        return Ok(stamp);
+    }
     match shape_fault(alloc, text)? {
         Some(place) => Err(StampFault::Shape(place)),
         None => walk(alloc, text),

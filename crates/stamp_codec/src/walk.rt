@@ -18,7 +18,7 @@ use std::alloc::Global;
 pub const MOST_NESTED: usize = 2048;
 
 /// The greatest sum of the numbers on the way from the root to a node.
-const GREATEST_SUM: u64 = 9_223_372_036_854_775_807;
+pub const GREATEST_SUM: u64 = 9_223_372_036_854_775_807;
 
 /// The id that comes next, inside `nested` parentheses. It builds nothing more once a node is not normal.
 pub fn read_id(alloc: Global, cursor: &mut Cursor, nested: usize) -> Result<IdTree, StampFault>

@@ -1,0 +1,238 @@
+//! Reading of a stamp in one pass, which checks and builds together. It tells no fault.
+ghost use Rattle.std.specs.Prelude.{◌≡◌, ◌≢◌, ◌⊎◌, ◌↔◌, ◌+◌, ◌^◌, ◌<◌, ◌≤◌, [], ◌∷◌, ◌++◌, decimal, min, max, IfSome, IsTrue, MatchOption};
+ghost use Rattle.trace_types.specs.clock.Id.{Zero, One, Pair};
+ghost use Rattle.trace_types.specs.clock.EventTree.{Node, minimum, maximum};
+ghost use Rattle.event_tree.specs.Height.{height};
+ghost use Rattle.stamp_codec.specs.StampText.{id_text, tree_text, stamp_as_text};
+ghost use Rattle.stamp_codec.specs.Faults.{most_nested, greatest_sum};
+ghost use Rattle.stamp_codec.specs.Bounds.{IsBounded, id_height};
+
+use crate::Stamp;
+use crate::depth::is_too_deep;
+use crate::walk::{GREATEST_SUM, MOST_NESTED};
+use event_tree::EvTree;
+use id_tree::IdTree;
+use std::alloc::Global;
+
+/// The stamp that the text spells, or `None` if the text is refused or memory runs out.
+///
+/// It goes over the bytes once, and stops at the first byte that does not fit. It calls itself no deeper than parentheses
+/// may be nested.
+pub fn stamp_at_once(alloc: Global, text: &[u8]) -> Option<Stamp>
+    ensures text { IfSome result (λ stamp. text.now ≡ stamp_as_text stamp) }
+    ensures bounded { IfSome result (λ stamp. IsBounded stamp) }
+{
+    // Nothing is built of a text that is nested too deep.
+    if is_too_deep(text) {
+        return None;
+    }
+    let [b'[', inner @ ..] = text else {
+        return None;
+    };
+    let mut rest = inner;
+    let id = take_id(alloc, &mut rest, b';', MOST_NESTED)?;
+    let tree = take_tree(alloc, &mut rest, b']', MOST_NESTED, GREATEST_SUM)?;
+    let (_halves, _children) = (id.parts(), tree.parts());
+    if rest.is_empty() {
+        Some(Stamp { id, tree })
+    } else {
+        None
+    }
+}
+
+/// Takes an id and this byte behind it, with at most so many levels of parentheses. It stands in [`take_pair`] twice, so
+/// that no call is made for a leaf.
+#[cycle(taken_ids)]
+#[inline(always)]
+fn take_id(alloc: Global, rest: &mut &[u8], end: u8, levels: usize) -> Option<IdTree>
+    ensures text { IfSome result (λ id. rest.old.now ≡ (id_text id ++ end ∷ []) ++ rest.new.now) }
+    ensures low { IfSome result (λ id. id_height id ≤ levels) }
+{
+    match *rest {
+        [b'0', byte, after @ ..] if *byte == end => {
+            *rest = after;
+            Some(IdTree::zero())
+        }
+        [b'1', byte, after @ ..] if *byte == end => {
+            *rest = after;
+            Some(IdTree::one())
+        }
+        [b'(', inner @ ..] => {
+            *rest = inner;
+            let id = take_pair(alloc, rest, levels)?;
+            take_byte(rest, end)?;
+            Some(id)
+        }
+        _ => None,
+    }
+}
+
+/// Takes a pair behind its parenthesis.
+#[cycle(taken_ids)]
+fn take_pair(alloc: Global, rest: &mut &[u8], levels: usize) -> Option<IdTree>
+    ensures text { IfSome result (λ id. 40 ∷ rest.old.now ≡ id_text id ++ rest.new.now) }
+    ensures low { IfSome result (λ id. id_height id ≤ levels) }
+{
+    if levels == 0 {
+        return None;
+    }
+    let left = take_id(alloc, rest, b',', levels - 1)?;
+    let right = take_id(alloc, rest, b')', levels - 1)?;
+    pair_of(alloc, left, right)
+}
+
+/// The pair of these halves, or `None` if it is not normal or memory runs out.
+fn pair_of(alloc: Global, left: IdTree, right: IdTree) -> Option<IdTree>
+    ensures { IfSome result (λ id. id ≡ Pair left right) }
+{
+    if left.is_zero() && right.is_zero() || left.is_one() && right.is_one() {
+        return None;
+    }
+    IdTree::fork(alloc, left, right).ok()
+}
+
+/// Takes a tree and this byte behind it, with at most so many levels of parentheses and no value above `most`. It stands
+/// in [`take_node`] twice, so that no call is made for a leaf.
+#[cycle(taken_trees)]
+#[inline(always)]
+fn take_tree(alloc: Global, rest: &mut &[u8], end: u8, levels: usize, most: u64) -> Option<EvTree>
+    requires { most ≤ greatest_sum }
+    ensures text { IfSome result (λ tree. rest.old.now ≡ (tree_text tree ++ end ∷ []) ++ rest.new.now) }
+    ensures low { IfSome result (λ tree. height tree ≤ levels) }
+    ensures small { IfSome result (λ tree. maximum tree ≤ most) }
+{
+    match *rest {
+        [b'(', inner @ ..] => {
+            *rest = inner;
+            let tree = take_node(alloc, rest, levels, most)?;
+            take_byte(rest, end)?;
+            Some(tree)
+        }
+        _ => Some(EvTree::leaf(take_number(rest, end, most)?)),
+    }
+}
+
+/// Takes a node behind its parenthesis.
+#[cycle(taken_trees)]
+fn take_node(alloc: Global, rest: &mut &[u8], levels: usize, most: u64) -> Option<EvTree>
+    requires { most ≤ greatest_sum }
+    ensures text { IfSome result (λ tree. 40 ∷ rest.old.now ≡ tree_text tree ++ rest.new.now) }
+    ensures low { IfSome result (λ tree. height tree ≤ levels) }
+    ensures small { IfSome result (λ tree. maximum tree ≤ most) }
+{
+    if levels == 0 {
+        return None;
+    }
+    let number = take_number(rest, b',', most)?;
+    let left = take_tree(alloc, rest, b',', levels - 1, most - number)?;
+    let right = take_tree(alloc, rest, b')', levels - 1, most - number)?;
+    node_of(alloc, number, left, right)
+}
+
+/// The node over these children, or `None` if it is not normal or memory runs out.
+fn node_of(alloc: Global, number: u64, left: EvTree, right: EvTree) -> Option<EvTree>
+    requires { number + max (maximum left) (maximum right) < 2 ^ 64 }
+    ensures { IfSome result (λ tree. tree ≡ Node number left right) }
+{
+    if is_uneven(&left, &right) {
+        return None;
+    }
+    EvTree::fork(alloc, number, left, right).ok()
+}
+
+/// Whether a node over these children is not normal: neither reaches 0, or both are 0 alone.
+fn is_uneven(left: &EvTree, right: &EvTree) -> bool
+    ensures { IsTrue result ↔ ((min (minimum left.now) (minimum right.now) ≢ 0) ⊎ (max (maximum left.now) (maximum right.now) ≡ 0)) }
+{
+    left.min().min(right.min()) != 0 || left.max().max(right.max()) == 0
+}
+
+/// Takes a number and this byte behind it. The number is at most `most`.
+#[inline(always)]
+#[tactic(auto, using(crate::proofs::AtOnce::one_digit))]
+fn take_number(rest: &mut &[u8], end: u8, most: u64) -> Option<u64>
+    requires { most ≤ greatest_sum }
+    ensures text { IfSome result (λ number. rest.old.now ≡ (decimal number ++ end ∷ []) ++ rest.new.now) }
+    ensures small { IfSome result (λ number. number ≤ most) }
+{
+    // Most numbers of a stamp have one digit.
+    match take_digit(rest, end) {
+        Some(digit) => number_within(u64::from(digit - b'0'), most),
+        None => take_digits(rest, end, most),
+    }
+}
+
+/// Takes a number of two digits or more and this byte behind it.
+#[inline(never)]
+#[tactic(auto, using(crate::proofs::AtOnce::one_digit, crate::proofs::AtOnce::more_behind))]
+fn take_digits(rest: &mut &[u8], end: u8, most: u64) -> Option<u64>
+    requires { most ≤ greatest_sum }
+    ensures text { IfSome result (λ number. rest.old.now ≡ (decimal number ++ end ∷ []) ++ rest.new.now) }
+    ensures small { IfSome result (λ number. number ≤ most) }
+{
+    let mut behind = *rest;
+    let first = next_digit(&mut behind)?;
+    if first == b'0' {
+        return None;
+    }
+    let mut number = u64::from(first - b'0');
+    while let Some(digit) = next_digit(&mut behind) {
+        if number > most / 10 {
+            return None;
+        }
+        number = number * 10 + u64::from(digit - b'0');
+    }
+    take_byte(&mut behind, end)?;
+    *rest = behind;
+    number_within(number, most)
+}
+
+/// The number, if it is at most `most`.
+fn number_within(number: u64, most: u64) -> Option<u64>
+    ensures { IfSome result (λ same. (same ≡ number) × (same ≤ most)) }
+{
+    if number <= most { Some(number) } else { None }
+}
+
+/// Takes a digit and this byte behind it, or nothing if they are not there.
+#[inline(always)]
+fn take_digit(rest: &mut &[u8], end: u8) -> Option<u8>
+    ensures text { MatchOption result (rest.new.now ≡ rest.old.now) (λ digit. rest.old.now ≡ digit ∷ (end ∷ rest.new.now)) }
+    ensures digit { IfSome result (λ digit. (48 ≤ digit) × (digit ≤ 57)) }
+{
+    match *rest {
+        [digit @ b'0'..=b'9', byte, after @ ..] if *byte == end => {
+            *rest = after;
+            Some(*digit)
+        }
+        _ => None,
+    }
+}
+
+/// Takes a digit, or nothing if none is there.
+#[inline(always)]
+fn next_digit(rest: &mut &[u8]) -> Option<u8>
+    ensures text { MatchOption result (rest.new.now ≡ rest.old.now) (λ digit. rest.old.now ≡ digit ∷ rest.new.now) }
+    ensures digit { IfSome result (λ digit. (48 ≤ digit) × (digit ≤ 57)) }
+{
+    match *rest {
+        [digit @ b'0'..=b'9', after @ ..] => {
+            *rest = after;
+            Some(*digit)
+        }
+        _ => None,
+    }
+}
+
+/// Takes this byte.
+fn take_byte(rest: &mut &[u8], byte: u8) -> Option<()>
+    ensures { IfSome result (λ _. rest.old.now ≡ byte ∷ rest.new.now) }
+{
+    match *rest {
+        [first, after @ ..] if *first == byte => {
+            *rest = after;
+            Some(())
+        }
+        _ => None,
+    }
+}
