@@ -1,10 +1,11 @@
 -- Numbers that are read digit by digit, and stamps that are read at once.
-use Rattle.std.proofs.Common.{◌≡◌, ℕ, ◌+◌, ◌-◌, ◌*◌, ◌/◌, ◌%◌, ◌^◌, ◌<◌, ◌≤◌, List, [], ◌∷◌, ◌++◌, ap, sym, ◌∙◌, append_assoc, arith}
+use Rattle.std.proofs.Common.{◌≡◌, ℕ, ◌+◌, ◌-◌, ◌*◌, ◌/◌, ◌%◌, ◌^◌, ◌<◌, ◌≤◌, List, [], ◌∷◌, ◌++◌, ap, sym, ◌∙◌, append_assoc, refl, arith}
 use Rattle.std.specs.Fmt.{decimal}
 use Rattle.std.specs.Prelude.{Ok}
 use Rattle.std.proofs.lemmas.Fmt.{decimal_step, decimal_digit}
 use Rattle.trace_types.specs.clock.Id.{Id}
-use Rattle.stamp_codec.specs.StampText.{Written, stamp_as_text, written_tree}
+use Rattle.trace_types.specs.clock.EventTree.{Leaf, Node}
+use Rattle.stamp_codec.specs.StampText.{Written, tree_text, stamp_as_text, written_tree}
 use Rattle.stamp_codec.specs.Bounds.{IsBounded, as_written}
 use Rattle.stamp_codec.specs.Reading.{ReadsStamp, SpellsNormal, GivesStamp}
 use Rattle.stamp_codec.specs.declared.stamp.Stamp.{Stamp}
@@ -31,6 +32,13 @@ pub more_behind : (text behind after : List ℕ) (number digit : ℕ) → text �
 more_behind text behind after number digit text_is behind_is some low high small =
     text_is ∙ ap (λ t. decimal number ++ t) behind_is ∙ sym (append_assoc (decimal number) (digit ∷ []) after)
     ∙ ap (λ t. t ++ after) (sym (decimal_more number digit some low high small))
+
+-- a node over two leaves is read from its three digits
+pub twig_read : (text after : List ℕ) (number left right : ℕ) → text ≡ number ∷ (44 ∷ (left ∷ (44 ∷ (right ∷ (41 ∷ after))))) → (48 ≤ number) × (number ≤ 57) → (48 ≤ left) × (left ≤ 57) → (48 ≤ right) × (right ≤ 57) →
+    40 ∷ text ≡ tree_text (Node (number - 48) (Leaf (left - 48)) (Leaf (right - 48))) ++ after
+twig_read text after number left right text_is number_digit left_digit right_digit =
+    ap (λ t. 40 ∷ t) text_is
+    ∙ sym (rw (one_digit number number_digit.0 number_digit.1, one_digit left left_digit.0 left_digit.1, one_digit right right_digit.0 right_digit.1) refl)
 
 -- what a stamp within the bounds says of each reading of its text
 pub only_reading : (text : List ℕ) (stamp : Stamp) → IsBounded stamp → text ≡ stamp_as_text stamp → (id : Id) (tree : Written) → SpellsNormal text id tree → GivesStamp (Ok stamp) id (written_tree tree)

@@ -1,7 +1,7 @@
 //! Reading of a stamp in one pass, which checks and builds together. It tells no fault.
 ghost use Rattle.std.specs.Prelude.{◌≡◌, ◌≢◌, ◌⊎◌, ◌↔◌, ◌+◌, ◌^◌, ◌<◌, ◌≤◌, [], ◌∷◌, ◌++◌, decimal, min, max, IfSome, IsTrue, MatchOption};
 ghost use Rattle.trace_types.specs.clock.Id.{Zero, One, Pair};
-ghost use Rattle.trace_types.specs.clock.EventTree.{Node, minimum, maximum};
+ghost use Rattle.trace_types.specs.clock.EventTree.{Leaf, Node, minimum, maximum};
 ghost use Rattle.event_tree.specs.Height.{height};
 ghost use Rattle.stamp_codec.specs.StampText.{id_text, tree_text, stamp_as_text};
 ghost use Rattle.stamp_codec.specs.Faults.{most_nested, greatest_sum};
@@ -123,10 +123,58 @@ fn take_node(alloc: Global, rest: &mut &[u8], levels: usize, most: u64) -> Optio
     if levels == 0 {
         return None;
     }
+    // About half of the nodes are twigs.
+    if let Some((number, left, right)) = take_twig(rest) {
+        return twig_of(alloc, number - b'0', left - b'0', right - b'0', most);
+    }
     let number = take_number(rest, b',', most)?;
     let left = take_tree(alloc, rest, b',', levels - 1, most - number)?;
     let right = take_tree(alloc, rest, b')', levels - 1, most - number)?;
     node_of(alloc, number, left, right)
+}
+
+/// Takes a node over two leaves behind its parenthesis, or nothing if none is there. The three numbers have one digit
+/// each. It gives their digits as they stand in the text.
+#[inline(always)]
+fn take_twig(rest: &mut &[u8]) -> Option<(u8, u8, u8)>
+    ensures text { MatchOption result (rest.new.now ≡ rest.old.now)
+        (λ digits. rest.old.now ≡ digits.0 ∷ (44 ∷ (digits.1 ∷ (44 ∷ (digits.2 ∷ (41 ∷ rest.new.now)))))) }
+    ensures number { IfSome result (λ digits. (48 ≤ digits.0) × (digits.0 ≤ 57)) }
+    ensures left { IfSome result (λ digits. (48 ≤ digits.1) × (digits.1 ≤ 57)) }
+    ensures right { IfSome result (λ digits. (48 ≤ digits.2) × (digits.2 ≤ 57)) }
+{
+    match *rest {
+        [
+            number @ b'0'..=b'9',
+            b',',
+            left @ b'0'..=b'9',
+            b',',
+            right @ b'0'..=b'9',
+            b')',
+            after @ ..,
+        ] => {
+            *rest = after;
+            Some((*number, *left, *right))
+        }
+        _ => None,
+    }
+}
+
+/// The node over two leaves with these numbers, or `None` if it is not normal, a value is above `most`, or memory runs
+/// out.
+fn twig_of(alloc: Global, number: u8, left: u8, right: u8, most: u64) -> Option<EvTree>
+    requires { most ≤ greatest_sum }
+    ensures exact { IfSome result (λ tree. tree ≡ Node number (Leaf left) (Leaf right)) }
+    ensures small { IfSome result (λ tree. maximum tree ≤ most) }
+{
+    if u64::from(number) + u64::from(left.max(right)) > most {
+        return None;
+    }
+    let (left, right) = (
+        EvTree::leaf(u64::from(left)),
+        EvTree::leaf(u64::from(right)),
+    );
+    node_of(alloc, u64::from(number), left, right)
 }
 
 /// The node over these children, or `None` if it is not normal or memory runs out.
