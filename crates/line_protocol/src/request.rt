@@ -2,7 +2,7 @@
 ghost use Rattle.std.specs.Prelude.{◌≡◌, ◌∷◌, IfSome, IsTrue, Some, false, codes, take, option_map, position, ◌==◌};
 ghost use Rattle.std.specs.Option.{option_copied};
 ghost use Rattle.trace_types.specs.text.Name.{is_same};
-ghost use Rattle.trace_types.specs.text.Reading.{request_of, words, number_of, is_digit, name_of, only, only_two, request_of_words, with_name, with_names};
+ghost use Rattle.trace_types.specs.text.Reading.{request_of, words, number_of, is_digit, name_of, only, only_two, request_of_words, with_name, with_names, with_number};
 ghost use Rattle.line_protocol.specs.Words.{Addresses, LeadingNumber, first_number, may_be_number, words_after};
 
 use trace_types::{Name, Request};
@@ -41,7 +41,7 @@ pub fn read_order(line: &[u8]) -> Option<(u64, u64)>
     }
 }
 
-/// Any other request. The reports that come most are told by how the line begins.
+/// Any other request. The reports and questions that come most are told by how the line begins.
 #[inline(never)]
 fn read_other(line: &[u8]) -> Option<Request>
     requires count { is_same line.now (codes "count") ≡ false }
@@ -53,6 +53,20 @@ fn read_other(line: &[u8]) -> Option<Request>
         [b's', b'e', b'n', b'd', b' ', arguments @ ..] => read_send(arguments),
         [b'r', b'e', b'c', b'v', b' ', arguments @ ..] => read_recv(arguments),
         [b's', b'p', b'a', b'w', b'n', b' ', arguments @ ..] => read_spawn(arguments),
+        [b'e', b'v', b'e', b'n', b't', b' ', arguments @ ..] => read_event(arguments),
+        [b's', b't', b'a', b'm', b'p', b' ', arguments @ ..] => read_stamp(arguments),
+        [b't', b'a', b's', b'k', b' ', arguments @ ..] => read_task(arguments),
+        [
+            b'm',
+            b'e',
+            b's',
+            b's',
+            b'a',
+            b'g',
+            b'e',
+            b' ',
+            arguments @ ..,
+        ] => read_message(arguments),
         _ => read_rare(line),
     }
 }
@@ -111,16 +125,16 @@ fn read_arguments(keyword: &[u8], arguments: &[u8]) -> Option<Request>
         return Some(Request::Cut(only_number(arguments)?));
     }
     if is_word(keyword, b"event") {
-        return Some(Request::Event(only_number(arguments)?));
+        return read_event(arguments);
     }
     if is_word(keyword, b"stamp") {
-        return Some(Request::Stamp(only_number(arguments)?));
+        return read_stamp(arguments);
     }
     if is_word(keyword, b"task") {
-        return Some(Request::Task(only_name(arguments)?));
+        return read_task(arguments);
     }
     if is_word(keyword, b"message") {
-        return Some(Request::Message(only_name(arguments)?));
+        return read_message(arguments);
     }
     None
 }
@@ -147,6 +161,38 @@ fn read_recv(arguments: &[u8]) -> Option<Request>
     ensures { result ≡ with_names Request.Recv (words arguments.now) }
 {
     two_names(arguments).map(|(task, message)| Request::Recv(task, message))
+}
+
+/// The argument of a question for an event.
+#[inline(always)]
+fn read_event(arguments: &[u8]) -> Option<Request>
+    ensures { result ≡ with_number Request.Event (words arguments.now) }
+{
+    Some(Request::Event(only_number(arguments)?))
+}
+
+/// The argument of a question for a stamp.
+#[inline(always)]
+fn read_stamp(arguments: &[u8]) -> Option<Request>
+    ensures { result ≡ with_number Request.Stamp (words arguments.now) }
+{
+    Some(Request::Stamp(only_number(arguments)?))
+}
+
+/// The argument of a question for a task.
+#[inline(always)]
+fn read_task(arguments: &[u8]) -> Option<Request>
+    ensures { result ≡ with_name Request.Task (words arguments.now) }
+{
+    Some(Request::Task(only_name(arguments)?))
+}
+
+/// The argument of a question for a message.
+#[inline(always)]
+fn read_message(arguments: &[u8]) -> Option<Request>
+    ensures { result ≡ with_name Request.Message (words arguments.now) }
+{
+    Some(Request::Message(only_name(arguments)?))
 }
 
 /// The arguments of a join.
