@@ -1,11 +1,14 @@
 //! Desks, which alone take the reports of their tenants.
 ghost use Rattle.std.specs.Prelude.{◌≡◌, ◌∷◌, ◌++◌, [], true, false, IfOk};
-ghost use Rattle.trace_types.specs.tenant.Tenant.{AreLegal, Steps, fresh, is_report};
+ghost use Rattle.trace_types.specs.tenant.Tenant.{Answers, AreLegal, Steps, fresh, is_report};
 ghost use Rattle.trace_types.specs.text.Text.{CanBeWritten};
+ghost use Rattle.tenant_desk.specs.Events.{AreSound, published_tenant};
 ghost use Rattle.tenant_desk.specs.Desks.{IsDone, IsEventOf, AllArePublished};
 
 use crate::Told;
 use crate::event::Event;
+use crate::events::Events;
+use crate::in_place::put_reply;
 use crate::publisher::Publisher;
 use crate::views::Views;
 use std::alloc::Global;
@@ -34,26 +37,41 @@ fn event_of<R: Wait>(
     })
 }
 
-/// Publishes the report and commits it. If it cannot be published, it is abandoned with `NoMemory`.
+/// Publishes the report, commits it and replies. If it cannot be published, it is abandoned with `NoMemory`.
 fn accept<R: Wait>(
     rt: &R,
     shared: &Shared,
     mut prepared: Prepared<SharedIds>,
     publisher: &mut Publisher,
-) -> (Ledger<SharedIds>, Reply)
+    reply: &mut Reply,
+) -> Ledger<SharedIds>
     requires legal { AreLegal prepared.tenant.limits (prepared.tenant.rows ++ prepared.row ∷ []) }
     requires shown { AllArePublished (⟦<Shared as Keep>⟧.home shared.now) prepared.tenant publisher.old }
-    ensures done { IsDone prepared result.1 result.0 }
-    ensures shown { AllArePublished (⟦<Shared as Keep>⟧.home shared.now) result.0 publisher.new }
+    ensures done { IsDone prepared reply.new result }
+    ensures shown { AllArePublished (⟦<Shared as Keep>⟧.home shared.now) result publisher.new }
     ensures book { publisher.new.front.book ≡ publisher.old.front.book }
 {
     let Ok(event) = event_of(rt, shared, &mut prepared) else {
-        return (prepared.abandon(), Reply::Refused(Code::NoMemory));
+        put_reply(reply, Reply::Refused(Code::NoMemory));
+        return prepared.abandon();
     };
     if !publisher.publish(rt, event) {
-        return (prepared.abandon(), Reply::Refused(Code::NoMemory));
+        put_reply(reply, Reply::Refused(Code::NoMemory));
+        return prepared.abandon();
     }
-    prepared.commit()
+    let (ledger, accepted) = prepared.commit();
+    *reply = accepted;
+    ledger
+}
+
+/// Answers a query by what is published, and looks orders up in the cache.
+#[inline(always)]
+fn answer_published(events: &Events, shared: &Shared, request: &Request, reply: &mut Reply)
+    requires sound { AreSound events.now }
+    requires home { ⟦<Shared as Keep>⟧.home shared.now ≡ events.now.home }
+    ensures { Answers (published_tenant events.now) request.now reply.new }
+{
+    *reply = answer(events, &Own(shared), request);
 }
 
 /// The desk of a tenant. It alone takes the tenant's reports, and shows the accepted ones to its [`Views`].
@@ -99,18 +117,31 @@ impl Desk {
         ensures published { self.new.published ≡ self.new.tenant.rows }
         ensures book { self.new.book ≡ self.old.book }
     {
+        let mut reply = Reply::Refused(Code::NoMemory);
+        self.call_into(rt, request, &mut reply);
+        reply
+    }
+
+    /// Takes one request as [`Desk::call`] does, and puts the reply in place of this one. So the reply is not moved from
+    /// call to call.
+    pub fn call_into<R: Wait>(&mut self, rt: &R, request: &Request, reply: &mut Reply)
+        ensures steps { Steps self.old.tenant request.now reply.new self.new.tenant }
+        ensures legal { AreLegal self.new.tenant.limits self.new.tenant.rows }
+        ensures published { self.new.published ≡ self.new.tenant.rows }
+        ensures book { self.new.book ≡ self.old.book }
+    {
         if request.reported().is_some() {
-            self.report(rt, request)
+            self.report(rt, request, reply);
         } else {
-            self.ask(request)
+            self.ask(request, reply);
         }
     }
 
     /// Answers a query by what is published, and looks orders up in the cache. The ledger answers `message`, since it keeps
     /// the receipts of each message, and the published rows would be searched for them.
-    fn ask(&self, request: &Request) -> Reply
+    fn ask(&self, request: &Request, reply: &mut Reply)
         requires { is_report request.now ≡ false }
-        ensures steps { Steps self.now.tenant request.now result self.now.tenant }
+        ensures steps { Steps self.now.tenant request.now reply.new self.now.tenant }
         ensures legal { AreLegal self.now.tenant.limits self.now.tenant.rows }
         ensures published { self.now.published ≡ self.now.tenant.rows }
     {
@@ -118,16 +149,16 @@ impl Desk {
             unreachable!()
         };
         match *request {
-            Request::Message(_) => ledger.answer(request),
-            _ => answer(self.publisher.events(), &Own(&*self.shared), request),
+            Request::Message(_) => put_reply(reply, ledger.answer(request)),
+            _ => answer_published(self.publisher.events(), &self.shared, request, reply),
         }
     }
 
     /// Takes a report. An accepted one is published before it is committed. The report can be written, so its row is legal.
-    fn report<R: Wait>(&mut self, rt: &R, request: &Request) -> Reply
+    fn report<R: Wait>(&mut self, rt: &R, request: &Request, reply: &mut Reply)
         requires report { is_report request.now ≡ true }
         requires written { CanBeWritten request.now }
-        ensures steps { Steps self.old.tenant request.now result self.new.tenant }
+        ensures steps { Steps self.old.tenant request.now reply.new self.new.tenant }
         ensures legal { AreLegal self.new.tenant.limits self.new.tenant.rows }
         ensures published { self.new.published ≡ self.new.tenant.rows }
         ensures book { self.new.book ≡ self.old.book }
@@ -135,12 +166,14 @@ impl Desk {
         let Some(ledger) = self.ledger.take() else {
             unreachable!()
         };
-        let (ledger, reply) = match ledger.prepare(rt, request) {
-            Ok(prepared) => accept(rt, &self.shared, prepared, &mut self.publisher),
-            Err(refused) => refused,
+        let ledger = match ledger.prepare(rt, request) {
+            Ok(prepared) => accept(rt, &self.shared, prepared, &mut self.publisher, reply),
+            Err((ledger, refused)) => {
+                put_reply(reply, refused);
+                ledger
+            }
         };
         self.ledger = Some(ledger);
-        reply
     }
 
     /// Tells of all accepted rows. It takes constant time and no memory.

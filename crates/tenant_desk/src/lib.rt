@@ -27,6 +27,7 @@ mod desk;
 mod event;
 mod events;
 mod front;
+mod in_place;
 mod index;
 mod met;
 mod published;

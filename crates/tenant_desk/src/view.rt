@@ -11,6 +11,7 @@ ghost use Rattle.tenant_desk.specs.Views.{Learns, Responds};
 use crate::Told;
 use crate::events::Events;
 use crate::front::Front;
+use crate::in_place::put_reply;
 use crate::met::Met;
 use crate::publisher::{DeskReader, DeskReading, Publisher};
 use crate::rule::Seeing;
@@ -75,17 +76,23 @@ fn leave(reading: DeskReading) -> (DeskReader, Front)
     (reading.leave(), front)
 }
 
-/// Answers from the events, by the cache of what keeps their trees or without it.
+/// Answers from the events, by the cache of what keeps their trees or without it, and puts the reply in place of this one.
 #[inline(always)]
-fn answer_from(events: &Events, shared: &Shared, by_cache: bool, request: &Request) -> Reply
+fn answer_from(
+    events: &Events,
+    shared: &Shared,
+    by_cache: bool,
+    request: &Request,
+    reply: &mut Reply,
+)
     requires sound { AreSound events.now }
     requires home { ⟦<Shared as Keep>⟧.home shared.now ≡ events.now.home }
-    ensures { Answers (published_tenant events.now) request.now result }
+    ensures { Answers (published_tenant events.now) request.now reply.new }
 {
     if by_cache {
-        answer(events, &Own(shared), request)
+        *reply = answer(events, &Own(shared), request);
     } else {
-        answer(events, &Plain, request)
+        *reply = answer(events, &Plain, request);
     }
 }
 
@@ -137,30 +144,45 @@ impl View {
         ensures short { IsShort self.new.seen request.now result }
     {
         let _ = self.limits.events();
-        self.respond(request, false)
+        let mut reply = Reply::Refused(Code::NoPlace);
+        self.respond(request, false, &mut reply);
+        reply
     }
 
     /// Answers as [`View::ask`] does, and looks orders up in the cache that all tenants share.
-    #[tactic(auto, using(crate::proofs::Viewing::short_response))]
     pub fn ask_cached<R: Wait>(&mut self, rt: &R, request: &Request) -> Reply
         ensures answer { Responds self.old request.now result self.new }
         ensures book { self.new.book ≡ self.old.book }
         ensures short { IsShort self.new.seen request.now result }
     {
+        let mut reply = Reply::Refused(Code::NoPlace);
+        self.ask_cached_into(rt, request, &mut reply);
+        reply
+    }
+
+    /// Answers as [`View::ask_cached`] does, and puts the reply in place of this one. So the reply is not moved from call to
+    /// call.
+    #[tactic(auto, using(crate::proofs::Viewing::short_response))]
+    pub fn ask_cached_into<R: Wait>(&mut self, rt: &R, request: &Request, reply: &mut Reply)
+        ensures answer { Responds self.old request.now reply.new self.new }
+        ensures book { self.new.book ≡ self.old.book }
+        ensures short { IsShort self.new.seen request.now reply.new }
+    {
         let _ = self.limits.events();
         let _ = rt;
-        self.respond(request, true)
+        self.respond(request, true, reply);
     }
 
     /// Answers as [`View::ask`] does, by the cache that all tenants share or without it.
     #[inline(always)]
     #[tactic(auto, using(crate::proofs::Viewing::of_log, crate::proofs::Viewing::entered_desk))]
-    fn respond(&mut self, request: &Request, by_cache: bool) -> Reply
-        ensures answer { Responds self.old request.now result self.new }
+    fn respond(&mut self, request: &Request, by_cache: bool, reply: &mut Reply)
+        ensures answer { Responds self.old request.now reply.new self.new }
         ensures book { self.new.book ≡ self.old.book }
     {
         if request.is_report() {
-            return Reply::Refused(Code::ViewOnly);
+            put_reply(reply, Reply::Refused(Code::ViewOnly));
+            return;
         }
         let Some(reader) = self.reader.take() else {
             unreachable!()
@@ -168,16 +190,15 @@ impl View {
         match enter(reader, &self.seen) {
             Ok(reading) => {
                 let events = &reading.get().events;
-                let reply = answer_from(events, &*self.shared, by_cache, request);
+                answer_from(events, &*self.shared, by_cache, request, reply);
                 let (reader, seen) = leave(reading);
                 self.reader = Some(reader);
                 self.seen = seen;
                 self.met.clear();
-                reply
             }
             Err(reader) => {
                 self.reader = Some(reader);
-                Reply::Refused(Code::NoPlace)
+                put_reply(reply, Reply::Refused(Code::NoPlace));
             }
         }
     }

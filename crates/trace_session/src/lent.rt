@@ -32,9 +32,9 @@ pub(crate) trait Lent: Sized {
     fn put(self, resting: &mut Resting) -> Option<Desk>
         requires { is_sound self };
 
-    /// Answers one request.
-    fn answer<T: Wait>(&mut self, rt: &T, request: &Request) -> Reply
-        ensures does { does self.old request.now result self.new }
+    /// Answers one request, and puts the reply in place of this one.
+    fn answer<T: Wait>(&mut self, rt: &T, request: &Request, reply: &mut Reply)
+        ensures does { does self.old request.now reply.new self.new }
         ensures sound { is_sound self.old → is_sound self.new };
 }
 
@@ -58,8 +58,8 @@ impl Lent for Desk {
         resting.put_desk(self)
     }
 
-    fn answer<T: Wait>(&mut self, rt: &T, request: &Request) -> Reply {
-        self.call(rt, request)
+    fn answer<T: Wait>(&mut self, rt: &T, request: &Request, reply: &mut Reply) {
+        self.call_into(rt, request, reply);
     }
 }
 
@@ -84,7 +84,7 @@ impl Lent for View {
         None
     }
 
-    fn answer<T: Wait>(&mut self, rt: &T, request: &Request) -> Reply {
-        self.ask_cached(rt, request)
+    fn answer<T: Wait>(&mut self, rt: &T, request: &Request, reply: &mut Reply) {
+        self.ask_cached_into(rt, request, reply);
     }
 }

@@ -1,5 +1,7 @@
 //! Lines of sessions, answered one after another by a desk or a view.
 ghost use Rattle.std.specs.Prelude.{◌≡◌, ◌<◌, ◌≤◌, IfNone, IfSome, Err};
+ghost use Rattle.trace_types.specs.declared.code.Code.TheVariants as code;
+ghost use Rattle.trace_types.specs.declared.reply.Reply.TheVariants.{Refused};
 ghost use Rattle.trace_session.specs.Answers.{AnswersLine};
 ghost use Rattle.trace_session.specs.Asking.{asked_by_line};
 ghost use Rattle.trace_session.specs.Faults.{session_fault_of};
@@ -20,6 +22,7 @@ use trace_types::{Code, Reply, Request};
 const MOST_REQUESTS: u64 = 1048576;
 
 /// What a line of a session asks.
+#[derive(Clone, Copy)]
 pub(crate) enum Asked {
     /// This request, or `None` if the line spells none.
     Request(Option<Request>),
@@ -114,7 +117,7 @@ impl<'a, W: Sink, T: Wait, G: Gate> Output<'a, W, T, G> {
         loop {
             let found = lines.next_flushing(self.writer)?;
             let asked = asked_by_line(found, lines.line());
-            if let Some(end) = self.answer(lent, asked, requests)? {
+            if let Some(end) = self.answer(lent, &asked, requests)? {
                 return self.finish(end);
             }
             requests += 1;
@@ -125,10 +128,10 @@ impl<'a, W: Sink, T: Wait, G: Gate> Output<'a, W, T, G> {
     fn answer<L: Lent>(
         &mut self,
         lent: &mut L,
-        asked: Asked,
+        asked: &Asked,
         requests: u64,
     ) -> Result<Option<SessionEnd>, SessionFault>
-        ensures answers { AnswersAsked L.does asked requests lent.old lent.new (W.seen self.old.writer.now) (W.seen self.new.writer.now) result }
+        ensures answers { AnswersAsked L.does asked.now requests lent.old lent.new (W.seen self.old.writer.now) (W.seen self.new.writer.now) result }
         ensures gate { GoesThroughGate W.seen G.lets_out G.holds_back self.old self.new result }
         ensures sound { L.is_sound lent.old → L.is_sound lent.new }
     {
@@ -140,7 +143,8 @@ impl<'a, W: Sink, T: Wait, G: Gate> Output<'a, W, T, G> {
                 Ok(Some(SessionEnd::Over))
             }
             Asked::Request(request) => {
-                let reply = reply_to(self.rt, lent, &request);
+                let mut reply = Reply::Refused(Code::Line);
+                reply_to(self.rt, lent, request, &mut reply);
                 self.put_out(&reply)?;
                 Ok(None)
             }
@@ -160,13 +164,13 @@ fn asked_by_line(found: Line, line: &[u8]) -> Asked
     }
 }
 
-/// The reply to a line that is a request, or spells none.
-fn reply_to<T: Wait, L: Lent>(rt: &T, lent: &mut L, request: &Option<Request>) -> Reply
-    ensures answers { AnswersLine L.does lent.old request.now result lent.new }
+/// Answers a line that is a request. The reply stays 400 if the line spells none.
+fn reply_to<T: Wait, L: Lent>(rt: &T, lent: &mut L, request: &Option<Request>, reply: &mut Reply)
+    requires { reply.old ≡ Refused code.Line }
+    ensures answers { AnswersLine L.does lent.old request.now reply.new lent.new }
     ensures sound { L.is_sound lent.old → L.is_sound lent.new }
 {
-    match request {
-        Some(request) => lent.answer(rt, request),
-        None => Reply::Refused(Code::Line),
+    if let Some(request) = request {
+        lent.answer(rt, request, reply);
     }
 }

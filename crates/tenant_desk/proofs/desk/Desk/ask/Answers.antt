@@ -18,8 +18,8 @@ returns-in_default-request c =
     let tenant : c.in-Some.ledger ≡ c.args.self.now.tenant = ap (λ (desk : Desk). desk.tenant) seen in
     let own : published_tenant c.events.result.now ≡ c.args.self.now.tenant = ap published_tenant c.events.ensures.events ∙ all.tenant ∙ tenant in
     record {
-      steps = query_steps c.args.self.now.tenant request c.answer-in_default-request.result c.requires
-          (subst (λ one. Answers one request c.answer-in_default-request.result) own c.answer-in_default-request.ensures);
+      steps = query_steps c.args.self.now.tenant request c.answer_published.new.reply c.requires
+          (subst (λ one. Answers one request c.answer_published.new.reply) own c.answer_published.ensures);
       legal = subst (λ (one : Tenant). AreLegal one.limits one.rows) tenant all.legal;
       published = sym (ap (λ (desk : Desk). desk.published) seen) ∙ ap (λ (one : Tenant). one.rows) (all.tenant ∙ tenant);
     }

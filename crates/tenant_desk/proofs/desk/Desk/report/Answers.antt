@@ -11,7 +11,7 @@ invariant_of-self g c =
     let is : inside.ledger ≡ Some c.in-Some.ledger = sym c.take.ensures.value ∙ c.in-Some.is in
     let all = value_there inside.ledger c.in-Some.ledger is (λ own. AllArePublished (arc_value inside.shared).trees own inside.publisher) c.self.invariant in
     elim c.match-prepare.branch [
-      | in-Ok w ↦ rw (w.ledger-is, w.self-inside-is, ← w.deref.ensures) w.accept.ensures.shown
+      | in-Ok w ↦ rw (w.ledger-is, w.self-inside-is, ← w.deref.ensures) w.accept-ledger.ensures.shown
       | in-Err w ↦ rw (w.ledger-is, w.self-inside-is, w.in-Err.ensures.unchanged) all
     ]
 
@@ -21,6 +21,6 @@ returns-clause-legal g c =
     let is : inside.ledger ≡ Some c.in-Some.ledger = sym c.take.ensures.value ∙ c.in-Some.is in
     let all = value_there inside.ledger c.in-Some.ledger is (λ own. AllArePublished (arc_value inside.shared).trees own inside.publisher) c.self.invariant in
     elim c.match-prepare.branch [
-      | in-Ok w ↦ rw w.ledger-is w.accept.ensures.shown.legal
+      | in-Ok w ↦ rw w.ledger-is w.accept-ledger.ensures.shown.legal
       | in-Err w ↦ rw (w.ledger-is, w.in-Err.ensures.unchanged) all.legal
     ]

@@ -3,4 +3,4 @@ use Rattle.trace_types.specs.tenant.Tenant.{is_report}
 use Rattle.trace_session.proofs.lent.ViewLent.answer.Goals as goal
 
 pub returns-clause-sound : goal.returns-clause-sound
-returns-clause-sound g c = view_responds c.args.self.now c.ask_cached.new.self c.args.request.now c.ask_cached.result (is_report c.args.request.now) c.ask_cached.ensures.answer
+returns-clause-sound g c = view_responds c.args.self.now c.ask_cached_into.new.self c.args.request.now c.ask_cached_into.new.reply (is_report c.args.request.now) c.ask_cached_into.ensures.answer
