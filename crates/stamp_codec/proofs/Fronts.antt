@@ -26,3 +26,11 @@ begins_on text first others after rest (Some found) begins follows = begins ∙ 
 -- the text of a node, with each part beside the byte behind it
 pub node_by_parts : (number left right : List ℕ) → codes "(" ++ ((number ++ codes ",") ++ ((left ++ codes ",") ++ (right ++ codes ")"))) ≡ codes "(" ++ (number ++ (codes "," ++ (left ++ (codes "," ++ (right ++ codes ")")))))
 node_by_parts number left right = simp append_assoc
+
+-- the text of a pair, with each half beside the byte behind it
+pub pair_by_parts : (left right : List ℕ) → codes "(" ++ ((left ++ codes ",") ++ (right ++ codes ")")) ≡ codes "(" ++ (left ++ (codes "," ++ (right ++ codes ")")))
+pair_by_parts left right = simp append_assoc
+
+-- the text of a stamp, with each part beside the byte behind it
+pub stamp_by_parts : (id tree : List ℕ) → codes "[" ++ ((id ++ codes ";") ++ (tree ++ codes "]")) ≡ codes "[" ++ (id ++ (codes ";" ++ (tree ++ codes "]")))
+stamp_by_parts id tree = simp append_assoc

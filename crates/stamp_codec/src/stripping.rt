@@ -1,6 +1,7 @@
 //! Looking for the text of a stamp at the front of bytes.
 ghost use Rattle.std.specs.Prelude.{◌≡◌, ◌≢◌, ℕ, List, [], ◌∷◌, ◌++◌, decimal, MatchOption};
 ghost use Rattle.trace_types.specs.text.StampText.{stamp_text as text_of_parts};
+ghost use Rattle.trace_types.specs.clock.Id.{Pair};
 ghost use Rattle.trace_types.specs.clock.EventTree.{Node};
 ghost use Rattle.stamp_codec.specs.StampText.{id_text, tree_text};
 
@@ -16,27 +17,36 @@ pub fn strip_parts<'a>(text: &'a [u8], id: &IdTree, tree: &EvTree) -> Option<&'a
 {
     let mut rest = text;
     skip_byte(&mut rest, b'[')?;
-    skip_id(&mut rest, id)?;
-    skip_byte(&mut rest, b';')?;
+    skip_id(&mut rest, id, b';')?;
     skip_tree(&mut rest, tree, b']')?;
     Some(rest)
 }
 
-fn skip_id(rest: &mut &[u8], id: &IdTree) -> Option<()>
-    ensures { MatchOption result ((behind : List ℕ) → rest.old.now ≢ id_text id.now ++ behind)
-        (λ _. rest.old.now ≡ id_text id.now ++ rest.new.now) }
+/// Skips the id and this byte behind it. It stands in [`skip_pair`] twice, so that no call is made for a leaf.
+#[cycle(ids)]
+#[inline(always)]
+fn skip_id(rest: &mut &[u8], id: &IdTree, end: u8) -> Option<()>
+    ensures { MatchOption result ((behind : List ℕ) → rest.old.now ≢ (id_text id.now ++ end ∷ []) ++ behind)
+        (λ _. rest.old.now ≡ (id_text id.now ++ end ∷ []) ++ rest.new.now) }
 {
     match id.parts() {
-        IdParts::Zero => skip_byte(rest, b'0'),
-        IdParts::One => skip_byte(rest, b'1'),
+        IdParts::Zero => skip_two(rest, b'0', end),
+        IdParts::One => skip_two(rest, b'1', end),
         IdParts::Pair(left, right) => {
-            skip_byte(rest, b'(')?;
-            skip_id(rest, left)?;
-            skip_byte(rest, b',')?;
-            skip_id(rest, right)?;
-            skip_byte(rest, b')')
+            skip_pair(rest, left, right)?;
+            skip_byte(rest, end)
         }
     }
+}
+
+#[cycle(ids)]
+fn skip_pair(rest: &mut &[u8], left: &IdTree, right: &IdTree) -> Option<()>
+    ensures { MatchOption result ((behind : List ℕ) → rest.old.now ≢ id_text (Pair left.now right.now) ++ behind)
+        (λ _. rest.old.now ≡ id_text (Pair left.now right.now) ++ rest.new.now) }
+{
+    skip_byte(rest, b'(')?;
+    skip_id(rest, left, b',')?;
+    skip_id(rest, right, b')')
 }
 
 /// Skips the tree and this byte behind it. It stands in [`skip_node`] twice, so that no call is made for a leaf.

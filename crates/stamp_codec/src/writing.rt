@@ -1,6 +1,7 @@
 //! Writing of stamps.
 ghost use Rattle.std.specs.Prelude.{◌≡◌, [], ◌∷◌, ◌++◌, decimal, IfOk};
 ghost use Rattle.trace_types.specs.text.StampText.{stamp_text as text_of_parts};
+ghost use Rattle.trace_types.specs.clock.Id.{Pair};
 ghost use Rattle.trace_types.specs.clock.EventTree.{Node};
 ghost use Rattle.stamp_codec.specs.StampText.{id_text, tree_text, stamp_as_text};
 
@@ -29,27 +30,35 @@ pub fn write_parts(alloc: Global, id: &IdTree, tree: &EvTree) -> Result<Vec<u8>,
 {
     let mut text = Vec::new(alloc);
     text.push(b'[')?;
-    write_id(&mut text, id)?;
-    text.push(b';')?;
+    write_id(&mut text, id, b';')?;
     write_tree(&mut text, tree, b']')?;
     Ok(text)
 }
 
-fn write_id(text: &mut Vec<u8>, id: &IdTree) -> Result<(), Memory>
-    ensures { IfOk result (λ _. text.new.items ≡ text.old.items ++ id_text id.now) }
+/// Writes the id and this byte behind it. It stands in [`write_pair`] twice, so that no call is made for a leaf.
+#[cycle(written_ids)]
+#[inline(always)]
+fn write_id(text: &mut Vec<u8>, id: &IdTree, end: u8) -> Result<(), Memory>
+    ensures { IfOk result (λ _. text.new.items ≡ text.old.items ++ (id_text id.now ++ end ∷ [])) }
 {
     match id.parts() {
-        IdParts::Zero => text.push(b'0')?,
-        IdParts::One => text.push(b'1')?,
+        IdParts::Zero => write_two(text, b'0', end),
+        IdParts::One => write_two(text, b'1', end),
         IdParts::Pair(left, right) => {
-            text.push(b'(')?;
-            write_id(text, left)?;
-            text.push(b',')?;
-            write_id(text, right)?;
-            text.push(b')')?;
+            write_pair(text, left, right)?;
+            text.push(end)?;
+            Ok(())
         }
     }
-    Ok(())
+}
+
+#[cycle(written_ids)]
+fn write_pair(text: &mut Vec<u8>, left: &IdTree, right: &IdTree) -> Result<(), Memory>
+    ensures { IfOk result (λ _. text.new.items ≡ text.old.items ++ id_text (Pair left.now right.now)) }
+{
+    text.push(b'(')?;
+    write_id(text, left, b',')?;
+    write_id(text, right, b')')
 }
 
 /// Writes the tree and this byte behind it. It stands in [`write_node`] twice, so that no call is made for a leaf.
@@ -85,13 +94,21 @@ fn write_number(text: &mut Vec<u8>, n: u64, end: u8) -> Result<(), Memory>
 {
     // Most numbers of a stamp have one digit.
     if n < 10 {
-        text.reserve(2)?;
-        text.push_reserved(b'0' + n as u8);
-        text.push_reserved(end);
-        return Ok(());
+        return write_two(text, b'0' + n as u8, end);
     }
     write_digits(text, n)?;
     text.push(end)?;
+    Ok(())
+}
+
+/// Writes two bytes.
+#[inline(always)]
+fn write_two(text: &mut Vec<u8>, byte: u8, next: u8) -> Result<(), Memory>
+    ensures { IfOk result (λ _. text.new.items ≡ text.old.items ++ (byte ∷ (next ∷ []))) }
+{
+    text.reserve(2)?;
+    text.push_reserved(byte);
+    text.push_reserved(next);
     Ok(())
 }
 
