@@ -123,7 +123,7 @@ fn take_node(alloc: Global, rest: &mut &[u8], levels: usize, most: u64) -> Optio
     if levels == 0 {
         return None;
     }
-    // About half of the nodes are twigs.
+    // Many nodes stand over two leaves with numbers of one digit.
     if let Some((number, left, right)) = take_twig(rest) {
         return twig_of(alloc, number - b'0', left - b'0', right - b'0', most);
     }
