@@ -1,10 +1,11 @@
 -- Words with more bits.
-use Rattle.std.proofs.Common.{◌≡◌, ◌≢◌, ◌↔◌, ◌⊎◌, ℕ, ◌+◌, ◌-◌, ◌*◌, ◌^◌, ◌/◌, ◌%◌, ◌<◌, ◌≤◌, List, length, slice_index_or, slice_set, bit_and, bit_or, sym, ap, subst, inl, inr, ◌∙◌, arith, w64}
+use Rattle.std.proofs.Common.{◌≡◌, ◌≢◌, ◌↔◌, ◌⊎◌, ℕ, ◌+◌, ◌-◌, ◌*◌, ◌^◌, ◌/◌, ◌%◌, ◌<◌, ◌≤◌, List, length, slice_index_or, slice_set, bit_or, refl, sym, ap, subst, inl, inr, ◌∙◌, arith, w64, add-zero}
 use Rattle.std.specs.Int.{bit_at, trailing_ones}
+use Rattle.std.specs.Int.Count.{count_trailing_zeros}
 use Rattle.std.proofs.lemmas.Bool.{cases_eq, cases_lt}
 use Rattle.std.proofs.lemmas.List.{get_or-set_same, get_or-set_other, get_or_past}
-use Rattle.std.proofs.lemmas.Nat.{and_le_l, shr-shr, shr_le, trailing_le}
-use Rattle.std.proofs.lemmas.Nat.Bits.{bit_at-lt, bit_at-zero, bit_at_and, bit_at_or, bit_at_above, bit_at_ones, bit_at-trailing_ones, bit_at_set_same, bit_at_set_other}
+use Rattle.std.proofs.lemmas.Nat.{shr-shr, shr_le, trailing_le}
+use Rattle.std.proofs.lemmas.Nat.Bits.{bit_at-lt, bit_at-zero, bit_at_or, bit_at_above, bit_at_ones, bit_at-trailing_ones, bit_at_set_same, bit_at_set_other}
 use Rattle.trace_export.specs.Bits.{HasBit}
 
 -- the word in which the number's bit stands
@@ -77,19 +78,38 @@ low_ones word i fits low = elim (cases_lt (word + 1) (2 ^ 64)) [
       rw ones (bit_at_ones 64 i (omega (arith, low, trailing_le 64 (2 ^ 64 - 1 - word))))
 ]
 
--- those of what two words share from a place on
-both_ones : (a b s i : ℕ) → a < 2 ^ 64 → i < trailing_ones w64 (bit_and a b / 2 ^ s) → (s + i < 64) × (bit_at a (s + i) ≡ 1) × (bit_at b (s + i) ≡ 1)
-both_ones a b s i fits low =
-    let both : bit_at (bit_and a b) (s + i) ≡ 1 = ap (λ n. n % 2) (sym (shr-shr (bit_and a b) s i)) ∙ low_ones (bit_and a b / 2 ^ s) i (omega (arith, fits, and_le_l a b, shr_le (bit_and a b) s)) low in
-    let one : bit_at a (s + i) ≡ 1 = omega (arith, both, bit_at_and a b (s + i), bit_at-lt a (s + i)) in
+-- those of what is left of a word from a place on
+shifted_ones : (a s i : ℕ) → a < 2 ^ 64 → i < trailing_ones w64 (a / 2 ^ s) → (s + i < 64) × (bit_at a (s + i) ≡ 1)
+shifted_ones a s i fits low =
+    let one : bit_at a (s + i) ≡ 1 = ap (λ n. n % 2) (sym (shr-shr a s i)) ∙ low_ones (a / 2 ^ s) i (omega (arith, fits, shr_le a s)) low in
     let within : s + i < 64 = elim (cases_lt (s + i) 64) [ inl within ↦ within | inr past ↦ absurd (omega (arith, one, bit_at_above a 64 (s + i) fits past)) ] in
-    (within, one, omega (arith, both, bit_at_and a b (s + i), bit_at-lt b (s + i)))
+    (within, one)
 
--- the numbers that two sets share from one on
-pub run_has : (one other : List ℕ) (a b from n : ℕ) → slice_index_or one (from / 64) 0 ≡ a → slice_index_or other (from / 64) 0 ≡ b → a < 2 ^ 64
-    → from ≤ n → n < from + trailing_ones w64 (bit_and a b / 2 ^ (from % 64)) → HasBit one n × HasBit other n
-run_has one other a b from n first second fits least low =
-    let ones = both_ones a b (from % 64) (n - from) fits (omega (arith, least, low)) in
+-- all ones of a word are at its low end
+all_ones : trailing_ones w64 (2 ^ 64 - 1) ≡ 64
+unfolding count_trailing_zeros
+all_ones = refl
+
+-- if there are none, the word has no bit at the place
+no_shifted_ones : (a s : ℕ) → a < 2 ^ 64 → trailing_ones w64 (a / 2 ^ s) ≡ 0 → bit_at a s ≡ 0
+no_shifted_ones a s fits none = elim (cases_lt (a / 2 ^ s + 1) (2 ^ 64)) [
+  | inl below ↦
+      let zero : bit_at (a / 2 ^ s) 0 ≡ 0 = subst (λ i. bit_at (a / 2 ^ s) i ≡ 0) none (bit_at-trailing_ones w64 (a / 2 ^ s) below).1 in
+      subst (λ i. bit_at a i ≡ 0) (add-zero s) (ap (λ n. n % 2) (sym (shr-shr a s 0)) ∙ zero)
+  | inr full ↦
+      let ones : a / 2 ^ s ≡ 2 ^ 64 - 1 = omega (arith, fits, full, shr_le a s) in
+      absurd (omega (arith, all_ones, ap (trailing_ones w64) (sym ones) ∙ none))
+]
+
+-- the numbers that a set has from one on
+pub run_of_has : (words : List ℕ) (a from n : ℕ) → slice_index_or words (from / 64) 0 ≡ a → a < 2 ^ 64
+    → from ≤ n → n < from + trailing_ones w64 (a / 2 ^ (from % 64)) → HasBit words n
+run_of_has words a from n is fits least low =
+    let ones = shifted_ones a (from % 64) (n - from) fits (omega (arith, least, low)) in
     let word : n / 64 ≡ from / 64 = omega (arith, least, ones.0) in
     let place : n % 64 ≡ from % 64 + (n - from) = omega (arith, least, ones.0) in
-    rw (word, place, first, second) (ones.1, ones.2)
+    rw (word, place, is) ones.1
+
+-- it has not the one at which no such run begins
+pub run_of_none : (words : List ℕ) (a from : ℕ) → slice_index_or words (from / 64) 0 ≡ a → a < 2 ^ 64 → trailing_ones w64 (a / 2 ^ (from % 64)) ≡ 0 → ¬ HasBit words from
+run_of_none words a from is fits none has = omega (arith, no_shifted_ones a (from % 64) fits none, ap (λ word. bit_at word (from % 64)) (sym is) ∙ has)

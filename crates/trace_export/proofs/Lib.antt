@@ -18,6 +18,7 @@ pub mod OneLine
 pub mod Ordering
 pub mod Placings
 pub mod PlainLines
+pub mod RaisedPoints
 pub mod Reached
 pub mod ReadAgain
 pub mod Refusing

@@ -2,7 +2,7 @@
 use Rattle.std.proofs.Common.{◌≡◌, ◌↔◌, ◌⊎◌, ℕ, suc, zero, ◌+◌, ◌-◌, ◌*◌, ◌/◌, ◌%◌, ◌<◌, ◌≤◌, List, [], ◌∷◌, ◌++◌, length, slice_index_or, refl, sym, ap, subst, inl, inr, ◌∙◌, arith, length-append}
 use Rattle.std.specs.List.{Contains, All}
 use Rattle.std.specs.Int.{bit_at}
-use Rattle.std.proofs.lemmas.Bool.{cases_eq}
+use Rattle.std.proofs.lemmas.Bool.{cases_eq, cases_lt}
 use Rattle.std.proofs.lemmas.List.{get_or_append_left, get_or-append-add}
 use Rattle.std.proofs.lemmas.List.Elements.{All-contains, All-weaker}
 use Rattle.trace_types.specs.clock.EventTree.{EventTree}
@@ -65,6 +65,28 @@ module _ (placing : Placing) (rows : List (List ℕ)) (followed : List ℕ) (gra
       let one = earlier_pred placing graph.back later event within has in
       let old : IsPlaced placing event = (one.0, omega (arith, one.1, within.1)) in
       (graph.alike event later old within one.1).0.1 (connected_by placing event event later has (connected_itself placing event))
+
+  -- what the next event follows is or reaches each above whose tree the next one's is not
+  pub followed_reach : (event : ℕ) → IsPlaced placing event → All (λ pred. IsBelow (listed_tree placing pred) placed.tree) placed.preds → IsBelow placed.tree (listed_tree placing event)
+      → All (λ pred. (pred ≡ event) ⊎ HasBit (reaching_row rows event) (pred - 1)) placed.preds
+  followed_reach event within above below k d small = one (slice_index_or placed.preds k d) (earlier k d small) (above k d small)
+    where
+      one : (pred : ℕ) → (0 < pred) × (pred < suc (length placing)) → IsBelow (listed_tree placing pred) placed.tree → (pred ≡ event) ⊎ HasBit (reaching_row rows event) (pred - 1)
+      one pred known first =
+          let old : IsPlaced placing pred = (known.0, omega (arith, known.1)) in
+          let through = below_through (listed_tree placing pred) placed.tree (listed_tree placing event) first below in
+          elim (cases_eq pred event) [
+            | inl same ↦ inl same
+            | inr other ↦ elim (cases_lt pred event) [
+              | inl before ↦
+                  let place : suc (pred - 1) ≡ pred = omega (arith, known.0) in
+                  let connected = (graph.alike pred event old within before).0.0 through in
+                  inr ((graph.reaching event within (pred - 1)).1 (omega (arith, known.0, before), subst (λ at. IsConnected placing at event) (sym place) connected))
+              | inr after ↦
+                  let connected = (graph.alike event pred within old (omega (arith, after, other))).1.0 through in
+                  absurd (omega (arith, other, after, (connected_before placing graph.back pred event within connected).1))
+            ]
+          ]
 
   -- bits of the events that reach those which are followed are those of the events that reach the next one
   pub reaching_next : (bits : List ℕ) → ((place : ℕ) → HasBit bits place ↔ IsReachedBy rows placed.preds place) → AreReaching (with_next placing placed) bits (suc (length placing))

@@ -1,10 +1,12 @@
 -- What is kept of right lines, to compare the next one with.
-use Rattle.std.specs.Prelude.{◌≡◌, ℕ, suc, ◌+◌, ◌-◌, ◌*◌, ◌<◌, ◌≤◌, ◌↔◌, ◌⊎◌, List, [], ◌∷◌, ◌++◌, length, map, All, Contains}
+use Rattle.std.specs.Prelude.{◌≡◌, ℕ, suc, ◌+◌, ◌-◌, ◌*◌, ◌<◌, ◌≤◌, ◌↔◌, ◌⊎◌, List, [], ◌∷◌, ◌++◌, length, map, All, Contains, Option, None}
 use Rattle.std.specs.List.{slice_index_or}
 use Rattle.trace_types.specs.clock.EventTree.{EventTree}
 use Rattle.event_tree.specs.Comparison.{IsBelow}
+use Rattle.event_tree.specs.declared.point.RaisedPoint.{RaisedPoint}
 use Rattle.trace_export.specs.Bits.{HasBit}
 use Rattle.trace_export.specs.Edges.{Placing, IsPlaced, IsConnected, AreOrderedAlike, listed_preds, listed_tree}
+use Rattle.trace_export.specs.Raised.{IsPointOf}
 use Rattle.trace_export.specs.Verdict.{IsOrderedNext}
 use Rattle.trace_export.specs.declared.graph.Graph.{Graph}
 use Rattle.trace_export.specs.declared.placed.Placed.{Placed}
@@ -49,11 +51,17 @@ rows_of graph = map (λ row. row.items) graph.reaching.items
 abbrev pub AreKeptLines : Graph → Type 0
 AreKeptLines graph = IsGraph graph.placed.items (rows_of graph) graph.followed.items × (16384 < 64 * length graph.followed.items)
 
--- and of each event the sides of its tree
+-- the point of each event is one of its tree
+abbrev pub ArePoints : List (Option RaisedPoint) → Placing → Type 0
+ArePoints points placing =
+    (length points ≡ length placing)
+    × ((event : ℕ) → IsPlaced placing event → IsPointOf (slice_index_or points (event - 1) None) (listed_tree placing event))
+
+-- and of each event the sides of its tree and its point
 abbrev pub IsKeptGraph : Graph → Type 0
 IsKeptGraph graph =
     IsGraph graph.placed.items (rows_of graph) graph.followed.items × (16384 < 64 * length graph.followed.items)
-    × (length graph.sides.items ≡ length graph.placed.items)
+    × (length graph.sides.items ≡ length graph.placed.items) × ArePoints graph.points.items graph.placed.items
 
 -- The event may come next after what is kept, and these are the bits of the events that reach it.
 pub record IsNextWith (graph : Graph) (placed : Placed) (bits : List ℕ) : Type 0 where
@@ -66,6 +74,11 @@ pub record IsNextWith (graph : Graph) (placed : Placed) (bits : List ℕ) : Type
 -- the place is that of an event that some of these follow, or of one that reaches it
 abbrev pub IsReachedBy : List (List ℕ) → List ℕ → ℕ → Type 0
 IsReachedBy rows preds place = (pred : ℕ) × Contains preds pred × (HasBit (reaching_row rows pred) place ⊎ (place ≡ pred - 1))
+
+-- the event is not among those that reach, while all are that it follows
+abbrev pub IsFirstMissing : Placing → List ℕ → ℕ → Type 0
+IsFirstMissing placing reaching event =
+    (¬ HasBit reaching (event - 1)) × All (λ pred. HasBit reaching (pred - 1)) (listed_preds placing event)
 
 -- A tree that is to come next, above which these bits are, is not below that of the event, where none follows it; nor above,
 -- where the event does not reach it and all that it follows do.

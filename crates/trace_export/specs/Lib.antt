@@ -11,6 +11,7 @@ pub mod Listing
 pub mod Loading
 pub mod Loads
 pub mod Rebuilding
+pub mod Raised
 pub mod ReadTo
 pub mod Reasons
 pub mod Verdict

@@ -23,15 +23,16 @@ pub(crate) fn has_bit(words: &[u64], n: usize) -> bool
     }
 }
 
-/// How many numbers from this one on are in both sets, up to the end of a word.
+/// How many numbers from this one on are in the set, up to the end of a word.
 #[inline(always)]
-pub(crate) fn run_of_both(one: &[u64], other: &[u64], from: usize) -> usize
-    ensures both { (n : ℕ) → from ≤ n → n < from + result → HasBit one.now n × HasBit other.now n }
+pub(crate) fn run_of(words: &[u64], from: usize) -> usize
+    ensures all { (n : ℕ) → from ≤ n → n < from + result → HasBit words.now n }
+    ensures none { result ≡ 0 → ¬ HasBit words.now from }
     ensures few { result ≤ 64 }
 {
-    match (one.get(from / 64), other.get(from / 64)) {
-        (Some(one), Some(other)) => ((*one & *other) >> (from % 64)).trailing_ones() as usize,
-        _ => 0,
+    match words.get(from / 64) {
+        Some(word) => (*word >> (from % 64)).trailing_ones() as usize,
+        None => 0,
     }
 }
 

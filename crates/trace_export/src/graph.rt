@@ -1,17 +1,20 @@
 //! What is kept of right lines, with which the next one is compared.
 ghost use Rattle.std.specs.Prelude.{◌≡◌, ℕ, suc, ◌+◌, ◌*◌, ◌<◌, ◌≤◌, ◌++◌, ◌∷◌, ◌↔◌, ◌⊎◌, ◌-◌, [], IfOk, IsTrue, length, vec_len, vec_capacity, All, Contains, OnOk, false};
 ghost use Rattle.trace_export.specs.Bits.{HasBit};
-ghost use Rattle.trace_export.specs.Edges.{IsPlaced, AreOrderedAlike, placed_at};
-ghost use Rattle.trace_export.specs.Graph.{AreKeptLines, IsKeptGraph, AreEarlier, AreReaching, IsReachedBy, IsNextWith, rows_of, reaching_row};
+ghost use Rattle.trace_export.specs.Edges.{IsPlaced, AreOrderedAlike, listed_tree, placed_at};
+ghost use Rattle.trace_export.specs.Graph.{AreKeptLines, ArePoints, IsKeptGraph, AreEarlier, AreReaching, IsReachedBy, IsNextWith, rows_of, reaching_row};
+ghost use Rattle.trace_export.specs.Raised.{IsPointOf};
 ghost use Rattle.trace_export.specs.Verdict.{IsOrderedNext};
 
 use crate::bits::{add_bit, add_bits, no_bits};
 use crate::placed::Placed;
 use crate::sides::Sides;
+use event_tree::{EvTree, RaisedPoint};
 use std::alloc::{AllocError, Global};
 use std::mem;
 use trace_types::Preds;
 
+mod above;
 mod ordering;
 
 /// What is kept of right lines.
@@ -25,6 +28,8 @@ pub(crate) struct Graph {
     followed: Vec<u64>,
     /// The sides of each event's tree.
     sides: Vec<Sides>,
+    /// A point at which each event's tree is above those that the event follows, if one is known.
+    points: Vec<Option<RaisedPoint>>,
     /// Whether some sides are still those of a tree that was compared with none.
     lacks_sides: bool,
 }
@@ -43,6 +48,7 @@ impl Graph {
             reaching: Vec::new(alloc),
             followed: no_bits(alloc, Graph::MOST)?,
             sides: Vec::new(alloc),
+            points: Vec::new(alloc),
             lacks_sides: false,
         })
     }
@@ -67,7 +73,7 @@ impl Graph {
     {
         self.find_sides(alloc)?;
         let reaching = self.reaching(alloc, &placed)?;
-        let mut own = self.first_sides(alloc, &placed)?;
+        let (mut own, point) = self.first_sides(alloc, &placed)?;
         let mut sides = mem::replace(&mut self.sides, Vec::new(alloc));
         let ordered = self.is_ordered(&reaching, &placed, &mut own, &mut sides);
         self.sides = sides;
@@ -75,7 +81,7 @@ impl Graph {
             return Ok(false);
         }
         self.make_room()?;
-        self.put(placed, reaching, own);
+        self.put(placed, reaching, own, point);
         Ok(true)
     }
 
@@ -91,7 +97,7 @@ impl Graph {
     {
         let reaching = self.reaching(alloc, &placed)?;
         self.make_room()?;
-        self.put(placed, reaching, Sides::new(alloc));
+        self.put(placed, reaching, Sides::new(alloc), None);
         self.lacks_sides = true;
         Ok(())
     }
@@ -106,8 +112,9 @@ impl Graph {
             return Ok(());
         }
         for place in 0..self.placed.len() {
-            let sides = self.first_sides(alloc, self.at(place + 1))?;
+            let (sides, point) = self.first_sides(alloc, self.at(place + 1))?;
             self.sides[place] = sides;
+            self.points[place] = point;
         }
         self.lacks_sides = false;
         Ok(())
@@ -119,21 +126,24 @@ impl Graph {
         ensures reaching { self.new.reaching.items ≡ self.old.reaching.items }
         ensures followed { self.new.followed ≡ self.old.followed }
         ensures sides { self.new.sides.items ≡ self.old.sides.items }
+        ensures points { self.new.points.items ≡ self.old.points.items }
         ensures room { OnOk result ((vec_len self.new.placed < vec_capacity self.new.placed) × (vec_len self.new.reaching < vec_capacity self.new.reaching)
-            × (vec_len self.new.sides < vec_capacity self.new.sides)) }
+            × (vec_len self.new.sides < vec_capacity self.new.sides) × (vec_len self.new.points < vec_capacity self.new.points)) }
     {
         self.placed.reserve(1)?;
         self.reaching.reserve(1)?;
         self.sides.reserve(1)?;
+        self.points.reserve(1)?;
         Ok(())
     }
 
     /// Adds the event that these reach, for which there is room.
-    fn put(&mut self, placed: Placed, reaching: Vec<u64>, sides: Sides)
+    fn put(&mut self, placed: Placed, reaching: Vec<u64>, sides: Sides, point: Option<RaisedPoint>)
         requires graph { IsKeptGraph self.old }
         requires next { IsNextWith self.old placed reaching.items }
+        requires point { IsPointOf point placed.tree }
         requires room { (vec_len self.old.placed < vec_capacity self.old.placed) × (vec_len self.old.reaching < vec_capacity self.old.reaching)
-            × (vec_len self.old.sides < vec_capacity self.old.sides) }
+            × (vec_len self.old.sides < vec_capacity self.old.sides) × (vec_len self.old.points < vec_capacity self.old.points) }
         ensures placed { self.new.placed.items ≡ self.old.placed.items ++ placed ∷ [] }
         ensures graph { IsKeptGraph self.new }
     {
@@ -141,6 +151,7 @@ impl Graph {
         self.placed.push_reserved(placed);
         self.reaching.push_reserved(reaching);
         self.sides.push_reserved(sides);
+        self.points.push_reserved(point);
     }
 
     /// Notes that these events are followed.
@@ -148,7 +159,7 @@ impl Graph {
         requires { All (λ pred. (0 < pred) × (pred ≤ 64 * length self.old.followed.items)) preds.now }
         ensures followed { (place : ℕ) → HasBit self.new.followed.items place ↔ (HasBit self.old.followed.items place ⊎ Contains preds.now (suc place)) }
         ensures len { length self.new.followed.items ≡ length self.old.followed.items }
-        ensures others { (self.new.placed ≡ self.old.placed) × (self.new.reaching ≡ self.old.reaching) × (self.new.sides ≡ self.old.sides) }
+        ensures others { (self.new.placed ≡ self.old.placed) × (self.new.reaching ≡ self.old.reaching) × (self.new.sides ≡ self.old.sides) × (self.new.points ≡ self.old.points) }
     {
         add_events(&mut self.followed, preds.as_slice());
     }
@@ -207,26 +218,26 @@ impl Graph {
 
     /// What is known of the next event's tree before it is compared: where it is above all that its event follows. An
     /// event raises its tree there. In a tenant's trace, nothing is above that place but what follows the event.
-    fn first_sides(&self, alloc: Global, placed: &Placed) -> Result<Sides, AllocError>
+    fn first_sides(
+        &self,
+        alloc: Global,
+        placed: &Placed,
+    ) -> Result<(Sides, Option<RaisedPoint>), AllocError>
         requires { AreEarlier placed.now.preds (suc (length self.now.placed.items)) }
+        ensures { IfOk result (λ found. IsPointOf found.1 placed.now.tree) }
     {
-        let mut sides = Sides::new(alloc);
         match *placed.preds.as_slice() {
-            [one] => {
-                let earlier = &self.at(one as usize).tree;
-                placed.tree.leq_or_path(earlier, &mut sides.above)?;
-            }
+            [one] => Sides::above(alloc, &placed.tree, &self.at(one as usize).tree),
             [first, second] => {
                 let (first, second) = (self.at(first as usize), self.at(second as usize));
                 let join = first
                     .tree
                     .join(alloc, &second.tree)
                     .map_err(|_| AllocError)?;
-                placed.tree.leq_or_path(&join, &mut sides.above)?;
+                Sides::above(alloc, &placed.tree, &join)
             }
-            _ => {}
+            _ => Ok((Sides::new(alloc), placed.tree.point_above(&EvTree::leaf(0)))),
         }
-        Ok(sides)
     }
 
     /// What is listed of the event.
@@ -236,6 +247,16 @@ impl Graph {
         ensures { result.now ≡ placed_at self.now.placed.items event }
     {
         &self.placed[event - 1]
+    }
+
+    /// The point of the event's tree.
+    #[inline(always)]
+    fn point_of(&self, event: usize) -> &Option<RaisedPoint>
+        requires points { ArePoints self.now.points.items self.now.placed.items }
+        requires event { IsPlaced self.now.placed.items event }
+        ensures { IsPointOf result.now (listed_tree self.now.placed.items event) }
+    {
+        &self.points[event - 1]
     }
 }
 

@@ -1,8 +1,9 @@
 //! Places at which trees were above one another.
 ghost use Rattle.std.specs.Prelude.{◌↔◌, IfOk, IsTrue};
 ghost use Rattle.event_tree.specs.Comparison.{IsBelow};
+ghost use Rattle.trace_export.specs.Raised.{IsHigher, IsPointOf};
 
-use event_tree::{EvTree, Path};
+use event_tree::{EvTree, Path, RaisedPoint};
 use std::alloc::{AllocError, Global};
 
 /// The place at which an event's tree was above another one last, and the place at which another one was above it last.
@@ -20,6 +21,34 @@ impl Sides {
             above: Path::new(alloc),
             below: Path::new(alloc),
         }
+    }
+
+    /// A point at which the tree is above what its event follows, and the sides of the tree. Only a place that is deeper than a
+    /// point is kept in them.
+    pub(crate) fn above(
+        alloc: Global,
+        tree: &EvTree,
+        followed: &EvTree,
+    ) -> Result<(Sides, Option<RaisedPoint>), AllocError>
+        ensures { IfOk result (λ found. IsPointOf found.1 tree.now) }
+    {
+        let mut sides = Sides::new(alloc);
+        let point = tree.point_above(followed);
+        if point.is_none() {
+            tree.leq_or_path(followed, &mut sides.above)?;
+        }
+        Ok((sides, point))
+    }
+}
+
+/// Whether the tree whose point this is was above the other tree there. It reads the other tree alone.
+#[inline(always)]
+pub(crate) fn is_higher(point: &Option<RaisedPoint>, other: &EvTree) -> bool
+    ensures { IsTrue result ↔ IsHigher point.now other.now }
+{
+    match point {
+        Some(raised) => !other.is_at_least(&raised.point, raised.value),
+        None => false,
     }
 }
 

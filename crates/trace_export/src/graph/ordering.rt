@@ -1,13 +1,13 @@
 //! Comparison of the event that comes next with the earlier ones.
-ghost use Rattle.std.specs.Prelude.{◌≡◌, ℕ, suc, ◌+◌, ◌<◌, ◌++◌, ◌∷◌, ◌↔◌, ◌-◌, [], IfOk, IsTrue, length, All, Contains, false};
+ghost use Rattle.std.specs.Prelude.{◌≡◌, ℕ, suc, ◌+◌, ◌<◌, ◌++◌, ◌∷◌, ◌↔◌, ◌⊎◌, ◌-◌, [], IfOk, IsTrue, length, All, Contains, false};
 ghost use Rattle.event_tree.specs.Comparison.{IsBelow};
 ghost use Rattle.trace_export.specs.Bits.{HasBit};
-ghost use Rattle.trace_export.specs.Edges.{IsPlaced, AreOrderedAlike, listed_preds, listed_tree};
-ghost use Rattle.trace_export.specs.Graph.{AreKeptLines, AreEarlier, AreReaching, IsApartFrom, IsRefutedBy};
+ghost use Rattle.trace_export.specs.Edges.{IsPlaced, AreOrderedAlike, listed_tree};
+ghost use Rattle.trace_export.specs.Graph.{AreKeptLines, ArePoints, AreEarlier, AreReaching, IsApartFrom, IsRefutedBy};
 ghost use Rattle.trace_export.specs.Verdict.{IsOrderedNext};
 
 use super::Graph;
-use crate::bits::{has_bit, run_of_both};
+use crate::bits::{has_bit, run_of};
 use crate::placed::Placed;
 use crate::sides::{Sides, is_below};
 use event_tree::EvTree;
@@ -25,6 +25,7 @@ impl Graph {
         sides: &mut [Sides],
     ) -> Result<bool, AllocError>
         requires graph { AreKeptLines self.now }
+        requires points { ArePoints self.now.points.items self.now.placed.items }
         requires preds { AreEarlier placed.now.preds (suc (length self.now.placed.items)) }
         requires reaching { AreReaching (self.now.placed.items ++ placed.now ∷ []) reaching.now (suc (length self.now.placed.items)) }
         requires sides { length sides.old ≡ length self.now.placed.items }
@@ -35,7 +36,7 @@ impl Graph {
         if !self.is_above_all(&placed.preds, &placed.tree) {
             return Ok(false);
         }
-        let apart = self.is_apart_from_all(reaching, &placed.tree, own, sides)?;
+        let apart = self.is_apart_from_all(reaching, placed, own, sides)?;
         Ok(apart)
     }
 
@@ -54,111 +55,88 @@ impl Graph {
         true
     }
 
-    /// Whether no event is refuted by [`Graph::is_apart_from`].
+    /// Whether the tree is apart from those of all events.
     fn is_apart_from_all(
         &self,
         reaching: &[u64],
-        tree: &EvTree,
+        placed: &Placed,
         own: &mut Sides,
         sides: &mut [Sides],
     ) -> Result<bool, AllocError>
         requires graph { AreKeptLines self.now }
+        requires points { ArePoints self.now.points.items self.now.placed.items }
+        requires preds { AreEarlier placed.now.preds (suc (length self.now.placed.items)) }
+        requires above { All (λ pred. IsBelow (listed_tree self.now.placed.items pred) placed.now.tree) placed.now.preds }
         requires sides { length sides.old ≡ length self.now.placed.items }
         ensures apart { IfOk result (λ is. IsTrue is → (event : ℕ) → IsPlaced self.now.placed.items event
-            → IsApartFrom self.now.placed.items self.now.followed.items reaching.now tree.now event) }
+            → IsApartFrom self.now.placed.items self.now.followed.items reaching.now placed.now.tree event) }
         ensures refuted { IfOk result (λ is. is ≡ false → ((event : ℕ) × IsPlaced self.now.placed.items event
-            × IsRefutedBy self.now.placed.items reaching.now tree.now event)) }
+            × IsRefutedBy self.now.placed.items reaching.now placed.now.tree event)) }
     {
-        let mut place = 0;
-        while place < self.placed.len() {
-            // What is followed and reaches the event is apart, whatever its tree.
-            let run = run_of_both(&self.followed, reaching, place);
-            if run == 0 && !self.is_apart_from(reaching, tree, place + 1, own, &mut sides[place])? {
-                return Ok(false);
-            }
-            place += run.max(1);
-        }
-        Ok(true)
-    }
-
-    /// Whether the tree is not below that of an event which none follows. It may not be above that of the event either,
-    /// if the event is one of the first that do not reach its own.
-    #[inline(always)]
-    fn is_apart_from(
-        &self,
-        reaching: &[u64],
-        tree: &EvTree,
-        event: usize,
-        own: &mut Sides,
-        sides: &mut Sides,
-    ) -> Result<bool, AllocError>
-        requires graph { AreKeptLines self.now }
-        requires event { IsPlaced self.now.placed.items event }
-        ensures apart { IfOk result (λ is. IsTrue is → IsApartFrom self.now.placed.items self.now.followed.items reaching.now tree.now event) }
-        ensures refuted { IfOk result (λ is. is ≡ false → IsRefutedBy self.now.placed.items reaching.now tree.now event) }
-    {
-        if self.is_below_last(tree, event, own, sides)? {
+        if self.is_below_some(placed, own, sides)? {
             return Ok(false);
         }
-        let above = self.is_above_first(reaching, tree, event, own, sides)?;
+        let above = self.is_above_some(reaching, &placed.tree, own, sides)?;
         Ok(!above)
     }
 
-    /// Whether the tree is below that of the event, and none follows the event.
-    #[inline(always)]
-    fn is_below_last(
+    /// Whether the tree is below that of an event which none follows. Such an event is or follows each that the tree's event
+    /// follows: their trees are below this one.
+    fn is_below_some(
         &self,
-        tree: &EvTree,
-        event: usize,
+        placed: &Placed,
         own: &mut Sides,
-        sides: &mut Sides,
+        sides: &mut [Sides],
     ) -> Result<bool, AllocError>
-        requires { IsPlaced self.now.placed.items event }
-        ensures below { IfOk result (λ is. IsTrue is → IsBelow tree.now (listed_tree self.now.placed.items event)) }
-        ensures not_below { IfOk result (λ is. is ≡ false → (¬ HasBit self.now.followed.items (event - 1))
-            → ¬ IsBelow tree.now (listed_tree self.now.placed.items event)) }
+        requires graph { AreKeptLines self.now }
+        requires preds { AreEarlier placed.now.preds (suc (length self.now.placed.items)) }
+        requires above { All (λ pred. IsBelow (listed_tree self.now.placed.items pred) placed.now.tree) placed.now.preds }
+        requires sides { length sides.old ≡ length self.now.placed.items }
+        ensures below { IfOk result (λ is. IsTrue is → (event : ℕ) × IsPlaced self.now.placed.items event
+            × IsBelow placed.now.tree (listed_tree self.now.placed.items event)) }
+        ensures not_below { IfOk result (λ is. is ≡ false → (event : ℕ) → IsPlaced self.now.placed.items event
+            → (¬ HasBit self.now.followed.items (event - 1)) → ¬ IsBelow placed.now.tree (listed_tree self.now.placed.items event)) }
     {
-        if has_bit(&self.followed, event - 1) {
-            return Ok(false);
+        let mut place = 0;
+        while place < self.placed.len() {
+            let run = run_of(&self.followed, place);
+            if run == 0 && self.is_below_one(placed, place + 1, own, &mut sides[place])? {
+                return Ok(true);
+            }
+            place += run.max(1);
         }
-        let below = is_below(tree, own, &self.at(event).tree, sides)?;
-        Ok(below)
+        Ok(false)
     }
 
-    /// Whether the tree is above that of the event, and the event is one of the first that do not reach its own.
+    /// Whether the tree is below that of the event.
     #[inline(always)]
-    fn is_above_first(
+    fn is_below_one(
         &self,
-        reaching: &[u64],
-        tree: &EvTree,
+        placed: &Placed,
         event: usize,
         own: &mut Sides,
         sides: &mut Sides,
     ) -> Result<bool, AllocError>
         requires graph { AreKeptLines self.now }
+        requires preds { AreEarlier placed.now.preds (suc (length self.now.placed.items)) }
+        requires above { All (λ pred. IsBelow (listed_tree self.now.placed.items pred) placed.now.tree) placed.now.preds }
         requires event { IsPlaced self.now.placed.items event }
-        ensures above { IfOk result (λ is. IsTrue is → (¬ HasBit reaching.now (event - 1)) × IsBelow (listed_tree self.now.placed.items event) tree.now) }
-        ensures not_above { IfOk result (λ is. is ≡ false → (¬ HasBit reaching.now (event - 1))
-            → All (λ pred. HasBit reaching.now (pred - 1)) (listed_preds self.now.placed.items event)
-            → ¬ IsBelow (listed_tree self.now.placed.items event) tree.now) }
+        ensures { IfOk result (λ is. IsTrue is ↔ IsBelow placed.now.tree (listed_tree self.now.placed.items event)) }
     {
-        let earlier = self.at(event);
-        if has_bit(reaching, event - 1) || !all_reach(reaching, &earlier.preds) {
+        if !are_or_reach(&placed.preds, event, &self.reaching[event - 1]) {
             return Ok(false);
         }
-        let below = is_below(&earlier.tree, sides, tree, own)?;
+        let below = is_below(&placed.tree, own, &self.at(event).tree, sides)?;
         Ok(below)
     }
 }
 
-/// Whether all these events are among those that reach.
+/// Whether each of these events is this one, or is among those that reach it.
 #[inline(always)]
-fn all_reach(reaching: &[u64], preds: &Preds) -> bool
+fn are_or_reach(preds: &Preds, event: usize, reaching: &[u64]) -> bool
     requires { All (λ pred. 0 < pred) preds.now }
-    ensures { IsTrue result ↔ All (λ pred. HasBit reaching.now (pred - 1)) preds.now }
+    ensures { IsTrue result ↔ All (λ pred. (pred ≡ event) ⊎ HasBit reaching.now (pred - 1)) preds.now }
 {
-    preds
-        .as_slice()
-        .iter()
-        .all(|pred| has_bit(reaching, *pred as usize - 1))
+    preds.as_slice().iter().all(|pred| *pred as usize == event
+        || has_bit(reaching, *pred as usize - 1))
 }

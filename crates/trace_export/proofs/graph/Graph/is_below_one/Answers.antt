@@ -1,0 +1,18 @@
+use Rattle.std.proofs.Common.{◌≡◌, ◌-◌, ◌⊎◌, ℕ, ◌<◌, List, [], All, Vec, Global, length, arith, ap, sym, subst, ◌∙◌}
+use Rattle.std.proofs.lemmas.Bool.{false≢true}
+use Rattle.std.proofs.lemmas.List.{get_or-map, length-map}
+use Rattle.trace_export.specs.Bits.{HasBit}
+use Rattle.trace_export.specs.Graph.{reaching_row, rows_of}
+use Rattle.trace_export.proofs.Ordering.{followed_reach}
+use Rattle.trace_export.proofs.graph.Graph.is_below_one.Goals as goal
+
+pub returns-then-not-are_or_reach : goal.returns-then-not-are_or_reach
+returns-then-not-are_or_reach c =
+    let within : c.args.event - 1 < length c.args.self.now.reaching.items = omega (arith, c.requires.event.0, c.requires.event.1, c.requires.graph.0.row_count, length-map c.args.self.now.reaching.items (λ (row : Vec ℕ Global). row.items)) in
+    let mapped = get_or-map (λ (row : Vec ℕ Global). row.items) c.args.self.now.reaching.items (c.args.event - 1) c.index.result.now [] within in
+    let row : c.deref.result.now ≡ reaching_row (rows_of c.args.self.now) c.args.event = c.deref.ensures.value ∙ ap (λ (row : Vec ℕ Global). row.items) c.index.ensures ∙ sym mapped in (
+      (λ yes. absurd (false≢true yes)),
+      (λ below.
+          let all = followed_reach c.args.self.now.placed.items (rows_of c.args.self.now) c.args.self.now.followed.items c.requires.graph.0 c.args.placed.now c.requires.preds c.args.event c.requires.event c.requires.above below in
+          absurd (false≢true (sym c.if-not-are_or_reach.true ∙ c.are_or_reach.ensures.1 (subst (λ (bits : List ℕ). All (λ pred. (pred ≡ c.args.event) ⊎ HasBit bits (pred - 1)) c.args.placed.now.preds) (sym row) all)))),
+    )
