@@ -1,3 +1,4 @@
+pub mod Beside
 pub mod Bounds
 pub mod Faults
 pub mod Flat

@@ -8,17 +8,19 @@ ghost use Rattle.stamp_codec.specs.Faults.{most_nested, greatest_sum};
 ghost use Rattle.stamp_codec.specs.Bounds.{IsBounded, id_height};
 
 use crate::Stamp;
+use crate::beside::take_beside;
 use crate::depth::is_too_deep;
 use crate::walk::{GREATEST_SUM, MOST_NESTED};
 use event_tree::EvTree;
 use id_tree::IdTree;
 use std::alloc::Global;
 
-/// The stamp that the text spells, or `None` if the text is refused or memory runs out.
+/// The stamp that the text spells, or `None` if the text is refused or memory runs out. It shares the parts that stand in
+/// this tree at the same place.
 ///
 /// It goes over the bytes once, and stops at the first byte that does not fit. It calls itself no deeper than parentheses
 /// may be nested.
-pub fn stamp_at_once(alloc: Global, text: &[u8]) -> Option<Stamp>
+pub(crate) fn stamp_at_once(alloc: Global, text: &[u8], tree: &EvTree) -> Option<Stamp>
     ensures text { IfSome result (λ stamp. text.now ≡ stamp_as_text stamp) }
     ensures bounded { IfSome result (λ stamp. IsBounded stamp) }
 {
@@ -31,10 +33,20 @@ pub fn stamp_at_once(alloc: Global, text: &[u8]) -> Option<Stamp>
     };
     let mut rest = inner;
     let id = take_id(alloc, &mut rest, b';', MOST_NESTED)?;
-    let tree = take_tree(alloc, &mut rest, b']', MOST_NESTED, GREATEST_SUM)?;
-    let (_halves, _children) = (id.parts(), tree.parts());
+    let mut made = EvTree::leaf(0);
+    let read = take_beside(
+        alloc,
+        &mut rest,
+        b']',
+        MOST_NESTED,
+        GREATEST_SUM,
+        tree,
+        &mut made,
+    )?;
+    read.settle(alloc, tree, &mut made)?;
+    let (_halves, _children) = (id.parts(), made.parts());
     if rest.is_empty() {
-        Some(Stamp { id, tree })
+        Some(Stamp { id, tree: made })
     } else {
         None
     }
@@ -114,7 +126,7 @@ fn take_tree(alloc: Global, rest: &mut &[u8], end: u8, levels: usize, most: u64)
 
 /// Takes a node behind its parenthesis.
 #[cycle(taken_trees)]
-fn take_node(alloc: Global, rest: &mut &[u8], levels: usize, most: u64) -> Option<EvTree>
+pub(crate) fn take_node(alloc: Global, rest: &mut &[u8], levels: usize, most: u64) -> Option<EvTree>
     requires { most ≤ greatest_sum }
     ensures text { IfSome result (λ tree. 40 ∷ rest.old.now ≡ tree_text tree ++ rest.new.now) }
     ensures low { IfSome result (λ tree. height tree ≤ levels) }
@@ -178,7 +190,7 @@ fn twig_of(alloc: Global, number: u8, left: u8, right: u8, most: u64) -> Option<
 }
 
 /// The node over these children, or `None` if it is not normal or memory runs out.
-fn node_of(alloc: Global, number: u64, left: EvTree, right: EvTree) -> Option<EvTree>
+pub(crate) fn node_of(alloc: Global, number: u64, left: EvTree, right: EvTree) -> Option<EvTree>
     requires { number + max (maximum left) (maximum right) < 2 ^ 64 }
     ensures { IfSome result (λ tree. tree ≡ Node number left right) }
 {
@@ -198,7 +210,7 @@ fn is_uneven(left: &EvTree, right: &EvTree) -> bool
 /// Takes a number and this byte behind it. The number is at most `most`.
 #[inline(always)]
 #[tactic(auto, using(crate::proofs::AtOnce::one_digit))]
-fn take_number(rest: &mut &[u8], end: u8, most: u64) -> Option<u64>
+pub(crate) fn take_number(rest: &mut &[u8], end: u8, most: u64) -> Option<u64>
     requires { most ≤ greatest_sum }
     ensures text { IfSome result (λ number. rest.old.now ≡ (decimal number ++ end ∷ []) ++ rest.new.now) }
     ensures small { IfSome result (λ number. number ≤ most) }
@@ -273,7 +285,7 @@ fn next_digit(rest: &mut &[u8]) -> Option<u8>
 }
 
 /// Takes this byte.
-fn take_byte(rest: &mut &[u8], byte: u8) -> Option<()>
+pub(crate) fn take_byte(rest: &mut &[u8], byte: u8) -> Option<()>
     ensures { IfSome result (λ _. rest.old.now ≡ byte ∷ rest.new.now) }
 {
     match *rest {

@@ -16,6 +16,7 @@ use crate::depth::is_too_deep;
 use crate::shape::shape_fault;
 use crate::walk::{read_id, read_tree};
 use crate::{Stamp, StampFault};
+use event_tree::EvTree;
 use std::alloc::Global;
 
 /// The stamp that the text spells, in the form that Almeida, Baquero and Fonte published (2008), with each node normal.
@@ -26,7 +27,7 @@ use std::alloc::Global;
 ///
 /// One pass checks and builds together, and gives the stamp of most texts. It stops at the first byte that does not fit. Any
 /// other text is read again, to tell its fault. Two passes without recursion tell the shape and the nesting then, before
-/// anything is built. Nothing is built of a text that is nested too deep, and nothing below a number that is too great.
+/// anything is built again. Nothing is built of a text that is nested too deep, and nothing below a number that is too great.
 ///
 /// Returns `Memory` if it runs out of memory, for a mark of each open parenthesis or for the stamp. `Memory` may come
 /// before any other fault.
@@ -42,8 +43,30 @@ pub fn read_stamp(alloc: Global, text: &[u8]) -> Result<Stamp, StampFault>
     // A text without parentheses takes no memory.
     ensures flat { OpensNowhere text.now → IfErr result (λ fault. ¬ IsNoMemory fault) }
 {
+    read_stamp_beside(alloc, text, &EvTree::leaf(0))
+}
+
+/// The stamp that the text spells, as [`read_stamp`] gives it. Its tree shares the parts that stand in this one at the same
+/// place, and no block of memory is taken for them.
+///
+/// Use it if the stamp's tree is like one that is there already. The tree of an event is like those of the events that it
+/// follows. The tree beside which a stamp is read does not change it. Nothing is shared if the text has to be read again.
+///
+/// Returns `Memory` as [`read_stamp`] does.
+pub fn read_stamp_beside(alloc: Global, text: &[u8], tree: &EvTree) -> Result<Stamp, StampFault>
+    // The stamp that the text spells, or the fault and its place.
+    ensures exact { ReadsStamp text.now result }
+    // What spells a stamp is read, unless memory runs out.
+    ensures only { (id : Id) (tree : Written) → SpellsNormal text.now id tree → GivesStamp result id (written_tree tree) }
+    // What was written of a normal stamp within the bounds is that stamp again, unless memory runs out.
+    ensures again { (stamp : Stamp) → IsBounded stamp → text.now ≡ stamp_as_text stamp → GivesStamp result stamp.id stamp.tree }
+    // What is read is the text that is written of the stamp.
+    ensures found { IfOk result (λ stamp. text.now ≡ stamp_as_text stamp) }
+    // A text without parentheses takes no memory.
+    ensures flat { OpensNowhere text.now → IfErr result (λ fault. ¬ IsNoMemory fault) }
+{
     // Most texts spell a stamp. The other passes find the fault of one that does not.
-    if let Some(stamp) = stamp_at_once(alloc, text) {
+    if let Some(stamp) = stamp_at_once(alloc, text, tree) {
         return Ok(stamp);
     }
     match shape_fault(alloc, text)? {

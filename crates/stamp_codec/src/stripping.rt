@@ -9,8 +9,8 @@ use event_tree::{EvTree, Parts as TreeParts};
 use id_tree::{IdTree, Parts as IdParts};
 use itoa::Buffer;
 
-/// What follows the text of the stamp that has this id and this tree, as [`crate::write_parts`] gives it, or `None` exactly
-/// if the bytes do not begin with that text. It takes no memory.
+/// What follows the text of the stamp that has this id and this tree, as [`crate::write_parts`] gives it. It is `None`
+/// exactly if the bytes do not begin with that text. It takes no memory.
 pub fn strip_parts<'a>(text: &'a [u8], id: &IdTree, tree: &EvTree) -> Option<&'a [u8]>
     ensures { MatchOption result ((rest : List ℕ) → text.now ≢ text_of_parts id.now tree.now ++ rest)
         (λ rest. text.now ≡ text_of_parts id.now tree.now ++ rest.now) }

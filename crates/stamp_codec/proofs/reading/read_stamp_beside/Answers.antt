@@ -3,7 +3,7 @@ use Rattle.stamp_codec.proofs.Outcomes.{gives, read_text}
 use Rattle.stamp_codec.specs.Faults.{IsShapeFault}
 use Rattle.stamp_codec.specs.Bounds.{as_written}
 use Rattle.stamp_codec.proofs.RoundTrip.{spells_again, gives_again}
-use Rattle.stamp_codec.proofs.reading.read_stamp.Goals as goal
+use Rattle.stamp_codec.proofs.reading.read_stamp_beside.Goals as goal
 
 pub returns-in-Some-clause-exact : goal.returns-in-Some-clause-exact
 returns-in-Some-clause-exact c = reads_itself c.args.text.now c.in-Some.stamp c.in-Some.ensures.bounded c.in-Some.ensures.text
