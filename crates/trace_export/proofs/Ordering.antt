@@ -4,14 +4,14 @@ use Rattle.std.specs.List.{Contains, All}
 use Rattle.std.specs.Int.{bit_at}
 use Rattle.std.proofs.lemmas.Bool.{cases_eq, cases_lt}
 use Rattle.std.proofs.lemmas.List.{get_or_append_left, get_or-append-add}
-use Rattle.std.proofs.lemmas.List.Elements.{All-contains, All-weaker}
+use Rattle.std.proofs.lemmas.List.Elements.{All-contains}
 use Rattle.trace_types.specs.clock.EventTree.{EventTree}
 use Rattle.event_tree.specs.Comparison.{IsBelow}
 use Rattle.trace_export.specs.declared.graph.Graph.{Graph}
 use Rattle.trace_export.specs.declared.placed.Placed.{Placed}
 use Rattle.trace_export.specs.Bits.{HasBit}
-use Rattle.trace_export.specs.Edges.{Placing, IsPlaced, placed_at, listed_preds, listed_tree, IsConnected, AreOrderedAlike}
-use Rattle.trace_export.specs.Graph.{AreEarlier, AreReaching, EdgesLeadBack, IsFollowed, IsNextWith, reaching_row, IsGraph, IsReachedBy, IsComparedNext, RefutesNext}
+use Rattle.trace_export.specs.Edges.{Placing, IsPlaced, listed_preds, listed_tree, IsConnected, AreOrderedAlike}
+use Rattle.trace_export.specs.Graph.{AreEarlier, AreReaching, IsFollowed, IsNextWith, reaching_row, IsGraph, IsReachedBy, IsComparedNext, RefutesNext}
 use Rattle.trace_export.specs.Verdict.{IsOrderedNext}
 use Rattle.trace_export.proofs.Alike.{tree_earlier, tree_next, alike_next}
 use Rattle.trace_export.proofs.Connecting.{with_next, length-with_next, placed_at-earlier, placed_at-next, earlier_pred, connected_before, connected_itself, connected_by, connected-with_next, connected_next, next_connected, back-with_next}
@@ -272,9 +272,3 @@ next_with graph placing placed bits same preds few ordered reaching short = reco
   reaching = subst (λ (events : Placing). AreReaching (events ++ placed ∷ []) bits (suc (length events))) (sym same) reaching;
   short = subst (λ (events : Placing). 64 * length bits ≤ suc (length events) + 63) (sym same) short;
 }
-
--- what an event follows comes before the next one
-pub before_next : (placing : Placing) (event : ℕ) (placed : Placed) → EdgesLeadBack placing → IsPlaced placing event → placed ≡ placed_at placing event → AreEarlier placed.preds (suc (length placing))
-before_next placing event placed back within is =
-    All-weaker (λ pred. (0 < pred) × (pred < event)) (λ pred. (0 < pred) × (pred < suc (length placing))) (λ pred known. (known.0, omega (arith, known.1, within.1))) placed.preds
-    (subst (λ (found : Placed). AreEarlier found.preds event) (sym is) (back event within))

@@ -16,8 +16,8 @@ use itoa::Buffer;
 use stamp_codec::strip_parts;
 use trace_types::{Kind, Name, Request, Row};
 
-/// Whether the line is the one that an export has of the event of this number, with this row, this id of its task after it
-/// and this tree. Such a line is read again as that event, by the grammar of JSON. It takes no memory.
+/// Whether the line is the one that an export has of the event of this number. The event has this row, this id of its task
+/// after it, and this tree. Such a line is read again as that event, by the grammar of JSON. It takes no memory.
 pub(crate) fn is_due_line(line: &[u8], number: u64, row: &Row, id: &IdTree, tree: &EvTree) -> bool
     ensures is { IsTrue result ↔ (line.now ≡ due_line number row.now id.now tree.now) }
     ensures read { IsReadAgain (due_listed number row.now id.now tree.now) }

@@ -60,8 +60,14 @@ impl Graph {
         self.placed.len()
     }
 
-    /// Adds the event that comes next if its tree and the earlier ones compare as the edges say, and says whether it did.
-    pub(crate) fn add(&mut self, alloc: Global, placed: Placed) -> Result<bool, AllocError>
+    /// Adds the event that comes next if its tree and the earlier ones compare as the edges say, and says whether it did. It
+    /// looks first where the tree is above this join of the trees of its predecessors.
+    pub(crate) fn add(
+        &mut self,
+        alloc: Global,
+        placed: Placed,
+        join: &EvTree,
+    ) -> Result<bool, AllocError>
         requires graph { IsKeptGraph self.old }
         requires preds { AreEarlier placed.preds (suc (length self.old.placed.items)) }
         requires few { length self.old.placed.items < 16384 }
@@ -73,7 +79,7 @@ impl Graph {
     {
         self.find_sides(alloc)?;
         let reaching = self.reaching(alloc, &placed)?;
-        let (mut own, point) = self.first_sides(alloc, &placed)?;
+        let (mut own, point) = first_sides(alloc, &placed, join)?;
         let mut sides = mem::replace(&mut self.sides, Vec::new(alloc));
         let ordered = self.is_ordered(&reaching, &placed, &mut own, &mut sides);
         self.sides = sides;
@@ -112,7 +118,9 @@ impl Graph {
             return Ok(());
         }
         for place in 0..self.placed.len() {
-            let (sides, point) = self.first_sides(alloc, self.at(place + 1))?;
+            let placed = self.at(place + 1);
+            let join = self.join_of(alloc, &placed.preds);
+            let (sides, point) = first_sides(alloc, placed, &join)?;
             self.sides[place] = sides;
             self.points[place] = point;
         }
@@ -216,28 +224,27 @@ impl Graph {
         add_bit(bits, place);
     }
 
-    /// What is known of the next event's tree before it is compared: where it is above all that its event follows. An
-    /// event raises its tree there. In a tenant's trace, nothing is above that place but what follows the event.
-    fn first_sides(
-        &self,
-        alloc: Global,
-        placed: &Placed,
-    ) -> Result<(Sides, Option<RaisedPoint>), AllocError>
-        requires { AreEarlier placed.now.preds (suc (length self.now.placed.items)) }
-        ensures { IfOk result (λ found. IsPointOf found.1 placed.now.tree) }
-    {
-        match *placed.preds.as_slice() {
-            [one] => Sides::above(alloc, &placed.tree, &self.at(one as usize).tree),
-            [first, second] => {
-                let (first, second) = (self.at(first as usize), self.at(second as usize));
-                let join = first
-                    .tree
-                    .join(alloc, &second.tree)
-                    .map_err(|_| AllocError)?;
-                Sides::above(alloc, &placed.tree, &join)
-            }
-            _ => Ok((Sides::new(alloc), placed.tree.point_above(&EvTree::leaf(0)))),
+    /// The join of the trees of these events. It is 0 everywhere if one of them is not there, or if memory runs out.
+    pub(crate) fn join_of(&self, alloc: Global, preds: &Preds) -> EvTree {
+        match self.try_join(alloc, preds) {
+            Some(join) => join,
+            None => EvTree::leaf(0),
         }
+    }
+
+    /// The join of the trees of these events, if they are there and memory does not run out.
+    fn try_join(&self, alloc: Global, preds: &Preds) -> Option<EvTree> {
+        match *preds.as_slice() {
+            [one] => self.tree_of(one)?.share(alloc).ok(),
+            [first, second] => self.tree_of(first)?.join(alloc, self.tree_of(second)?).ok(),
+            _ => None,
+        }
+    }
+
+    /// The tree of the event, if it is there.
+    fn tree_of(&self, event: u64) -> Option<&EvTree> {
+        let placed = self.placed.get((event as usize).checked_sub(1)?)?;
+        Some(&placed.tree)
     }
 
     /// What is listed of the event.
@@ -257,6 +264,21 @@ impl Graph {
         ensures { IsPointOf result.now (listed_tree self.now.placed.items event) }
     {
         &self.points[event - 1]
+    }
+}
+
+/// What is known of an event's tree before it is compared: where it is above the join of the trees of its predecessors. An
+/// event raises its tree there. In a tenant's trace, nothing is above that place but what follows the event.
+fn first_sides(
+    alloc: Global,
+    placed: &Placed,
+    join: &EvTree,
+) -> Result<(Sides, Option<RaisedPoint>), AllocError>
+    ensures { IfOk result (λ found. IsPointOf found.1 placed.now.tree) }
+{
+    match placed.preds.as_slice() {
+        [] => Ok((Sides::new(alloc), placed.tree.point_above(join))),
+        _ => Sides::above(alloc, &placed.tree, join),
     }
 }
 

@@ -15,6 +15,7 @@ use crate::header::{limits_under, read_header};
 use crate::json_line::read_json;
 use crate::requests::request_for;
 use crate::{Header, Reason};
+use event_tree::EvTree;
 use std::alloc::Global;
 use tenant_ledger::Ledger;
 use trace_types::{Code, Memory, Reply, Request};
@@ -39,6 +40,13 @@ impl Rebuilt {
         })
     }
 
+    /// Whether no line was taken in.
+    pub(crate) fn is_unbegun(&self) -> bool
+        ensures { IsTrue result ↔ (self.now.header ≡ None) × (self.now.ledger.rows ≡ []) }
+    {
+        self.header.is_none() && self.ledger.rows().is_empty()
+    }
+
     /// Takes in the line if it is the one that is due next, and says whether it is. Else all is as it was. A first line is
     /// never taken in, since it may be a header.
     pub(crate) fn follow<T>(self, rt: &T, line: &[u8]) -> (Rebuilt, bool)
@@ -47,10 +55,10 @@ impl Rebuilt {
         ensures due { IsTrue result.1 → IsEventMade self result.0 line.now }
         ensures left { result.1 ≡ false → result.0 ≡ self }
     {
-        let Rebuilt { header, ledger } = self;
-        if header.is_none() && ledger.rows().is_empty() {
-            return (Rebuilt { header, ledger }, false);
+        if self.is_unbegun() {
+            return (self, false);
         }
+        let Rebuilt { header, ledger } = self;
         let limits = limits_under(&header);
         let (ledger, is_due) = follow(rt, ledger, &limits, line);
         (Rebuilt { header, ledger }, is_due)
@@ -96,7 +104,7 @@ impl Rebuilt {
             × IsHeader line.now header)) }
         ensures none { IfOk result (λ header. IfNone header (IsNoFirstLine self.now line.now)) }
     {
-        if self.header.is_some() || !self.ledger.rows().is_empty() {
+        if !self.is_unbegun() {
             return Ok(None);
         }
         read_header(alloc, line)
@@ -128,10 +136,18 @@ impl Rebuilt {
         ensures unfit { IfOk result (λ fault. IfSome fault (λ reason. IsUnfitAfter reason self.old.ledger.limits self.old.ledger.rows (listed_of listed.now))) }
     {
         let number = self.ledger.rows().len() as u64 + 1;
-        match place(alloc, number, listed)? {
+        let zero = EvTree::leaf(0);
+        let like = self.tree_before(listed).unwrap_or(&zero);
+        match place(alloc, number, listed, like)? {
             Err(reason) => Ok(Some(reason)),
             Ok(_) => self.make(rt, listed),
         }
+    }
+
+    /// The tree of the last event that the listed one follows, if there is one. The tree of the listed event is like it.
+    fn tree_before(&self, listed: &EventLine<'_>) -> Option<&EvTree> {
+        let last = listed.preds.as_slice().last()?;
+        self.ledger.tree(*last)
     }
 
     /// Makes the request of the listed event. It gives the reason if the event does not come next.

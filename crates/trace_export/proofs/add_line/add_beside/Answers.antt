@@ -1,7 +1,7 @@
 use Rattle.std.proofs.Common.{◌≡◌, ◌+◌, suc, length, arith, subst}
 use Rattle.trace_export.specs.Listing.{listed_of}
 use Rattle.trace_export.specs.Verdict.{IsPlacedAs}
-use Rattle.trace_export.proofs.add_line.add_listed.Goals as goal
+use Rattle.trace_export.proofs.add_line.add_beside.Goals as goal
 
 pub returns-then-branch-clause-right : goal.returns-then-branch-clause-right
 returns-then-branch-clause-right c =
