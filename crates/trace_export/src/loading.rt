@@ -69,9 +69,10 @@ fn take_in<T, R: Source>(
     ensures no_write { IfErr result (λ fault. fault ≢ LoadFault.Write) }
 {
     let mut lines = Buffer::with_bounds(alloc, MOST_BYTES, MOST_READS)?;
+    let mut follows = true;
     loop {
         let found = lines.next_line(reader)?;
-        let (next, loaded) = take(rt, rebuilt, alloc, found, lines.line())?;
+        let (next, loaded) = take(rt, rebuilt, alloc, found, lines.line(), &mut follows)?;
         rebuilt = next;
         if let Some(loaded) = loaded {
             return Ok((rebuilt, loaded));
@@ -80,25 +81,28 @@ fn take_in<T, R: Source>(
 }
 
 /// Takes in a line if it is right, else gives what loading answers. It looks first whether the line is the one that is due
-/// next, since most lines are.
+/// next, as long as each line behind the first was. So at most one report is made for nothing.
 fn take<T>(
     rt: &T,
     rebuilt: Rebuilt,
     alloc: Global,
     found: Line,
     line: &[u8],
+    follows: &mut bool,
 ) -> Result<(Rebuilt, Option<Loaded>), Memory>
     requires limits { rebuilt.ledger.limits ≡ limits_under rebuilt.header }
     requires whole { found ≡ Line.Whole → length line.now ≤ 65536 }
     ensures { IfOk result (λ taken. IsTaken found line.now taken.1 rebuilt taken.0) }
 {
+    let is_first = rebuilt.is_unbegun();
     let (mut rebuilt, is_due) = match found {
-        Line::Whole => rebuilt.follow(rt, line),
-        Line::End | Line::TooLong => (rebuilt, false),
+        Line::Whole if *follows => rebuilt.follow(rt, line),
+        Line::Whole | Line::End | Line::TooLong => (rebuilt, false),
     };
     if is_due {
         return Ok((rebuilt, None));
     }
+    *follows = *follows && is_first;
     let loaded = judge(rt, &mut rebuilt, alloc, found, line)?;
     Ok((rebuilt, loaded))
 }
