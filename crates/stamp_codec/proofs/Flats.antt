@@ -1,5 +1,5 @@
 -- A text without parentheses is scanned outside of all parentheses.
-use Rattle.std.proofs.Common.{◌≡◌, ◌≢◌, ℕ, ◌≤◌, Bool, true, false, ◌==◌, if◌then◌else◌, List, [], ◌∷◌, ◌++◌, get_or, drop, Option, Some, None, refl, subst, arith}
+use Rattle.std.proofs.Common.{◌≡◌, ◌≢◌, ℕ, suc, ◌-◌, ◌≤◌, Bool, true, false, ◌==◌, if◌then◌else◌, List, [], ◌∷◌, ◌++◌, get_or, drop, take, take_all, length, Option, Some, None, refl, sym, subst, arith}
 use Rattle.std.proofs.lemmas.Bool.{ne_eqb}
 use Rattle.trace_types.specs.clock.Id as ids
 use Rattle.stamp_codec.specs.Flat.{OpensNowhere, IsOutside, IsFlat}
@@ -58,3 +58,13 @@ number_next text id (texts.Number (digit ∷ digits)) opens spells = number_firs
 number_next text ids.Zero (Fork digits left right) opens spells = λ _. opens 3 (rw spells.whole refl)
 number_next text ids.One (Fork digits left right) opens spells = λ _. opens 3 (rw spells.whole refl)
 number_next text (ids.Pair one other) (Fork digits left right) opens spells = λ _. opens 1 (rw spells.whole refl)
+
+-- a text without parentheses has none behind a front
+pub nowhere_behind : (front rest : List ℕ) → OpensNowhere (front ++ rest) → OpensNowhere rest
+nowhere_behind [] rest opens = opens
+nowhere_behind (byte ∷ front) rest opens = nowhere_behind front rest (λ place. opens (suc place))
+
+-- nor behind its first byte
+pub nowhere_inner : (text : List ℕ) → OpensNowhere text → OpensNowhere (take (length text - 1) (drop 1 text))
+nowhere_inner [] opens = opens
+nowhere_inner (byte ∷ text) opens = subst OpensNowhere (sym (take_all (length (byte ∷ text) - 1) text (omega arith))) (λ place. opens (suc place))

@@ -1,11 +1,13 @@
 //! Reading of a stamp in one pass, which checks and builds together. It tells no fault.
-ghost use Rattle.std.specs.Prelude.{◌≡◌, ◌≢◌, ◌⊎◌, ◌↔◌, ◌+◌, ◌^◌, ◌<◌, ◌≤◌, [], ◌∷◌, ◌++◌, decimal, min, max, IfSome, IsTrue, MatchOption};
+ghost use Rattle.std.specs.Prelude.{◌≡◌, ◌≢◌, ◌⊎◌, ◌↔◌, ◌+◌, ◌^◌, ◌<◌, ◌≤◌, [], ◌∷◌, ◌++◌, decimal, min, max, IfErr, IfOk, IfSome, IsTrue, MatchOption};
 ghost use Rattle.trace_types.specs.clock.Id.{Zero, One, Pair};
 ghost use Rattle.trace_types.specs.clock.EventTree.{Leaf, Node, minimum, maximum};
 ghost use Rattle.event_tree.specs.Height.{height};
 ghost use Rattle.stamp_codec.specs.StampText.{id_text, tree_text, stamp_as_text};
 ghost use Rattle.stamp_codec.specs.Faults.{most_nested, greatest_sum};
 ghost use Rattle.stamp_codec.specs.Bounds.{IsBounded, id_height};
+ghost use Rattle.stamp_codec.specs.Flat.{OpensNowhere};
+ghost use Rattle.stamp_codec.specs.declared.at_once.Unread.TheVariants.{Refused};
 
 use crate::Stamp;
 use crate::beside::take_beside;
@@ -15,21 +17,30 @@ use event_tree::EvTree;
 use id_tree::IdTree;
 use std::alloc::Global;
 
-/// The stamp that the text spells, or `None` if the text is refused or memory runs out. It shares the parts that stand in
-/// this tree at the same place.
+/// Why no stamp was read at once.
+#[derive(Clone, Copy)]
+pub(crate) enum Unread {
+    /// The text spells no stamp within the bounds. It is told too if a part would stand in more trees than can be counted.
+    Refused,
+    /// Memory ran out.
+    Memory,
+}
+
+/// The stamp that the text spells. It shares the parts that stand in this tree at the same place.
 ///
 /// It goes over the bytes once, and stops at the first byte that does not fit. It calls itself no deeper than parentheses
 /// may be nested.
-pub(crate) fn stamp_at_once(alloc: Global, text: &[u8], tree: &EvTree) -> Option<Stamp>
-    ensures text { IfSome result (λ stamp. text.now ≡ stamp_as_text stamp) }
-    ensures bounded { IfSome result (λ stamp. IsBounded stamp) }
+pub(crate) fn stamp_at_once(alloc: Global, text: &[u8], tree: &EvTree) -> Result<Stamp, Unread>
+    ensures text { IfOk result (λ stamp. text.now ≡ stamp_as_text stamp) }
+    ensures bounded { IfOk result (λ stamp. IsBounded stamp) }
+    ensures flat { OpensNowhere text.now → IfErr result (λ unread. unread ≡ Refused) }
 {
     // Nothing is built of a text that is nested too deep.
     if is_too_deep(text) {
-        return None;
+        return Err(Unread::Refused);
     }
     let [b'[', inner @ ..] = text else {
-        return None;
+        return Err(Unread::Refused);
     };
     let mut rest = inner;
     let id = take_id(alloc, &mut rest, b';', MOST_NESTED)?;
@@ -46,9 +57,9 @@ pub(crate) fn stamp_at_once(alloc: Global, text: &[u8], tree: &EvTree) -> Option
     read.settle(alloc, tree, &mut made)?;
     let (_halves, _children) = (id.parts(), made.parts());
     if rest.is_empty() {
-        Some(Stamp { id, tree: made })
+        Ok(Stamp { id, tree: made })
     } else {
-        None
+        Err(Unread::Refused)
     }
 }
 
@@ -56,84 +67,99 @@ pub(crate) fn stamp_at_once(alloc: Global, text: &[u8], tree: &EvTree) -> Option
 /// that no call is made for a leaf.
 #[cycle(taken_ids)]
 #[inline(always)]
-fn take_id(alloc: Global, rest: &mut &[u8], end: u8, levels: usize) -> Option<IdTree>
-    ensures text { IfSome result (λ id. rest.old.now ≡ (id_text id ++ end ∷ []) ++ rest.new.now) }
-    ensures low { IfSome result (λ id. id_height id ≤ levels) }
+fn take_id(alloc: Global, rest: &mut &[u8], end: u8, levels: usize) -> Result<IdTree, Unread>
+    ensures text { IfOk result (λ id. rest.old.now ≡ (id_text id ++ end ∷ []) ++ rest.new.now) }
+    ensures low { IfOk result (λ id. id_height id ≤ levels) }
+    ensures flat { OpensNowhere rest.old.now → IfErr result (λ unread. unread ≡ Refused) }
 {
     match *rest {
         [b'0', byte, after @ ..] if *byte == end => {
             *rest = after;
-            Some(IdTree::zero())
+            Ok(IdTree::zero())
         }
         [b'1', byte, after @ ..] if *byte == end => {
             *rest = after;
-            Some(IdTree::one())
+            Ok(IdTree::one())
         }
         [b'(', inner @ ..] => {
             *rest = inner;
             let id = take_pair(alloc, rest, levels)?;
             take_byte(rest, end)?;
-            Some(id)
+            Ok(id)
         }
-        _ => None,
+        _ => Err(Unread::Refused),
     }
 }
 
 /// Takes a pair behind its parenthesis.
 #[cycle(taken_ids)]
-fn take_pair(alloc: Global, rest: &mut &[u8], levels: usize) -> Option<IdTree>
-    ensures text { IfSome result (λ id. 40 ∷ rest.old.now ≡ id_text id ++ rest.new.now) }
-    ensures low { IfSome result (λ id. id_height id ≤ levels) }
+fn take_pair(alloc: Global, rest: &mut &[u8], levels: usize) -> Result<IdTree, Unread>
+    ensures text { IfOk result (λ id. 40 ∷ rest.old.now ≡ id_text id ++ rest.new.now) }
+    ensures low { IfOk result (λ id. id_height id ≤ levels) }
 {
     if levels == 0 {
-        return None;
+        return Err(Unread::Refused);
     }
     let left = take_id(alloc, rest, b',', levels - 1)?;
     let right = take_id(alloc, rest, b')', levels - 1)?;
     pair_of(alloc, left, right)
 }
 
-/// The pair of these halves, or `None` if it is not normal or memory runs out.
-fn pair_of(alloc: Global, left: IdTree, right: IdTree) -> Option<IdTree>
-    ensures { IfSome result (λ id. id ≡ Pair left right) }
+/// The pair of these halves, if it is normal.
+fn pair_of(alloc: Global, left: IdTree, right: IdTree) -> Result<IdTree, Unread>
+    ensures { IfOk result (λ id. id ≡ Pair left right) }
 {
     if left.is_zero() && right.is_zero() || left.is_one() && right.is_one() {
-        return None;
+        return Err(Unread::Refused);
     }
-    IdTree::fork(alloc, left, right).ok()
+    match IdTree::fork(alloc, left, right) {
+        Ok(id) => Ok(id),
+        Err(_) => Err(Unread::Memory),
+    }
 }
 
 /// Takes a tree and this byte behind it, with at most so many levels of parentheses and no value above `most`. It stands
 /// in [`take_node`] twice, so that no call is made for a leaf.
 #[cycle(taken_trees)]
 #[inline(always)]
-fn take_tree(alloc: Global, rest: &mut &[u8], end: u8, levels: usize, most: u64) -> Option<EvTree>
+fn take_tree(
+    alloc: Global,
+    rest: &mut &[u8],
+    end: u8,
+    levels: usize,
+    most: u64,
+) -> Result<EvTree, Unread>
     requires { most ≤ greatest_sum }
-    ensures text { IfSome result (λ tree. rest.old.now ≡ (tree_text tree ++ end ∷ []) ++ rest.new.now) }
-    ensures low { IfSome result (λ tree. height tree ≤ levels) }
-    ensures small { IfSome result (λ tree. maximum tree ≤ most) }
+    ensures text { IfOk result (λ tree. rest.old.now ≡ (tree_text tree ++ end ∷ []) ++ rest.new.now) }
+    ensures low { IfOk result (λ tree. height tree ≤ levels) }
+    ensures small { IfOk result (λ tree. maximum tree ≤ most) }
 {
     match *rest {
         [b'(', inner @ ..] => {
             *rest = inner;
             let tree = take_node(alloc, rest, levels, most)?;
             take_byte(rest, end)?;
-            Some(tree)
+            Ok(tree)
         }
-        _ => Some(EvTree::leaf(take_number(rest, end, most)?)),
+        _ => Ok(EvTree::leaf(take_number(rest, end, most)?)),
     }
 }
 
 /// Takes a node behind its parenthesis.
 #[cycle(taken_trees)]
-pub(crate) fn take_node(alloc: Global, rest: &mut &[u8], levels: usize, most: u64) -> Option<EvTree>
+pub(crate) fn take_node(
+    alloc: Global,
+    rest: &mut &[u8],
+    levels: usize,
+    most: u64,
+) -> Result<EvTree, Unread>
     requires { most ≤ greatest_sum }
-    ensures text { IfSome result (λ tree. 40 ∷ rest.old.now ≡ tree_text tree ++ rest.new.now) }
-    ensures low { IfSome result (λ tree. height tree ≤ levels) }
-    ensures small { IfSome result (λ tree. maximum tree ≤ most) }
+    ensures text { IfOk result (λ tree. 40 ∷ rest.old.now ≡ tree_text tree ++ rest.new.now) }
+    ensures low { IfOk result (λ tree. height tree ≤ levels) }
+    ensures small { IfOk result (λ tree. maximum tree ≤ most) }
 {
     if levels == 0 {
-        return None;
+        return Err(Unread::Refused);
     }
     // Many nodes stand over two leaves with numbers of one digit.
     if let Some((number, left, right)) = take_twig(rest) {
@@ -172,15 +198,14 @@ fn take_twig(rest: &mut &[u8]) -> Option<(u8, u8, u8)>
     }
 }
 
-/// The node over two leaves with these numbers, or `None` if it is not normal, a value is above `most`, or memory runs
-/// out.
-fn twig_of(alloc: Global, number: u8, left: u8, right: u8, most: u64) -> Option<EvTree>
+/// The node over two leaves with these numbers, if it is normal and no value is above `most`.
+fn twig_of(alloc: Global, number: u8, left: u8, right: u8, most: u64) -> Result<EvTree, Unread>
     requires { most ≤ greatest_sum }
-    ensures exact { IfSome result (λ tree. tree ≡ Node number (Leaf left) (Leaf right)) }
-    ensures small { IfSome result (λ tree. maximum tree ≤ most) }
+    ensures exact { IfOk result (λ tree. tree ≡ Node number (Leaf left) (Leaf right)) }
+    ensures small { IfOk result (λ tree. maximum tree ≤ most) }
 {
     if u64::from(number) + u64::from(left.max(right)) > most {
-        return None;
+        return Err(Unread::Refused);
     }
     let (left, right) = (
         EvTree::leaf(u64::from(left)),
@@ -189,15 +214,23 @@ fn twig_of(alloc: Global, number: u8, left: u8, right: u8, most: u64) -> Option<
     node_of(alloc, u64::from(number), left, right)
 }
 
-/// The node over these children, or `None` if it is not normal or memory runs out.
-pub(crate) fn node_of(alloc: Global, number: u64, left: EvTree, right: EvTree) -> Option<EvTree>
+/// The node over these children, if it is normal.
+pub(crate) fn node_of(
+    alloc: Global,
+    number: u64,
+    left: EvTree,
+    right: EvTree,
+) -> Result<EvTree, Unread>
     requires { number + max (maximum left) (maximum right) < 2 ^ 64 }
-    ensures { IfSome result (λ tree. tree ≡ Node number left right) }
+    ensures { IfOk result (λ tree. tree ≡ Node number left right) }
 {
     if is_uneven(&left, &right) {
-        return None;
+        return Err(Unread::Refused);
     }
-    EvTree::fork(alloc, number, left, right).ok()
+    match EvTree::fork(alloc, number, left, right) {
+        Ok(tree) => Ok(tree),
+        Err(_) => Err(Unread::Memory),
+    }
 }
 
 /// Whether a node over these children is not normal: neither reaches 0, or both are 0 alone.
@@ -210,10 +243,11 @@ fn is_uneven(left: &EvTree, right: &EvTree) -> bool
 /// Takes a number and this byte behind it. The number is at most `most`.
 #[inline(always)]
 #[tactic(auto, using(crate::proofs::AtOnce::one_digit))]
-pub(crate) fn take_number(rest: &mut &[u8], end: u8, most: u64) -> Option<u64>
+pub(crate) fn take_number(rest: &mut &[u8], end: u8, most: u64) -> Result<u64, Unread>
     requires { most ≤ greatest_sum }
-    ensures text { IfSome result (λ number. rest.old.now ≡ (decimal number ++ end ∷ []) ++ rest.new.now) }
-    ensures small { IfSome result (λ number. number ≤ most) }
+    ensures text { IfOk result (λ number. rest.old.now ≡ (decimal number ++ end ∷ []) ++ rest.new.now) }
+    ensures small { IfOk result (λ number. number ≤ most) }
+    ensures refused { IfErr result (λ unread. unread ≡ Refused) }
 {
     // Most numbers of a stamp have one digit.
     match take_digit(rest, end) {
@@ -225,20 +259,23 @@ pub(crate) fn take_number(rest: &mut &[u8], end: u8, most: u64) -> Option<u64>
 /// Takes a number of two digits or more and this byte behind it.
 #[inline(never)]
 #[tactic(auto, using(crate::proofs::AtOnce::one_digit, crate::proofs::AtOnce::more_behind))]
-fn take_digits(rest: &mut &[u8], end: u8, most: u64) -> Option<u64>
+fn take_digits(rest: &mut &[u8], end: u8, most: u64) -> Result<u64, Unread>
     requires { most ≤ greatest_sum }
-    ensures text { IfSome result (λ number. rest.old.now ≡ (decimal number ++ end ∷ []) ++ rest.new.now) }
-    ensures small { IfSome result (λ number. number ≤ most) }
+    ensures text { IfOk result (λ number. rest.old.now ≡ (decimal number ++ end ∷ []) ++ rest.new.now) }
+    ensures small { IfOk result (λ number. number ≤ most) }
+    ensures refused { IfErr result (λ unread. unread ≡ Refused) }
 {
     let mut behind = *rest;
-    let first = next_digit(&mut behind)?;
+    let Some(first) = next_digit(&mut behind) else {
+        return Err(Unread::Refused);
+    };
     if first == b'0' {
-        return None;
+        return Err(Unread::Refused);
     }
     let mut number = u64::from(first - b'0');
     while let Some(digit) = next_digit(&mut behind) {
         if number > most / 10 {
-            return None;
+            return Err(Unread::Refused);
         }
         number = number * 10 + u64::from(digit - b'0');
     }
@@ -248,10 +285,15 @@ fn take_digits(rest: &mut &[u8], end: u8, most: u64) -> Option<u64>
 }
 
 /// The number, if it is at most `most`.
-fn number_within(number: u64, most: u64) -> Option<u64>
-    ensures { IfSome result (λ same. (same ≡ number) × (same ≤ most)) }
+fn number_within(number: u64, most: u64) -> Result<u64, Unread>
+    ensures within { IfOk result (λ same. (same ≡ number) × (same ≤ most)) }
+    ensures refused { IfErr result (λ unread. unread ≡ Refused) }
 {
-    if number <= most { Some(number) } else { None }
+    if number <= most {
+        Ok(number)
+    } else {
+        Err(Unread::Refused)
+    }
 }
 
 /// Takes a digit and this byte behind it, or nothing if they are not there.
@@ -285,14 +327,15 @@ fn next_digit(rest: &mut &[u8]) -> Option<u8>
 }
 
 /// Takes this byte.
-pub(crate) fn take_byte(rest: &mut &[u8], byte: u8) -> Option<()>
-    ensures { IfSome result (λ _. rest.old.now ≡ byte ∷ rest.new.now) }
+pub(crate) fn take_byte(rest: &mut &[u8], byte: u8) -> Result<(), Unread>
+    ensures text { IfOk result (λ _. rest.old.now ≡ byte ∷ rest.new.now) }
+    ensures refused { IfErr result (λ unread. unread ≡ Refused) }
 {
     match *rest {
         [first, after @ ..] if *first == byte => {
             *rest = after;
-            Some(())
+            Ok(())
         }
-        _ => None,
+        _ => Err(Unread::Refused),
     }
 }

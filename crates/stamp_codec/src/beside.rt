@@ -1,13 +1,15 @@
 //! Reading of a tree beside another one, whose parts it shares where the two are equal.
-ghost use Rattle.std.specs.Prelude.{◌≡◌, ◌↔◌, ◌+◌, ◌^◌, ◌<◌, ◌≤◌, [], ◌∷◌, ◌++◌, max, IfSome, IsTrue};
+ghost use Rattle.std.specs.Prelude.{◌≡◌, ◌↔◌, ◌+◌, ◌^◌, ◌<◌, ◌≤◌, [], ◌∷◌, ◌++◌, max, IfErr, IfOk, IsTrue};
 ghost use Rattle.event_tree.specs.Height.{height};
 ghost use Rattle.stamp_codec.specs.StampText.{tree_text};
 ghost use Rattle.stamp_codec.specs.Faults.{greatest_sum};
 ghost use Rattle.stamp_codec.specs.Beside.{tree_beside};
+ghost use Rattle.stamp_codec.specs.Flat.{OpensNowhere};
+ghost use Rattle.stamp_codec.specs.declared.at_once.Unread.TheVariants.{Refused};
 ghost use Rattle.stamp_codec.specs.declared.beside.Beside.TheVariants.{Other, Same};
 ghost use Rattle.trace_types.specs.clock.EventTree.{Leaf, Node, maximum};
 
-use crate::at_once::{node_of, take_byte, take_node, take_number};
+use crate::at_once::{Unread, node_of, take_byte, take_node, take_number};
 use event_tree::{EvTree, Parts};
 use std::alloc::Global;
 use std::mem;
@@ -30,16 +32,25 @@ impl Beside {
         matches!(self, Beside::Same)
     }
 
-    /// Puts the tree into the place that was lent for it, also if it is the same. Returns `None` if a part would stand in
+    /// Puts the tree into the place that was lent for it, also if it is the same. Returns `Refused` if a part would stand in
     /// more trees than can be counted. It is a function of its own so that the walk has small frames.
     #[inline(never)]
-    pub(crate) fn settle(self, alloc: Global, tree: &EvTree, made: &mut EvTree) -> Option<()>
-        ensures { IfSome result (λ _. made.new ≡ tree_beside self tree.now made.old) }
+    pub(crate) fn settle(
+        self,
+        alloc: Global,
+        tree: &EvTree,
+        made: &mut EvTree,
+    ) -> Result<(), Unread>
+        ensures settled { IfOk result (λ _. made.new ≡ tree_beside self tree.now made.old) }
+        ensures refused { IfErr result (λ unread. unread ≡ Refused) }
     {
         if let Beside::Same = self {
-            *made = tree.share(alloc).ok()?;
+            match tree.share(alloc) {
+                Ok(same) => *made = same,
+                Err(_) => return Err(Unread::Refused),
+            }
         }
-        Some(())
+        Ok(())
     }
 }
 
@@ -56,20 +67,21 @@ pub(crate) fn take_beside(
     most: u64,
     tree: &EvTree,
     made: &mut EvTree,
-) -> Option<Beside>
+) -> Result<Beside, Unread>
     requires { most ≤ greatest_sum }
-    ensures text { IfSome result (λ read. rest.old.now ≡ (tree_text (tree_beside read tree.now made.new) ++ end ∷ []) ++ rest.new.now) }
-    ensures low { IfSome result (λ read. height (tree_beside read tree.now made.new) ≤ levels) }
-    ensures small { IfSome result (λ read. maximum (tree_beside read tree.now made.new) ≤ most) }
+    ensures flat { OpensNowhere rest.old.now → IfErr result (λ unread. unread ≡ Refused) }
+    ensures text { IfOk result (λ read. rest.old.now ≡ (tree_text (tree_beside read tree.now made.new) ++ end ∷ []) ++ rest.new.now) }
+    ensures low { IfOk result (λ read. height (tree_beside read tree.now made.new) ≤ levels) }
+    ensures small { IfOk result (λ read. maximum (tree_beside read tree.now made.new) ≤ most) }
 {
     match *rest {
         [b'(', inner @ ..] => {
             *rest = inner;
             let read = take_node_beside(alloc, rest, levels, most, tree, made)?;
             take_byte(rest, end)?;
-            Some(read)
+            Ok(read)
         }
-        _ => Some(leaf_beside(take_number(rest, end, most)?, tree, made)),
+        _ => Ok(leaf_beside(take_number(rest, end, most)?, tree, made)),
     }
 }
 
@@ -82,17 +94,17 @@ fn take_node_beside(
     most: u64,
     tree: &EvTree,
     made: &mut EvTree,
-) -> Option<Beside>
+) -> Result<Beside, Unread>
     requires { most ≤ greatest_sum }
-    ensures text { IfSome result (λ read. 40 ∷ rest.old.now ≡ tree_text (tree_beside read tree.now made.new) ++ rest.new.now) }
-    ensures low { IfSome result (λ read. height (tree_beside read tree.now made.new) ≤ levels) }
-    ensures small { IfSome result (λ read. maximum (tree_beside read tree.now made.new) ≤ most) }
+    ensures text { IfOk result (λ read. 40 ∷ rest.old.now ≡ tree_text (tree_beside read tree.now made.new) ++ rest.new.now) }
+    ensures low { IfOk result (λ read. height (tree_beside read tree.now made.new) ≤ levels) }
+    ensures small { IfOk result (λ read. maximum (tree_beside read tree.now made.new) ≤ most) }
 {
     let Parts::Node(base, left, right) = tree.parts() else {
         return take_other(alloc, rest, levels, most, made);
     };
     if levels == 0 {
-        return None;
+        return Err(Unread::Refused);
     }
     let number = take_number(rest, b',', most)?;
     let on_left = take_beside(alloc, rest, b',', levels - 1, most - number, left, made)?;
@@ -107,12 +119,12 @@ fn take_node_beside(
         &mut second,
     )?;
     if number == base && on_left.is_same() && on_right.is_same() {
-        return Some(Beside::Same);
+        return Ok(Beside::Same);
     }
     on_left.settle(alloc, left, made)?;
     on_right.settle(alloc, right, &mut second)?;
     put_node(alloc, number, made, second)?;
-    Some(Beside::Other)
+    Ok(Beside::Other)
 }
 
 /// Takes a node behind its parenthesis where there is none beside it.
@@ -123,27 +135,26 @@ fn take_other(
     levels: usize,
     most: u64,
     made: &mut EvTree,
-) -> Option<Beside>
+) -> Result<Beside, Unread>
     requires { most ≤ greatest_sum }
-    ensures other { IfSome result (λ read. read ≡ Other) }
-    ensures text { IfSome result (λ _. 40 ∷ rest.old.now ≡ tree_text made.new ++ rest.new.now) }
-    ensures low { IfSome result (λ _. height made.new ≤ levels) }
-    ensures small { IfSome result (λ _. maximum made.new ≤ most) }
+    ensures other { IfOk result (λ read. read ≡ Other) }
+    ensures text { IfOk result (λ _. 40 ∷ rest.old.now ≡ tree_text made.new ++ rest.new.now) }
+    ensures low { IfOk result (λ _. height made.new ≤ levels) }
+    ensures small { IfOk result (λ _. maximum made.new ≤ most) }
 {
     *made = take_node(alloc, rest, levels, most)?;
-    Some(Beside::Other)
+    Ok(Beside::Other)
 }
 
-/// Puts this tree and the one on its right under the node with this number. Gives `None` if the node is not normal, or if
-/// memory runs out.
+/// Puts this tree and the one on its right under the node with this number, if the node is normal.
 #[inline(never)]
-fn put_node(alloc: Global, number: u64, made: &mut EvTree, right: EvTree) -> Option<()>
+fn put_node(alloc: Global, number: u64, made: &mut EvTree, right: EvTree) -> Result<(), Unread>
     requires { number + max (maximum made.old) (maximum right) < 2 ^ 64 }
-    ensures { IfSome result (λ _. made.new ≡ Node number made.old right) }
+    ensures { IfOk result (λ _. made.new ≡ Node number made.old right) }
 {
     let left = mem::replace(made, EvTree::leaf(0));
     *made = node_of(alloc, number, left, right)?;
-    Some(())
+    Ok(())
 }
 
 /// The leaf of this value beside the tree.

@@ -10,7 +10,7 @@ ghost use Rattle.stamp_codec.specs.declared.stamp.Stamp.{Stamp};
 ghost use Rattle.stamp_codec.specs.Flat.{OpensNowhere};
 ghost use Rattle.stamp_codec.specs.Reading.{ReadsStamp, SpellsNormal, GivesStamp, IsNoMemory};
 
-use crate::at_once::stamp_at_once;
+use crate::at_once::{Unread, stamp_at_once};
 use crate::cursor::Cursor;
 use crate::depth::is_too_deep;
 use crate::shape::shape_fault;
@@ -25,8 +25,8 @@ use std::alloc::Global;
 /// first fault of the first kind that it finds. The id and the tree may each be nested 2048 deep. The numbers on the way
 /// from the root to a node may have a sum of 2^63 - 1.
 ///
-/// One pass checks and builds together, and gives the stamp of most texts. It stops at the first byte that does not fit. Any
-/// other text is read again, to tell its fault. Two passes without recursion tell the shape and the nesting then, before
+/// One pass checks and builds together, and gives the stamp of most texts. It stops at the first byte that does not fit. A
+/// text that it refuses is read again, to tell its fault. Two passes without recursion tell the shape and the nesting then, before
 /// anything is built again. Nothing is built of a text that is nested too deep, and nothing below a number that is too great.
 ///
 /// Returns `Memory` if it runs out of memory, for a mark of each open parenthesis or for the stamp. `Memory` may come
@@ -50,7 +50,7 @@ pub fn read_stamp(alloc: Global, text: &[u8]) -> Result<Stamp, StampFault>
 /// place, and no block of memory is taken for them.
 ///
 /// Use it if the stamp's tree is like one that is there already. The tree of an event is like those of the events that it
-/// follows. The tree beside which a stamp is read does not change it. Nothing is shared if the text has to be read again.
+/// follows. The tree beside which a stamp is read does not change it.
 ///
 /// Returns `Memory` as [`read_stamp`] does.
 pub fn read_stamp_beside(alloc: Global, text: &[u8], tree: &EvTree) -> Result<Stamp, StampFault>
@@ -66,9 +66,21 @@ pub fn read_stamp_beside(alloc: Global, text: &[u8], tree: &EvTree) -> Result<St
     ensures flat { OpensNowhere text.now → IfErr result (λ fault. ¬ IsNoMemory fault) }
 {
     // Most texts spell a stamp. The other passes find the fault of one that does not.
-    if let Some(stamp) = stamp_at_once(alloc, text, tree) {
-        return Ok(stamp);
+    match stamp_at_once(alloc, text, tree) {
+        Ok(stamp) => Ok(stamp),
+        Err(Unread::Memory) => Err(StampFault::Memory),
+        Err(Unread::Refused) => read_refused(alloc, text),
     }
+}
+
+/// The fault of a text that was not read at once, or its stamp if a part could not be shared.
+fn read_refused(alloc: Global, text: &[u8]) -> Result<Stamp, StampFault>
+    ensures exact { ReadsStamp text.now result }
+    ensures only { (id : Id) (tree : Written) → SpellsNormal text.now id tree → GivesStamp result id (written_tree tree) }
+    ensures again { (stamp : Stamp) → IsBounded stamp → text.now ≡ stamp_as_text stamp → GivesStamp result stamp.id stamp.tree }
+    ensures found { IfOk result (λ stamp. text.now ≡ stamp_as_text stamp) }
+    ensures flat { OpensNowhere text.now → IfErr result (λ fault. ¬ IsNoMemory fault) }
+{
     match shape_fault(alloc, text)? {
         Some(place) => Err(StampFault::Shape(place)),
         None => walk(alloc, text),
