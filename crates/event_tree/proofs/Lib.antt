@@ -12,6 +12,7 @@ pub mod Lifts
 pub mod Narrow
 pub mod NormLemmas
 pub mod Paths
+mod PathPoints
 pub mod Places
 pub mod Points
 pub mod Pricing

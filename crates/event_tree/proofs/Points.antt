@@ -1,7 +1,8 @@
 -- The value at a point whose halves are the bits of a number.
-use Rattle.std.proofs.Common.{◌≡◌, ℕ, zero, suc, ◌+◌, ◌/◌, ◌%◌, ◌^◌, ◌<◌, refl, ap, arith}
+use Rattle.std.proofs.Common.{◌≡◌, ℕ, zero, suc, ◌+◌, ◌*◌, ◌/◌, ◌%◌, ◌^◌, ◌<◌, [], ◌∷◌, refl, sym, ap, ◌∙◌, arith}
+use Rattle.std.proofs.lemmas.Nat.{pow_pos}
 use Rattle.std.proofs.Math.Nat.{pow-suc}
-use Rattle.trace_types.specs.clock.Points.{at_half}
+use Rattle.trace_types.specs.clock.Points.{Left, Right, Point, at_half}
 use Rattle.trace_types.specs.clock.EventTree.{EventTree, Leaf, Node, value}
 use Rattle.event_tree.specs.PointCode.{half_of_bit, halves_of}
 use Rattle.event_tree.proofs.Values.{on_both}
@@ -38,3 +39,30 @@ module _ (sum n number : ℕ) (l r : EventTree) (v : ℕ) (fits : number < 2 ^ 1
 
   pub steps_right : number % 2 ≡ 1 → (sum + n) + value r (halves_of 128 (number / 2)) ≡ v
   steps_right bit = omega (arith, rw bit at (value-half 127 number n l r fits), adds_up)
+
+-- the number 0 is the point that goes to the left at each level
+pub value-zero : (levels : ℕ) (tree : EventTree) → value tree (halves_of levels 0) ≡ value tree []
+unfolding halves_of
+value-zero zero tree = refl
+value-zero (suc levels) tree = value-one_more levels 0 tree (pow_pos levels) ∙ value-zero levels tree
+
+-- one level more above a point is one bit more of the number, the lowest
+module _ (levels number : ℕ) (path : Point) (fits : number < 2 ^ levels) (same : (tree : EventTree) → value tree (halves_of (suc levels) number) ≡ value tree path) where
+  value-below : (tree : EventTree) → value tree (halves_of levels number) ≡ value tree path
+  value-below tree = sym (value-one_more levels number tree fits) ∙ same tree
+
+  pub value-left_of : (tree : EventTree) → value tree (halves_of (suc levels) (number * 2)) ≡ value tree (Left ∷ path)
+  unfolding halves_of
+  value-left_of (Leaf n) = refl
+  value-left_of (Node n l r) =
+      let bit : (number * 2) % 2 ≡ 0 = omega arith in
+      let rest : (number * 2) / 2 ≡ number = omega arith in
+      rw (bit, rest) (ap (λ (v : ℕ). n + v) (value-below l))
+
+  pub value-right_of : (tree : EventTree) → value tree (halves_of (suc levels) (number * 2 + 1)) ≡ value tree (Right ∷ path)
+  unfolding halves_of
+  value-right_of (Leaf n) = refl
+  value-right_of (Node n l r) =
+      let bit : (number * 2 + 1) % 2 ≡ 1 = omega arith in
+      let rest : (number * 2 + 1) / 2 ≡ number = omega arith in
+      rw (bit, rest) (ap (λ (v : ℕ). n + v) (value-below r))

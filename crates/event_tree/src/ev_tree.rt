@@ -1,10 +1,11 @@
 //! Event trees, kept normal.
-ghost use Rattle.std.specs.Prelude.{◌≡◌, ◌+◌, ◌-◌, ◌^◌, ◌<◌, ◌↔◌, min, IfOk, IfSome, IfNone, IsOk, IsTrue, false};
+ghost use Rattle.std.specs.Prelude.{◌≡◌, ◌+◌, ◌-◌, ◌^◌, ◌<◌, ◌↔◌, ◌≤◌, min, max, length, IfOk, IfSome, IfNone, IsOk, IsTrue, false};
 ghost use Rattle.trace_types.specs.clock.EventTree.{Leaf, IsNormal, value, maximum};
 ghost use Rattle.event_tree.specs.Comparison.{IsBelow, StandsAs};
 ghost use Rattle.trace_types.specs.clock.Join.{join};
 ghost use Rattle.trace_types.specs.clock.Size.{inner_of_tree};
 ghost use Rattle.event_tree.specs.Digest.{tree_digest};
+ghost use Rattle.event_tree.specs.Height.{height};
 ghost use Rattle.event_tree.specs.Leaves.{IsLeafTree};
 ghost use Rattle.event_tree.specs.Parts.{tree_of_parts};
 
@@ -209,6 +210,7 @@ impl EvTree {
     pub fn leq_or_path(&self, other: &EvTree, path: &mut Path) -> Result<bool, AllocError>
         ensures below { IfOk result (λ below. IsTrue below ↔ IsBelow self.now other.now) }
         ensures above { IfOk result (λ below. below ≡ false → value other.now path.new < value self.now path.new) }
+        ensures short { IfOk result (λ below. length path.new ≤ max (height self.now) (height other.now)) }
     {
         self.normal();
         other.normal();

@@ -1,8 +1,11 @@
 //! Paths, which are points of any depth.
-ghost use Rattle.std.specs.Prelude.{◌≡◌, ◌∷◌, [], IfOk};
+ghost use Rattle.std.specs.Prelude.{◌≡◌, ◌<◌, ◌∷◌, [], length, IfNone, IfOk, IfSome};
+ghost use Rattle.trace_types.specs.clock.EventTree.{EventTree, value};
 ghost use Rattle.trace_types.specs.clock.Points.{half_of, within_half};
 ghost use Rattle.event_tree.specs.PathCode.{half_on, point_of};
 
+use crate::Point;
+use crate::point::LEVELS;
 use std::alloc::{AllocError, Global};
 use std::marker::Model;
 
@@ -38,6 +41,25 @@ impl Path {
     {
         self.rights.clear();
         self.rights.extend_from_slice(&other.rights)
+    }
+
+    /// The point at which trees have the values that they have at the path, or `None` if the path has more levels than a
+    /// point. It takes no memory.
+    pub fn point(&self) -> Option<Point>
+        ensures same { IfSome result (λ point. (tree : EventTree) → value tree point ≡ value tree self.now) }
+        ensures none { IfNone result (128 < length self.now) }
+    {
+        if LEVELS < self.rights.len() as u64 {
+            return None;
+        }
+        let mut halves: u128 = 0;
+        for right in self.rights.iter() {
+            halves *= 2;
+            if *right {
+                halves += 1;
+            }
+        }
+        Some(Point::of(halves))
     }
 
     pub(crate) fn clear(&mut self)

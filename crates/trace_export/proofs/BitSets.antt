@@ -1,11 +1,10 @@
 -- Words with more bits.
-use Rattle.std.proofs.Common.{◌≡◌, ◌≢◌, ◌↔◌, ◌⊎◌, ℕ, ◌+◌, ◌-◌, ◌*◌, ◌^◌, ◌/◌, ◌%◌, ◌<◌, ◌≤◌, List, length, slice_index_or, slice_set, bit_or, refl, sym, ap, subst, inl, inr, ◌∙◌, arith, w64, add-zero}
-use Rattle.std.specs.Int.{bit_at, trailing_ones}
-use Rattle.std.specs.Int.Count.{count_trailing_zeros}
+use Rattle.std.proofs.Common.{◌≡◌, ◌≢◌, ◌↔◌, ◌⊎◌, ℕ, ◌+◌, ◌-◌, ◌*◌, ◌^◌, ◌/◌, ◌%◌, ◌<◌, ◌≤◌, List, length, slice_index_or, slice_set, bit_and, bit_or, refl, sym, ap, subst, inl, inr, ◌∙◌, arith, w64, add-zero}
+use Rattle.std.specs.Int.{bit_at, bit_not, trailing_ones}
 use Rattle.std.proofs.lemmas.Bool.{cases_eq, cases_lt}
 use Rattle.std.proofs.lemmas.List.{get_or-set_same, get_or-set_other, get_or_past}
-use Rattle.std.proofs.lemmas.Nat.{shr-shr, shr_le, trailing_le}
-use Rattle.std.proofs.lemmas.Nat.Bits.{bit_at-lt, bit_at-zero, bit_at_or, bit_at_above, bit_at_ones, bit_at-trailing_ones, bit_at_set_same, bit_at_set_other}
+use Rattle.std.proofs.lemmas.Nat.{and_le_l, or_lt, shr-shr, shr_le, trailing_le}
+use Rattle.std.proofs.lemmas.Nat.Bits.{bit_at-lt, bit_at-zero, bit_at_and, bit_at_not, bit_at_or, bit_at_above, bit_at_clear_other, bit_at_ones, bit_at-trailing_ones, bit_at_set_same, bit_at_set_other}
 use Rattle.trace_export.specs.Bits.{HasBit}
 
 -- the word in which the number's bit stands
@@ -85,31 +84,45 @@ shifted_ones a s i fits low =
     let within : s + i < 64 = elim (cases_lt (s + i) 64) [ inl within ↦ within | inr past ↦ absurd (omega (arith, one, bit_at_above a 64 (s + i) fits past)) ] in
     (within, one)
 
--- all ones of a word are at its low end
-all_ones : trailing_ones w64 (2 ^ 64 - 1) ≡ 64
-unfolding count_trailing_zeros
-all_ones = refl
+-- one bit is cleared
+abbrev pub without_bit : List ℕ → ℕ → List ℕ
+without_bit words n = slice_set words (n / 64) (bit_and (slice_index_or words (n / 64) 0) (bit_not w64 (1 * 2 ^ (n % 64) % 18446744073709551616)))
 
--- if there are none, the word has no bit at the place
-no_shifted_ones : (a s : ℕ) → a < 2 ^ 64 → trailing_ones w64 (a / 2 ^ s) ≡ 0 → bit_at a s ≡ 0
-no_shifted_ones a s fits none = elim (cases_lt (a / 2 ^ s + 1) (2 ^ 64)) [
-  | inl below ↦
-      let zero : bit_at (a / 2 ^ s) 0 ≡ 0 = subst (λ i. bit_at (a / 2 ^ s) i ≡ 0) none (bit_at-trailing_ones w64 (a / 2 ^ s) below).1 in
-      subst (λ i. bit_at a i ≡ 0) (add-zero s) (ap (λ n. n % 2) (sym (shr-shr a s 0)) ∙ zero)
-  | inr full ↦
-      let ones : a / 2 ^ s ≡ 2 ^ 64 - 1 = omega (arith, fits, full, shr_le a s) in
-      absurd (omega (arith, all_ones, ap (trailing_ones w64) (sym ones) ∙ none))
+-- the other bits stay
+pub without_bit-others : (words : List ℕ) (n m : ℕ) → n < 64 * length words → m ≢ n → HasBit words m → HasBit (without_bit words n) m
+without_bit-others words n m fits other has = elim (cases_eq (m / 64) (n / 64)) [
+  | inl same ↦
+      let within : n / 64 < length words = omega (arith, fits) in
+      let small : n % 64 < 64 = omega arith in
+      let m_small : m % 64 < 64 = omega arith in
+      let apart : m % 64 ≢ n % 64 = λ equal. other (omega (arith, same, equal)) in
+      let word = slice_index_or words (n / 64) 0 in
+      let is : bit_at word (m % 64) ≡ 1 = subst (λ k. bit_at (slice_index_or words k 0) (m % 64) ≡ 1) same has in
+      subst (λ k. bit_at (slice_index_or (without_bit words n) k 0) (m % 64) ≡ 1) (sym same)
+      (ap (λ found. bit_at found (m % 64)) (get_or-set_same words (n / 64) (bit_and word (bit_not w64 (1 * 2 ^ (n % 64) % 18446744073709551616))) 0 within)
+      ∙ bit_at_clear_other w64 word (n % 64) small (m % 64) m_small apart ∙ is)
+  | inr differs ↦ ap (λ word. bit_at word (m % 64)) (get_or-set_other words (n / 64) (m / 64) (bit_and (slice_index_or words (n / 64) 0) (bit_not w64 (1 * 2 ^ (n % 64) % 18446744073709551616))) 0 differs) ∙ has
 ]
 
--- the numbers that a set has from one on
-pub run_of_has : (words : List ℕ) (a from n : ℕ) → slice_index_or words (from / 64) 0 ≡ a → a < 2 ^ 64
-    → from ≤ n → n < from + trailing_ones w64 (a / 2 ^ (from % 64)) → HasBit words n
-run_of_has words a from n is fits least low =
-    let ones = shifted_ones a (from % 64) (n - from) fits (omega (arith, least, low)) in
-    let word : n / 64 ≡ from / 64 = omega (arith, least, ones.0) in
-    let place : n % 64 ≡ from % 64 + (n - from) = omega (arith, least, ones.0) in
-    rw (word, place, is) ones.1
+-- what the bit of a word says that has those bits which one word has not or two others have
+both_or_not : (a b c i : ℕ) → a < 2 ^ 64 → i < 64 → bit_at (bit_or (bit_not w64 a) (bit_and b c)) i ≡ 1 → (bit_at a i ≢ 1) ⊎ ((bit_at b i ≡ 1) × (bit_at c i ≡ 1))
+both_or_not a b c i fits small is = elim ((or-iff (bit_not w64 a) (bit_and b c) i).0 is) [
+  | inl not ↦ inl (λ has. omega (arith, has, bit_at_not w64 a i fits small, not))
+  | inr both ↦ inr (omega (arith, both, bit_at_and b c i, bit_at-lt b i, bit_at-lt c i), omega (arith, both, bit_at_and b c i, bit_at-lt b i, bit_at-lt c i))
+]
 
--- it has not the one at which no such run begins
-pub run_of_none : (words : List ℕ) (a from : ℕ) → slice_index_or words (from / 64) 0 ≡ a → a < 2 ^ 64 → trailing_ones w64 (a / 2 ^ (from % 64)) ≡ 0 → ¬ HasBit words from
-run_of_none words a from is fits none has = omega (arith, no_shifted_ones a (from % 64) fits none, ap (λ word. bit_at word (from % 64)) (sym is) ∙ has)
+-- the numbers from one on that a set has not, or two others have
+pub run_outside_is : (words ones others : List ℕ) (a b c from n : ℕ) → a ≡ slice_index_or words (from / 64) 0 → b ≡ slice_index_or ones (from / 64) 0 → c ≡ slice_index_or others (from / 64) 0
+    → a < 2 ^ 64 → b < 2 ^ 64 → from ≤ n → n < from + trailing_ones w64 (bit_or (bit_not w64 a) (bit_and b c) / 2 ^ (from % 64))
+    → (¬ HasBit words n) ⊎ (HasBit ones n × HasBit others n)
+run_outside_is words ones others a b c from n a_is b_is c_is a_fits b_fits least low =
+    let fits : bit_or (bit_not w64 a) (bit_and b c) < 2 ^ 64 = or_lt 64 (bit_not w64 a) (bit_and b c) (omega arith) (omega (arith, and_le_l b c, b_fits)) in
+    let found = shifted_ones (bit_or (bit_not w64 a) (bit_and b c)) (from % 64) (n - from) fits (omega (arith, least, low)) in
+    let word : n / 64 ≡ from / 64 = omega (arith, least, found.0) in
+    let place : n % 64 ≡ from % 64 + (n - from) = omega (arith, least, found.0) in
+    let same : (list : List ℕ) (w : ℕ) → w ≡ slice_index_or list (from / 64) 0 → bit_at w (from % 64 + (n - from)) ≡ bit_at (slice_index_or list (n / 64) 0) (n % 64) =
+    λ list w is. ap (λ found. bit_at found (from % 64 + (n - from))) (is ∙ ap (λ k. slice_index_or list k 0) (sym word)) ∙ ap (bit_at (slice_index_or list (n / 64) 0)) (sym place) in
+    elim (both_or_not a b c (from % 64 + (n - from)) a_fits found.0 found.1) [
+      | inl not ↦ inl (λ has. not (same words a a_is ∙ has))
+      | inr both ↦ inr (sym (same ones b b_is) ∙ both.0, sym (same others c c_is) ∙ both.1)
+    ]

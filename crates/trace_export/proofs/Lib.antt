@@ -1,5 +1,6 @@
 pub mod Alike
 pub mod BitSets
+pub mod Chaining
 pub mod Comparing
 pub mod Connecting
 pub mod DueLines
@@ -9,6 +10,7 @@ pub mod GoodStamps
 mod Headings
 pub mod Judging
 pub mod LegalRows
+pub mod Listed
 pub mod LoadedEvents
 pub mod LoadedLines
 pub mod LoadedWhole
@@ -25,6 +27,7 @@ pub mod Refusing
 pub mod Remaking
 pub mod Rerunning
 pub mod RightRows
+pub mod Rows
 pub mod SpelledTrees
 pub mod StampReplies
 pub mod StampTrees

@@ -7,14 +7,13 @@ use Rattle.std.proofs.lemmas.List.{get_or_append_left, get_or-append-add}
 use Rattle.std.proofs.lemmas.List.Elements.{All-contains}
 use Rattle.trace_types.specs.clock.EventTree.{EventTree}
 use Rattle.event_tree.specs.Comparison.{IsBelow}
-use Rattle.trace_export.specs.declared.graph.Graph.{Graph}
 use Rattle.trace_export.specs.declared.placed.Placed.{Placed}
 use Rattle.trace_export.specs.Bits.{HasBit}
 use Rattle.trace_export.specs.Edges.{Placing, IsPlaced, listed_preds, listed_tree, IsConnected, AreOrderedAlike}
-use Rattle.trace_export.specs.Graph.{AreEarlier, AreReaching, IsFollowed, IsNextWith, reaching_row, IsGraph, IsReachedBy, IsComparedNext, RefutesNext}
+use Rattle.trace_export.specs.Graph.{AreEarlier, AreReaching, reaching_row, IsGraph, IsReachedBy, IsComparedNext, RefutesNext}
 use Rattle.trace_export.specs.Verdict.{IsOrderedNext}
-use Rattle.trace_export.proofs.Alike.{tree_earlier, tree_next, alike_next}
-use Rattle.trace_export.proofs.Connecting.{with_next, length-with_next, placed_at-earlier, placed_at-next, earlier_pred, connected_before, connected_itself, connected_by, connected-with_next, connected_next, next_connected, back-with_next}
+use Rattle.trace_export.proofs.Alike.{tree_earlier, tree_next}
+use Rattle.trace_export.proofs.Connecting.{with_next, length-with_next, placed_at-earlier, placed_at-next, earlier_pred, connected_before, connected_by, connected_itself, connected-with_next, connected_next, next_connected}
 
 below_itself : (e : EventTree) → IsBelow e e
 below_itself e point = omega arith
@@ -44,7 +43,7 @@ all_or_one bits (event ∷ events) = elim (cases_bit bits (event - 1)) [
   | inr not ↦ inr (event, (0, omega arith, refl), not)
 ]
 
-module _ (placing : Placing) (rows : List (List ℕ)) (followed : List ℕ) (graph : IsGraph placing rows followed) (placed : Placed)
+module _ (placing : Placing) (rows : List (List ℕ)) (followed : List ℕ) (graph : IsGraph placing rows followed) (whole : length rows ≡ length placing) (placed : Placed)
     (earlier : AreEarlier placed.preds (suc (length placing))) where
   -- an event that the next one follows
   followed_placed : (pred : ℕ) → Contains placed.preds pred → IsPlaced placing pred
@@ -81,7 +80,7 @@ module _ (placing : Placing) (rows : List (List ℕ)) (followed : List ℕ) (gra
               | inl before ↦
                   let place : suc (pred - 1) ≡ pred = omega (arith, known.0) in
                   let connected = (graph.alike pred event old within before).0.0 through in
-                  inr ((graph.reaching event within (pred - 1)).1 (omega (arith, known.0, before), subst (λ at. IsConnected placing at event) (sym place) connected))
+                  inr ((graph.reaching event within.0 (omega (arith, whole, within.1)) (pred - 1)).1 (omega (arith, known.0, before), subst (λ at. IsConnected placing at event) (sym place) connected))
               | inr after ↦
                   let connected = (graph.alike event pred within old (omega (arith, after, other))).1.0 through in
                   absurd (omega (arith, other, after, (connected_before placing graph.back pred event within connected).1))
@@ -96,7 +95,7 @@ module _ (placing : Placing) (rows : List (List ℕ)) (followed : List ℕ) (gra
         let within = followed_placed by.0 by.1 in
         elim by.2 [
           | inl before ↦
-              let known = (graph.reaching by.0 within place).0 before in
+              let known = (graph.reaching by.0 within.0 (omega (arith, whole, within.1)) place).0 before in
               (omega (arith, known.0, within.1), next_connected placing placed graph.back (suc place) by.0 by.1 within known.1)
           | inr same ↦
               let this : by.0 ≡ suc place = omega (arith, same, within.0) in
@@ -111,7 +110,7 @@ module _ (placing : Placing) (rows : List (List ℕ)) (followed : List ℕ) (gra
             | inl same ↦ inr (omega (arith, same))
             | inr other ↦
                 let before = connected_before placing graph.back (suc place) by.0 by.2 by.3 in
-                inl ((graph.reaching by.0 by.2 place).1 (omega (arith, before.1, other), by.3))
+                inl ((graph.reaching by.0 by.2.0 (omega (arith, whole, by.2.1)) place).1 (omega (arith, before.1, other), by.3))
           ],
         )),
   )
@@ -179,7 +178,8 @@ module _ (placing : Placing) (rows : List (List ℕ)) (followed : List ℕ) (gra
             let by = (graph.followed_are (event - 1)).0 has in
             let place : suc (event - 1) ≡ event = omega (arith, within.0) in
             let follows = subst (λ at. Contains (listed_preds placing by.0) at) place by.2 in
-            (by.0, (earlier_pred placing graph.back by.0 event by.1 follows).1, by.1, below_through placed.tree (listed_tree placing event) (listed_tree placing by.0) below (below_follower event by.0 by.1 follows))
+            let later : IsPlaced placing by.0 = (by.1.0, omega (arith, whole, by.1.1)) in
+            (by.0, (earlier_pred placing graph.back by.0 event later follows).1, later, below_through placed.tree (listed_tree placing event) (listed_tree placing by.0) below (below_follower event by.0 later follows))
         | inr not ↦ absurd ((compared.apart event within).not_below not below)
       ]
 
@@ -203,72 +203,3 @@ module _ (placing : Placing) (rows : List (List ℕ)) (followed : List ℕ) (gra
           (λ connected. absurd (next_reaches_none other within connected)),
         ),
       )
-
-    -- what is kept of one event more
-    pub graph_more : (followed' : List ℕ) → ((place : ℕ) → HasBit followed' place ↔ (HasBit followed place ⊎ Contains placed.preds (suc place)))
-        → IsOrderedNext placing placed → 64 * length bits ≤ suc (length placing) + 63
-        → IsGraph (with_next placing placed) (rows ++ bits ∷ []) followed'
-    graph_more followed' added ordered short = record {
-      back = back-with_next placing placed graph.back earlier;
-      alike = alike_next placing placed graph.back graph.alike ordered;
-      row_count = omega (arith, length-append rows (bits ∷ []), length-with_next placing placed, graph.row_count);
-      reaching = reaching_all;
-      room = room_all;
-      followed_are = followed_all;
-    }
-      where
-        row_earlier : (event : ℕ) → IsPlaced placing event → reaching_row (rows ++ bits ∷ []) event ≡ reaching_row rows event
-        row_earlier event within = get_or_append_left rows (bits ∷ []) [] (event - 1) (omega (arith, within.0, within.1, graph.row_count))
-
-        row_next : reaching_row (rows ++ bits ∷ []) (suc (length placing)) ≡ bits
-        row_next =
-            let place : suc (length placing) - 1 ≡ length rows + 0 = omega (arith, graph.row_count) in
-            ap (λ k. slice_index_or (rows ++ bits ∷ []) k []) place ∙ get_or-append-add rows (bits ∷ []) 0 []
-
-        reaching_all : (event : ℕ) → IsPlaced (with_next placing placed) event → AreReaching (with_next placing placed) (reaching_row (rows ++ bits ∷ []) event) event
-        reaching_all event within = elim (cases_eq event (suc (length placing))) [
-          | inl next ↦ subst (λ at. AreReaching (with_next placing placed) (reaching_row (rows ++ bits ∷ []) at) at) (sym next) (subst (λ row. AreReaching (with_next placing placed) row (suc (length placing))) (sym row_next) reaching)
-          | inr other ↦
-              let old : IsPlaced placing event = (within.0, omega (arith, other, within.1, length-with_next placing placed)) in
-              subst (λ row. AreReaching (with_next placing placed) row event) (sym (row_earlier event old)) (λ place.
-              let known = graph.reaching event old place in
-              let edges = connected-with_next placing placed graph.back (suc place) event old in (
-                (λ has. ((known.0 has).0, edges.1 (known.0 has).1)),
-                (λ (reaches : (suc place < event) × IsConnected (with_next placing placed) (suc place) event). known.1 (reaches.0, edges.0 reaches.1)),
-              ))
-        ]
-
-        room_all : (event : ℕ) → IsPlaced (with_next placing placed) event → 64 * length (reaching_row (rows ++ bits ∷ []) event) ≤ event + 63
-        room_all event within = elim (cases_eq event (suc (length placing))) [
-          | inl next ↦ subst (λ at. 64 * length (reaching_row (rows ++ bits ∷ []) at) ≤ at + 63) (sym next) (subst (λ (row : List ℕ). 64 * length row ≤ suc (length placing) + 63) (sym row_next) short)
-          | inr other ↦
-              let old : IsPlaced placing event = (within.0, omega (arith, other, within.1, length-with_next placing placed)) in
-              subst (λ (row : List ℕ). 64 * length row ≤ event + 63) (sym (row_earlier event old)) (graph.room event old)
-        ]
-
-        followed_all : (place : ℕ) → HasBit followed' place ↔ IsFollowed (with_next placing placed) (suc place)
-        followed_all place = (
-          (λ has. elim ((added place).0 has) [
-            | inl before ↦
-                let by = (graph.followed_are place).0 before in
-                (by.0, (by.1.0, omega (arith, by.1.1, length-with_next placing placed)), subst (λ (at : Placed). Contains at.preds (suc place)) (sym (placed_at-earlier placing placed by.0 by.1)) by.2)
-            | inr now ↦ (suc (length placing), (omega arith, omega (arith, length-with_next placing placed)), subst (λ (at : Placed). Contains at.preds (suc place)) (sym (placed_at-next placing placed)) now)
-          ]),
-          (λ (by : IsFollowed (with_next placing placed) (suc place)). elim (cases_eq by.0 (suc (length placing))) [
-            | inl next ↦ (added place).1 (inr (subst (λ (at : Placed). Contains at.preds (suc place)) (placed_at-next placing placed) (subst (λ at. Contains (listed_preds (with_next placing placed) at) (suc place)) next by.2)))
-            | inr other ↦
-                let old : IsPlaced placing by.0 = (by.1.0, omega (arith, other, by.1.1, length-with_next placing placed)) in
-                (added place).1 (inl ((graph.followed_are place).1 (by.0, old, subst (λ (at : Placed). Contains at.preds (suc place)) (placed_at-earlier placing placed by.0 old) by.2)))
-          ]),
-        )
-
--- what is known of the next event, also of a graph that has the same events
-pub next_with : (graph : Graph) (placing : Placing) (placed : Placed) (bits : List ℕ) → graph.placed.items ≡ placing → AreEarlier placed.preds (suc (length placing)) → length placing < 16384 → IsOrderedNext placing placed
-    → AreReaching (placing ++ placed ∷ []) bits (suc (length placing)) → 64 * length bits ≤ suc (length placing) + 63 → IsNextWith graph placed bits
-next_with graph placing placed bits same preds few ordered reaching short = record {
-  preds = subst (λ (events : Placing). AreEarlier placed.preds (suc (length events))) (sym same) preds;
-  few = subst (λ (events : Placing). length events < 16384) (sym same) few;
-  ordered = subst (λ (events : Placing). IsOrderedNext events placed) (sym same) ordered;
-  reaching = subst (λ (events : Placing). AreReaching (events ++ placed ∷ []) bits (suc (length events))) (sym same) reaching;
-  short = subst (λ (events : Placing). 64 * length bits ≤ suc (length events) + 63) (sym same) short;
-}

@@ -1,43 +1,61 @@
--- The points of the trees of all events, once there is one more.
-use Rattle.std.proofs.Common.{◌≡◌, ℕ, suc, ◌+◌, ◌-◌, ◌<◌, List, [], ◌∷◌, ◌++◌, length, slice_index_or, Option, None, sym, ap, subst, inl, inr, ◌∙◌, arith, length-append, length-set, slice_set}
-use Rattle.std.proofs.lemmas.Bool.{cases_eq}
-use Rattle.std.proofs.lemmas.List.{get_or_append_left, get_or-append-add, get_or-set_same, get_or-set_other}
+-- The points of the trees of events, once there is one more, or one less.
+use Rattle.std.proofs.Common.{◌≡◌, ◌⊎◌, ℕ, suc, ◌+◌, ◌-◌, ◌<◌, ◌≤◌, List, [], ◌∷◌, ◌++◌, length, slice_index_or, Option, None, sym, ap, subst, inl, inr, ◌∙◌, arith, length-append, length-set, slice_set}
+use Rattle.std.proofs.lemmas.Bool.{cases_eq, cases_lt}
+use Rattle.std.proofs.lemmas.List.{get_or_append_left, get_or-append-add, get_or-set_same, get_or-set_other, get_or_past}
 use Rattle.event_tree.specs.declared.point.RaisedPoint.{RaisedPoint}
 use Rattle.trace_export.specs.Edges.{Placing, IsPlaced, listed_tree}
 use Rattle.trace_export.specs.Graph.{ArePoints}
-use Rattle.trace_export.specs.Raised.{IsPointOf}
+use Rattle.trace_export.specs.Raised.{IsForgotten, IsPointOf, IsPutAt}
 use Rattle.trace_export.specs.declared.placed.Placed.{Placed}
-use Rattle.trace_export.proofs.Alike.{tree_earlier, tree_next}
+use Rattle.trace_export.proofs.Alike.{tree_earlier}
 use Rattle.trace_export.proofs.Connecting.{with_next, length-with_next}
 
--- the point of the next event comes after the others
-pub points_next : (points points' : List (Option RaisedPoint)) (placing : Placing) (placed : Placed) (point : Option RaisedPoint) → ArePoints points placing → IsPointOf point placed.tree
-    → points' ≡ points ++ point ∷ [] → ArePoints points' (placing ++ placed ∷ [])
-points_next points points' placing placed point are is more = subst (λ (these : List (Option RaisedPoint)). ArePoints these (with_next placing placed)) (sym more) (
-  omega (arith, length-append points (point ∷ []), length-with_next placing placed, are.0),
+-- no points are those of any trees
+pub no_points : (points : List (Option RaisedPoint)) (placing : Placing) → points ≡ [] → ArePoints points placing
+no_points points placing none = subst (λ (these : List (Option RaisedPoint)). ArePoints these placing) (sym none) (
+  omega arith,
+  λ event within. subst (λ (found : Option RaisedPoint). IsPointOf found (listed_tree placing event)) (sym (get_or_past [] (event - 1) None (omega arith))) tt,
+)
+
+-- the points are still those of the trees, with one event more listed
+pub points-with_next : (points : List (Option RaisedPoint)) (placing : Placing) (placed : Placed) → ArePoints points placing → ArePoints points (with_next placing placed)
+points-with_next points placing placed are = (
+  omega (arith, are.0, length-with_next placing placed),
   λ event within. elim (cases_eq event (suc (length placing))) [
-    | inl next ↦
-        let place : event - 1 ≡ length points + 0 = omega (arith, next, are.0) in
-        subst (λ at. IsPointOf (slice_index_or (points ++ point ∷ []) (event - 1) None) (listed_tree (with_next placing placed) at)) (sym next)
-        (subst (λ e. IsPointOf (slice_index_or (points ++ point ∷ []) (event - 1) None) e) (sym (tree_next placing placed))
-        (subst (λ (found : Option RaisedPoint). IsPointOf found placed.tree) (sym (ap (λ k. slice_index_or (points ++ point ∷ []) k None) place ∙ get_or-append-add points (point ∷ []) 0 None)) is))
+    | inl next ↦ subst (λ (found : Option RaisedPoint). IsPointOf found (listed_tree (with_next placing placed) event)) (sym (get_or_past points (event - 1) None (omega (arith, next, are.0)))) tt
     | inr other ↦
         let old : IsPlaced placing event = (within.0, omega (arith, other, within.1, length-with_next placing placed)) in
-        subst (λ e. IsPointOf (slice_index_or (points ++ point ∷ []) (event - 1) None) e) (sym (tree_earlier placing placed event old))
-        (subst (λ (found : Option RaisedPoint). IsPointOf found (listed_tree placing event)) (sym (get_or_append_left points (point ∷ []) None (event - 1) (omega (arith, old.0, old.1, are.0)))) (are.1 event old))
+        subst (λ e. IsPointOf (slice_index_or points (event - 1) None) e) (sym (tree_earlier placing placed event old)) (are.1 event old)
   ],
 )
 
--- the point of one event may be found later
-pub points_with : (points : List (Option RaisedPoint)) (placing : Placing) (place : ℕ) (point : Option RaisedPoint) → ArePoints points placing → place < length placing → IsPointOf point (listed_tree placing (place + 1))
-    → ArePoints (slice_set points place point) placing
-points_with points placing place point are low is = (
-  omega (arith, length-set points place point, are.0),
+-- the point of an event is put behind those of the earlier ones, or none is kept
+pub points_put : (points points' : List (Option RaisedPoint)) (placing : Placing) (place : ℕ) (point : Option RaisedPoint) → ArePoints points placing → place < length placing → IsPointOf point (listed_tree placing (suc place))
+    → IsPutAt place point points points' → ArePoints points' placing
+points_put points points' placing place point are low is (inr none) = no_points points' placing none
+points_put points points' placing place point are low is (inl put) = subst (λ (these : List (Option RaisedPoint)). ArePoints these placing) (sym put.1) (
+  omega (arith, length-append points (point ∷ []), put.0, low),
+  λ event within. elim (cases_eq event (suc place)) [
+    | inl this ↦
+        let at : event - 1 ≡ length points + 0 = omega (arith, this, put.0) in
+        subst (λ e. IsPointOf (slice_index_or (points ++ point ∷ []) (event - 1) None) (listed_tree placing e)) (sym this)
+        (subst (λ (found : Option RaisedPoint). IsPointOf found (listed_tree placing (suc place))) (sym (ap (λ k. slice_index_or (points ++ point ∷ []) k None) at ∙ get_or-append-add points (point ∷ []) 0 None)) is)
+    | inr other ↦ elim (cases_lt (event - 1) (length points)) [
+      | inl old ↦ subst (λ (found : Option RaisedPoint). IsPointOf found (listed_tree placing event)) (sym (get_or_append_left points (point ∷ []) None (event - 1) old)) (are.1 event within)
+      | inr past ↦
+          let long : length (points ++ point ∷ []) ≤ event - 1 = omega (arith, past, other, within.0, put.0, length-append points (point ∷ [])) in
+          subst (λ (found : Option RaisedPoint). IsPointOf found (listed_tree placing event)) (sym (get_or_past (points ++ point ∷ []) (event - 1) None long)) tt
+    ]
+  ],
+)
+
+-- a point may be forgotten
+pub points_forgotten : (points points' : List (Option RaisedPoint)) (placing : Placing) (place : ℕ) → ArePoints points placing → IsForgotten place points points' → ArePoints points' placing
+points_forgotten points points' placing place are (inl same) = subst (λ (these : List (Option RaisedPoint)). ArePoints these placing) (sym same) are
+points_forgotten points points' placing place are (inr forgotten) = subst (λ (these : List (Option RaisedPoint)). ArePoints these placing) (sym forgotten.1) (
+  omega (arith, length-set points place None, are.0),
   λ event within. elim (cases_eq (event - 1) place) [
-    | inl same ↦
-        let this : place + 1 ≡ event = omega (arith, same, within.0) in
-        subst (λ (found : Option RaisedPoint). IsPointOf found (listed_tree placing event)) (sym (ap (λ k. slice_index_or (slice_set points place point) k None) same ∙ get_or-set_same points place point None (omega (arith, low, are.0))))
-        (subst (λ at. IsPointOf point (listed_tree placing at)) this is)
-    | inr other ↦ subst (λ (found : Option RaisedPoint). IsPointOf found (listed_tree placing event)) (sym (get_or-set_other points place (event - 1) point None other)) (are.1 event within)
+    | inl same ↦ subst (λ (found : Option RaisedPoint). IsPointOf found (listed_tree placing event)) (sym (ap (λ k. slice_index_or (slice_set points place None) k None) same ∙ get_or-set_same points place None None forgotten.0)) tt
+    | inr other ↦ subst (λ (found : Option RaisedPoint). IsPointOf found (listed_tree placing event)) (sym (get_or-set_other points place (event - 1) None None other)) (are.1 event within)
   ],
 )

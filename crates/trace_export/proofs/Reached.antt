@@ -1,12 +1,9 @@
 -- Events that reach one of some.
-use Rattle.std.proofs.Common.{◌≡◌, ◌↔◌, ◌⊎◌, ℕ, Bool, false, IsTrue, suc, zero, ◌+◌, ◌-◌, ◌<◌, List, [], ◌∷◌, ◌++◌, length, slice_index_or, take, take-suc, refl, sym, ap, subst, inl, inr, ◌∙◌, arith}
-use Rattle.std.specs.List.{Contains, All}
-use Rattle.std.proofs.lemmas.Bool.{false≢true}
+use Rattle.std.proofs.Common.{◌≡◌, ◌↔◌, ◌⊎◌, ℕ, suc, zero, ◌+◌, ◌-◌, ◌<◌, List, [], ◌∷◌, ◌++◌, length, slice_index_or, take, take-suc, refl, sym, ap, subst, inl, inr, ◌∙◌, arith}
+use Rattle.std.specs.List.{Contains}
 use Rattle.std.proofs.lemmas.List.Elements.{Contains-append_left, Contains-append_right, Contains-append_cases}
 use Rattle.trace_export.specs.Bits.{HasBit}
-use Rattle.trace_export.specs.Edges.{Placing, placed_at}
-use Rattle.trace_export.specs.Graph.{IsFirstMissing, IsReachedBy, reaching_row}
-use Rattle.trace_export.specs.declared.placed.Placed.{Placed}
+use Rattle.trace_export.specs.Graph.{IsReachedBy, reaching_row}
 
 -- the place is that of the event, or of one that reaches it
 abbrev pub Reaches1 : List (List ℕ) → ℕ → ℕ → Type 0
@@ -75,9 +72,3 @@ added-step events k place old bits bits' within some known step =
         ]
       ]),
     )
-
--- an event that follows one which does not reach is not one of the first
-pub not_first : (placing : Placing) (reaching : List ℕ) (event : ℕ) (placed : Placed) (all : Bool) → placed ≡ placed_at placing event → (IsTrue all ↔ All (λ pred. HasBit reaching (pred - 1)) placed.preds) → all ≡ false
-    → ¬ IsFirstMissing placing reaching event
-not_first placing reaching event placed all is exact fails missing =
-    false≢true (sym fails ∙ exact.1 (subst (λ (found : Placed). All (λ pred. HasBit reaching (pred - 1)) found.preds) (sym is) missing.1))

@@ -1,4 +1,5 @@
 pub mod Bits
+pub mod Chains
 pub mod Checked
 pub mod DueLine
 pub mod Edges

@@ -16,7 +16,8 @@ use stamp_codec::{StampFault, read_stamp_beside};
 use std::alloc::Global;
 use trace_types::{Limits, Memory, Preds};
 
-/// Adds the event that the line lists if the line is right, else tells why it is faulty.
+/// Adds the event that the line lists if the line is right, else tells why it is faulty. The graph has the events that it had
+/// if memory runs out.
 pub(crate) fn add_line(
     graph: &mut Graph,
     alloc: Global,
@@ -28,6 +29,7 @@ pub(crate) fn add_line(
         × (graph.new.placed.items ≡ graph.old.placed.items ++ placed ∷ []) × IsKeptGraph graph.new)) }
     ensures faulty { IfOk result (λ fault. IfSome fault (λ reason. IsFaulty reason graph.old.placed.items line.now
         × (graph.new.placed.items ≡ graph.old.placed.items))) }
+    ensures memory { IfErr result (λ _. (graph.new.placed.items ≡ graph.old.placed.items) × IsKeptGraph graph.new) }
 {
     match read_json(alloc, line)? {
         None => Ok(Some(Reason::NoJson)),
@@ -50,6 +52,7 @@ fn add_listed(
         × (graph.new.placed.items ≡ graph.old.placed.items ++ placed ∷ []) × IsKeptGraph graph.new)) }
     ensures refused { IfOk result (λ fault. IfSome fault (λ reason. IsRefusedFor reason graph.old.placed.items (listed_of listed.now)
         × (graph.new.placed.items ≡ graph.old.placed.items))) }
+    ensures memory { IfErr result (λ _. (graph.new.placed.items ≡ graph.old.placed.items) × IsKeptGraph graph.new) }
 {
     let join = tree_before(graph, alloc, listed);
     add_beside(graph, alloc, listed, &join)
@@ -80,6 +83,7 @@ fn add_beside(
         × (graph.new.placed.items ≡ graph.old.placed.items ++ placed ∷ []) × IsKeptGraph graph.new)) }
     ensures refused { IfOk result (λ fault. IfSome fault (λ reason. IsRefusedFor reason graph.old.placed.items (listed_of listed.now)
         × (graph.new.placed.items ≡ graph.old.placed.items))) }
+    ensures memory { IfErr result (λ _. (graph.new.placed.items ≡ graph.old.placed.items) × IsKeptGraph graph.new) }
 {
     let number = graph.len() as u64 + 1;
     match place(alloc, number, listed, join)? {

@@ -1,5 +1,5 @@
 //! Sets of small numbers, kept as bits.
-ghost use Rattle.std.specs.Prelude.{◌≡◌, ℕ, ◌+◌, ◌<◌, ◌≤◌, ◌*◌, ◌↔◌, ◌⊎◌, IfOk, IsTrue, length, vec_len};
+ghost use Rattle.std.specs.Prelude.{◌≡◌, ◌≢◌, ℕ, ◌+◌, ◌<◌, ◌≤◌, ◌*◌, ◌/◌, ◌↔◌, ◌⊎◌, IfOk, IsTrue, length, slice_index_or, vec_len};
 ghost use Rattle.trace_export.specs.Bits.{HasBit};
 
 use std::alloc::{AllocError, Global};
@@ -23,19 +23,6 @@ pub(crate) fn has_bit(words: &[u64], n: usize) -> bool
     }
 }
 
-/// How many numbers from this one on are in the set, up to the end of a word.
-#[inline(always)]
-pub(crate) fn run_of(words: &[u64], from: usize) -> usize
-    ensures all { (n : ℕ) → from ≤ n → n < from + result → HasBit words.now n }
-    ensures none { result ≡ 0 → ¬ HasBit words.now from }
-    ensures few { result ≤ 64 }
-{
-    match words.get(from / 64) {
-        Some(word) => (*word >> (from % 64)).trailing_ones() as usize,
-        None => 0,
-    }
-}
-
 /// Adds the number.
 pub(crate) fn add_bit(words: &mut [u64], n: usize)
     requires { n < 64 * length words.old }
@@ -43,6 +30,36 @@ pub(crate) fn add_bit(words: &mut [u64], n: usize)
     ensures len { length words.new ≡ length words.old }
 {
     words[n / 64] |= 1 << (n % 64);
+}
+
+/// Takes the number out of the set.
+pub(crate) fn remove_bit(words: &mut [u64], n: usize)
+    requires { n < 64 * length words.old }
+    ensures others { (m : ℕ) → m ≢ n → HasBit words.old m → HasBit words.new m }
+    ensures len { length words.new ≡ length words.old }
+{
+    words[n / 64] &= !(1 << (n % 64));
+}
+
+/// How many numbers from this one on, up to the end of a word, are not in the first set or are in both of the others.
+#[inline(always)]
+pub(crate) fn run_outside(words: &[u64], ones: &[u64], others: &[u64], from: usize) -> usize
+    ensures all { (n : ℕ) → from ≤ n → n < from + result → (¬ HasBit words.now n) ⊎ (HasBit ones.now n × HasBit others.now n) }
+    ensures few { result ≤ 64 }
+{
+    let passed = !word_of(words, from) | word_of(ones, from) & word_of(others, from);
+    (passed >> (from % 64)).trailing_ones() as usize
+}
+
+/// The word that has the number's bit.
+#[inline(always)]
+fn word_of(words: &[u64], n: usize) -> u64
+    ensures { result ≡ slice_index_or words.now (n / 64) 0 }
+{
+    match words.get(n / 64) {
+        Some(word) => *word,
+        None => 0,
+    }
 }
 
 /// Adds all numbers of another set.

@@ -6,6 +6,7 @@ ghost use Rattle.trace_export.specs.Following.{KeepsTenant};
 ghost use Rattle.trace_export.specs.Graph.{IsKeptGraph};
 
 use crate::collected::Collected;
+use crate::stack::Stack;
 use crate::{CheckFault, Reason, Verdict};
 use line_protocol::{Buffer, Line, Source};
 use std::alloc::Global;
@@ -38,8 +39,10 @@ pub fn check<R: Source>(alloc: Global, reader: &mut R) -> Result<Verdict, CheckF
 {
     let mut lines = Buffer::with_bounds(alloc, MOST_BYTES, MOST_READS)?;
     let mut collected = Collected::new(alloc)?;
+    let mut stack = Stack::new();
     loop {
         let found = lines.next_line(reader)?;
+        stack.make_room(alloc, lines.line().len())?;
         if let Some(verdict) = judge(&mut collected, alloc, found, lines.line())? {
             return Ok(verdict);
         }

@@ -1,8 +1,8 @@
 //! What is kept of the lines of an export.
-ghost use Rattle.std.specs.Prelude.{◌≡◌, ◌+◌, ◌<◌, ◌≤◌, ◌⊎◌, ◌++◌, ◌∷◌, [], None, IfOk, IfNone, IfSome, OnOk, length};
+ghost use Rattle.std.specs.Prelude.{◌≡◌, ◌+◌, ◌<◌, ◌≤◌, ◌⊎◌, ◌++◌, ◌∷◌, [], None, IfOk, IfNone, IfSome, IfErr, IsTrue, OnOk, false, length};
 ghost use Rattle.trace_types.specs.tenant.Rows.{history_of};
 ghost use Rattle.trace_export.specs.Checked.{IsEventKept, IsHeaded, IsRefused};
-ghost use Rattle.trace_export.specs.Following.{IsLastPlaced, IsOneAhead, KeepsTenant, placing_of};
+ghost use Rattle.trace_export.specs.Following.{AreOfTenant, IsLastPlaced, IsOneAhead, KeepsTenant, placing_of};
 ghost use Rattle.trace_export.specs.Graph.{IsKeptGraph};
 ghost use Rattle.trace_export.specs.Heading.{IsHeader, IsNoHeader, lines_ahead};
 ghost use Rattle.trace_export.specs.Verdict.{IsFaulty, IsRightNext};
@@ -26,7 +26,8 @@ pub(crate) struct Collected {
     /// What the other lines list.
     pub(crate) graph: Graph,
     /// The tenant whose lines these are, as long as each line was the one that was due to it and there was memory for it. While
-    /// there is one, nothing has to be compared, since the trees that a tenant keeps compare as its events are ordered.
+    /// there is one, nothing has to be compared, since the trees that a tenant keeps compare as its events are ordered. It is
+    /// there for speed alone.
     pub(crate) tenant: Option<Ledger>,
 }
 
@@ -86,32 +87,72 @@ impl Collected {
             × (self.new.graph.placed.items ≡ self.old.graph.placed.items ++ placed ∷ []) × IsKeptGraph self.new.graph)) }
         ensures faulty { IfOk result (λ fault. IfSome fault (λ reason. IsFaulty reason self.old.graph.placed.items line.now)) }
     {
-        let Some(ledger) = self.tenant.take() else {
-            return add_line(&mut self.graph, alloc, line);
-        };
+        if let Some(ledger) = self.tenant.take() {
+            if self.keep_if_due(alloc, ledger, line) {
+                return Ok(None);
+            }
+        }
+        self.compare(alloc, line)
+    }
+
+    /// Keeps the event that the line lists and the tenant, if the line is the one that is due to the tenant and there is memory
+    /// for it. Else the tenant is given back: its ids and names are not needed any more, and its trees are those of the graph.
+    fn keep_if_due(&mut self, alloc: Global, ledger: Ledger, line: &[u8]) -> bool
+        requires graph { IsKeptGraph self.old.graph }
+        requires tenant { AreOfTenant self.old.header self.old.graph.placed.items ledger }
+        requires none { self.old.tenant ≡ None }
+        requires short { length line.now ≤ 65536 }
+        ensures graph { IsKeptGraph self.new.graph }
+        ensures header { self.new.header ≡ self.old.header }
+        ensures tenant { IsTrue result → KeepsTenant self.new }
+        ensures right { IsTrue result → ((placed : Listed) × IsRightNext self.old.graph.placed.items line.now placed
+            × (self.new.graph.placed.items ≡ self.old.graph.placed.items ++ placed ∷ [])) }
+        ensures left { result ≡ false → (self.new.graph.placed.items ≡ self.old.graph.placed.items) × (self.new.tenant ≡ None) }
+    {
         let limits = limits_under(&self.header);
         let (ledger, is_due) = follow(&(), ledger, &limits, line);
-        if is_due {
-            self.keep_last(alloc, ledger)?;
-            return Ok(None);
+        if !is_due {
+            return false;
         }
-        // The ids of the tenant are not needed any more, and its trees are those of the graph.
-        drop(ledger);
+        match self.keep_last(alloc, &ledger) {
+            Ok(()) => {
+                self.tenant = Some(ledger);
+                true
+            }
+            Err(_) => false,
+        }
+    }
+
+    /// Keeps the event that the line lists if the line is right, by comparing it with the earlier ones. If memory runs out,
+    /// what is kept for speed alone is given back, and the line is read once more.
+    fn compare(&mut self, alloc: Global, line: &[u8]) -> Result<Option<Reason>, Memory>
+        requires graph { IsKeptGraph self.old.graph }
+        requires short { length line.now ≤ 65536 }
+        ensures tenant { self.new.tenant ≡ self.old.tenant }
+        ensures header { self.new.header ≡ self.old.header }
+        ensures right { IfOk result (λ fault. IfNone fault ((placed : Listed) × IsRightNext self.old.graph.placed.items line.now placed
+            × (self.new.graph.placed.items ≡ self.old.graph.placed.items ++ placed ∷ []) × IsKeptGraph self.new.graph)) }
+        ensures faulty { IfOk result (λ fault. IfSome fault (λ reason. IsFaulty reason self.old.graph.placed.items line.now)) }
+    {
+        let added = add_line(&mut self.graph, alloc, line);
+        if added.is_ok() || !self.graph.give_back(alloc) {
+            return added;
+        }
         add_line(&mut self.graph, alloc, line)
     }
 
-    /// Keeps the last event of the tenant, and the tenant.
-    fn keep_last(&mut self, alloc: Global, ledger: Ledger) -> Result<(), Memory>
+    /// Keeps the last event of the tenant.
+    fn keep_last(&mut self, alloc: Global, ledger: &Ledger) -> Result<(), Memory>
         requires graph { IsKeptGraph self.old.graph }
-        requires next { IsOneAhead self.old.header self.old.graph.placed.items ledger }
+        requires next { IsOneAhead self.old.header self.old.graph.placed.items ledger.now }
         ensures header { self.new.header ≡ self.old.header }
-        ensures tenant { OnOk result (KeepsTenant self.new) }
-        ensures placed { OnOk result (self.new.graph.placed.items ≡ placing_of (history_of ledger.rows)) }
-        ensures graph { OnOk result (IsKeptGraph self.new.graph) }
+        ensures tenant { self.new.tenant ≡ self.old.tenant }
+        ensures placed { OnOk result (self.new.graph.placed.items ≡ placing_of (history_of ledger.now.rows)) }
+        ensures graph { IsKeptGraph self.new.graph }
+        ensures memory { IfErr result (λ _. self.new.graph.placed.items ≡ self.old.graph.placed.items) }
     {
-        let placed = last_placed(alloc, &ledger)?;
-        self.graph.add_ordered(alloc, placed)?;
-        self.tenant = Some(ledger);
+        let placed = last_placed(alloc, ledger)?;
+        self.graph.add_ordered(placed)?;
         Ok(())
     }
 

@@ -1,12 +1,14 @@
 //! What is kept of right lines, with which the next one is compared.
-ghost use Rattle.std.specs.Prelude.{◌≡◌, ℕ, suc, ◌+◌, ◌*◌, ◌<◌, ◌≤◌, ◌++◌, ◌∷◌, ◌↔◌, ◌⊎◌, ◌-◌, [], IfOk, IsTrue, length, vec_len, vec_capacity, All, Contains, OnOk, false};
+ghost use Rattle.std.specs.Prelude.{◌≡◌, ℕ, suc, ◌+◌, ◌*◌, ◌<◌, ◌≤◌, ◌++◌, ◌∷◌, ◌↔◌, ◌⊎◌, ◌-◌, [], IfErr, IfOk, IsTrue, length, vec_len, vec_capacity, All, Contains, OnOk, false};
 ghost use Rattle.trace_export.specs.Bits.{HasBit};
-ghost use Rattle.trace_export.specs.Edges.{IsPlaced, AreOrderedAlike, listed_tree, placed_at};
-ghost use Rattle.trace_export.specs.Graph.{AreKeptLines, ArePoints, IsKeptGraph, AreEarlier, AreReaching, IsReachedBy, IsNextWith, rows_of, reaching_row};
+ghost use Rattle.trace_export.specs.Edges.{IsPlaced, AreOrderedAlike, listed_preds, placed_at};
+ghost use Rattle.trace_export.specs.Graph.{AreEarlier, ArePoints, HaveRoom, IsKeptGraph, IsReachedBy, IsWhole, rows_of, reaching_row};
 ghost use Rattle.trace_export.specs.Raised.{IsPointOf};
 ghost use Rattle.trace_export.specs.Verdict.{IsOrderedNext};
 
 use crate::bits::{add_bit, add_bits, no_bits};
+use crate::chains::Chains;
+use crate::hints::Hints;
 use crate::placed::Placed;
 use crate::sides::Sides;
 use event_tree::{EvTree, RaisedPoint};
@@ -14,24 +16,22 @@ use std::alloc::{AllocError, Global};
 use std::mem;
 use trace_types::Preds;
 
-mod above;
 mod ordering;
 
-/// What is kept of right lines.
+/// What is kept of right lines. As long as each line was the one that is due to a tenant, only what they list is kept. The
+/// rest is made before the first event is compared.
 #[derive(Drop)]
 pub(crate) struct Graph {
     /// What is listed of each event. Event k is at k - 1.
     placed: Vec<Placed>,
-    /// The events that reach each event, without itself.
+    /// The events that reach each of the first events, without itself.
     reaching: Vec<Vec<u64>>,
-    /// The events that some event follows.
+    /// The events that some of those events follow.
     followed: Vec<u64>,
-    /// The sides of each event's tree.
-    sides: Vec<Sides>,
-    /// A point at which each event's tree is above those that the event follows, if one is known.
-    points: Vec<Option<RaisedPoint>>,
-    /// Whether some sides are still those of a tree that was compared with none.
-    lacks_sides: bool,
+    /// Those events in chains.
+    chains: Chains,
+    /// What tells soon how the trees of events compare.
+    hints: Hints,
 }
 
 impl Graph {
@@ -47,9 +47,8 @@ impl Graph {
             placed: Vec::new(alloc),
             reaching: Vec::new(alloc),
             followed: no_bits(alloc, Graph::MOST)?,
-            sides: Vec::new(alloc),
-            points: Vec::new(alloc),
-            lacks_sides: false,
+            chains: Chains::new(alloc, Graph::MOST)?,
+            hints: Hints::new(alloc),
         })
     }
 
@@ -76,131 +75,168 @@ impl Graph {
         ensures refuted { IfOk result (λ added. added ≡ false → ((other : ℕ) × IsPlaced self.old.placed.items other
             × (¬ AreOrderedAlike (self.old.placed.items ++ placed ∷ []) other (suc (length self.old.placed.items))))) }
         ensures same { IfOk result (λ added. added ≡ false → self.new.placed.items ≡ self.old.placed.items) }
+        ensures memory { IfErr result (λ _. (self.new.placed.items ≡ self.old.placed.items) × IsKeptGraph self.new) }
     {
-        self.find_sides(alloc)?;
-        let reaching = self.reaching(alloc, &placed)?;
-        let (mut own, point) = first_sides(alloc, &placed, join)?;
-        let mut sides = mem::replace(&mut self.sides, Vec::new(alloc));
-        let ordered = self.is_ordered(&reaching, &placed, &mut own, &mut sides);
-        self.sides = sides;
-        if !ordered? {
+        self.complete(alloc)?;
+        let reaching = self.reached_by(alloc, placed.preds.as_slice())?;
+        let (mut own, point) = first_hints(alloc, &placed, join);
+        let mut hints = mem::replace(&mut self.hints, Hints::new(alloc));
+        let is_ordered = self.is_ordered(&reaching, &placed, &mut own, &mut hints);
+        self.hints = hints;
+        if !is_ordered {
             return Ok(false);
         }
         self.make_room()?;
-        self.put(placed, reaching, own, point);
+        let place = self.placed.len();
+        self.put(placed, reaching);
+        self.hints.put(alloc, place, own, point);
         Ok(true)
     }
 
-    /// Adds the event that comes next, of which it is known that its tree and the earlier ones compare as the edges say. Its
-    /// sides are found once another event has to be compared.
-    pub(crate) fn add_ordered(&mut self, alloc: Global, placed: Placed) -> Result<(), AllocError>
+    /// Adds the event that comes next, of which it is known that its tree and the earlier ones compare as the edges say. No
+    /// more than what is listed of it is kept before another event has to be compared.
+    pub(crate) fn add_ordered(&mut self, placed: Placed) -> Result<(), AllocError>
         requires graph { IsKeptGraph self.old }
         requires preds { AreEarlier placed.preds (suc (length self.old.placed.items)) }
         requires few { length self.old.placed.items < 16384 }
         requires ordered { IsOrderedNext self.old.placed.items placed }
         ensures placed { OnOk result (self.new.placed.items ≡ self.old.placed.items ++ placed ∷ []) }
-        ensures graph { OnOk result (IsKeptGraph self.new) }
+        ensures graph { IsKeptGraph self.new }
+        ensures memory { IfErr result (λ _. self.new.placed.items ≡ self.old.placed.items) }
     {
-        let reaching = self.reaching(alloc, &placed)?;
-        self.make_room()?;
-        self.put(placed, reaching, Sides::new(alloc), None);
-        self.lacks_sides = true;
+        self.placed.reserve(1)?;
+        self.placed.push_reserved(placed);
         Ok(())
     }
 
-    /// Finds of each event what is known of its tree before it is compared, if that was not done.
-    fn find_sides(&mut self, alloc: Global) -> Result<(), AllocError>
+    /// Gives back what is kept for speed alone, and keeps none of it from now on. It says whether there was anything.
+    pub(crate) fn give_back(&mut self, alloc: Global) -> bool
+        requires graph { IsKeptGraph self.old }
+        ensures placed { self.new.placed.items ≡ self.old.placed.items }
+        ensures graph { IsKeptGraph self.new }
+    {
+        self.hints.give_back(alloc)
+    }
+
+    /// Makes of all events what was not made before.
+    fn complete(&mut self, alloc: Global) -> Result<(), AllocError>
         requires { IsKeptGraph self.old }
         ensures placed { self.new.placed ≡ self.old.placed }
-        ensures graph { OnOk result (IsKeptGraph self.new) }
+        ensures graph { IsKeptGraph self.new }
+        ensures whole { OnOk result (IsWhole self.new) }
     {
-        if !self.lacks_sides {
-            return Ok(());
+        while self.reaching.len() < self.placed.len() {
+            self.add_row(alloc)?;
         }
-        for place in 0..self.placed.len() {
+        self.find_hints(alloc);
+        Ok(())
+    }
+
+    /// Makes what is kept of the first event of which nothing was made.
+    fn add_row(&mut self, alloc: Global) -> Result<(), AllocError>
+        requires graph { IsKeptGraph self.old }
+        requires some { length self.old.reaching.items < length self.old.placed.items }
+        ensures placed { self.new.placed ≡ self.old.placed }
+        ensures graph { IsKeptGraph self.new }
+        ensures one { OnOk result (length self.new.reaching.items ≡ suc (length self.old.reaching.items)) }
+    {
+        let preds = self.placed[self.reaching.len()].preds.share();
+        let row = self.reached_by(alloc, preds.as_slice())?;
+        self.reaching.reserve(1)?;
+        self.chains.make_room()?;
+        self.put_row(preds.as_slice(), row);
+        Ok(())
+    }
+
+    /// Finds the hints of the events that have none, as far as there is memory for them.
+    fn find_hints(&mut self, alloc: Global)
+        requires { IsKeptGraph self.old }
+        ensures placed { self.new.placed ≡ self.old.placed }
+        ensures reaching { self.new.reaching ≡ self.old.reaching }
+        ensures graph { IsKeptGraph self.new }
+    {
+        for place in self.hints.len()..self.placed.len() {
+            if !self.hints.are_kept() {
+                return;
+            }
             let placed = self.at(place + 1);
             let join = self.join_of(alloc, &placed.preds);
-            let (sides, point) = first_sides(alloc, placed, &join)?;
-            self.sides[place] = sides;
-            self.points[place] = point;
+            let (sides, point) = first_hints(alloc, placed, &join);
+            self.hints.put(alloc, place, sides, point);
         }
-        self.lacks_sides = false;
-        Ok(())
     }
 
     /// Makes room for one event.
     fn make_room(&mut self) -> Result<(), AllocError>
+        requires graph { IsKeptGraph self.old }
+        ensures graph { IsKeptGraph self.new }
         ensures placed { self.new.placed.items ≡ self.old.placed.items }
         ensures reaching { self.new.reaching.items ≡ self.old.reaching.items }
-        ensures followed { self.new.followed ≡ self.old.followed }
-        ensures sides { self.new.sides.items ≡ self.old.sides.items }
-        ensures points { self.new.points.items ≡ self.old.points.items }
         ensures room { OnOk result ((vec_len self.new.placed < vec_capacity self.new.placed) × (vec_len self.new.reaching < vec_capacity self.new.reaching)
-            × (vec_len self.new.sides < vec_capacity self.new.sides) × (vec_len self.new.points < vec_capacity self.new.points)) }
+            × (vec_len self.new.chains.before < vec_capacity self.new.chains.before)) }
     {
         self.placed.reserve(1)?;
         self.reaching.reserve(1)?;
-        self.sides.reserve(1)?;
-        self.points.reserve(1)?;
+        self.chains.make_room()?;
         Ok(())
     }
 
     /// Adds the event that these reach, for which there is room.
-    fn put(&mut self, placed: Placed, reaching: Vec<u64>, sides: Sides, point: Option<RaisedPoint>)
+    fn put(&mut self, placed: Placed, reaching: Vec<u64>)
         requires graph { IsKeptGraph self.old }
-        requires next { IsNextWith self.old placed reaching.items }
-        requires point { IsPointOf point placed.tree }
+        requires whole { IsWhole self.old }
+        requires preds { AreEarlier placed.preds (suc (length self.old.placed.items)) }
+        requires few { length self.old.placed.items < 16384 }
+        requires ordered { IsOrderedNext self.old.placed.items placed }
+        requires reaching { (place : ℕ) → HasBit reaching.items place ↔ IsReachedBy (rows_of self.old) placed.preds place }
+        requires short { 64 * length reaching.items ≤ suc (length self.old.reaching.items) + 63 }
         requires room { (vec_len self.old.placed < vec_capacity self.old.placed) × (vec_len self.old.reaching < vec_capacity self.old.reaching)
-            × (vec_len self.old.sides < vec_capacity self.old.sides) × (vec_len self.old.points < vec_capacity self.old.points) }
+            × (vec_len self.old.chains.before < vec_capacity self.old.chains.before) }
         ensures placed { self.new.placed.items ≡ self.old.placed.items ++ placed ∷ [] }
         ensures graph { IsKeptGraph self.new }
+        ensures points { self.new.hints ≡ self.old.hints }
     {
-        self.follow(&placed.preds);
+        let preds = placed.preds.share();
         self.placed.push_reserved(placed);
+        self.put_row(preds.as_slice(), reaching);
+    }
+
+    /// Adds these events, which reach the first event of which nothing was made. That event follows these. There is room.
+    fn put_row(&mut self, preds: &[u64], reaching: Vec<u64>)
+        requires graph { IsKeptGraph self.old }
+        requires some { length self.old.reaching.items < length self.old.placed.items }
+        requires preds { preds.now ≡ listed_preds self.old.placed.items (suc (length self.old.reaching.items)) }
+        requires reaching { (place : ℕ) → HasBit reaching.items place ↔ IsReachedBy (rows_of self.old) preds.now place }
+        requires short { 64 * length reaching.items ≤ suc (length self.old.reaching.items) + 63 }
+        requires room { (vec_len self.old.reaching < vec_capacity self.old.reaching) × (vec_len self.old.chains.before < vec_capacity self.old.chains.before) }
+        ensures placed { self.new.placed ≡ self.old.placed }
+        ensures reaching { self.new.reaching.items ≡ self.old.reaching.items ++ reaching ∷ [] }
+        ensures hints { self.new.hints ≡ self.old.hints }
+        ensures graph { IsKeptGraph self.new }
+    {
+        follow(&mut self.followed, preds);
+        self.chains.put(preds);
         self.reaching.push_reserved(reaching);
-        self.sides.push_reserved(sides);
-        self.points.push_reserved(point);
-    }
-
-    /// Notes that these events are followed.
-    fn follow(&mut self, preds: &Preds)
-        requires { All (λ pred. (0 < pred) × (pred ≤ 64 * length self.old.followed.items)) preds.now }
-        ensures followed { (place : ℕ) → HasBit self.new.followed.items place ↔ (HasBit self.old.followed.items place ⊎ Contains preds.now (suc place)) }
-        ensures len { length self.new.followed.items ≡ length self.old.followed.items }
-        ensures others { (self.new.placed ≡ self.old.placed) × (self.new.reaching ≡ self.old.reaching) × (self.new.sides ≡ self.old.sides) × (self.new.points ≡ self.old.points) }
-    {
-        add_events(&mut self.followed, preds.as_slice());
-    }
-
-    /// The events that reach the one that comes next.
-    fn reaching(&self, alloc: Global, placed: &Placed) -> Result<Vec<u64>, AllocError>
-        requires graph { AreKeptLines self.now }
-        requires preds { AreEarlier placed.now.preds (suc (length self.now.placed.items)) }
-        ensures reaching { IfOk result (λ bits. AreReaching (self.now.placed.items ++ placed.now ∷ []) bits.items (suc (length self.now.placed.items))) }
-        ensures short { IfOk result (λ bits. 64 * length bits.items ≤ suc (length self.now.placed.items) + 63) }
-    {
-        let bits = self.reached_by(alloc, placed.preds.as_slice())?;
-        Ok(bits)
     }
 
     /// These events and those that reach them.
     fn reached_by(&self, alloc: Global, preds: &[u64]) -> Result<Vec<u64>, AllocError>
-        requires graph { AreKeptLines self.now }
-        requires preds { AreEarlier preds.now (suc (length self.now.placed.items)) }
+        requires rows { HaveRoom (rows_of self.now) }
+        requires preds { AreEarlier preds.now (suc (length self.now.reaching.items)) }
         ensures reaching { IfOk result (λ bits. (place : ℕ) → HasBit bits.items place
             ↔ IsReachedBy (rows_of self.now) preds.now place) }
-        ensures short { IfOk result (λ bits. 64 * length bits.items ≤ suc (length self.now.placed.items) + 63) }
+        ensures short { IfOk result (λ bits. 64 * length bits.items ≤ suc (length self.now.reaching.items) + 63) }
     {
-        let mut bits = no_bits(alloc, self.placed.len())?;
+        let mut bits = no_bits(alloc, self.reaching.len())?;
         self.add_reaching(&mut bits, preds);
         Ok(bits)
     }
 
     /// Adds these events and those that reach them.
     fn add_reaching(&self, bits: &mut [u64], preds: &[u64])
-        requires graph { AreKeptLines self.now }
-        requires preds { AreEarlier preds.now (suc (length self.now.placed.items)) }
-        requires room { length self.now.placed.items < 64 * length bits.old }
+        requires rows { HaveRoom (rows_of self.now) }
+        requires preds { AreEarlier preds.now (suc (length self.now.reaching.items)) }
+        requires room { length self.now.reaching.items < 64 * length bits.old }
         ensures reaching { (place : ℕ) → HasBit bits.new place
             ↔ (HasBit bits.old place ⊎ IsReachedBy (rows_of self.now) preds.now place) }
         ensures room { length bits.new ≡ length bits.old }
@@ -212,9 +248,9 @@ impl Graph {
 
     /// Adds this event and those that reach it.
     fn add_one_reaching(&self, bits: &mut [u64], event: u64)
-        requires graph { AreKeptLines self.now }
-        requires event { IsPlaced self.now.placed.items event }
-        requires room { length self.now.placed.items < 64 * length bits.old }
+        requires rows { HaveRoom (rows_of self.now) }
+        requires event { (0 < event) × (event ≤ length self.now.reaching.items) }
+        requires room { length self.now.reaching.items < 64 * length bits.old }
         ensures reaching { (place : ℕ) → HasBit bits.new place
             ↔ (HasBit bits.old place ⊎ (HasBit (reaching_row (rows_of self.now) event) place ⊎ (place ≡ event - 1))) }
         ensures room { length bits.new ≡ length bits.old }
@@ -255,31 +291,31 @@ impl Graph {
     {
         &self.placed[event - 1]
     }
-
-    /// The point of the event's tree.
-    #[inline(always)]
-    fn point_of(&self, event: usize) -> &Option<RaisedPoint>
-        requires points { ArePoints self.now.points.items self.now.placed.items }
-        requires event { IsPlaced self.now.placed.items event }
-        ensures { IsPointOf result.now (listed_tree self.now.placed.items event) }
-    {
-        &self.points[event - 1]
-    }
 }
 
 /// What is known of an event's tree before it is compared: where it is above the join of the trees of its predecessors. An
 /// event raises its tree there. In a tenant's trace, nothing is above that place but what follows the event.
-fn first_sides(
-    alloc: Global,
-    placed: &Placed,
-    join: &EvTree,
-) -> Result<(Sides, Option<RaisedPoint>), AllocError>
-    ensures { IfOk result (λ found. IsPointOf found.1 placed.now.tree) }
+fn first_hints(alloc: Global, placed: &Placed, join: &EvTree) -> (Sides, Option<RaisedPoint>)
+    ensures { IsPointOf result.1 placed.now.tree }
 {
-    match placed.preds.as_slice() {
-        [] => Ok((Sides::new(alloc), placed.tree.point_above(join))),
-        _ => Sides::above(alloc, &placed.tree, join),
-    }
+    let mut sides = Sides::new(alloc);
+    let point = match placed.preds.as_slice() {
+        [] => None,
+        _ => match placed.tree.point_above(join, &mut sides.above) {
+            Ok(point) => point,
+            Err(_) => None,
+        },
+    };
+    (sides, point)
+}
+
+/// Notes that these events are followed.
+fn follow(followed: &mut Vec<u64>, events: &[u64])
+    requires { All (λ event. (0 < event) × (event ≤ 64 * length followed.old.items)) events.now }
+    ensures followed { (place : ℕ) → HasBit followed.new.items place ↔ (HasBit followed.old.items place ⊎ Contains events.now (suc place)) }
+    ensures len { length followed.new.items ≡ length followed.old.items }
+{
+    add_events(followed, events);
 }
 
 /// Adds the bits of these events.

@@ -25,6 +25,7 @@
 
 mod add_line;
 mod bits;
+mod chains;
 mod check_fault;
 mod checking;
 mod collected;
@@ -35,6 +36,7 @@ mod exporting;
 mod following;
 mod graph;
 mod header;
+mod hints;
 mod json_line;
 pub mod laws;
 mod loaded;
@@ -45,6 +47,7 @@ mod reason;
 mod rebuilt;
 mod requests;
 mod sides;
+mod stack;
 mod stamp_texts;
 mod verdict;
 

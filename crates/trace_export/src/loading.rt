@@ -9,6 +9,7 @@ ghost use Rattle.trace_export.specs.Rebuilding.{IsTaken, IsUnbegun};
 use crate::checking::{MOST_BYTES, MOST_READS};
 use crate::rebuilt::Rebuilt;
 use crate::requests::write_requests;
+use crate::stack::Stack;
 use crate::{LoadFault, Loaded, Reason};
 use line_protocol::{Buffer, Line, Sink, Source};
 use std::alloc::Global;
@@ -70,8 +71,10 @@ fn take_in<T, R: Source>(
 {
     let mut lines = Buffer::with_bounds(alloc, MOST_BYTES, MOST_READS)?;
     let mut follows = true;
+    let mut stack = Stack::new();
     loop {
         let found = lines.next_line(reader)?;
+        stack.make_room(alloc, lines.line().len())?;
         let (next, loaded) = take(rt, rebuilt, alloc, found, lines.line(), &mut follows)?;
         rebuilt = next;
         if let Some(loaded) = loaded {

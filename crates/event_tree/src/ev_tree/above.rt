@@ -1,17 +1,46 @@
 //! Places at which a tree is above another one.
-ghost use Rattle.std.specs.Prelude.{◌≡◌, ◌+◌, ◌^◌, ◌<◌, ◌≤◌, ◌↔◌, ◌∷◌, [], IfOk, IsTrue};
+ghost use Rattle.std.specs.Prelude.{◌≡◌, ◌+◌, ◌^◌, ◌<◌, ◌≤◌, ◌↔◌, ◌∷◌, [], max, length, IfNone, IfOk, IfSome, IsTrue};
 ghost use Rattle.trace_types.specs.clock.Points.{Point as Halves};
 ghost use Rattle.trace_types.specs.clock.EventTree.{value, minimum, maximum};
 ghost use Rattle.event_tree.specs.Above.{IsBelowOrPath};
 ghost use Rattle.event_tree.specs.Height.{height};
 ghost use Rattle.event_tree.specs.PathCode.{half_on};
+ghost use Rattle.event_tree.specs.Risen.{NoneRisen};
 
 use super::{EvTree, Node};
-use crate::Path;
 use crate::path::parted;
+use crate::{Path, RaisedPoint};
 use std::alloc::AllocError;
 
 impl EvTree {
+    /// A point at which this tree is above `other`, and the value there. It is the place to which [`EvTree::leq_or_path`]
+    /// leads the path, by the same walk.
+    ///
+    /// It finds none if this tree is nowhere above the other, or if that place lies below the 128 levels of a [`Point`].
+    /// In the second case the path leads there. Only the path takes memory. After an `AllocError` it leads to some place.
+    ///
+    /// [`Point`]: crate::Point
+    pub fn point_above(
+        &self,
+        other: &EvTree,
+        path: &mut Path,
+    ) -> Result<Option<RaisedPoint>, AllocError>
+        ensures above { IfOk result (λ found. IfSome found (λ above. value other.now above.point < value self.now above.point)) }
+        ensures value { IfOk result (λ found. IfSome found (λ above. above.value ≡ value self.now above.point)) }
+        ensures none { IfOk result (λ found. IfNone found (NoneRisen 128 0 other.now 0 self.now)) }
+    {
+        if self.leq_or_path(other, path)? {
+            return Ok(None);
+        }
+        match path.point() {
+            Some(point) => Ok(Some(RaisedPoint {
+                value: self.value_at(&point),
+                point,
+            })),
+            None => Ok(None),
+        }
+    }
+
     /// Whether the value of this tree at the path is above that of `other`. It walks both trees along the path until the
     /// ranges of values decide, and takes no memory.
     pub fn is_above_at(&self, other: &EvTree, path: &Path) -> bool
@@ -64,7 +93,8 @@ impl EvTree {
     /// Leads the path to a least value of the tree.
     fn lead_to_least(&self, path: &mut Path) -> Result<(), AllocError>
         requires { path.old ≡ [] }
-        ensures { IfOk result (λ done. value self.now path.new ≡ minimum self.now) }
+        ensures least { IfOk result (λ done. value self.now path.new ≡ minimum self.now) }
+        ensures short { IfOk result (λ done. length path.new ≤ height self.now) }
     {
         if let Node::Fork { children, .. } = &self.node {
             let right = children.right.min() < children.left.min();
@@ -81,7 +111,8 @@ impl EvTree {
     /// Leads the path to a greatest value of the tree.
     fn lead_to_greatest(&self, path: &mut Path) -> Result<(), AllocError>
         requires { path.old ≡ [] }
-        ensures { IfOk result (λ done. value self.now path.new ≡ maximum self.now) }
+        ensures greatest { IfOk result (λ done. value self.now path.new ≡ maximum self.now) }
+        ensures short { IfOk result (λ done. length path.new ≤ height self.now) }
     {
         if let Node::Fork { children, .. } = &self.node {
             let right = children.left.max() < children.right.max();
@@ -108,7 +139,8 @@ pub(super) fn is_below_or_path(
     requires one_fits { one_lift + maximum one.now < 2 ^ 64 }
     requires other_fits { other_lift + maximum other.now < 2 ^ 64 }
     requires none { path.old ≡ [] }
-    ensures { IfOk result (λ below. IsBelowOrPath below one_lift one.now other_lift other.now path.new) }
+    ensures found { IfOk result (λ below. IsBelowOrPath below one_lift one.now other_lift other.now path.new) }
+    ensures short { IfOk result (λ below. length path.new ≤ max (height one.now) (height other.now)) }
 {
     let here = one.range(one_lift);
     let there = other.range(other_lift);

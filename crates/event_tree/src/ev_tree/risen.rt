@@ -12,16 +12,6 @@ use crate::{Point, RaisedPoint};
 use id_tree::{IdTree, Parts as IdParts};
 
 impl EvTree {
-    /// A point at which this tree is above `other`, and the value there. It takes no memory.
-    ///
-    /// It finds none if this tree is nowhere above the other, or if each such point lies below the 128 levels of a [`Point`].
-    pub fn point_above(&self, other: &EvTree) -> Option<RaisedPoint>
-        ensures above { IfSome result (λ above. value other.now above.point < value self.now above.point) }
-        ensures value { IfSome result (λ above. above.value ≡ value self.now above.point) }
-    {
-        other.risen_point(&IdTree::one(), self)
-    }
-
     /// A point at which `after` is above this tree, and the value there. It does not look at parts of the trees that the
     /// id does not own.
     pub(super) fn risen_point(&self, id: &IdTree, after: &EvTree) -> Option<RaisedPoint>

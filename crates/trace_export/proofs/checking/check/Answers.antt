@@ -54,23 +54,23 @@ returns-in-Some-clause-verdict g c =
     let at = goal.at.returns-in-Some-clause-verdict g c in
     judges_over (g.R.Source.seen c.args.reader.now) (g.R.Source.seen c.loop-collected.reader) (g.R.Source.seen c.next_line.new.source) c.loop-collected.lines c.next_line.new.self c.loop-collected.collected c.judge.new.collected
     c.in_ok-found.found c.in-Some.verdict (found_on g at.After-judge)
-    (subst (λ (line : Text). IsJudged c.in_ok-found.found line (Some c.in-Some.verdict) c.loop-collected.collected c.judge.new.collected) c.line.ensures
-    (subst (λ verdict. IsJudged c.in_ok-found.found c.line.result.now verdict c.loop-collected.collected c.judge.new.collected) c.in-Some.is c.in_ok-verdict.ensures.judged))
+    (subst (λ (line : Text). IsJudged c.in_ok-found.found line (Some c.in-Some.verdict) c.loop-collected.collected c.judge.new.collected) c.line-in-loop-collected.ensures
+    (subst (λ verdict. IsJudged c.in_ok-found.found c.line-in-loop-collected.result.now verdict c.loop-collected.collected c.judge.new.collected) c.in-Some.is c.in_ok-verdict.ensures.judged))
 
 pub returns-in-Some-clause-stops : goal.returns-in-Some-clause-stops
 returns-in-Some-clause-stops g c =
     let at = goal.at.returns-in-Some-clause-stops g c in
     stops_over g.R.Source.seen c.args.reader.now c.next_line.new.source c.loop-collected.collected (g.R.Source.seen c.args.reader.now) (g.R.Source.seen c.loop-collected.reader) (g.R.Source.seen c.next_line.new.source) c.loop-collected.lines c.next_line.new.self c.judge.new.collected
     c.in_ok-found.found c.in-Some.verdict (stops_so_far g at.After-judge) (found_on g at.After-judge)
-    (subst (λ (line : Text). IsJudged c.in_ok-found.found line (Some c.in-Some.verdict) c.loop-collected.collected c.judge.new.collected) c.line.ensures
-    (subst (λ verdict. IsJudged c.in_ok-found.found c.line.result.now verdict c.loop-collected.collected c.judge.new.collected) c.in-Some.is c.in_ok-verdict.ensures.judged))
+    (subst (λ (line : Text). IsJudged c.in_ok-found.found line (Some c.in-Some.verdict) c.loop-collected.collected c.judge.new.collected) c.line-in-loop-collected.ensures
+    (subst (λ verdict. IsJudged c.in_ok-found.found c.line-in-loop-collected.result.now verdict c.loop-collected.collected c.judge.new.collected) c.in-Some.is c.in_ok-verdict.ensures.judged))
 
 pub loop-collected-preserved : goal.loop-collected-preserved
 loop-collected-preserved g c =
     let at = goal.at.loop-collected-preserved g c in
     let judged =
-    subst (λ (line : Text). IsJudged c.in_ok-found.found line None c.loop-collected.collected c.judge.new.collected) c.line.ensures
-    (subst (λ verdict. IsJudged c.in_ok-found.found c.line.result.now verdict c.loop-collected.collected c.judge.new.collected) c.in_default.is c.in_ok-verdict.ensures.judged) in
+    subst (λ (line : Text). IsJudged c.in_ok-found.found line None c.loop-collected.collected c.judge.new.collected) c.line-in-loop-collected.ensures
+    (subst (λ verdict. IsJudged c.in_ok-found.found c.line-in-loop-collected.result.now verdict c.loop-collected.collected c.judge.new.collected) c.in_default.is c.in_ok-verdict.ensures.judged) in
     let right = judged_right (g.R.Source.seen c.args.reader.now) (g.R.Source.seen c.loop-collected.reader) (g.R.Source.seen c.next_line.new.source) c.loop-collected.lines c.next_line.new.self c.loop-collected.collected c.judge.new.collected
     c.in_ok-found.found (found_on g at.After-judge) judged in
     let more = counts_more (g.R.Source.seen c.args.reader.now) (g.R.Source.seen c.loop-collected.reader) (g.R.Source.seen c.next_line.new.source) c.loop-collected.lines c.next_line.new.self c.loop-collected.collected c.judge.new.collected

@@ -49,23 +49,23 @@ returns-in-Some-clause-loads g c =
     let at = goal.at.returns-in-Some-clause-loads g c in
     answered_over (g.R.Source.seen c.args.reader.now) (g.R.Source.seen c.loop-lines.reader) (g.R.Source.seen c.next_line.new.source) c.loop-lines.lines c.next_line.new.self c.loop-lines.rebuilt c.in_ok-next.next
     c.in_ok-found.found c.in-Some.loaded (found_on g at.After-take)
-    (subst (λ (line : Text). IsTaken c.in_ok-found.found line (Some c.in-Some.loaded) c.loop-lines.rebuilt c.in_ok-next.next) c.line.ensures
-    (subst (λ loaded. IsTaken c.in_ok-found.found c.line.result.now loaded c.loop-lines.rebuilt c.in_ok-next.next) c.in-Some.is c.in_ok-next.ensures))
+    (subst (λ (line : Text). IsTaken c.in_ok-found.found line (Some c.in-Some.loaded) c.loop-lines.rebuilt c.in_ok-next.next) c.line-in-loop-lines.ensures
+    (subst (λ loaded. IsTaken c.in_ok-found.found c.line-in-loop-lines.result.now loaded c.loop-lines.rebuilt c.in_ok-next.next) c.in-Some.is c.in_ok-next.ensures))
 
 pub returns-in-Some-clause-stops : goal.returns-in-Some-clause-stops
 returns-in-Some-clause-stops g c =
     let at = goal.at.returns-in-Some-clause-stops g c in
     stops_over g.R.Source.seen c.args.reader.now c.next_line.new.source c.loop-lines.rebuilt (g.R.Source.seen c.args.reader.now) (g.R.Source.seen c.loop-lines.reader) (g.R.Source.seen c.next_line.new.source) c.loop-lines.lines c.next_line.new.self c.in_ok-next.next
     c.in_ok-found.found c.in-Some.loaded (stops_so_far g at.After-take) (found_on g at.After-take)
-    (subst (λ (line : Text). IsTaken c.in_ok-found.found line (Some c.in-Some.loaded) c.loop-lines.rebuilt c.in_ok-next.next) c.line.ensures
-    (subst (λ loaded. IsTaken c.in_ok-found.found c.line.result.now loaded c.loop-lines.rebuilt c.in_ok-next.next) c.in-Some.is c.in_ok-next.ensures))
+    (subst (λ (line : Text). IsTaken c.in_ok-found.found line (Some c.in-Some.loaded) c.loop-lines.rebuilt c.in_ok-next.next) c.line-in-loop-lines.ensures
+    (subst (λ loaded. IsTaken c.in_ok-found.found c.line-in-loop-lines.result.now loaded c.loop-lines.rebuilt c.in_ok-next.next) c.in-Some.is c.in_ok-next.ensures))
 
 pub loop-lines-preserved : goal.loop-lines-preserved
 loop-lines-preserved g c =
     let at = goal.at.loop-lines-preserved g c in
     let taken =
-    subst (λ (line : Text). IsTaken c.in_ok-found.found line None c.loop-lines.rebuilt c.in_ok-next.next) c.line.ensures
-    (subst (λ loaded. IsTaken c.in_ok-found.found c.line.result.now loaded c.loop-lines.rebuilt c.in_ok-next.next) c.in_default.is c.in_ok-next.ensures) in
+    subst (λ (line : Text). IsTaken c.in_ok-found.found line None c.loop-lines.rebuilt c.in_ok-next.next) c.line-in-loop-lines.ensures
+    (subst (λ loaded. IsTaken c.in_ok-found.found c.line-in-loop-lines.result.now loaded c.loop-lines.rebuilt c.in_ok-next.next) c.in_default.is c.in_ok-next.ensures) in
     let more = counts_more (g.R.Source.seen c.args.reader.now) (g.R.Source.seen c.loop-lines.reader) (g.R.Source.seen c.next_line.new.source) c.loop-lines.lines c.next_line.new.self c.loop-lines.rebuilt c.in_ok-next.next
     c.in_ok-found.found (found_on g at.After-take) taken in
     record {

@@ -1,7 +1,9 @@
-use Rattle.trace_export.proofs.Ordering.{next_with}
+use Rattle.std.proofs.Common.{[], ◌∷◌, ◌++◌, ◌∙◌, ap}
+use Rattle.trace_export.specs.Edges.{Placing}
+use Rattle.trace_export.proofs.Listed.{listed_more}
 use Rattle.trace_export.proofs.graph.Graph.add_ordered.Goals as goal
 
-pub put-requires-clause-next : goal.put-requires-clause-next
-put-requires-clause-next c =
-    next_with c.make_room.new.self c.args.self.now.placed.items c.args.placed c.in_ok-reaching.reaching.items c.make_room.ensures.placed c.requires.preds c.requires.few c.requires.ordered
-    c.in_ok-reaching.ensures.reaching c.in_ok-reaching.ensures.short
+pub returns-clause-graph : goal.returns-clause-graph
+returns-clause-graph c =
+    let more = c.push_reserved.ensures.items ∙ ap (λ (items : Placing). items ++ c.args.placed ∷ []) c.in_ok-reserve.ensures.items in
+    listed_more c.args.self.now c.requires.graph c.args.placed c.requires.preds c.requires.few c.requires.ordered c.push_reserved.new.self more

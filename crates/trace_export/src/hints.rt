@@ -1,0 +1,131 @@
+//! What tells soon how the trees of events compare.
+ghost use Rattle.std.specs.Prelude.{◌≡◌, ◌-◌, ◌↔◌, [], None, IsTrue, slice_index_or};
+ghost use Rattle.event_tree.specs.Comparison.{IsBelow};
+ghost use Rattle.trace_export.specs.Raised.{IsForgotten, IsHigher, IsPutAt};
+
+use crate::sides::{Sides, is_below};
+use event_tree::{EvTree, RaisedPoint};
+use std::alloc::Global;
+
+/// The sides and the points of the trees of the first events. They are there for speed alone, so they may be given back.
+#[derive(Drop)]
+pub(crate) struct Hints {
+    /// The sides of each tree. Those of event k are at k - 1.
+    sides: Vec<Sides>,
+    /// A point at which each tree is above those that its event follows, if one is known and it told something so far.
+    points: Vec<Option<RaisedPoint>>,
+    /// Whether there was memory for them so far.
+    are_kept: bool,
+}
+
+impl Hints {
+    /// The hints of no events. It takes no memory.
+    pub(crate) fn new(alloc: Global) -> Hints
+        ensures none { result.points.items ≡ [] }
+    {
+        Hints {
+            sides: Vec::new(alloc),
+            points: Vec::new(alloc),
+            are_kept: true,
+        }
+    }
+
+    /// Gives back what they take, and keeps none from now on. It says whether there was anything to be given back.
+    pub(crate) fn give_back(&mut self, alloc: Global) -> bool
+        ensures none { self.new.points.items ≡ [] }
+    {
+        let were_kept = self.are_kept;
+        self.sides = Vec::new(alloc);
+        self.points = Vec::new(alloc);
+        self.are_kept = false;
+        were_kept
+    }
+
+    /// Whether hints are to be kept.
+    pub(crate) fn are_kept(&self) -> bool {
+        self.are_kept
+    }
+
+    /// Of how many events they are.
+    pub(crate) fn len(&self) -> usize {
+        self.points.len()
+    }
+
+    /// Keeps the hints of the event at this place, which comes next. If there is no memory for them, all are given back.
+    pub(crate) fn put(
+        &mut self,
+        alloc: Global,
+        place: usize,
+        sides: Sides,
+        point: Option<RaisedPoint>,
+    )
+        ensures { IsPutAt place point self.old.points.items self.new.points.items }
+    {
+        let is_next = self.are_kept && self.points.len() == place;
+        if !is_next || self.sides.push(sides).is_err() || self.points.push(point).is_err() {
+            self.give_back(alloc);
+        }
+    }
+
+    /// Whether the tree of the event is above the other tree at its point. It reads the other tree alone. A point that does
+    /// not tell this is forgotten: the sides may tell sooner.
+    #[inline(always)]
+    pub(crate) fn is_higher(&mut self, event: usize, other: &EvTree) -> bool
+        ensures higher { IsTrue result → IsHigher (slice_index_or self.old.points.items (event - 1) None) other.now }
+        ensures points { IsForgotten (event - 1) self.old.points.items self.new.points.items }
+    {
+        if event == 0 || self.points.len() < event {
+            return false;
+        }
+        if is_higher(&self.points[event - 1], other) {
+            return true;
+        }
+        self.points[event - 1] = None;
+        false
+    }
+
+    /// Whether this tree, of the event, is below the other one, which has these sides.
+    pub(crate) fn is_below(
+        &mut self,
+        event: usize,
+        tree: &EvTree,
+        other: &EvTree,
+        other_sides: &mut Sides,
+    ) -> bool
+        ensures below { IsTrue result ↔ IsBelow tree.now other.now }
+        ensures points { self.new.points ≡ self.old.points }
+    {
+        if event == 0 || self.sides.len() < event {
+            return tree.leq(other);
+        }
+        is_below(tree, &mut self.sides[event - 1], other, other_sides)
+    }
+
+    /// Whether this tree, of the event, is above the other one, which has these sides.
+    pub(crate) fn is_above(
+        &mut self,
+        event: usize,
+        tree: &EvTree,
+        other: &EvTree,
+        other_sides: &mut Sides,
+    ) -> bool
+        ensures above { IsTrue result ↔ IsBelow other.now tree.now }
+        ensures points { self.new.points ≡ self.old.points }
+    {
+        if event == 0 || self.sides.len() < event {
+            return other.leq(tree);
+        }
+        is_below(other, other_sides, tree, &mut self.sides[event - 1])
+    }
+}
+
+/// Whether the tree whose point this is was above the other tree there.
+#[inline(always)]
+fn is_higher(point: &Option<RaisedPoint>, other: &EvTree) -> bool
+    ensures { IsTrue result ↔ IsHigher point.now other.now }
+{
+    match point {
+        Some(raised) => !other.is_at_least(&raised.point, raised.value),
+        None => false,
+    }
+}
