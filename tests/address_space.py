@@ -1,0 +1,200 @@
+"""Runs of the program within a bound on its address space. The environment is empty and the stack may have 8 MiB, since both
+count."""
+import json
+import resource
+import subprocess
+import tempfile
+
+from common import NO_MEMORY, check
+
+GREATEST = ["--events", "16384", "--tasks", "2048", "--messages", "16384"]
+PAGE = 4096
+STACK = 8 << 20
+# The least bytes within which the released program of commit 175bc8faf gives the right answer, by export and command. Each of five
+# searches gave these numbers for the first three exports. The others are the most that one run took.
+LEAST = {
+    "sends": {"check": 22401024, "load": 9109504},
+    "locals": {"check": 22401024, "load": 6410240},
+    "come_and_go": {"check": 23842816, "load": 7847936},
+    "chain_of_1500": {"check": 188416000, "load": 329310208},
+    "fan_of_1500": {"check": 188280832, "load": 329154560},
+}
+RESERVE = 1.05
+# How many pages a sweep begins below what is enough for a deep trace, and how many it ends above. The C library takes 33 pages at a
+# time, so that each rest of them is met.
+BELOW = 40
+ABOVE = 4
+# Within so much it ends right on any of the deep traces.
+ENOUGH = 64 << 20
+# How long a run may take.
+SECONDS = 240
+LACKING = b"x 507 no memory"
+
+
+def sends():
+    return [f"send root m{message}" for message in range(1, 16385)]
+
+
+def locals_of_root():
+    return ["local root"] * 16384
+
+
+def come_and_go():
+    """Tasks of eight events each, one at a time, and root."""
+    reports = []
+    for task in range(1, 2048):
+        reports += [f"spawn root t{task}", *[f"local t{task}"] * 5, f"end t{task}", f"join root t{task}"]
+    return reports + ["local root"] * (16384 - len(reports))
+
+
+def with_locals(spawns):
+    """The spawns, and a local event of each task that was started."""
+    return [*spawns, *("local " + spawn.split()[2] for spawn in spawns)]
+
+
+def chain(tasks):
+    return ["spawn root t1", *(f"spawn t{task} t{task + 1}" for task in range(1, tasks))]
+
+
+def fan(tasks):
+    return [f"spawn root t{task}" for task in range(1, tasks + 1)]
+
+
+def large_traces():
+    """The reports of the traces that LEAST speaks of."""
+    yield "sends", sends()
+    yield "locals", locals_of_root()
+    yield "come_and_go", come_and_go()
+    yield "chain_of_1500", with_locals(chain(1500))
+    yield "fan_of_1500", with_locals(fan(1500))
+
+
+class Bounded:
+    """A program whose runs have a bound on their address space. They read from files in this folder."""
+
+    def __init__(self, program, folder):
+        self.program = program
+        self.folder = folder
+
+    def file_of(self, data):
+        """A file with these bytes."""
+        with tempfile.NamedTemporaryFile(dir=self.folder, delete=False) as file:
+            file.write(data)
+        return file.name
+
+    def run(self, words, source, most):
+        """The status, output and standard error of a run that may take so many bytes. The status is negative if a signal ended it."""
+
+        def bound():
+            resource.setrlimit(resource.RLIMIT_STACK, (STACK, STACK))
+            resource.setrlimit(resource.RLIMIT_CORE, (0, 0))
+            resource.setrlimit(resource.RLIMIT_AS, (most, most))
+
+        with open(source, "rb") as given:
+            ran = subprocess.run([self.program.path, *words], stdin=given, capture_output=True, env={}, preexec_fn=bound, timeout=SECONDS)
+        return ran.returncode, ran.stdout, ran.stderr
+
+    def least_bytes(self, words, source, due):
+        """The least pages within which a run ends so, in bytes, if it is not ended by a signal on the way."""
+        less, enough = 0, ENOUGH
+        while enough - less > PAGE:
+            middle = (less + enough) // 2 // PAGE * PAGE
+            if self.run(words, source, middle) == due:
+                enough = middle
+            else:
+                less = middle
+        return enough
+
+
+def export_of(program, reports):
+    """The lines that replay the reports, and their export."""
+    lines = "".join(f"x {report}\n" for report in reports).encode()
+    status, export, errors = program.run(["replay", *GREATEST, "--export", "x", "x"], lines)
+    check((status, errors) == (0, b""), f"{program.path}: an export ends with {status}")
+    return lines, export
+
+
+def least_bytes_are_enough(program):
+    """A check and a load give the right answer within the address space in which those of the first programs did."""
+    with tempfile.TemporaryDirectory() as folder:
+        bounded = Bounded(program, folder)
+        for name, reports in large_traces():
+            lines, export = export_of(program, reports)
+            source = bounded.file_of(export)
+            for words, right in ((["check"], b"yes %d\n" % len(reports)), (["load", "x"], lines)):
+                most = int(LEAST[name][words[0]] * RESERVE)
+                status, output, errors = bounded.run(words, source, most)
+                check((status, output == right, errors) == (0, True, b""), f"{program.path} {words[0]}, {name}, within {most} bytes: {status} {errors}")
+
+
+def deep_line_late():
+    """An export of flat stamps, behind which one is nested as deep as it may be."""
+    deep = f"(300,0,{'(0,0,' * 2047}1{')' * 2048}"
+    for event in range(1, 302):
+        yield json.dumps({"event": event, "kind": "local", "name": "-", "preds": [event - 1] if event > 1 else [],
+                          "stamp": f"[1;{event if event < 301 else deep}]", "task": "root"}, separators=(",", ":")) + "\n"
+
+
+def with_a_blank(export, line):
+    """The export with a blank in this line."""
+    lines = export.splitlines(True)
+    lines[line] = lines[line].replace(b'"preds":[', b'"preds":[ ')
+    return b"".join(lines)
+
+
+def deep_runs(program):
+    """Words, input and right output of runs over deep traces."""
+    yield ["check"], "".join(deep_line_late()).encode(), b"yes 301\n", True
+    for family in (chain, fan):
+        reports = with_locals(family(500))
+        lines, export = export_of(program, reports)
+        words = ["replay", *GREATEST, "x"]
+        yield words, lines, program.run(words, lines)[1], False
+        for data in (export, with_a_blank(export, -10)):
+            yield ["check"], data, b"yes 1000\n", False
+            yield ["load", "x"], data, lines, False
+
+
+def is_an_end(words, told, right):
+    """Whether a run may end so for want of memory: by status 4, or by replies of which some tell it."""
+    status, output, errors = told
+    if words[0] == "replay" and (status, errors) == (0, b""):
+        return LACKING in output.splitlines() and output.count(b"\n") == right.count(b"\n")
+    return (status, errors) == (NO_MEMORY[0], NO_MEMORY[2]) and right.startswith(output)
+
+
+def least_that_begins(bounded):
+    """The least bytes within which the program itself tells that it runs out of memory. Within less the loader or the kernel ends it."""
+    source = bounded.file_of(b"")
+    less, enough = 0, ENOUGH
+    while enough - less > PAGE:
+        middle = (less + enough) // 2 // PAGE * PAGE
+        if bounded.run(["check"], source, middle) in (NO_MEMORY, (0, b"yes 0\n", b"")):
+            enough = middle
+        else:
+            less = middle
+    return enough
+
+
+def sweep(bounded, words, source, right, first):
+    """Runs within each bound from the first one on, a page more each time, up to what is enough. If none is given, it begins BELOW
+    pages below what is enough."""
+    due = (0, right, b"")
+    enough = bounded.least_bytes(words, source, due)
+    first = first or enough - BELOW * PAGE
+    ends = set()
+    for most in range(first, enough + ABOVE * PAGE, PAGE):
+        told = bounded.run(words, source, most)
+        is_due = told == due
+        check(is_due or is_an_end(words, told, right), f"{bounded.program.path} {words[0]}, within {most} bytes: {told[0]} {told[2]}")
+        ends.add(is_due)
+    check(ends == {False, True}, f"{bounded.program.path} {words[0]}, from {first} bytes on: it ends right or not: {ends}")
+
+
+def no_bound_ends_by_a_signal(program):
+    """Whatever the bound on the address space, a run over a deep trace ends right or tells that it runs out of memory."""
+    with tempfile.TemporaryDirectory() as folder:
+        bounded = Bounded(program, folder)
+        begins = least_that_begins(bounded) + ABOVE * PAGE
+        for words, data, right, is_whole in deep_runs(program):
+            sweep(bounded, words, bounded.file_of(data), right, begins if is_whole else None)
