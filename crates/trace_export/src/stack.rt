@@ -16,7 +16,7 @@ pub(crate) struct Stack {
 const LONG_LINE: usize = 1600;
 
 /// The bytes that a walk over the deepest trees may take.
-const BYTES: usize = 655_360;
+const BYTES: usize = 532_480;
 
 const PAGE: usize = 4096;
 
