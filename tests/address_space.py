@@ -1,5 +1,6 @@
 """Runs of the program within a bound on its address space. The environment is empty and the stack may have 8 MiB, since both
 count."""
+import concurrent.futures
 import json
 import resource
 import subprocess
@@ -20,12 +21,16 @@ LEAST = {
     "fan_of_1500": {"check": 188280832, "load": 329154560},
 }
 RESERVE = 1.05
-# How many pages a sweep begins below what is enough for a deep trace, and how many it ends above. The C library takes 33 pages at a
-# time, so that each rest of them is met.
-BELOW = 40
-ABOVE = 4
+# How many pages a sweep has at least. The C library takes 33 at a time, so that each rest of them is met.
+PAGES = 36
+# How many pages a sweep goes on above what is enough.
+ABOVE = 2
+# What part of that is left to a replay whose last events find no memory.
+FILLED = 0.97
+# How many sweeps there are at a time.
+WORKERS = 2
 # Within so much it ends right on any of the deep traces.
-ENOUGH = 64 << 20
+ENOUGH = 128 << 20
 # How long a run may take.
 SECONDS = 240
 LACKING = b"x 507 no memory"
@@ -142,17 +147,24 @@ def with_a_blank(export, line):
     return b"".join(lines)
 
 
+def fills_and_joins():
+    """A fan whose root acts until memory is gone, and then receives what the last task sent. The join of two deep trees needs more
+    stack than all before it."""
+    return [*fan(700), "send t700 m", *["local root"] * 400, "recv root m"]
+
+
 def deep_runs(program):
     """Words, input and right output of runs over deep traces."""
-    yield ["check"], "".join(deep_line_late()).encode(), b"yes 301\n", True
+    words = ["replay", *GREATEST, "x"]
+    for reports in (with_locals(chain(500)), fills_and_joins()):
+        data = "".join(f"x {report}\n" for report in reports).encode()
+        yield words, data, program.run(words, data)[1]
     for family in (chain, fan):
-        reports = with_locals(family(500))
-        lines, export = export_of(program, reports)
-        words = ["replay", *GREATEST, "x"]
-        yield words, lines, program.run(words, lines)[1], False
-        for data in (export, with_a_blank(export, -10)):
-            yield ["check"], data, b"yes 1000\n", False
-            yield ["load", "x"], data, lines, False
+        lines, export = export_of(program, with_locals(family(500)))
+        late = with_a_blank(export, -10)
+        yield ["check"], late, b"yes 1000\n"
+        yield ["load", "x"], late, lines
+        yield ["check"], export, b"yes 1000\n"
 
 
 def is_an_end(words, told, right):
@@ -176,25 +188,43 @@ def least_that_begins(bounded):
     return enough
 
 
-def sweep(bounded, words, source, right, first):
-    """Runs within each bound from the first one on, a page more each time, up to what is enough. If none is given, it begins BELOW
-    pages below what is enough."""
-    due = (0, right, b"")
-    enough = bounded.least_bytes(words, source, due)
-    first = first or enough - BELOW * PAGE
+def sweep(bounded, words, source, right, first, last):
+    """Runs within each bound from the first one to the last, a page more each time. Says whether one was enough, and one was not."""
     ends = set()
-    for most in range(first, enough + ABOVE * PAGE, PAGE):
+    for most in range(first, last, PAGE):
         told = bounded.run(words, source, most)
-        is_due = told == due
+        is_due = told == (0, right, b"")
         check(is_due or is_an_end(words, told, right), f"{bounded.program.path} {words[0]}, within {most} bytes: {told[0]} {told[2]}")
         ends.add(is_due)
-    check(ends == {False, True}, f"{bounded.program.path} {words[0]}, from {first} bytes on: it ends right or not: {ends}")
+    return ends
+
+
+def deep_line_sweep(bounded):
+    """From where the program begins to what is enough for a line that is nested as deep as it may be."""
+    source = bounded.file_of("".join(deep_line_late()).encode())
+    words, right = ["check"], b"yes 301\n"
+    enough = bounded.least_bytes(words, source, (0, right, b""))
+    ends = sweep(bounded, words, source, right, least_that_begins(bounded) + ABOVE * PAGE, enough + ABOVE * PAGE)
+    check(ends == {False, True}, f"{bounded.program.path}: a deep line ends right or not: {ends}")
+
+
+def deep_trace_sweep(bounded, words, data, right):
+    """From a bound that is too small to what is enough for a deep trace. A replay has further bounds at which it lacks memory for many
+    reports."""
+    source = bounded.file_of(data)
+    enough = bounded.least_bytes(words, source, (0, right, b""))
+    ends = sweep(bounded, words, source, right, enough - PAGES * PAGE, enough + ABOVE * PAGE)
+    check(ends == {False, True}, f"{bounded.program.path} {words[0]}: a deep trace ends right or not: {ends}")
+    if words[0] == "replay":
+        first = int(enough * FILLED) // PAGE * PAGE
+        sweep(bounded, words, source, right, first, first + PAGES * PAGE)
 
 
 def no_bound_ends_by_a_signal(program):
     """Whatever the bound on the address space, a run over a deep trace ends right or tells that it runs out of memory."""
-    with tempfile.TemporaryDirectory() as folder:
+    with tempfile.TemporaryDirectory() as folder, concurrent.futures.ThreadPoolExecutor(WORKERS) as pool:
         bounded = Bounded(program, folder)
-        begins = least_that_begins(bounded) + ABOVE * PAGE
-        for words, data, right, is_whole in deep_runs(program):
-            sweep(bounded, words, bounded.file_of(data), right, begins if is_whole else None)
+        deep_line_sweep(bounded)
+        sweeps = [pool.submit(deep_trace_sweep, bounded, *run) for run in deep_runs(program)]
+        for done in concurrent.futures.as_completed(sweeps):
+            done.result()
