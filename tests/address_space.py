@@ -114,9 +114,10 @@ class Bounded:
 def export_of(program, reports):
     """The lines that replay the reports, and their export."""
     lines = "".join(f"x {report}\n" for report in reports).encode()
-    status, export, errors = program.run(["replay", *GREATEST, "--export", "x", "x"], lines)
-    check((status, errors) == (0, b""), f"{program.path}: an export ends with {status}")
-    return lines, export
+    words = [program.path, "replay", *GREATEST, "--export", "x", "x"]
+    ran = subprocess.run(words, input=lines, capture_output=True, env={}, timeout=SECONDS)
+    check((ran.returncode, ran.stderr) == (0, b""), f"{program.path}: an export ends with {ran.returncode}")
+    return lines, ran.stdout
 
 
 def least_bytes_are_enough(program):
