@@ -25,8 +25,6 @@ RESERVE = 1.05
 PAGES = 36
 # How many pages a sweep goes on above what is enough.
 ABOVE = 2
-# What part of that is left to a replay whose last events find no memory.
-FILLED = 0.97
 # How many sweeps there are at a time.
 WORKERS = 2
 # Within so much it ends right on any of the deep traces.
@@ -148,18 +146,11 @@ def with_a_blank(export, line):
     return b"".join(lines)
 
 
-def fills_and_joins():
-    """A fan whose root acts until memory is gone, and then receives what the last task sent. The join of two deep trees needs more
-    stack than all before it."""
-    return [*fan(700), "send t700 m", *["local root"] * 400, "recv root m"]
-
-
 def deep_runs(program):
     """Words, input and right output of runs over deep traces."""
     words = ["replay", *GREATEST, "x"]
-    for reports in (with_locals(chain(500)), fills_and_joins()):
-        data = "".join(f"x {report}\n" for report in reports).encode()
-        yield words, data, program.run(words, data)[1]
+    data = "".join(f"x {report}\n" for report in with_locals(chain(500))).encode()
+    yield words, data, program.run(words, data)[1]
     for family in (chain, fan):
         lines, export = export_of(program, with_locals(family(500)))
         late = with_a_blank(export, -10)
@@ -210,15 +201,11 @@ def deep_line_sweep(bounded):
 
 
 def deep_trace_sweep(bounded, words, data, right):
-    """From a bound that is too small to what is enough for a deep trace. A replay has further bounds at which it lacks memory for many
-    reports."""
+    """From a bound that is too small to what is enough for a deep trace."""
     source = bounded.file_of(data)
     enough = bounded.least_bytes(words, source, (0, right, b""))
     ends = sweep(bounded, words, source, right, enough - PAGES * PAGE, enough + ABOVE * PAGE)
     check(ends == {False, True}, f"{bounded.program.path} {words[0]}: a deep trace ends right or not: {ends}")
-    if words[0] == "replay":
-        first = int(enough * FILLED) // PAGE * PAGE
-        sweep(bounded, words, source, right, first, first + PAGES * PAGE)
 
 
 def no_bound_ends_by_a_signal(program):
