@@ -10,9 +10,10 @@ from .races import Race, Races, find_races
 from .session import Refused, Session
 from .shared import shared
 from .tracing import Tracing, install, tracing, uninstall
+from .verdict import Cause, Unseen, Verdict
 from .web import Middleware, Opener, incoming, opener, outgoing
 
 __all__ = [
-    "Collector", "Middleware", "NoCollector", "Opener", "Race", "Races", "Refused", "Session", "Tracing", "find_races",
-    "incoming", "install", "opener", "outgoing", "shared", "touch", "tracing", "uninstall",
+    "Cause", "Collector", "Middleware", "NoCollector", "Opener", "Race", "Races", "Refused", "Session", "Tracing", "Unseen", "Verdict",
+    "find_races", "incoming", "install", "opener", "outgoing", "shared", "touch", "tracing", "uninstall",
 ]

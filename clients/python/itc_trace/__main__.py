@@ -9,7 +9,7 @@ from collections.abc import Iterator
 from .collector import HOST, NoCollector
 from .races import find_races
 from .relay import relay
-from .run import RACES_FOUND, Run, run, tell_if_untouched, told
+from .run import Run, run, tell_if_untouched, told
 from .session import Refused
 from .snapshot import snapshot
 from .tracing import OWN_TENANT
@@ -83,7 +83,7 @@ def _races(words: argparse.Namespace) -> int:
     found = find_races(words.tenant, words.port, _journals(words.journal), words.host)
     print(told(found, words.picture))
     tell_if_untouched(found)
-    return RACES_FOUND if found else 0
+    return int(found.verdict())
 
 
 def main() -> int:

@@ -5,7 +5,9 @@ from __future__ import annotations
 import json
 from collections.abc import Iterable, Iterator
 from types import CodeType
-from typing import NamedTuple
+from typing import Any, NamedTuple
+
+from .verdict import BREAKS_OFF, Cause, Unseen
 
 
 class Row(NamedTuple):
@@ -35,12 +37,52 @@ class Row(NamedTuple):
 KEYS = Row._fields
 
 
+class Journal(NamedTuple):
+    """The rows of a journal, and what it says was not seen."""
+
+    rows: list[Row]
+    unseen: list[Unseen]
+
+
+class NoJournal(Exception):
+    """A file that was given for a journal is none."""
+
+
 def read_journal(lines: Iterable[str]) -> Iterator[Row]:
-    """The rows of a journal. A last line that was cut off is passed over."""
-    for line in lines:
-        if line.endswith("\n"):
-            row = json.loads(line)
-            yield Row(**{key: row[key] for key in KEYS})
+    """The rows of a journal alone."""
+    yield from read_whole(lines).rows
+
+
+def read_whole(lines: Iterable[str]) -> Journal:
+    """A journal, with a word of it if it breaks off. A last line that was cut off is passed over."""
+    rows: list[Row] = []
+    unseen: list[Unseen] = []
+    has_ended = False
+    for number, line in enumerate(lines, 1):
+        if not line.endswith("\n"):
+            break
+        read = _object_of(line)
+        if read is not None and "event" in read:
+            rows.append(Row(**{key: read[key] for key in KEYS}))
+        elif read is not None and "unseen" in read:
+            unseen.append(Unseen(Cause(read["unseen"]), str(read["text"])))
+        elif read is not None and "end" in read:
+            has_ended = True
+        elif number == 1:
+            raise NoJournal("its first line is none of a journal")
+        else:
+            unseen.append(Unseen(Cause.JOURNAL, f"line {number} of the journal is none"))
+    if not has_ended and not any(one.cause is not Cause.CHILD for one in unseen):
+        unseen.append(BREAKS_OFF)
+    return Journal(rows, unseen)
+
+
+def _object_of(line: str) -> dict[str, Any] | None:
+    try:
+        read = json.loads(line)
+    except ValueError:
+        return None
+    return read if isinstance(read, dict) else None
 
 
 class Places:

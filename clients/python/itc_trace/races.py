@@ -14,8 +14,9 @@ from collections.abc import Generator, Iterable, Iterator
 from dataclasses import dataclass, field
 
 from .collector import HOST
-from .journal import Row, read_journal
+from .journal import Row, read_whole
 from .session import Refused, Session
+from .verdict import Unseen, Verdict, verdict_of
 
 WRITE = "write"
 NO_SUCH_REQUEST = 400
@@ -54,9 +55,11 @@ class Race:
 
 @dataclass
 class Races:
-    """All races of a trace, and what it took to find them."""
+    """All races of a trace, what was not seen of it, and what it took to find them."""
 
     races: list[Race] = field(default_factory=list)
+    possible: list[Race] = field(default_factory=list)
+    unseen: list[Unseen] = field(default_factory=list)
     touches: int = 0
     things: int = 0
     events: int = 0
@@ -72,10 +75,17 @@ class Races:
     def __iter__(self) -> Iterator[Race]:
         return iter(self.races)
 
+    def verdict(self, fail_on_possible: bool = False) -> Verdict:
+        """Which of the three answers this is."""
+        return verdict_of(len(self.races) + (len(self.possible) if fail_on_possible else 0), self.unseen)
+
     def summary(self) -> str:
         found = "no race" if not self.races else _counted(len(self.races), "race")
+        where = "in what was seen" if self.unseen else "in this run"
+        possible = f"; {len(self.possible)} possible" if self.possible else ""
         return (
-            f"{found} in {_counted(self.touches, 'touch', 'touches')} of {_counted(self.things, 'thing')}, "
+            f"{found} {where}{possible}: "
+            f"{_counted(self.touches, 'touch', 'touches')} of {_counted(self.things, 'thing')}, "
             f"{_counted(self.events, 'event')}; asked {_counted(self.questions, 'question')} for "
             f"{_counted(self.pairs, 'pair')}"
         )
@@ -213,8 +223,9 @@ class _Orders:
 
 def find_races(tenant: str, port: int, journal: Iterable[str], host: str = HOST) -> Races:
     """The races among the touches that the journal lists, by the order that the collector answers."""
-    rows = sorted({row.event: row for row in read_journal(journal)}.values())
-    found = Races(events=len(rows), touches=sum(row.is_touch for row in rows))
+    whole = read_whole(journal)
+    rows = sorted({row.event: row for row in whole.rows}.values())
+    found = Races(events=len(rows), touches=sum(row.is_touch for row in rows), unseen=whole.unseen)
     found.things = len({row.thing for row in rows if row.is_touch})
     things = _shared_things(rows)
     if not things:

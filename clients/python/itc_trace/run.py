@@ -17,9 +17,7 @@ from .races import Races, find_races
 from .session import Session
 from .snapshot import snapshot
 from .tracing import OWN_TENANT
-
-RACES_FOUND = 66
-"""The status of a run with races, as that of other race detectors."""
+from .verdict import Verdict, reasons
 
 UNTOUCHED = """\
 itc_trace: nothing was touched, so there was no race to find
@@ -43,7 +41,7 @@ class Run:
 
 
 def run(asked: Run) -> int:
-    """The program's own status, or 66 where it has a race."""
+    """The program's own status where the verdict is 0, else that of the verdict."""
     with tempfile.TemporaryDirectory(prefix="itc_trace_") as work:
         if asked.port is not None:
             Session(asked.tenant, asked.port, "view", asked.host).close()  # Where there is none, nothing is run.
@@ -60,12 +58,13 @@ def _run_with(asked: Run, port: int, work: str) -> int:
         races = _races(asked, port, journal)
         picture = _keep(asked, port, journal, work)
     except (OSError, ValueError) as fault:  # The collector is gone, say.
-        print(f"itc_trace: races cannot be told: {fault}", file=sys.stderr)
-        return status
-    if races or not asked.quiet:
+        print(f"itc_trace: incomplete: races cannot be told: {fault}", file=sys.stderr)
+        return int(Verdict.INCOMPLETE)
+    verdict = races.verdict()
+    if verdict or not asked.quiet:
         print(told(races, picture), file=sys.stderr)
         tell_if_untouched(races)
-    return RACES_FOUND if races else status
+    return int(verdict) or status
 
 
 def _run_program(asked: Run, port: int, journal: str) -> int:
@@ -122,8 +121,8 @@ def _draw(export: str, journal: str, picture: str) -> bool:
 
 
 def told(races: Races, picture: str | None = None) -> str:
-    """The list of races, each with a link into the picture, where there is one."""
-    lines = []
+    """Why it is incomplete, where it is, and the races, each with a link into the picture, where there is one."""
+    lines = [f"itc_trace: incomplete: {reasons(races.unseen)}"] if races.unseen else []
     for race in races:
         lines.append(f"itc_trace: {race}")
         if picture is not None:
@@ -136,5 +135,5 @@ def told(races: Races, picture: str | None = None) -> str:
 
 def tell_if_untouched(races: Races) -> None:
     """Says on standard error what a program has to do for its races to be found, where nothing was touched."""
-    if not races.touches:
+    if not races.touches and races.verdict() is Verdict.NO_RACE:
         print(UNTOUCHED, file=sys.stderr)

@@ -14,12 +14,13 @@ from collections import defaultdict, deque
 from collections.abc import Callable
 from sys import getrefcount
 from types import CodeType
-from typing import TextIO
 
 from .collector import HOST, MOST_TASKS
 from .journal import Places
+from .journal_file import JournalFile
 from .lines import END, GONE, JOIN, RESULT, SPAWN, STOP, TAKE, TAKE_END, Line, Note, Token, state
 from .noting import local
+from .verdict import END_ROW, Cause, Unseen
 
 NOTES_AT_ONCE = 1024
 MOST_WAITING = 200_000
@@ -30,6 +31,7 @@ END_WAIT = 60.0
 MOST_NAME = 24
 MOST_TAG = 8
 ANY_PROCESS = "p"
+GONE_COLLECTOR = "the collector is gone"
 
 
 def _references_of_nobody() -> int:
@@ -99,7 +101,7 @@ def _release(lock: _thread.LockType) -> None:
 
 
 class Waiter:
-    """Lets one thread wait until a report was answered."""
+    """Lets threads wait until something is answered."""
 
     def __init__(self) -> None:
         self._lock = _thread.allocate_lock()
@@ -107,7 +109,8 @@ class Waiter:
         self.is_answered = False
 
     def wait(self, seconds: float) -> bool:
-        self._lock.acquire(True, seconds)
+        if self._lock.acquire(True, seconds):
+            self._lock.release()  # Others may wait as well.
         return self.is_answered
 
     def answer(self, is_answered: bool) -> None:
@@ -118,7 +121,7 @@ class Waiter:
 class Tracer:
     """Reports for one process to one tenant, from `start` to `stop`."""
 
-    def __init__(self, port: int, tenant: str, journal: TextIO, process: str | None = None, host: str = HOST) -> None:
+    def __init__(self, port: int, tenant: str, journal: JournalFile, process: str | None = None, host: str = HOST) -> None:
         self.notes: deque[Note] = deque()
         self.lines_made = 0
         self.most_lines = MOST_TASKS // 2
@@ -214,10 +217,12 @@ class Tracer:
             self.notes.append((STOP,))
             self.hurry()
             if not self._ended.wait(END_WAIT) and not self._is_over:
-                self._give_up("the collector does not answer")
+                self._give_up(Cause.COLLECTOR, "the collector does not answer")
         self._end_session()
         self._reader_ended.wait(ANSWER_WAIT)
         self._socket.close()
+        if not self._is_over:
+            self._journal_row(END_ROW)
 
     def forget(self) -> None:
         """In a child process after a fork: the session is the parent's."""
@@ -226,7 +231,7 @@ class Tracer:
         self._is_over = True
         self._socket.close()
 
-    def _give_up(self, reason: str) -> None:
+    def _give_up(self, cause: Cause, reason: str) -> None:
         """Stops tracing in the middle. The program goes on."""
         with self._switch:
             if self._is_over:
@@ -234,6 +239,7 @@ class Tracer:
             self._is_over = True
             if state.tracer is self:
                 state.note = None
+        self._journal_row(Unseen(cause, reason).row())
         self.notes.clear()
         self._end_session()
         while self._outstanding:
@@ -243,6 +249,12 @@ class Tracer:
         if sys.__stderr__ is not None:
             print(f"itc_trace: tracing stops: {reason}", file=sys.__stderr__, flush=True)
         self._ended.answer(True)
+
+    def _journal_row(self, row: str) -> None:
+        try:
+            self._journal.write(row)
+        except OSError:
+            pass  # A journal without its last line breaks off, and whoever reads it says so.
 
     def _end_session(self) -> None:
         try:
@@ -271,9 +283,9 @@ class Tracer:
                 else:
                     rest = min(2 * rest, LONGEST_REST)
         except OSError:
-            self._give_up("the collector is gone")
+            self._give_up(Cause.COLLECTOR, GONE_COLLECTOR)
         except BaseException as fault:  # Nothing that happens here may reach the program.
-            self._give_up(f"{type(fault).__name__} in the tracer: {fault}")
+            self._give_up(Cause.TRACER, f"{type(fault).__name__} in the tracer: {fault}")
 
     def _report_some(self) -> None:
         batch = self._next_notes()
@@ -556,19 +568,24 @@ class Tracer:
                 if not more:
                     break
                 *replies, rest = (rest + more).split(b"\n")
-                self._journal.write("".join([self._replied(reply) for reply in replies]))
-                self._journal.flush()
+                self._write_rows("".join([self._replied(reply) for reply in replies]))
                 if self._all_sent and not self._outstanding:
                     self._ended.answer(True)
                     return
             if not self._all_sent or self._outstanding:
-                self._give_up("the collector is gone")
+                self._give_up(Cause.COLLECTOR, GONE_COLLECTOR)
         except (OSError, ValueError):
-            self._give_up("the collector is gone")
+            self._give_up(Cause.COLLECTOR, GONE_COLLECTOR)
         except BaseException as fault:
-            self._give_up(f"{type(fault).__name__} in the tracer: {fault}")
+            self._give_up(Cause.TRACER, f"{type(fault).__name__} in the tracer: {fault}")
         finally:
             self._reader_ended.answer(True)
+
+    def _write_rows(self, rows: str) -> None:
+        try:
+            self._journal.write(rows)
+        except OSError as fault:
+            self._give_up(Cause.JOURNAL, f"the journal cannot be written: {fault.strerror}")
 
     def _replied(self, reply: bytes) -> str:
         """The journal's row of a report that was taken, else nothing."""
@@ -588,9 +605,9 @@ class Tracer:
         if report.may_be_refused and code in NOT_MINE:
             return
         if code in FULL:
-            self._give_up(f"the trace is full ({reply})")
+            self._give_up(Cause.FULL, f"the trace is full ({reply})")
         else:
-            self._give_up(f"{report.text.strip()}: {reply}")
+            self._give_up(Cause.TRACER, f"{report.text.strip()}: {reply}")
 
     def _row(self, event: int, report: Outstanding) -> str:
         place = self._places.text(report.code, report.instruction)

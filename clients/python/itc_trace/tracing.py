@@ -6,9 +6,9 @@ import atexit
 import os
 import tempfile
 from types import TracebackType
-from typing import TextIO
 
 from .collector import HOST, Collector
+from .journal_file import JournalFile
 from .lines import state
 from .patches import put_all
 from .races import Races, find_races
@@ -35,7 +35,7 @@ class Tracing:
         self._found: Races | None = None
         self._is_temporary = journal is None
         self.journal: str = "" if journal is None else os.fspath(journal)
-        self._file: TextIO | None = None
+        self._file: JournalFile | None = None
 
     def start(self) -> Tracing:
         """Begins to trace. One thing at a time is traced in a process."""
@@ -56,7 +56,7 @@ class Tracing:
         if self._is_temporary:
             handle, self.journal = tempfile.mkstemp(suffix=".journal", prefix="itc_trace_")
             os.close(handle)
-        self._file = open(self.journal, "w", encoding="utf-8", newline="\n")
+        self._file = JournalFile(self.journal)
         self._tracer = Tracer(self.port, self.tenant, self._file, self.process, self.host)
         self._tracer.start()
 

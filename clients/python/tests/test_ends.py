@@ -58,13 +58,16 @@ class Ends(ProgramCase):
             with self.subTest(reply=reply), Served(*limits) as served:
                 slow = COUNTING.replace("with lock:", "with lock:\n            time.sleep(0)")
                 ran = run_traced("--quiet", "--port", str(served.port), self.program(slow))
-                self.assertEqual((ran.returncode, ran.stdout), (0, "done: 8\n"), ran.stderr)
-                self.assertEqual(ran.stderr, f"itc_trace: tracing stops: the trace is full ({reply})\n")
+                self.assertEqual((ran.returncode, ran.stdout), (67, "done: 8\n"), ran.stderr)
+                stops, incomplete, summary = ran.stderr.splitlines()
+                self.assertEqual(stops, f"itc_trace: tracing stops: the trace is full ({reply})")
+                self.assertEqual(incomplete, f"itc_trace: incomplete: the trace is full ({reply})")
+                self.assertTrue(summary.startswith("itc_trace: no race in what was seen: "), summary)
 
     def test_a_full_trace_tells_no_race_that_is_none(self) -> None:
         with Served("--events", "300") as served, tempfile.NamedTemporaryFile("r") as journal:
             ran = run_traced("--port", str(served.port), "--journal", journal.name, self.program(COUNTING))
-            self.assertEqual(ran.returncode, 0, ran.stderr)
+            self.assertEqual(ran.returncode, 67, ran.stderr)
             self.assertLessEqual(len(list(read_journal(journal))), 300)
 
     def test_a_collector_that_ends_stops_tracing_and_not_the_program(self) -> None:
@@ -92,11 +95,11 @@ class Ends(ProgramCase):
         program = self.program(f"import os, signal, time\nos.kill(int(os.environ['VICTIM']), signal.SIGKILL)\n{COUNTING}")
         with Served() as served:
             ran = run_traced("--port", str(served.port), program, VICTIM=str(served.process.pid))
-            self.assertEqual((ran.returncode, ran.stdout), (0, "done: 8\n"), ran.stderr)
+            self.assertEqual((ran.returncode, ran.stdout), (67, "done: 8\n"), ran.stderr)
             lines = ran.stderr.splitlines()
             self.assertEqual(lines[0], "itc_trace: tracing stops: the collector is gone")
             self.assertEqual(len(lines), 2, ran.stderr)
-            self.assertTrue(lines[1].startswith("itc_trace: races cannot be told: "), ran.stderr)
+            self.assertTrue(lines[1].startswith("itc_trace: incomplete: races cannot be told: "), ran.stderr)
 
     def test_no_collector_is_told_before_the_program_runs(self) -> None:
         ran = run_traced("--port", str(free_port()), self.program(COUNTING))
@@ -104,7 +107,7 @@ class Ends(ProgramCase):
 
     def test_a_program_s_own_status_stays(self) -> None:
         for text, status in (("import sys; sys.exit(7)", 7), ("raise ValueError", 1), ("import os; os._exit(9)", 9),
-                             ("import os, signal; os.kill(os.getpid(), signal.SIGTERM)", 128 + 15)):
+                             ("import os, signal; os.kill(os.getpid(), signal.SIGTERM)", 67)):
             with self.subTest(text=text):
                 self.assertEqual(run_traced(self.program(text)).returncode, status)
 

@@ -1,0 +1,23 @@
+"""The file that a journal is written to, by the thread that reads replies and by forked children."""
+
+from __future__ import annotations
+
+import os
+
+
+class JournalFile:
+    """Adds whole lines to the file. Nothing is kept in between, so that a forked child has nothing to write twice."""
+
+    def __init__(self, path: str) -> None:
+        flags = os.O_WRONLY | os.O_CREAT | os.O_TRUNC | os.O_APPEND
+        self._file: int | None = os.open(path, flags | getattr(os, "O_CLOEXEC", 0), 0o666)
+
+    def write(self, text: str) -> None:
+        left = text.encode("utf-8", "backslashreplace")
+        while left and self._file is not None:
+            left = left[os.write(self._file, left):]
+
+    def close(self) -> None:
+        file, self._file = self._file, None
+        if file is not None:
+            os.close(file)

@@ -1,0 +1,58 @@
+"""The answer that a run is given: no race in it, races, or that not all of it was seen."""
+
+from __future__ import annotations
+
+import enum
+import json
+from collections.abc import Iterable
+from typing import NamedTuple
+
+
+class Verdict(enum.IntEnum):
+    """The three answers. Each is the status that a command ends with."""
+
+    NO_RACE = 0
+    """The whole run was seen, and nothing in it was unordered."""
+    RACES = 66
+    INCOMPLETE = 67
+    """No race was found, and not all of the run was seen."""
+
+
+class Cause(enum.Enum):
+    """Why something of a run was not seen."""
+
+    FULL = "full"
+    COLLECTOR = "collector"
+    CHILD = "child"
+    JOURNAL = "journal"
+    KILLED = "killed"
+    TRACER = "tracer"
+
+
+class Unseen(NamedTuple):
+    """Something of the run that was not seen: why, and in words for a person."""
+
+    cause: Cause
+    text: str
+
+    def row(self) -> str:
+        """The line of a journal that says so."""
+        return json.dumps({"unseen": self.cause.value, "text": self.text}, separators=(",", ":")) + "\n"
+
+
+END_ROW = '{"end":true}\n'
+"""The last line of a journal whose process reported all that it noted."""
+
+BREAKS_OFF = Unseen(Cause.JOURNAL, "the journal breaks off before the end of its process")
+
+
+def verdict_of(failing: int, unseen: Iterable[Unseen]) -> Verdict:
+    """The answer to a run, by the number of races that count and by what was not seen."""
+    if failing:
+        return Verdict.RACES
+    return Verdict.INCOMPLETE if any(True for _ in unseen) else Verdict.NO_RACE
+
+
+def reasons(unseen: Iterable[Unseen]) -> str:
+    """Why a verdict is incomplete, in one line. What is said twice is said once."""
+    return "; ".join(dict.fromkeys(one.text for one in unseen))
