@@ -1,0 +1,39 @@
+"""A lock of `_thread` guards a counter, and the name beside it is read and written without it.
+
+due: possible
+thing: profile
+"""
+
+import _thread
+import threading
+import time
+
+from itc_trace import touch
+
+lock = _thread.allocate_lock()
+views, name = 0, "ann"
+
+
+def rename(new):
+    global views, name
+    touch("profile", write=True)  # race: write
+    name = new
+    with lock:
+        views += 1
+
+
+def view():
+    global views
+    time.sleep(0.2)
+    with lock:
+        views += 1
+    touch("profile")  # race: read
+    print(name)
+
+
+touch("profile", write=True)
+threads = [threading.Thread(target=rename, args=("bea",)), threading.Thread(target=view)]
+for thread in threads:
+    thread.start()
+for thread in threads:
+    thread.join()

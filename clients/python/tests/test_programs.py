@@ -1,0 +1,146 @@
+"""Each program of `programs` is run, and what the run says is what is due by the program's own text.
+
+ITC_PROGRAM_RUNS says how often each is run, once where it is not set. ITC_PROGRAMS is a pattern of the names of those to run.
+"""
+
+from __future__ import annotations
+
+import fnmatch
+import os
+import subprocess
+import unittest
+from collections.abc import Callable, Iterable
+from concurrent.futures import ThreadPoolExecutor
+from pathlib import Path
+
+from .due import Due, Place, due_of, faults, told_by
+from .support import PACKAGE, run_python, run_traced
+
+RUNS = int(os.environ.get("ITC_PROGRAM_RUNS", "1"))
+PATTERN = os.environ.get("ITC_PROGRAMS", "*")
+AT_ONCE = 2
+PROGRAMS = PACKAGE / "tests" / "programs"
+WAITING = (PROGRAMS / "waiting").read_text().split()
+
+Ended = subprocess.CompletedProcess[str]
+
+
+def programs(folder: Path) -> list[Path]:
+    """The programs of a folder, without the modules that they import."""
+    return [path for path in sorted(folder.glob("[a-z]*.py")) if fnmatch.fnmatch(path.stem, PATTERN)]
+
+
+def run_all(run: Callable[..., Ended], paths: Iterable[Path]) -> list[tuple[Path, Ended]]:
+    """Runs each, a few at a time."""
+    with ThreadPoolExecutor(AT_ONCE) as pool:
+        running = [(path, pool.submit(run, str(path))) for path in paths]
+    return [(path, job.result()) for path, job in running]
+
+
+class Programs(unittest.TestCase):
+    def test_marked_programs_have_the_verdicts_that_are_due(self) -> None:
+        self.assert_due(programs(PROGRAMS))
+
+    def test_unchanged_programs_have_the_verdicts_that_are_due(self) -> None:
+        self.assert_due(programs(PROGRAMS / "unchanged"))
+
+    def test_programs_end_well_where_nothing_is_traced(self) -> None:
+        for path, ended in run_all(run_python, [*programs(PROGRAMS), *programs(PROGRAMS / "unchanged")]):
+            with self.subTest(program=path.stem):
+                self.assertEqual((ended.returncode, ended.stderr), (0, ""))
+
+    def test_unchanged_programs_do_not_know_the_package(self) -> None:
+        for path in (PROGRAMS / "unchanged").glob("*.py"):
+            with self.subTest(program=path.stem):
+                self.assertNotIn("itc_trace", path.read_text())
+
+    def assert_due(self, paths: list[Path]) -> None:
+        judged = {path: due_of(path) for path in paths if path.stem not in WAITING}
+        for path, ended in run_all(run_traced, [path for path in judged for _ in range(RUNS)]):
+            with self.subTest(program=path.stem):
+                wrong = faults(judged[path], ended.returncode, ended.stderr)
+                self.assertEqual(wrong, [], f"\n{ended.stdout}{ended.stderr}")
+
+
+RACE = """\
+itc_trace: race on stock: read at shop.py:7 and write at folder/shop.py:8, 2 times
+    event 6 of sell_2 and event 3 of sell_1: nothing orders them
+itc_trace: 1 race in this run
+"""
+SEVERAL_LINES = """\
+itc_trace: race on stock['left'] (a dict made at shop.py:4)
+    read  at shop.py:7 in sell:  left = stock["left"]
+    write at shop.py:8 in sell:  stock["left"] = left
+    threads sell_1 and sell_2: nothing orders them; 3 times
+itc_trace: 1 race in this run
+"""
+POSSIBLE = RACE.replace("race on", "possible race on").replace("1 race in", "no race in")
+NONE = "itc_trace: no race in this run; 1 possible\n"
+READ, WRITE = Place("read", "shop.py", 7), Place("write", "shop.py", 8)
+
+
+class Faults(unittest.TestCase):
+    """What is not due is a fault: else no program could fail."""
+
+    def due(self, verdict: str, *places: Place, thing: str = "stock", further: tuple[Place, ...] = ()) -> Due:
+        return Due(frozenset({verdict}), (thing,), (), frozenset(places), frozenset(further))
+
+    def assert_faults(self, text: str, due: Due, status: int) -> None:
+        self.assertTrue(faults(due, status, text))
+
+    def test_what_is_due_is_no_fault(self) -> None:
+        self.assertEqual(faults(self.due("race", READ, WRITE), 66, RACE), [])
+        self.assertEqual(faults(self.due("race", READ, WRITE, thing="stock.left"), 66, SEVERAL_LINES), [])
+        self.assertEqual(faults(self.due("possible", READ, WRITE), 0, POSSIBLE), [])
+        self.assertEqual(faults(self.due("none"), 0, NONE), [])
+
+    def test_another_verdict_is_a_fault(self) -> None:
+        for text, verdict, places, status in (
+            (RACE, "none", (), 66), (RACE, "possible", (READ, WRITE), 66), (POSSIBLE, "none", (), 0),
+            (POSSIBLE, "race", (READ, WRITE), 0), (NONE, "race", (READ, WRITE), 0), (NONE, "possible", (READ, WRITE), 0),
+        ):
+            with self.subTest(text=text, verdict=verdict):
+                self.assert_faults(text, self.due(verdict, *places), status)
+
+    def test_another_status_is_a_fault(self) -> None:
+        self.assert_faults(RACE, self.due("race", READ, WRITE), 0)
+        self.assert_faults(NONE, self.due("none"), 67)
+        self.assert_faults(POSSIBLE, self.due("possible", READ, WRITE), 66)
+
+    def test_words_that_say_nothing_are_a_fault(self) -> None:
+        self.assert_faults("", self.due("none"), 0)
+
+    def test_another_line_is_a_fault(self) -> None:
+        for text in (RACE, SEVERAL_LINES):
+            with self.subTest(text=text):
+                self.assert_faults(text.replace(":7", ":9"), self.due("race", READ, WRITE), 66)
+                self.assert_faults(text, self.due("race", READ), 66)
+                self.assert_faults(text, self.due("race", WRITE, further=(READ,)), 66)
+
+    def test_a_line_that_nothing_tells_of_is_a_fault(self) -> None:
+        self.assert_faults(RACE, self.due("race", READ, WRITE, Place("read", "shop.py", 20)), 66)
+        self.assert_faults(RACE.replace(":7", ":8"), self.due("race", READ, WRITE, Place("read", "shop.py", 8)), 66)
+
+    def test_two_lines_that_are_not_told_of_together_are_a_fault(self) -> None:
+        apart = RACE.replace("read at shop.py:7", "write at shop.py:8") + RACE.replace("write at folder/shop.py:8", "write at shop.py:7")
+        both = (READ, WRITE, Place("write", "shop.py", 7))
+        self.assert_faults(apart, self.due("race", *both), 66)
+        self.assertEqual(faults(self.due("race", *both), 66, RACE + apart), [])
+
+    def test_another_kind_or_thing_or_file_is_a_fault(self) -> None:
+        self.assert_faults(RACE.replace("read at", "write at"), self.due("race", READ, WRITE), 66)
+        self.assert_faults(RACE, self.due("race", READ, WRITE, thing="price"), 66)
+        self.assert_faults(SEVERAL_LINES, self.due("race", READ, WRITE, thing="dict"), 66)
+        self.assert_faults(RACE.replace("shop.py:7", "store.py:7"), self.due("race", READ, WRITE), 66)
+
+    def test_a_second_race_that_is_not_due_is_a_fault(self) -> None:
+        further = RACE.replace(":7", ":30").replace(":8", ":31")
+        self.assert_faults(RACE + further, self.due("race", READ, WRITE), 66)
+        self.assert_faults(RACE + further.replace("race on", "possible race on"), self.due("race", READ, WRITE), 66)
+
+    def test_each_race_is_read(self) -> None:
+        self.assertEqual([one.thing for one in told_by(RACE + SEVERAL_LINES + POSSIBLE)], ["stock", "stock['left']", "stock"])
+
+
+if __name__ == "__main__":
+    unittest.main()
