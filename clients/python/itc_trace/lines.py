@@ -11,6 +11,7 @@ from types import CodeType
 from typing import TYPE_CHECKING, Any, NamedTuple
 
 if TYPE_CHECKING:
+    from .lock_identity import LockIdentity, Signal
     from .tracer import Tracer
 
 MARK, TAKE, TAKE_END, SPAWN, FINISH, JOIN, TOUCH, GONE, SEND, RECV, STOP = range(11)
@@ -25,8 +26,13 @@ class What(NamedTuple):
     giving: str
     taking: str
 
+    @property
+    def lock(self) -> None:
+        """It is no hand-over of a lock."""
+        return None
 
-LOCK = What("lock", "release lock", "acquire lock")
+
+NOTIFY = What("notify", "notify", "wake up")
 SEMAPHORE = What("permit", "release semaphore", "acquire semaphore")
 EVENT = What("event", "set event", "see event set")
 BARRIER = What("barrier", "arrive at barrier", "leave barrier")
@@ -41,10 +47,13 @@ OUTSIDE = What("out", "send to another process", "receive from another process")
 
 
 class Line:
-    """The events of one task, in their order. All but the first five fields belong to the thread that reports."""
+    """The events of one task, in their order. All but the first six fields belong to the thread that reports.
+
+    `held` has the locks that the task holds now, in the order of their acquiring.
+    """
 
     __slots__ = (
-        "tracer", "hint", "waiting", "reference", "must_finish",
+        "tracer", "hint", "waiting", "reference", "must_finish", "held",
         "name", "count", "message", "sent", "pending", "known", "parent", "parent_count",
         "end_token", "is_finished", "has_ended", "is_gone", "joined_by", "joined_at", "joined", "first_taker",
     )
@@ -55,6 +64,7 @@ class Line:
         self.waiting = 0
         self.reference: weakref.ref[Any] | None = None
         self.must_finish = False
+        self.held: tuple[LockIdentity, ...] = ()
         self.name = ""
         self.count = 0
         self.message: str | None = None
@@ -83,11 +93,15 @@ class Line:
 
 
 class Token:
-    """A place in a line, behind the events that it had when the token was noted. Whoever takes it, comes after these."""
+    """A place in a line, behind the events that it had when the token was noted. Whoever takes it, comes after these.
+
+    What it stands for is a `LockIdentity`, where a lock is handed over, and a `What` or a `Signal` of any other order. Its
+    `lock` says which of them only luck puts in order.
+    """
 
     __slots__ = ("line", "what", "code", "instruction", "count", "message")
 
-    def __init__(self, line: Line, what: What, code: CodeType | None, instruction: int) -> None:
+    def __init__(self, line: Line, what: What | LockIdentity | Signal, code: CodeType | None, instruction: int) -> None:
         self.line = line
         self.what = what
         self.code = code

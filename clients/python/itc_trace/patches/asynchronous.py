@@ -17,11 +17,14 @@ from collections import deque
 from collections.abc import Iterator
 from typing import Any
 
-from ..lines import BARRIER, CALL, EVENT, LOCK, QUEUE, RESULT, SEMAPHORE, SPAWN, TAKE_END, Line, state
+from ..lines import BARRIER, CALL, EVENT, NOTIFY, QUEUE, RESULT, SEMAPHORE, SPAWN, TAKE_END, Line, state
+from ..lock_identity import LockIdentity
 from ..noting import current, is_internal, mark, place, take
 from .base import Patches, like
 from .futures import take_any
+from .locks import gave, is_of_condition, took
 from .queues import items_of, note_done, take_done
+from .waiters import Waiters
 
 _PlainTask: Any = tasks.Task
 _PlainFuture: Any = futures_module.Future
@@ -351,22 +354,25 @@ def _call_at(original: Any) -> Any:
     return call_at
 
 
-# Locks
+# Locks and conditions
 
 
 def _put_locks(patches: Patches) -> None:
-    patches.put(locks.Lock, "_itc_token", None)
+    for name in ("_itc_token", "_itc_identity", "_itc_holder"):
+        patches.put(locks.Lock, name, None)
     patches.put(locks.Lock, "_itc_is_silent", False)
     patches.wrap(locks.Lock, "acquire", _lock_acquire)
     patches.wrap(locks.Lock, "release", _lock_release)
+    patches.wrap(locks.Lock, "__init__", _lock_begin)
     patches.wrap(locks.Condition, "__init__", _condition_begin)
+    patches.wrap(locks.Condition, "notify", _condition_notify)
+    patches.wrap(locks.Condition, "wait", _condition_wait)
 
 
-def _condition_begin(original: Any) -> Any:
-    def __init__(self: Any, lock: Any = None, **named: Any) -> None:
-        original(self, lock, **named)
-        if lock is None and is_internal(sys._getframe(1)):
-            self._lock._itc_is_silent = True
+def _lock_begin(original: Any) -> Any:
+    def __init__(self: Any, **named: Any) -> None:
+        original(self, **named)
+        self._itc_identity = LockIdentity("asyncio.Lock", sys._getframe(1))
 
     return __init__
 
@@ -374,8 +380,8 @@ def _condition_begin(original: Any) -> Any:
 def _lock_acquire(original: Any) -> Any:
     async def acquire(self: Any) -> Any:
         told = await original(self)
-        token, self._itc_token = self._itc_token, None
-        take(token)
+        if state.note is not None and _is_told_of(self):
+            took(self)
         return told
 
     return acquire
@@ -383,11 +389,52 @@ def _lock_acquire(original: Any) -> Any:
 
 def _lock_release(original: Any) -> Any:
     def release(self: Any) -> None:
-        if state.note is not None and not self._itc_is_silent and self._locked:
-            self._itc_token = mark(LOCK)
+        if state.note is not None and self._locked and _is_told_of(self):
+            gave(self)
         original(self)
 
     return release
+
+
+def _is_told_of(lock: Any) -> bool:
+    if lock._itc_is_silent:
+        return False
+    if lock._itc_identity is None:
+        lock._itc_identity = LockIdentity("asyncio.Lock", None)
+    return True
+
+
+def _condition_begin(original: Any) -> Any:
+    def __init__(self: Any, lock: Any = None, **named: Any) -> None:
+        original(self, lock, **named)
+        if not is_internal(sys._getframe(1)):
+            self._waiters = Waiters()
+            is_of_condition(self._lock)
+        elif lock is None:
+            self._lock._itc_is_silent = True
+
+    return __init__
+
+
+def _condition_notify(original: Any) -> Any:
+    def notify(self: Any, n: int = 1) -> None:
+        waiters = self._waiters
+        if waiters and type(waiters) is Waiters and self.locked():
+            waiters.are_notified(mark(NOTIFY), n)
+        original(self, n)
+
+    return notify
+
+
+def _condition_wait(original: Any) -> Any:
+    async def wait(self: Any) -> Any:
+        try:
+            return await original(self)
+        finally:
+            if type(self._waiters) is Waiters:
+                take(self._waiters.woken())
+
+    return wait
 
 
 # Events

@@ -1,4 +1,7 @@
-"""Traced locks: a release is a message to whoever acquires next."""
+"""Traced locks: a release is a message to whoever acquires next.
+
+A traced lock has three fields: the token of its last release, its identity, and the line of the task that holds it.
+"""
 
 from __future__ import annotations
 
@@ -6,7 +9,8 @@ import _thread
 import sys
 from typing import Any
 
-from ..lines import LOCK, MARK, TAKE, Token, state
+from ..lines import MARK, TAKE, Line, Token, state
+from ..lock_identity import LockIdentity, Signal
 from ..noting import current, is_internal, place
 
 _allocate = _thread.allocate_lock
@@ -23,17 +27,21 @@ class _LikeLock(type):
 class TracedLock(metaclass=_LikeLock):
     """A lock whose last release is known to whoever acquires it next. It has all that a lock has."""
 
-    __slots__ = ("_lock", "_token", "__weakref__")
+    __slots__ = ("_lock", "_itc_token", "_itc_identity", "_itc_holder", "__weakref__")
 
     _lock: Any
-    _token: Token | None
+    _itc_token: Token | None
+    _itc_identity: LockIdentity
+    _itc_holder: Line | None
 
     def __new__(cls) -> Any:
-        if is_internal(sys._getframe(1)):
+        frame = sys._getframe(1)
+        if is_internal(frame):
             return _allocate()
         made = object.__new__(cls)
         made._lock = _allocate()
-        made._token = None
+        made._itc_identity = LockIdentity("Lock", frame)
+        made._itc_token = made._itc_holder = None
         return made
 
     @property  # type: ignore[misc]
@@ -43,24 +51,24 @@ class TracedLock(metaclass=_LikeLock):
     def acquire(self, blocking: bool = True, timeout: float = -1) -> bool:
         if not self._lock.acquire(blocking, timeout):
             return False
-        if self._token is not None:
-            _took(self)
+        if state.note is not None:
+            took(self)
         return True
 
     def __enter__(self) -> bool:
         self._lock.acquire()
-        if self._token is not None:
-            _took(self)
+        if state.note is not None:
+            took(self)
         return True
 
     def release(self) -> None:
         if state.note is not None:
-            _gave(self)
+            gave(self)
         self._lock.release()
 
     def __exit__(self, *_: object) -> None:
         if state.note is not None:
-            _gave(self)
+            gave(self)
         self._lock.release()
 
     def locked(self) -> bool:
@@ -72,7 +80,7 @@ class TracedLock(metaclass=_LikeLock):
 
     def _at_fork_reinit(self) -> None:
         self._lock._at_fork_reinit()
-        self._token = None
+        self._itc_token = self._itc_holder = None
 
     def __reduce__(self) -> Any:
         raise TypeError("cannot pickle '_thread.lock' object")
@@ -84,37 +92,37 @@ class TracedLock(metaclass=_LikeLock):
 class TracedRLock(_PlainRLock):  # type: ignore[misc]
     """A lock that its owner may acquire again. Only what happens outermost is a message."""
 
-    _token: Token | None
+    _itc_token: Token | None
+    _itc_identity: LockIdentity
+    _itc_holder: Line | None
     _depth: int
 
     def __new__(cls, *words: Any, **named: Any) -> Any:
-        if is_internal(sys._getframe(1)):
+        frame = sys._getframe(1)
+        if is_internal(frame):
             return _PlainRLock(*words, **named)
-        made = _PlainRLock.__new__(cls, *words, **named)
-        made._token = None
-        made._depth = 0
-        return made
+        return traced_rlock(frame, cls, *words, **named)
 
     def acquire(self, blocking: bool = True, timeout: float = -1) -> bool:
         if not _PlainRLock.acquire(self, blocking, timeout):
             return False
         self._depth += 1
-        if self._depth == 1 and self._token is not None:
-            _took(self)
+        if self._depth == 1 and state.note is not None:
+            took(self)
         return True
 
     def __enter__(self) -> bool:
         _PlainRLock.acquire(self)
         self._depth += 1
-        if self._depth == 1 and self._token is not None:
-            _took(self)
+        if self._depth == 1 and state.note is not None:
+            took(self)
         return True
 
     def release(self) -> None:
         if _PlainRLock._is_owned(self):
             self._depth -= 1
             if self._depth == 0 and state.note is not None:
-                _gave(self)
+                gave(self)
         _PlainRLock.release(self)
 
     def __exit__(self, *_: object) -> None:
@@ -123,38 +131,80 @@ class TracedRLock(_PlainRLock):  # type: ignore[misc]
     def _release_save(self) -> Any:
         depth, self._depth = self._depth, 0
         if state.note is not None:
-            _gave(self)
+            gave(self)
         return _PlainRLock._release_save(self), depth
 
     def _acquire_restore(self, saved: Any) -> None:
         _PlainRLock._acquire_restore(self, saved[0])
         self._depth = saved[1]
-        if self._token is not None:
-            _took(self)
+        if state.note is not None:
+            took(self)
 
     def _at_fork_reinit(self) -> None:
         _PlainRLock._at_fork_reinit(self)
-        self._token = None
+        self._itc_token = self._itc_holder = None
         self._depth = 0
 
 
-def _gave(lock: Any) -> None:
+def traced_rlock(frame: Any, cls: Any = TracedRLock, *words: Any, **named: Any) -> Any:
+    """One that was made where the frame stands."""
+    made = _PlainRLock.__new__(cls, *words, **named)
+    made._itc_identity = LockIdentity("RLock", frame)
+    made._itc_token = made._itc_holder = None
+    made._depth = 0
+    return made
+
+
+def is_of_condition(lock: Any) -> None:
+    """The lock, where it is a traced one, guards what those look at who wait at a condition."""
+    identity = getattr(lock, "_itc_identity", None)
+    if identity is not None:
+        identity.is_of_condition = True
+
+
+def gave(lock: Any) -> None:
     """Notes that the lock is about to be released."""
     frame = sys._getframe(2)
     code, instruction = place(frame) if is_internal(frame) else (frame.f_code, frame.f_lasti)
-    lock._token = token = Token(current(), LOCK, code, instruction)
+    line = current()
+    holder, lock._itc_holder = lock._itc_holder, None
+    identity: LockIdentity = lock._itc_identity
+    what: LockIdentity | Signal = identity.signal or identity
+    if holder is line:
+        held = line.held
+        line.held = held[:-1] if held and held[-1] is identity else without(held, identity)
+    elif holder is not None:
+        what = _given_by_another(holder, identity)
+    lock._itc_token = token = Token(line, what, code, instruction)
     note = state.note
     if note is not None:
         note((MARK, token))
 
 
-def _took(lock: Any) -> None:
+def _given_by_another(holder: Line, identity: LockIdentity) -> LockIdentity | Signal:
+    """The lock is released by a task that did not acquire it, and so it is a signal between the two."""
+    if holder.tracer is not state.tracer:
+        return identity
+    holder.held = without(holder.held, identity)
+    return identity.become_signal()
+
+
+def without(held: tuple[LockIdentity, ...], identity: LockIdentity) -> tuple[LockIdentity, ...]:
+    return tuple(one for one in held if one is not identity)
+
+
+def took(lock: Any) -> None:
     """Notes that the lock was acquired. While it is held nobody else needs the place of its last release."""
-    token = lock._token
-    lock._token = None
-    note = state.note
-    if note is None or token is None or token.line.tracer is not state.tracer:
-        return
+    token = lock._itc_token
     line = current()
-    if line is not token.line:
-        note((TAKE, line, token, *place(sys._getframe(2))))
+    identity = lock._itc_identity
+    if identity.signal is None:
+        lock._itc_holder = line
+        line.held += (identity,)
+    if token is None:
+        return
+    lock._itc_token = None
+    if line is not token.line and token.line.tracer is state.tracer:
+        note = state.note
+        if note is not None:
+            note((TAKE, line, token, *place(sys._getframe(2))))

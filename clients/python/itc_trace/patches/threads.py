@@ -8,10 +8,11 @@ import threading
 from collections import deque
 from typing import Any
 
-from ..lines import BARRIER, EVENT, FINISH, JOIN, SEMAPHORE, SPAWN, Line, state
+from ..lines import BARRIER, EVENT, FINISH, JOIN, NOTIFY, SEMAPHORE, SPAWN, Line, state
 from ..noting import current, is_internal, local, mark, place, take, thread_name
 from .base import Patches
-from .locks import TracedLock, TracedRLock
+from .locks import TracedLock, TracedRLock, is_of_condition, traced_rlock
+from .waiters import Waiters
 
 _PLAIN_RLOCK: Any = vars(_thread)["RLock"]
 
@@ -23,7 +24,7 @@ def put(patches: Patches) -> None:
     patches.replace(threading, "Lock", TracedLock)
     patches.replace(threading, "RLock", TracedRLock)
     _put_threads(patches)
-    patches.wrap(threading.Condition, "__init__", _condition_begin)
+    _put_conditions(patches)
     _put_events(patches)
     _put_semaphores(patches)
     _put_barriers(patches)
@@ -136,24 +137,48 @@ def _start_plain(original: Any) -> Any:
     return start_new_thread
 
 
-# Conditions: their lock tells all, since whoever notifies holds it, and whoever wakes up has acquired it again.
+# Conditions: whoever wakes up comes after who notified it, whatever becomes of the lock meanwhile.
+
+
+def _put_conditions(patches: Patches) -> None:
+    patches.wrap(threading.Condition, "__init__", _condition_begin)
+    patches.wrap(threading.Condition, "notify", _condition_notify)
+    patches.wrap(threading.Condition, "wait", _condition_wait)
 
 
 def _condition_begin(original: Any) -> Any:
-    def __init__(self: threading.Condition, lock: Any = None) -> None:
-        if lock is None and not is_internal(sys._getframe(1)):
-            lock = _traced_rlock()
-        elif lock is None:
-            lock = _PLAIN_RLOCK()
+    def __init__(self: Any, lock: Any = None) -> None:
+        frame = sys._getframe(1)
+        is_the_programs = not is_internal(frame)
+        if lock is None:
+            lock = traced_rlock(frame) if is_the_programs else _PLAIN_RLOCK()
         original(self, lock)
+        if is_the_programs:
+            self._waiters = Waiters()
+            is_of_condition(lock)
 
     return __init__
 
 
-def _traced_rlock() -> Any:
-    lock = _PLAIN_RLOCK.__new__(TracedRLock)
-    lock._token, lock._depth = None, 0
-    return lock
+def _condition_notify(original: Any) -> Any:
+    def notify(self: Any, n: int = 1) -> None:
+        waiters = self._waiters
+        if waiters and type(waiters) is Waiters and self._is_owned():
+            waiters.are_notified(mark(NOTIFY), n)
+        original(self, n)
+
+    return notify
+
+
+def _condition_wait(original: Any) -> Any:
+    def wait(self: Any, timeout: float | None = None) -> bool:
+        try:
+            return bool(original(self, timeout))
+        finally:
+            if type(self._waiters) is Waiters:
+                take(self._waiters.woken())
+
+    return wait
 
 
 # Events

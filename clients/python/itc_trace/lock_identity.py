@@ -1,0 +1,133 @@
+"""What is known of a lock: its kind, and the line of the program that made it."""
+
+from __future__ import annotations
+
+import dis
+import itertools
+from types import CodeType, FrameType
+
+from .journal import line_of
+from .noting import is_internal
+
+_VARIABLES = ("NAME", "GLOBAL", "FAST", "DEREF")
+_STORES = {f"STORE_{one}" for one in _VARIABLES}
+_LOADS = {f"LOAD_{one}" for one in (*_VARIABLES, "ATTR")}
+
+_numbers: dict[tuple[str, int, int], itertools.count[int]] = {}
+_serials = itertools.count(1)
+
+
+class LockIdentity:
+    """One lock. A task that holds it has it in `Line.held`, and the token of a release has it as what it stands for.
+
+    Whoever releases a lock that somebody else acquired gives a signal: it keeps nobody out. `signal` says so from then on.
+    A lock of a condition guards what the waiting ones look at, so to acquire it is an order as meant as a wake-up.
+    """
+
+    __slots__ = ("serial", "kind", "code", "instruction", "number", "signal", "is_of_condition", "_name")
+
+    def __init__(self, kind: str, frame: FrameType | None) -> None:
+        frame = _maker(frame)
+        self.serial = next(_serials)
+        self.kind = kind
+        self.code: CodeType | None = None
+        self.instruction = 0
+        self.number = 1
+        self.signal: Signal | None = None
+        self.is_of_condition = False
+        self._name = ""
+        if frame is not None:
+            code = self.code = frame.f_code
+            self.instruction = frame.f_lasti
+            key = (code.co_filename, code.co_firstlineno, self.instruction)
+            self.number = next(_numbers.setdefault(key, itertools.count(1)))
+
+    @property
+    def lock(self) -> LockIdentity | None:
+        """The lock, where only luck puts those in order who acquire it."""
+        return None if self.is_of_condition else self
+
+    @property
+    def place(self) -> str:
+        """The file and line that made it."""
+        return f"{self.code.co_filename}:{self.line}" if self.code is not None else "?"
+
+    @property
+    def line(self) -> int:
+        return 0 if self.code is None else line_of(self.code, self.instruction)
+
+    @property
+    def name(self) -> str:
+        """As `lock L (shop.py:12)`, or `stock_lock (shop.py:12)`. A later one of the same line has its number."""
+        if not self._name:
+            variable = None if self.code is None else _variable(self.code, self.instruction)
+            words = [] if variable and "lock" in variable.lower() else ["lock"]
+            words += [variable] if variable else []
+            words += [str(self.number)] if self.number > 1 else []
+            self._name = f"{' '.join(words)} ({self.place})"
+        return self._name
+
+    @property
+    def hint(self) -> str:
+        return f"lock{self.line or ''}"
+
+    @property
+    def giving(self) -> str:
+        return f"release {self.name}"
+
+    @property
+    def taking(self) -> str:
+        return f"acquire {self.name}"
+
+    def become_signal(self) -> Signal:
+        if self.signal is None:
+            self.signal = Signal(self)
+        return self.signal
+
+
+class Signal:
+    """What the release of a lock stands for that another task acquired: an order of its own."""
+
+    __slots__ = ("identity",)
+
+    hint = "signal"
+    lock = None
+
+    def __init__(self, identity: LockIdentity) -> None:
+        self.identity = identity
+
+    @property
+    def giving(self) -> str:
+        return self.identity.giving
+
+    @property
+    def taking(self) -> str:
+        return self.identity.taking
+
+
+def _maker(frame: FrameType | None) -> FrameType | None:
+    """The innermost frame of the program, and not of code that has no file, if there is one."""
+    first = None
+    while frame is not None:
+        if not is_internal(frame):
+            if not frame.f_code.co_filename.startswith("<"):
+                return frame
+            first = first or frame
+        frame = frame.f_back
+    return first
+
+
+def _variable(code: CodeType, instruction: int) -> str | None:
+    """The name of the variable or attribute that is given the result of the instruction at once."""
+    instructions = (one for one in dis.get_instructions(code) if one.opname not in ("CACHE", "COPY"))
+    for one in instructions:
+        if one.offset == instruction:
+            break
+    following = next(instructions, None)
+    if following is not None and following.opname in _STORES:
+        return str(following.argval)
+    while following is not None and following.opname in _LOADS:
+        following = next(instructions, None)
+        if following is not None and following.opname == "STORE_ATTR":
+            return str(following.argval)
+    return None

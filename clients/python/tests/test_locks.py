@@ -1,0 +1,213 @@
+"""What is known of locks: which a task holds, the line that made each, and what their hand-over is called."""
+
+from __future__ import annotations
+
+import asyncio
+import sys
+import threading
+import unittest
+from typing import Any
+
+from itc_trace import touch
+from itc_trace.lines import state
+from itc_trace.noting import current
+
+from .support import WAIT, TracedCase, in_turn
+
+
+def held() -> list[str]:
+    """The names of the locks that the current task holds, without the file."""
+    return [one.name.replace(__file__, "here") for one in current().held]
+
+
+def line_here() -> int:
+    return sys._getframe(1).f_lineno
+
+
+class Names(TracedCase):
+    def test_a_lock_is_known_by_its_variable_and_the_line_that_made_it(self) -> None:
+        told: list[list[str]] = []
+        line = line_here()
+
+        def scenario() -> None:
+            stock_lock = threading.Lock()
+            guard = threading.RLock()
+            some = [threading.Lock() for _ in range(2)]
+            self.one = threading.Condition()
+            with stock_lock, guard, some[0], some[1], self.one:
+                told.append(held())
+
+        self.races(scenario)
+        self.assertEqual(told, [[
+            f"stock_lock (here:{line + 3})", f"lock guard (here:{line + 4})", f"lock (here:{line + 5})",
+            f"lock 2 (here:{line + 5})", f"lock one (here:{line + 6})",
+        ]])
+
+    def test_messages_and_labels_tell_which_lock_was_handed_over(self) -> None:
+        def scenario() -> None:
+            guard = threading.Lock()
+
+            def work() -> None:
+                with guard:
+                    touch("x", write=True)
+
+            in_turn(work, work)
+
+        line = scenario.__code__.co_firstlineno + 1
+        self.assert_ordered(scenario)
+        labels = [(row.kind, row.label.replace(__file__, "here")) for row in self.rows]
+        self.assertIn(("send", f"release lock guard (here:{line})"), labels)
+        self.assertIn(("recv", f"acquire lock guard (here:{line})"), labels)
+
+
+class Held(TracedCase):
+    def test_what_a_task_holds_follows_each_way_to_acquire_and_release(self) -> None:
+        def scenario() -> None:
+            one, other, again = threading.Lock(), threading.Lock(), threading.RLock()
+            counts = []
+
+            def see() -> None:
+                counts.append(len(current().held))
+
+            one.acquire()
+            see()
+            with other, again, again:
+                see()
+                one.release()
+                see()
+            see()
+            self.assertFalse(one.acquire() and one.acquire(timeout=0.001))
+            see()
+            one.release()
+            see()
+            self.assertEqual(counts, [1, 3, 2, 0, 1, 0])
+
+        self.races(scenario)
+
+    def test_whoever_waits_at_a_condition_does_not_hold_its_lock(self) -> None:
+        for make in (threading.Lock, threading.RLock):
+            with self.subTest(make=make):
+
+                def scenario() -> None:
+                    condition, ready, lines = threading.Condition(make()), [], []
+
+                    def wait() -> None:
+                        lines.append(current())
+                        with condition:
+                            while not ready:
+                                condition.wait(WAIT)
+                            self.assertEqual(len(current().held), 1)
+
+                    def wake() -> None:
+                        with condition:
+                            self.assertEqual(len(lines[0].held), 0)
+                            self.assertEqual(len(current().held), 1)
+                            ready.append(1)
+                            condition.notify()
+
+                    waiting = threading.Thread(target=wait)
+                    waiting.start()
+                    while not condition._waiters:  # type: ignore[attr-defined]
+                        pass
+                    wake()
+                    waiting.join()
+                    self.assertEqual(lines[0].held, ())
+
+                self.races(scenario)
+
+    def test_each_task_of_a_loop_holds_its_own(self) -> None:
+        async def main() -> None:
+            lock, inside = asyncio.Lock(), asyncio.Event()
+
+            async def hold() -> None:
+                async with lock:
+                    inside.set()
+                    await asyncio.sleep(0)
+                    self.assertEqual(len(current().held), 1)
+                self.assertEqual(current().held, ())
+
+            async def look() -> None:
+                await inside.wait()
+                self.assertEqual(current().held, ())
+
+            await asyncio.gather(hold(), look())
+
+        self.races(lambda: asyncio.run(main()))
+
+    def test_a_lock_that_another_task_releases_is_a_signal(self) -> None:
+        def scenario() -> None:
+            door = threading.Lock()
+            identity = door._itc_identity  # type: ignore[attr-defined]
+            door.acquire()
+
+            def work() -> None:
+                touch("x", write=True)
+                door.release()
+
+            self.assertEqual(current().held, (identity,))
+            thread = threading.Thread(target=work)
+            thread.start()
+            door.acquire()
+            touch("x", write=True)
+            self.assertEqual(current().held, ())
+            self.assertIsNotNone(identity.signal)
+            door.release()
+            thread.join()
+
+        self.assert_ordered(scenario)
+
+    def test_only_a_lock_by_itself_counts_as_luck(self) -> None:
+        def scenario() -> None:
+            def token_of(lock: Any) -> Any:
+                with lock:
+                    pass
+                return lock._itc_token
+
+            plain, guarded, door = threading.Lock(), threading.RLock(), threading.Lock()
+            threading.Condition(guarded)
+            self.assertIs(token_of(plain).what.lock, plain._itc_identity)  # type: ignore[attr-defined]
+            self.assertIsNone(token_of(guarded).what.lock)
+            door.acquire()
+            thread = threading.Thread(target=door.release)
+            thread.start()
+            thread.join()
+            self.assertIsNone(door._itc_token.what.lock)  # type: ignore[attr-defined]
+
+        self.races(scenario)
+
+    def test_nothing_is_held_where_nothing_is_traced(self) -> None:
+        self.assertIsNone(state.note)
+        lock: Any = threading.Lock()
+        with lock:
+            pass
+
+
+class Notifying(TracedCase):
+    def test_who_is_woken_comes_after_the_call_that_woke_it(self) -> None:
+        def scenario() -> None:
+            condition, ready = threading.Condition(), []
+
+            def wait() -> None:
+                with condition:
+                    while not ready:
+                        condition.wait(WAIT)
+
+            waiting = threading.Thread(target=wait)
+            waiting.start()
+            while not condition._waiters:  # type: ignore[attr-defined]
+                pass
+            with condition:
+                touch("x", write=True)
+                ready.append(1)
+                condition.notify()
+                tokens = list(condition._waiters._tokens.values())  # type: ignore[attr-defined]
+                self.assertEqual([token.what.hint for token in tokens], ["notify"])
+            waiting.join()
+            self.assertEqual(condition._waiters._tokens, {})  # type: ignore[attr-defined]
+            self.assertEqual(condition._waiters._mine, {})  # type: ignore[attr-defined]
+
+        self.races(scenario)
+
+
+if __name__ == "__main__":
+    unittest.main()
