@@ -5,13 +5,22 @@ from __future__ import annotations
 import json
 from collections.abc import Iterable, Iterator
 from types import CodeType
-from typing import Any, NamedTuple
+from typing import TYPE_CHECKING, Any, NamedTuple
 
+from .conflicts import CHANGING
+from .stretches import SITES
 from .verdict import BREAKS_OFF, Cause, Unseen
+
+if TYPE_CHECKING:
+    from .lock_identity import LockIdentity
 
 
 class Row(NamedTuple):
-    """What the journal says of one event. A thing is what was read or written, and None of any other event."""
+    """What the journal says of one event, or of one of the touches that an event stands for.
+
+    A thing is what was touched, and None of any other event. Its name is what a person calls it; two things with the same group
+    are of the same kind. `held` are the locks that the task held, and `lock` is that of a message which hands a lock over.
+    """
 
     event: int
     task: str
@@ -20,6 +29,14 @@ class Row(NamedTuple):
     file: str | None
     line: int
     label: str
+    name: str = ""
+    group: str = ""
+    made: str = ""
+    function: str = ""
+    held: tuple[str, ...] = ()
+    loop: int = 0
+    turn: int = 0
+    lock: str | None = None
 
     @property
     def is_touch(self) -> bool:
@@ -27,7 +44,7 @@ class Row(NamedTuple):
 
     @property
     def is_write(self) -> bool:
-        return self.kind == "write"
+        return self.kind in CHANGING
 
     @property
     def place(self) -> str:
@@ -63,7 +80,7 @@ def read_whole(lines: Iterable[str]) -> Journal:
             break
         read = _object_of(line)
         if read is not None and "event" in read:
-            rows.append(Row(**{key: read[key] for key in KEYS}))
+            rows.append(_row_of(read))
         elif read is not None and "unseen" in read:
             unseen.append(Unseen(Cause(read["unseen"]), str(read["text"])))
         elif read is not None and "end" in read:
@@ -75,6 +92,13 @@ def read_whole(lines: Iterable[str]) -> Journal:
     if not has_ended and not any(one.cause is not Cause.CHILD for one in unseen):
         unseen.append(BREAKS_OFF)
     return Journal(rows, unseen)
+
+
+def _row_of(read: dict[str, Any]) -> Row:
+    known = {key: read[key] for key in KEYS if key in read}
+    if "held" in known:
+        known["held"] = tuple(known["held"])
+    return Row(**known)
 
 
 def _object_of(line: str) -> dict[str, Any] | None:
@@ -99,6 +123,62 @@ class Places:
             text = self._texts[key] = _text(code, instruction)
             if code is not None:
                 self._codes.append(code)  # Else another code might come to stand at the same place.
+        return text
+
+
+class Touch(NamedTuple):
+    """A touch as the tracer knows it."""
+
+    thing: Any
+    kind: str
+    site: Any
+    held: tuple[LockIdentity, ...]
+    loop: int
+    turn: int
+
+
+class TouchTexts:
+    """The rows of touches, behind the number and the task of their event. Each thing and each site is told once."""
+
+    def __init__(self, places: Places, prefix: str) -> None:
+        self._places = places
+        self._prefix = prefix
+        self._things: dict[int, str] = {}
+        self._sites: dict[int, str] = {}
+        self._locks: dict[int, str] = {}
+
+    def text(self, touch: Touch) -> str:
+        thing, kind, site, held, loop, turn = touch
+        if isinstance(thing, str):
+            code, instruction, label = site
+            named = f'"thing":{json.dumps(thing)},"kind":"{kind}",{self._places.text(code, instruction)}'
+            told = f'{named},"label":{json.dumps(label or f"{kind} {thing}")},"function":{json.dumps(code.co_qualname)}'
+        else:
+            told = f'{self._thing(thing)},"kind":"{kind}",{self._site(site)},"label":{json.dumps(f"{kind} {thing.name}")}'
+        locks = f',"held":[{",".join([self.lock(one) for one in held])}]' if held else ""
+        when = f',"loop":{loop},"turn":{turn}' if loop else ""
+        return f"{told}{locks}{when}}}\n"
+
+    def lock(self, lock: LockIdentity) -> str:
+        """The name of a lock, behind what tells it from others of the same name."""
+        text = self._locks.get(lock.serial)
+        if text is None:
+            text = self._locks[lock.serial] = json.dumps(f"#{self._prefix}{lock.serial} {lock.name}")
+        return text
+
+    def _thing(self, thing: Any) -> str:
+        text = self._things.get(thing.number)
+        if text is None:
+            number = json.dumps(f"#{self._prefix}{thing.number}")
+            names = f'"name":{json.dumps(thing.name)},"group":{json.dumps(thing.group)},"made":{json.dumps(thing.made)}'
+            text = self._things[thing.number] = f'"thing":{number},{names}'
+        return text
+
+    def _site(self, site: int) -> str:
+        text = self._sites.get(site)
+        if text is None:
+            file, line, function = SITES[site][:3]
+            text = self._sites[site] = f'"file":{json.dumps(file)},"line":{line},"function":{json.dumps(function)}'
         return text
 
 

@@ -12,7 +12,7 @@ from typing import TYPE_CHECKING, Any, NamedTuple
 
 if TYPE_CHECKING:
     from .lock_identity import LockIdentity, Signal
-    from .tracer import Tracer
+    from .tracer import TouchEvent, Tracer
 
 MARK, TAKE, TAKE_END, SPAWN, FINISH, JOIN, TOUCH, GONE, SEND, RECV, STOP = range(11)
 
@@ -54,7 +54,7 @@ class Line:
 
     __slots__ = (
         "tracer", "hint", "waiting", "reference", "must_finish", "held",
-        "name", "count", "message", "sent", "pending", "known", "parent", "parent_count",
+        "name", "count", "message", "lock", "sent", "pending", "known", "known_by_locks", "parent", "parent_count", "touches",
         "end_token", "is_finished", "has_ended", "is_gone", "joined_by", "joined_at", "joined", "first_taker",
     )
 
@@ -68,11 +68,16 @@ class Line:
         self.name = ""
         self.count = 0
         self.message: str | None = None
+        self.lock: LockIdentity | None = None
+        """The lock that the message is of."""
         self.sent: list[tuple[int, str]] = []
         self.pending: list[Token] = []
         self.known: dict[Line, int] = {}
+        self.known_by_locks: dict[tuple[Line, LockIdentity], int] = {}
         self.parent: Line | None = None
         self.parent_count = 0
+        self.touches: TouchEvent | None = None
+        """Its last event, if that stands for touches."""
         self.end_token: Token | None = None
         self.is_finished = False
         self.has_ended = False

@@ -6,12 +6,15 @@ import _thread
 import asyncio
 import sys
 import threading
+from _thread import get_ident
 from asyncio.events import _get_running_loop
-from collections.abc import Callable
+from collections.abc import Callable, Hashable
 from types import CodeType, FrameType
 from typing import Any
 
+from .conflicts import READ, WRITE
 from .lines import MARK, SPAWN, TAKE, TOUCH, Line, Token, What, state
+from .stretches import STRETCHES, TURNS, Stretch, leave
 
 local = threading.local()
 """`line` is the thread's own line, and that of a pool's job while it runs there."""
@@ -49,6 +52,12 @@ def place(frame: FrameType | None) -> tuple[CodeType | None, int]:
 
 
 def current() -> Line:
+    """The line of whatever runs now, which is about to note a synchronization: its stretch ends."""
+    STRETCHES.pop(get_ident(), None)
+    return line_of_now()
+
+
+def line_of_now() -> Line:
     """The line of whatever runs now: a task of asyncio, a pool's job, or the thread."""
     loop = _get_running_loop()
     if loop is not None:
@@ -72,11 +81,30 @@ def _adopt_task(task: Any) -> Line:
 def _adopt_thread() -> Line:
     thread = threading._active.get(_thread.get_ident())  # type: ignore[attr-defined]
     line = Line(state.tracer, "thread#" if thread is None else thread_name(thread))
-    local.line = line
+    enter(line)
+    local.leaving = _Leaving(get_ident())
     if thread is not None:
         thread._itc_line, thread._itc_is_adopted = line, True
     _begin(line)
     return line
+
+
+class _Leaving:
+    """Ends the stretch of a thread when the thread ends, since another thread may get its identity."""
+
+    __slots__ = ("_thread",)
+
+    def __init__(self, thread: int) -> None:
+        self._thread = thread
+
+    def __del__(self) -> None:
+        STRETCHES.pop(self._thread, None)
+
+
+def enter(line: Line | None) -> None:
+    """From here on this thread goes on as the line."""
+    leave()
+    local.line = line
 
 
 def _begin(line: Line) -> None:
@@ -123,7 +151,33 @@ def take(token: Token | None, depth: int = 2) -> None:
 
 def touch(thing: str, write: bool = False, label: str | None = None) -> None:
     """Notes that the current task reads or writes the thing, at the line of the program that calls this."""
-    note = state.note
-    if note is not None:
+    if state.note is not None:
         frame = sys._getframe(1)
-        note((TOUCH, current(), thing, write, frame.f_code, frame.f_lasti, label))
+        touch_at(thing, WRITE if write else READ, frame.f_code, frame.f_lasti, label)
+
+
+def touch_at(thing: str, kind: str, code: CodeType, instruction: int, label: str | None = None) -> None:
+    """Notes a touch of a thing that the program has named."""
+    key = thing, kind, id(code), instruction, label
+    stretch = STRETCHES.get(get_ident())
+    if stretch is None or key not in stretch:
+        touched(key, thing, kind, (code, instruction, label))
+
+
+def touched(key: Hashable, thing: Any, kind: str, site: Any) -> None:
+    """Adds a touch to the stretch of this thread, by a key that stands for thing, kind and site."""
+    note = state.note
+    if note is None:
+        return
+    stretch = STRETCHES.get(get_ident())
+    if stretch is None:
+        stretch = _begin_stretch()
+        note((TOUCH, stretch))
+    stretch[key] = thing, kind, site
+
+
+def _begin_stretch() -> Stretch:
+    line, loop, thread = line_of_now(), _get_running_loop(), get_ident()
+    turn = 0 if loop is None else TURNS.get(thread, 0)
+    stretch = STRETCHES[thread] = Stretch(line, 0 if loop is None else id(loop), turn, thread)
+    return stretch

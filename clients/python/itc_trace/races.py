@@ -224,8 +224,8 @@ class _Orders:
 def find_races(tenant: str, port: int, journal: Iterable[str], host: str = HOST) -> Races:
     """The races among the touches that the journal lists, by the order that the collector answers."""
     whole = read_whole(journal)
-    rows = sorted({row.event: row for row in whole.rows}.values())
-    found = Races(events=len(rows), touches=sum(row.is_touch for row in rows), unseen=whole.unseen)
+    rows = sorted(dict.fromkeys(whole.rows), key=lambda row: row.event)
+    found = Races(events=len({row.event for row in rows}), touches=sum(row.is_touch for row in rows), unseen=whole.unseen)
     found.things = len({row.thing for row in rows if row.is_touch})
     things = _shared_things(rows)
     if not things:
@@ -240,7 +240,7 @@ def find_races(tenant: str, port: int, journal: Iterable[str], host: str = HOST)
 
 def _ask_for_orders(view: Session, rows: list[Row], things: Things) -> _Cuts | _Orders:
     """By cuts or by orders, whichever takes less time; by orders, where a collector knows no cut."""
-    cuts = _Cuts(view, rows, is_complete=view.count()[0] == len(rows))
+    cuts = _Cuts(view, rows, is_complete=view.count()[0] == len({row.event for row in rows}))
     orders = _Orders(view)
     if cuts.wanted(things) * max(1, len(rows) // EVENTS_OF_AN_ORDER) <= orders.expected(things):
         try:

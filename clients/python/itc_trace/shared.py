@@ -9,8 +9,9 @@ from collections import deque
 from collections.abc import Callable
 from typing import Any, TypeVar, cast
 
-from .lines import TOUCH, state
-from .noting import current, is_internal
+from .conflicts import READ, WRITE
+from .lines import state
+from .noting import is_internal, touch_at
 
 T = TypeVar("T")
 
@@ -82,14 +83,13 @@ def _patched() -> bool:
 
 
 def _note(name: str, is_write: bool) -> None:
-    note = state.note
-    if note is None:
+    if state.note is None:
         return
     frame: types.FrameType | None = sys._getframe(2)
     while frame is not None and is_internal(frame):
         frame = frame.f_back
     if frame is not None:
-        note((TOUCH, current(), name, is_write, frame.f_code, frame.f_lasti, None))
+        touch_at(name, WRITE if is_write else READ, frame.f_code, frame.f_lasti)
 
 
 # Containers that nobody else holds: of their own type, so that every library takes them.

@@ -11,15 +11,17 @@ import sys
 import threading
 import time
 from collections import defaultdict, deque
-from collections.abc import Callable
+from collections.abc import Callable, Hashable
 from sys import getrefcount
 from types import CodeType
 
 from .collector import HOST, MOST_TASKS
-from .journal import Places
+from .journal import Places, Touch, TouchTexts
 from .journal_file import JournalFile
 from .lines import END, GONE, JOIN, RESULT, SPAWN, STOP, TAKE, TAKE_END, Line, Note, Token, state
-from .noting import local
+from .lock_identity import LockIdentity
+from .noting import enter
+from .stretches import STRETCHES, Stretch
 from .verdict import END_ROW, Cause, Unseen
 
 NOTES_AT_ONCE = 1024
@@ -28,6 +30,8 @@ FEW_WAITING = 50_000
 SHORTEST_REST, LONGEST_REST = 0.001, 0.02
 ANSWER_WAIT = 10.0
 END_WAIT = 60.0
+MOST_UNWRITTEN = 256
+"""Once so many events of touches are not in the journal whole, it is brought up to date."""
 MOST_NAME = 24
 MOST_TAG = 8
 ANY_PROCESS = "p"
@@ -77,19 +81,46 @@ class Names:
 class Outstanding:
     """A report that is on its way."""
 
-    __slots__ = ("text", "task", "thing", "kind", "code", "instruction", "label", "waiter", "may_be_refused")
+    __slots__ = ("text", "task", "kind", "code", "instruction", "label", "lock", "touches", "waiter", "may_be_refused")
 
-    def __init__(self, text: str, task: str, thing: str | None, kind: str, code: CodeType | None, instruction: int,
-                 label: str) -> None:
+    def __init__(self, text: str, task: str, kind: str, code: CodeType | None, instruction: int, label: str,
+                 lock: LockIdentity | None = None) -> None:
         self.text = text
         self.task = task
-        self.thing = thing
         self.kind = kind
         self.code = code
         self.instruction = instruction
         self.label = label
+        self.lock = lock
+        self.touches: TouchEvent | None = None
         self.waiter: Waiter | None = None
         self.may_be_refused = False
+
+
+class TouchEvent:
+    """An event that stands for what a task touches, up to the next event of this task."""
+
+    __slots__ = ("task", "event", "stretches", "touches", "written", "is_open")
+
+    def __init__(self, task: str) -> None:
+        self.task = task
+        self.event = 0
+        """Its number, once the collector has answered."""
+        self.stretches: list[Stretch] = []
+        self.touches: dict[Hashable, Touch] = {}
+        self.written = 0
+        self.is_open = True
+
+    def read_stretches(self) -> None:
+        """Takes over what was noted in its stretches. Of those but the last nothing more is to come."""
+        touches = self.touches
+        for stretch in self.stretches:
+            held, loop, turn = stretch.held, stretch.loop, stretch.turn
+            read = list(stretch.items())
+            for key, touched in read[stretch.read:] if stretch.read else read:
+                touches[key, held, loop, turn] = Touch(*touched, held, loop, turn)
+            stretch.read = len(read)
+        del self.stretches[:-1]
 
 
 def _release(lock: _thread.LockType) -> None:
@@ -134,6 +165,11 @@ class Tracer:
         self._finished: list[Line] = []
         self._takes_left: defaultdict[Line, int] = defaultdict(int)
         self._gone_soon: set[Line] = set()
+        self._touch_events: list[TouchEvent] = []
+        """Those of which not all is in the journal."""
+        self._goes_on: list[Stretch] = []
+        """Those in the middle of which their task had another event."""
+        self._writing = _thread.RLock()
         self._is_over = False
         self._all_sent = False
         self._switch = _thread.allocate_lock()
@@ -146,6 +182,7 @@ class Tracer:
             self._send_outside, self._receive_outside, self._stop_reporting,
         ]
         self._connect(host, port, tenant, process)
+        self._touch_texts = TouchTexts(self._places, self.prefix)
 
     # Beginning
 
@@ -178,7 +215,7 @@ class Tracer:
             if reply.startswith("201 "):
                 self.main.name = self.main.hint = tag
                 self.prefix = f"{tag}_"
-                row = Outstanding("", "root", None, "spawn", None, 0, f"start process {tag}")
+                row = Outstanding("", "root", "spawn", None, 0, f"start process {tag}")
                 self._journal.write(self._row(int(reply[4:]), row))
                 return
             if not reply.startswith("402"):
@@ -198,7 +235,8 @@ class Tracer:
         """From here on notes are taken."""
         _thread.start_new_thread(self._report_all, ())
         _thread.start_new_thread(self._read_all, ())
-        local.line = self.main
+        STRETCHES.clear()
+        enter(self.main)
         if threading.active_count() > 1:
             self.parent_of_strangers = Line(self, "others")
             self.notes.append((SPAWN, self.main, self.parent_of_strangers, None, 0))
@@ -221,6 +259,7 @@ class Tracer:
         self._end_session()
         self._reader_ended.wait(ANSWER_WAIT)
         self._socket.close()
+        self._write_touches()
         if not self._is_over:
             self._journal_row(END_ROW)
 
@@ -228,6 +267,7 @@ class Tracer:
         """In a child process after a fork: the session is the parent's."""
         state.note = None
         state.tracer = None
+        STRETCHES.clear()
         self._is_over = True
         self._socket.close()
 
@@ -239,6 +279,7 @@ class Tracer:
             self._is_over = True
             if state.tracer is self:
                 state.note = None
+        self._write_touches()
         self._journal_row(Unseen(cause, reason).row())
         self.notes.clear()
         self._end_session()
@@ -282,6 +323,7 @@ class Tracer:
                     rest = SHORTEST_REST
                 else:
                     rest = min(2 * rest, LONGEST_REST)
+                    self._write_touches()
         except OSError:
             self._give_up(Cause.COLLECTOR, GONE_COLLECTOR)
         except BaseException as fault:  # Nothing that happens here may reach the program.
@@ -293,8 +335,12 @@ class Tracer:
         while batch:
             note = batch.popleft()
             handlers[note[0]](*note[1:])
+            while self._goes_on:
+                self._touch(self._goes_on.pop())
         self._gone_soon.clear()
         self._flush()
+        if len(self._touch_events) > MOST_UNWRITTEN:
+            self._write_touches()
         self._hold_back(len(self.notes))
 
     def _next_notes(self) -> deque[Note]:
@@ -347,11 +393,12 @@ class Tracer:
 
     # Reports
 
-    def _report(self, line: Line, kind: str, name: str, thing: str | None, code: CodeType | None, instruction: int,
-                label: str) -> Outstanding:
-        keyword = "local" if thing is not None else kind
-        text = f"{keyword} {line.name} {name}\n" if name else f"{keyword} {line.name}\n"
-        report = Outstanding(text, line.name, thing, kind, code, instruction, label)
+    def _report(self, line: Line, kind: str, name: str, code: CodeType | None, instruction: int, label: str,
+                lock: LockIdentity | None = None) -> Outstanding:
+        if line.touches is not None:
+            self._end_touches(line)
+        text = f"{kind} {line.name} {name}\n" if name else f"{kind} {line.name}\n"
+        report = Outstanding(text, line.name, kind, code, instruction, label, lock)
         self._outstanding.append(report)
         self._texts.append(text)
         line.count += 1
@@ -359,42 +406,55 @@ class Tracer:
         return report
 
     def _send(self, line: Line, token: Token) -> None:
-        """Reports a message for all tokens that were noted at the place where the line is."""
+        """Reports a message for all tokens of the same kind that were noted at the place where the line is.
+
+        A message of a lock is for tokens of this lock alone, so that the order without locks is told in full beside it.
+        """
         message = f"{self.prefix}{token.what.hint}_{next(self._message_numbers)}"
-        self._report(line, "send", message, None, token.code, token.instruction, token.what.giving)
-        self._sent(line, message)
+        lock = token.what.lock
+        self._report(line, "send", message, token.code, token.instruction, token.what.giving, lock)
+        self._sent(line, message, lock)
 
-    def _sent(self, line: Line, message: str) -> None:
-        line.message = message
-        line.sent.append((line.count, message))
+    def _sent(self, line: Line, message: str, lock: LockIdentity | None) -> None:
+        line.message, line.lock = message, lock
+        if lock is None:
+            line.sent.append((line.count, message))
+        others = []
         for token in line.pending:
-            token.message = message
-            token.count = line.count
-        line.pending.clear()
+            if token.what.lock is lock:
+                token.message = message
+                token.count = line.count
+            else:
+                others.append(token)
+        line.pending = others
 
-    def _leave(self, line: Line) -> None:
+    def _leave(self, line: Line, only_locks: bool = False) -> None:
         """Before the line goes on: where somebody may still take one of its tokens, they become a message."""
-        pending = line.pending
-        if not pending:
-            return
-        for token in pending:
-            if getrefcount(token) > REFERENCES_OF_NOBODY:
-                self._send(line, token)
-                return
-        pending.clear()
+        while line.pending:
+            for token in line.pending:
+                if getrefcount(token) > REFERENCES_OF_NOBODY and (token.what.lock is not None or not only_locks):
+                    break
+            else:
+                break
+            self._send(line, token)
+        line.pending.clear()
 
     def _receive(self, line: Line, token: Token, code: CodeType | None, instruction: int) -> None:
         self._leave(line)
         assert token.message is not None
-        self._report(line, "recv", token.message, None, code, instruction, token.what.taking)
-        line.known[token.line] = token.count
+        lock = token.what.lock
+        self._report(line, "recv", token.message, code, instruction, token.what.taking, lock)
+        if lock is None:
+            line.known[token.line] = token.count
+        else:
+            line.known_by_locks[token.line, lock] = token.count
 
     # Notes
 
     def _mark(self, token: Token) -> None:
         line = token.line
         token.count = line.count
-        if line.message is not None:
+        if line.message is not None and line.lock is token.what.lock:
             token.message = line.message
         else:
             line.pending.append(token)
@@ -405,18 +465,19 @@ class Tracer:
 
     def _come_after(self, line: Line, token: Token, code: CodeType | None, instruction: int) -> None:
         source = token.line
-        if source is line or self._knows(line, source, token.count):
+        if source is line or self._knows(line, source, token.count) or self._knows_by_lock(line, token):
             return
         if token.message is None:
             if source.has_ended:
                 self._take_ended(line, source, code, instruction, token.what.taking)
                 return
             if self._is_last_taker(source, token):
+                self._leave(source, only_locks=True)
                 self._end(source, token.what.giving)
                 self._join_now(line, source, code, instruction, token.what.taking)
                 return
             self._send(source, token)
-        if source.first_taker is None:
+        if source.first_taker is None and token is source.end_token:
             source.first_taker = line
         self._receive(line, token, code, instruction)
 
@@ -427,9 +488,15 @@ class Tracer:
         parent = source.parent
         return parent is None or parent is line or line.known.get(parent, 0) >= source.parent_count
 
+    def _knows_by_lock(self, line: Line, token: Token) -> bool:
+        """Whether the line has taken the lock from the other one since."""
+        lock = token.what.lock
+        return lock is not None and line.known_by_locks.get((token.line, lock), -1) >= token.count
+
     def _is_last_taker(self, source: Line, token: Token) -> bool:
         """Whether the task is finished, and nobody but whoever asks now can wait for it."""
-        return source.is_finished and token.count == source.count and not self._may_be_asked_for(source)
+        is_at_end = source.is_finished and token.count == source.count and token.what.lock is None
+        return is_at_end and not self._may_be_asked_for(source)
 
     def _take_end(self, line: Line, source: Line, code: CodeType | None, instruction: int) -> None:
         """The line has seen that the other one is done."""
@@ -448,7 +515,7 @@ class Tracer:
     def _spawn(self, parent: Line, child: Line, code: CodeType | None, instruction: int) -> None:
         self._leave(parent)
         child.name = self._names.new(child.hint)
-        self._report(parent, "spawn", child.name, None, code, instruction, f"start {child.name}")
+        self._report(parent, "spawn", child.name, code, instruction, f"start {child.name}")
         child.parent, child.parent_count = parent, parent.count
         child.known[parent] = parent.count
 
@@ -477,7 +544,7 @@ class Tracer:
     def _end(self, line: Line, label: str) -> None:
         if not line.has_ended:
             line.has_ended = True
-            self._report(line, "end", "", None, None, 0, label)
+            self._report(line, "end", "", None, 0, label)
             line.pending.clear()
 
     def _join(self, line: Line, child: Line, code: CodeType | None, instruction: int) -> None:
@@ -491,7 +558,7 @@ class Tracer:
 
     def _join_now(self, line: Line, child: Line, code: CodeType | None, instruction: int, label: str) -> None:
         self._leave(line)
-        self._report(line, "join", child.name, None, code, instruction, label)
+        self._report(line, "join", child.name, code, instruction, label)
         child.joined_by, child.joined_at = line, line.count
         line.joined.append(child)
         line.known[child] = child.count
@@ -518,11 +585,52 @@ class Tracer:
         if token.message is not None or not joiner.has_ended:
             self._come_after(line, token, code, instruction)
 
-    def _touch(self, line: Line, thing: str, is_write: bool, code: CodeType | None, instruction: int,
-               label: str | None) -> None:
+    def _touch(self, stretch: Stretch) -> None:
+        """A stretch has begun. With no event since, it belongs to the event of the stretch before it."""
+        line = stretch.line
+        if line.has_ended:
+            return
         self._leave(line)
-        kind = "write" if is_write else "read"
-        self._report(line, kind, "", thing, code, instruction, label or f"{kind} {thing}")
+        if line.touches is None:
+            report = self._report(line, "local", "", None, 0, "")
+            line.touches = report.touches = TouchEvent(line.name)
+            with self._writing:
+                self._touch_events.append(line.touches)
+        with self._writing:
+            line.touches.read_stretches()
+            line.touches.stretches.append(stretch)
+
+    def _end_touches(self, line: Line) -> None:
+        """Before any other event of the line. What a stretch that goes on had touched by now is on both sides of the event."""
+        ended, line.touches = line.touches, None
+        assert ended is not None
+        with self._writing:
+            ended.read_stretches()
+            ended.is_open = False
+        stretch = ended.stretches[-1]
+        if STRETCHES.get(stretch.thread) is stretch:
+            STRETCHES.pop(stretch.thread, None)
+            stretch.read = 0
+            self._goes_on.append(stretch)
+
+    def _write_touches(self) -> None:
+        """Brings the journal up to what was touched by now."""
+        with self._writing:
+            unwritten = []
+            for event in self._touch_events:
+                if event.is_open:
+                    event.read_stretches()
+                if event.event and len(event.touches) > event.written:
+                    self._write_rows(self._touch_rows(event))
+                if event.is_open or not event.event:
+                    unwritten.append(event)
+            self._touch_events = unwritten
+
+    def _touch_rows(self, event: TouchEvent) -> str:
+        touches = list(event.touches.values())[event.written:]
+        event.written += len(touches)
+        start = f'{{"event":{event.event},"task":"{event.task}",'
+        return "".join([start + self._touch_texts.text(touch) for touch in touches])
 
     def _gone(self, line: Line) -> None:
         """Nobody can wait for the task any more: it ends, and its place in the clock goes to whoever waited first."""
@@ -532,20 +640,20 @@ class Tracer:
         self._is_done(line)
         if line.has_ended or not line.name:
             return
-        line.pending.clear()
+        self._leave(line, only_locks=True)
         self._end(line, END.giving)
         taker = line.first_taker
         if taker is not None and not taker.is_finished and not taker.has_ended:
             self._join_now(taker, line, None, 0, f"join {line.name}")
 
     def _send_outside(self, line: Line, message: str, waiter: Waiter, code: CodeType | None, instruction: int) -> None:
-        report = self._report(line, "send", message, None, code, instruction, "send to another process")
+        report = self._report(line, "send", message, code, instruction, "send to another process")
         report.waiter = waiter
-        self._sent(line, message)
+        self._sent(line, message, None)
 
     def _receive_outside(self, line: Line, message: str, code: CodeType | None, instruction: int) -> None:
         self._leave(line)
-        report = self._report(line, "recv", message, None, code, instruction, "receive from another process")
+        report = self._report(line, "recv", message, code, instruction, "receive from another process")
         report.may_be_refused = True
 
     def _stop_reporting(self) -> None:
@@ -595,6 +703,9 @@ class Tracer:
         is_taken = reply.startswith(b"201 ")
         if report.waiter is not None:
             report.waiter.answer(is_taken)
+        if is_taken and report.touches is not None:
+            report.touches.event = int(reply[4:])
+            return ""
         if is_taken:
             return self._row(int(reply[4:]), report)
         self._is_refused(report, reply.decode("ascii", "replace"))
@@ -611,9 +722,8 @@ class Tracer:
 
     def _row(self, event: int, report: Outstanding) -> str:
         place = self._places.text(report.code, report.instruction)
-        thing = "null" if report.thing is None else json.dumps(report.thing)
+        lock = "" if report.lock is None else f',"lock":{self._touch_texts.lock(report.lock)}'
         return (
-            f'{{"event":{event},"task":"{report.task}","thing":{thing},"kind":"{report.kind}",{place},'
-            f'"label":{json.dumps(report.label)}}}\n'
+            f'{{"event":{event},"task":"{report.task}","thing":null,"kind":"{report.kind}",{place},'
+            f'"label":{json.dumps(report.label)}{lock}}}\n'
         )
-

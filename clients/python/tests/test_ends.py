@@ -65,8 +65,9 @@ class Ends(ProgramCase):
                 self.assertTrue(summary.startswith("itc_trace: no race in what was seen: "), summary)
 
     def test_a_full_trace_tells_no_race_that_is_none(self) -> None:
+        handing_over = COUNTING.replace("            itc_trace", "            time.sleep(0)\n            itc_trace")
         with Served("--events", "300") as served, tempfile.NamedTemporaryFile("r") as journal:
-            ran = run_traced("--port", str(served.port), "--journal", journal.name, self.program(COUNTING))
+            ran = run_traced("--port", str(served.port), "--journal", journal.name, self.program(handing_over))
             self.assertEqual(ran.returncode, 67, ran.stderr)
             self.assertLessEqual(len(list(read_journal(journal))), 300)
 

@@ -12,7 +12,9 @@ import asyncio.futures as futures_module
 import asyncio.locks as locks
 import asyncio.queues as queues_module
 import asyncio.tasks as tasks
+import itertools
 import sys
+from _thread import get_ident
 from collections import deque
 from collections.abc import Iterator
 from typing import Any
@@ -20,6 +22,7 @@ from typing import Any
 from ..lines import BARRIER, CALL, EVENT, NOTIFY, QUEUE, RESULT, SEMAPHORE, SPAWN, TAKE_END, Line, state
 from ..lock_identity import LockIdentity
 from ..noting import current, is_internal, mark, place, take
+from ..stretches import TURNS, leave
 from .base import Patches, like
 from .futures import take_any
 from .locks import gave, is_of_condition, took
@@ -35,6 +38,7 @@ _spawned: dict[int, tuple[Any, Line]] = {}
 """The lines of coroutines that another thread has handed to a loop, until their tasks are made."""
 _named: dict[int, str] = {}
 """The names that tasks of coroutines are to have, while their tasks are made."""
+_turns = itertools.count(1)
 
 
 def put(patches: Patches) -> None:
@@ -97,6 +101,7 @@ class TracedTask(_PlainTask, metaclass=_LikePlain):  # type: ignore[misc]
     def __init__(self, coro: Any, **named: Any) -> None:
         self._itc_line = _begin_task(self, coro, named.get("name"))
         super().__init__(coro, **named)
+        leave()  # A task that begins at once has run up to its first wait.
 
     __await__ = _awaiting(_PlainTask)
     __iter__ = __await__
@@ -306,10 +311,27 @@ def _group_leave(original: Any) -> Any:
 
 
 def _put_loops(patches: Patches) -> None:
+    patches.wrap(asyncio.events.Handle, "_run", _run_handle)
     loop = base_events.BaseEventLoop
     for name in ("call_soon", "call_soon_threadsafe"):
         patches.wrap(loop, name, _call)
     patches.wrap(loop, "call_at", _call_at)
+
+
+def _run_handle(original: Any) -> Any:
+    """Each callback of a loop is a turn, and the stretches of what it runs begin and end there."""
+
+    def _run(self: Any) -> None:
+        if state.note is None:
+            return original(self)  # type: ignore[no-any-return]
+        leave()
+        TURNS[get_ident()] = next(_turns)
+        try:
+            return original(self)  # type: ignore[no-any-return]
+        finally:
+            leave()
+
+    return _run
 
 
 def _is_the_programs(callback: Any) -> bool:

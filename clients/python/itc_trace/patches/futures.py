@@ -14,7 +14,7 @@ from collections.abc import Iterator
 from typing import Any
 
 from ..lines import FINISH, RESULT, SPAWN, SUBMIT, TAKE_END, WORKER, Line, state
-from ..noting import current, is_internal, local, mark, place, take
+from ..noting import current, enter, is_internal, local, mark, place, take
 from .base import Patches, like
 
 _DONE = {base.CANCELLED, base.CANCELLED_AND_NOTIFIED, base.FINISHED}
@@ -185,12 +185,12 @@ def _item_run(original: Any) -> Any:
         ready = mark(WORKER) if self._itc_is_after_worker else None
         worker = getattr(local, "line", None)
         line.must_finish = True
-        local.line = line
+        enter(line)
         take(ready)
         try:
             return original(self, *words)  # type: ignore[no-any-return]
         finally:
-            local.line = worker
+            enter(worker)
             note = state.note
             if note is not None:
                 note((FINISH, line, False, False))

@@ -9,7 +9,7 @@ from collections import deque
 from typing import Any
 
 from ..lines import BARRIER, EVENT, FINISH, JOIN, NOTIFY, SEMAPHORE, SPAWN, Line, state
-from ..noting import current, is_internal, local, mark, place, take, thread_name
+from ..noting import current, enter, is_internal, mark, place, take, thread_name
 from .base import Patches
 from .locks import TracedLock, TracedRLock, is_of_condition, traced_rlock
 from .waiters import Waiters
@@ -63,7 +63,7 @@ def _bootstrap(original: Any) -> Any:
         line = self.__dict__.get("_itc_line")
         if line is None:
             return original(self)  # type: ignore[no-any-return]
-        local.line = line
+        enter(line)
         try:
             return original(self)  # type: ignore[no-any-return]
         finally:
@@ -125,7 +125,7 @@ def _start_plain(original: Any) -> Any:
         line = Line(state.tracer, getattr(function, "__name__", "thread") + "#")
 
         def run(*args: Any, **kwargs: Any) -> None:
-            local.line = line
+            enter(line)
             try:
                 function(*args, **kwargs)
             finally:

@@ -1,0 +1,28 @@
+"""The kinds of touches, and which two of them conflict: in either order they may come to different ends."""
+
+from __future__ import annotations
+
+READ, WRITE = "read", "write"
+LOOKUP, LENGTH, ITERATION, ADDITION, REWRITE = "lookup", "length", "iteration", "addition", "rewrite"
+MAKING = "making"
+"""The thing is made here. It conflicts with nothing, and tells whose the thing was at first."""
+
+_PAIRS = (
+    (WRITE, WRITE), (WRITE, READ), (WRITE, LOOKUP), (WRITE, LENGTH), (WRITE, ITERATION), (WRITE, ADDITION), (WRITE, REWRITE),
+    (REWRITE, REWRITE), (REWRITE, READ), (REWRITE, LOOKUP), (REWRITE, LENGTH), (REWRITE, ITERATION), (REWRITE, ADDITION),
+    (ADDITION, READ), (ADDITION, LENGTH), (ADDITION, ITERATION),
+)
+
+CONFLICTING: dict[str, frozenset[str]] = {
+    kind: frozenset({one for pair in _PAIRS if kind in pair for one in pair if one != kind or pair == (kind, kind)})
+    for kind in (READ, WRITE, LOOKUP, LENGTH, ITERATION, ADDITION, REWRITE, MAKING)
+}
+"""Of each kind those that conflict with it."""
+
+CHANGING = frozenset({WRITE, REWRITE, ADDITION})
+"""The kinds that change a thing. Of two kinds that conflict, one is among them."""
+
+
+def conflicts(kind: str, other: str) -> bool:
+    """Whether two touches of these kinds race, if nothing orders them."""
+    return other in CONFLICTING.get(kind, ())

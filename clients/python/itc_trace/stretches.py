@@ -1,0 +1,55 @@
+"""What a task touches between two synchronizations: a stretch, which has one set of locks held.
+
+A touch that was noted in this stretch already costs a look into a dictionary. Stretches with no event of their task in between
+share one event, which a thread of the package reports.
+"""
+
+from __future__ import annotations
+
+from _thread import get_ident
+from collections.abc import Hashable
+from typing import TYPE_CHECKING, Any, NamedTuple
+
+if TYPE_CHECKING:
+    from .lines import Line
+
+
+class Site(NamedTuple):
+    """A place of the program that touches something."""
+
+    file: str
+    line: int
+    function: str
+
+
+SITES: list[Site] = []
+"""The places that are told by their index."""
+
+Touched = tuple[Any, str, Any]
+"""A thing, which is a text if the program has named it; the kind of the touch; and a site, or where a marked touch stands."""
+
+
+class Stretch(dict[Hashable, Touched]):
+    """The touches of a task between two synchronizations, by any key that is the same for the same touch."""
+
+    __slots__ = ("line", "held", "loop", "turn", "thread", "read")
+
+    def __init__(self, line: Line, loop: int, turn: int, thread: int) -> None:
+        self.line = line
+        self.held = line.held
+        self.loop = loop
+        self.turn = turn
+        self.thread = thread
+        self.read = 0
+
+
+STRETCHES: dict[int, Stretch] = {}
+"""The stretch that each thread is in, by the thread's identity. Before its first touch there is none."""
+
+TURNS: dict[int, int] = {}
+"""Of each thread that runs a loop, which of the loop's callbacks it runs now."""
+
+
+def leave() -> None:
+    """Ends the stretch of this thread: what comes next is behind a synchronization."""
+    STRETCHES.pop(get_ident(), None)
