@@ -30,12 +30,13 @@ const HOSTILE = "<img src=x onerror=alert(1)> read stock";
 /** The labels of a journal, a line of which is cut off, are shown, found and written as text alone. */
 export async function labels(tab) {
   const row = (event, label) => ({ event, task: "a", thing: null, kind: "read", file: "shop.py", line: 10 + event, label });
-  const lines = [row(3, "write stock"), row(5, HOSTILE)].map((one) => JSON.stringify(one));
+  const lines = [row(3, "write stock"), row(5, HOSTILE), row(3, "read price")].map((one) => JSON.stringify(one));
   const journal = file("labels.journal", `${lines.join("\n")}\n{"event":6,"label":"cut`);
   await opened(tab, pictureOf("labels.html", exportOf(WORKED), ["--labels", journal]));
   await tab.until(() => page.labels.size === 2);
   await found(tab, "write st", "Event 3");
-  assert.match(await text(tab, "#chosen dl"), /^labelwrite stocksourceshop\.py:13kindlocal/);
+  assert.match(await text(tab, "#chosen dl"), /^labelwrite stocksourceshop\.py:13labelread pricesourceshop\.py:13kindlocal/);
+  await found(tab, "read pr", "Event 3");
   await found(tab, "onerror", "Event 5");
   assert.ok((await text(tab, "#chosen dl")).startsWith(`label${HOSTILE}source`));
   assert.equal(await tab.run(() => document.querySelectorAll("img").length), 0);

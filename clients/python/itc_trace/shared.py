@@ -1,4 +1,4 @@
-"""Wraps what tasks share, so that each read and each write of it is an event of the trace."""
+"""Wraps what tasks share, so that each read and each write of it is noted."""
 
 from __future__ import annotations
 
@@ -52,7 +52,7 @@ REFERENCES_OF_A_NEW_VALUE = _references({}) if sys.version_info < (3, 14) else 0
 
 
 def shared(value: T, name: str) -> T:
-    """What behaves as the value, and makes an event of each read and each write of it.
+    """What behaves as the value, and notes each read and each write of it.
 
     Use what it returns in place of the value. Where tracing is off it is the value itself. So is a number, a text or a tuple
     while a program is traced: a warning says so.
@@ -173,7 +173,7 @@ def _value_of(one: Any) -> Any:
 
 
 class StandIn:
-    """Stands before an object: attributes are read and written there, and each time is an event."""
+    """Stands before an object: attributes are read and written there, and each time is noted."""
 
     __slots__ = ("_itc_value", "_itc_name", "__weakref__")
 
