@@ -3,7 +3,7 @@
 A program's docstring ends with lines of what is due, and its comments mark the places:
 
     due: race                   the verdict: `race`, `possible` or `none`, or two of them with `or`, if the schedule decides
-    thing: Shop.stock           words that the name of each thing has, or several such names with ` or `
+    thing: Shop.stock           words that the name of a thing that races has, or several such names with ` or `
     uses: _shop.py              further files of the program, in its folder
     count += 1  # race: read, write     this line is one of the two of a race, or of a possible one
     print(count)  # also: read          this line may be one of them, too
@@ -67,7 +67,7 @@ def due_of(program: Path) -> Due:
     uses = tuple(header.get("uses", "").split())
     marks = [mark for name in (program.name, *uses) for mark in _marks(program.with_name(name))]
     due = Due(
-        verdicts, tuple(header["thing"].split(" or ")), uses,
+        verdicts, tuple(header.get("thing", "").split(" or ")), uses,
         frozenset(place for word, place in marks if word == "race"), frozenset(place for word, place in marks if word == "also"),
     )
     if not verdicts <= set(VERDICTS) or bool(due.places) != (verdicts != {"none"}):
