@@ -42,6 +42,13 @@ SUBMIT = What("job", "submit", "run")
 RESULT = What("result", "result", "take result")
 END = What("end", "end", "see the end")
 CALL = What("call", "call soon", "called")
+CALLBACK = What("callback", "add callback", "called back")
+CALLED = What("called", "callback done", "after callbacks")
+CANCEL = What("cancel", "cancel task", "is cancelled")
+ROOM = What("room", "make room", "use room")
+CACHED = What("cached", "compute property", "read property")
+IMPORT = What("import", "import module", "module is imported")
+EXIT = What("exit", "register exit", "run at exit")
 WORKER = What("ready", "initialise worker", "run in worker")
 OUTSIDE = What("out", "send to another process", "receive from another process")
 
@@ -86,6 +93,7 @@ class Line:
         self.joined_at = 0
         self.joined: list[Line] = []
         self.first_taker: Line | None = None
+        state.lines += 1
 
     def watch(self, thing: object) -> None:
         """Notes when the object that stands for this task is gone: nobody can wait for it any more."""
@@ -116,13 +124,14 @@ class Token:
 
 
 class State:
-    """Whether tracing is on: `note` takes notes where it is, and is None else."""
+    """Whether tracing is on: `note` takes notes where it is, and is None else. `lines` is how many were made."""
 
-    __slots__ = ("note", "tracer")
+    __slots__ = ("note", "tracer", "lines")
 
     def __init__(self) -> None:
         self.note: Callable[[Note], object] | None = None
         self.tracer: Tracer | None = None
+        self.lines = 0
 
 
 state = State()

@@ -19,7 +19,9 @@ from .stretches import STRETCHES, TURNS, Stretch, leave
 local = threading.local()
 """`line` is the thread's own line, and that of a pool's job while it runs there."""
 
-INTERNAL = frozenset({"threading", "queue", "concurrent", "asyncio", "logging", "itc_trace"})
+INTERNAL = frozenset({
+    "threading", "queue", "concurrent", "asyncio", "logging", "functools", "importlib", "_frozen_importlib", "atexit", "itc_trace",
+})
 """Library modules whose own locks and queues are not traced: what they promise is traced as a whole."""
 
 _internal_names: dict[Any, bool] = {}

@@ -37,8 +37,10 @@ def fresh_tenant() -> tuple[int, str]:
 class Step:
     """Lets one thread wait for another without anything that is traced."""
 
+    _allocate = (_thread.allocate_lock,)  # It is kept before any test has it traced.
+
     def __init__(self) -> None:
-        self._lock = _thread.allocate_lock()
+        self._lock = self._allocate[0]()
         self._lock.acquire()
 
     def done(self) -> None:

@@ -12,21 +12,26 @@ import asyncio.futures as futures_module
 import asyncio.locks as locks
 import asyncio.queues as queues_module
 import asyncio.tasks as tasks
+import functools
 import itertools
 import sys
+import types
 from _thread import get_ident
 from collections import deque
 from collections.abc import Iterator
 from typing import Any
 
-from ..lines import BARRIER, CALL, EVENT, NOTIFY, QUEUE, RESULT, SEMAPHORE, SPAWN, TAKE_END, Line, state
+from ..lines import (
+    BARRIER, CALL, CALLBACK, CALLED, CANCEL, EVENT, NOTIFY, QUEUE, RESULT, SEMAPHORE, SPAWN, TAKE, TAKE_END,
+    Line, Token, state,
+)
 from ..lock_identity import LockIdentity
 from ..noting import current, is_internal, mark, place, take
 from ..stretches import TURNS, leave
 from .base import Patches, like
 from .futures import take_any
 from .locks import gave, is_of_condition, took
-from .queues import items_of, note_done, take_done
+from .queues import items_of, note_done, room_of, take_done
 from .waiters import Waiters
 
 _PlainTask: Any = tasks.Task
@@ -53,10 +58,18 @@ def put(patches: Patches) -> None:
 
 
 class _LikePlain(type):
-    """Futures and tasks that were made otherwise are instances too."""
+    """Futures and tasks that were made otherwise are instances too, and their classes subclasses."""
 
     def __instancecheck__(cls, instance: object) -> bool:
-        return isinstance(instance, cls.__mro__[1])
+        return isinstance(instance, _plain_of(cls)) if _plain_of(cls) else type.__instancecheck__(cls, instance)
+
+    def __subclasscheck__(cls, subclass: type) -> bool:
+        return issubclass(subclass, _plain_of(cls)) if _plain_of(cls) else type.__subclasscheck__(cls, subclass)
+
+
+def _plain_of(cls: type) -> Any:
+    """The library's class that a traced one stands for. A class of the program stands for itself."""
+    return vars(cls).get("_itc_plain")
 
 
 # Tasks and futures
@@ -73,12 +86,17 @@ def _waits_inside(frame: Any) -> bool:
 def _awaiting(plain: Any) -> Any:
     """An `__await__` after which the awaiting task comes after the future's result."""
 
+    is_done = _PlainFuture.done
+
     def __await__(self: Any) -> Iterator[Any]:
+        waits_for = () if is_done(self) else (self, *getattr(self, "_itc_waits_for", ()))
         try:
             result = yield from plain.__await__(self)
         finally:
-            if self.done() and state.note is not None:
+            if is_done(self) and state.note is not None:
                 take_any(self)
+                for one in waits_for:  # Their callbacks were called before the one that goes on here.
+                    _take_called(one)
         return result
 
     return __await__
@@ -95,18 +113,82 @@ def _looking(plain: Any, name: str) -> Any:
     return like(original, look)
 
 
+def _adding(plain: Any) -> Any:
+    """An `add_done_callback` whose callbacks come after whoever added them."""
+    original = plain.add_done_callback
+
+    def add_done_callback(self: Any, fn: Any, /, *, context: Any = None) -> None:
+        if state.note is not None and not is_internal(sys._getframe(1)):
+            self._itc_callbacks = [*self._itc_callbacks, (fn, mark(CALLBACK))]
+            self._itc_called = self._itc_called or []
+        original(self, fn, context=context)
+
+    return like(original, add_done_callback)
+
+
+def _removing(plain: Any) -> Any:
+    original = plain.remove_done_callback
+
+    def remove_done_callback(self: Any, fn: Any, /) -> int:
+        if self._itc_callbacks:
+            self._itc_callbacks = [added for added in self._itc_callbacks if added[0] != fn]
+        return int(original(self, fn))
+
+    return like(original, remove_done_callback)
+
+
+def _take_called(future: Any) -> None:
+    """From now on the current task comes after the callbacks of the future that were called."""
+    for token in getattr(future, "_itc_called", ()):
+        take(token, 3)
+
+
+def _seeing(plain: Any) -> Any:
+    """A `done` after which whoever sees that it is done comes after the result."""
+    original = plain.done
+
+    def done(self: Any) -> bool:
+        is_done = bool(original(self))
+        if is_done and state.note is not None and not is_internal(sys._getframe(1)):
+            take_any(self)
+        return is_done
+
+    return like(original, done)
+
+
 class TracedTask(_PlainTask, metaclass=_LikePlain):  # type: ignore[misc]
     """A task that is begun by whoever makes it, and awaited by whoever takes its result."""
 
+    _itc_plain = _PlainTask
+    _itc_callbacks: list[Any] = []
+    _itc_called: Any = ()
+
     def __init__(self, coro: Any, **named: Any) -> None:
         self._itc_line = _begin_task(self, coro, named.get("name"))
+        self._itc_called = []
         super().__init__(coro, **named)
         leave()  # A task that begins at once has run up to its first wait.
+
+    def cancel(self, msg: Any = None) -> bool:
+        is_cancelled = bool(super().cancel(msg))
+        if is_cancelled and self._itc_line is not None:
+            _tell_cancelled(self._itc_line)
+        return is_cancelled
 
     __await__ = _awaiting(_PlainTask)
     __iter__ = __await__
     result = _looking(_PlainTask, "result")
     exception = _looking(_PlainTask, "exception")
+    done = _seeing(_PlainTask)
+    add_done_callback = _adding(_PlainTask)
+    remove_done_callback = _removing(_PlainTask)
+
+
+def _tell_cancelled(line: Line) -> None:
+    """The task does not run now. When it goes on, it comes after whoever cancelled it."""
+    note, token = state.note, mark(CANCEL, 3)
+    if note is not None and token is not None and token.line is not line and line.tracer is state.tracer:
+        note((TAKE, line, token, token.code, token.instruction))
 
 
 def _begin_task(task: Any, coro: Any, name: Any) -> Line | None:
@@ -134,8 +216,11 @@ def _spawn(coro: Any, name: Any, depth: int) -> Line | None:
 class TracedFuture(_PlainFuture, metaclass=_LikePlain):  # type: ignore[misc]
     """A future whose result is a message from who sets it to who takes it."""
 
+    _itc_plain = _PlainFuture
     _itc_token = None
     _itc_sources: tuple[Any, ...] = ()
+    _itc_callbacks: list[Any] = []
+    _itc_called: Any = ()
 
     def set_result(self, result: Any) -> None:
         if not self._itc_sources:
@@ -147,16 +232,33 @@ class TracedFuture(_PlainFuture, metaclass=_LikePlain):  # type: ignore[misc]
             self._itc_token = mark(RESULT)
         super().set_exception(exception)
 
+    def cancel(self, msg: Any = None) -> bool:
+        token = mark(RESULT)
+        is_cancelled = bool(super().cancel(msg))
+        if is_cancelled and not self._itc_sources:
+            self._itc_token = token
+        return is_cancelled
+
     __await__ = _awaiting(_PlainFuture)
     __iter__ = __await__
     result = _looking(_PlainFuture, "result")
     exception = _looking(_PlainFuture, "exception")
+    done = _seeing(_PlainFuture)
+    add_done_callback = _adding(_PlainFuture)
+    remove_done_callback = _removing(_PlainFuture)
 
 
 class TracedGathering(_PlainGathering, metaclass=_LikePlain):  # type: ignore[misc]
     """The future of a gathering: whoever takes its result comes after all that were gathered."""
 
+    _itc_plain = _PlainGathering
     _itc_token = None
+    _itc_callbacks: list[Any] = []
+    _itc_called: Any = ()
+
+    def __init__(self, children: Any, **named: Any) -> None:
+        super().__init__(children, **named)
+        self._itc_waits_for = [child for child in children if not child.done()]
 
     @property
     def _itc_sources(self) -> list[Any]:
@@ -170,6 +272,8 @@ class TracedGathering(_PlainGathering, metaclass=_LikePlain):  # type: ignore[mi
     __iter__ = __await__
     result = _looking(_PlainGathering, "result")
     exception = _looking(_PlainGathering, "exception")
+    add_done_callback = _adding(_PlainGathering)
+    remove_done_callback = _removing(_PlainGathering)
 
 
 def _error_of(future: Any) -> Any:
@@ -267,6 +371,7 @@ def _wait(original: Any) -> Any:
         done, pending = await original(fs, **named)
         for future in done:
             take_any(future)
+            _take_called(future)
         return done, pending
 
     return wait
@@ -287,7 +392,7 @@ def _group_create_task(original: Any) -> Any:
         task = original(self, coro, **named)
         line = getattr(task, "_itc_line", None)
         if line is not None:
-            self.__dict__.setdefault("_itc_lines", []).append(line)
+            self.__dict__.setdefault("_itc_lines", []).append((line, getattr(task, "_itc_called", ())))
         return task
 
     return create_task
@@ -300,9 +405,11 @@ def _group_leave(original: Any) -> Any:
         finally:
             note = state.note
             if note is not None:
-                for line in self.__dict__.pop("_itc_lines", ()):
+                for line, called in self.__dict__.pop("_itc_lines", ()):
                     if line.tracer is state.tracer:
                         note((TAKE_END, current(), line, *place(sys._getframe(1))))
+                    for token in called:
+                        take(token)
 
     return __aexit__
 
@@ -334,34 +441,65 @@ def _run_handle(original: Any) -> Any:
     return _run
 
 
+_PLUMBING = frozenset({"asyncio", "_asyncio", "concurrent", "itc_trace"})
+_STEPS = frozenset({"TaskStepMethWrapper", "TaskWakeupMethWrapper"})
+
+
 def _is_the_programs(callback: Any) -> bool:
-    function = getattr(callback, "__func__", callback)
-    function = getattr(function, "func", function)
-    if isinstance(getattr(callback, "__self__", None), TracedFuture | asyncio.Event):
-        return True
+    """Whether it is no step by which asyncio itself goes on: a function of the program, or a method of an object that it has."""
+    while type(callback) is functools.partial:
+        callback = callback.func
+    kind = type(callback)
+    if kind is types.BuiltinMethodType:
+        return not issubclass(type(callback.__self__), _PlainFuture)
+    if kind is types.MethodType:
+        function = callback.__func__
+        return _is_outside(function) or not getattr(function, "__name__", "_").startswith("_")
+    if kind is types.FunctionType:
+        return _is_outside(callback)
+    return kind.__name__ not in _STEPS
+
+
+def _is_outside(function: Any) -> bool:
     module = getattr(function, "__module__", None)
-    return isinstance(module, str) and module.partition(".")[0] not in {"asyncio", "_asyncio", "concurrent", "itc_trace"}
+    return not isinstance(module, str) or module.partition(".")[0] not in _PLUMBING
 
 
-def _after_caller(callback: Any) -> Any:
-    """The callback, called after whoever asked for it."""
+def _after_caller(callback: Any, args: tuple[Any, ...]) -> Any:
+    """The callback, called after whoever asked for it, and after whoever added it to the future that it is called with."""
     if state.note is None or not callable(callback) or not _is_the_programs(callback):
         return callback
     token = mark(CALL, 4)
     if token is None:
         return callback
+    future = args[0] if args and issubclass(type(args[0]), _PlainFuture) else None
+    added = _added(future, callback)
 
     def called(*args: Any) -> Any:
         take(token)
-        return callback(*args)
+        take(added)
+        try:
+            return callback(*args)
+        finally:
+            if added is not None:
+                future._itc_called.append(mark(CALLED))
 
     return like(callback, called)
+
+
+def _added(future: Any, callback: Any) -> Token | None:
+    """The place where the callback was added to the future, by the program itself."""
+    for entry in getattr(future, "_itc_callbacks", ()):
+        if entry[0] is callback or entry[0] == callback:
+            future._itc_callbacks = [one for one in future._itc_callbacks if one is not entry]
+            return entry[1]  # type: ignore[no-any-return]
+    return None
 
 
 def _call(original: Any) -> Any:
     def call(self: Any, callback: Any, *args: Any, context: Any = None) -> Any:
         if state.note is not None:
-            callback = _after_caller(callback)
+            callback = _after_caller(callback, args)
         return original(self, callback, *args, context=context)
 
     return call
@@ -370,7 +508,7 @@ def _call(original: Any) -> Any:
 def _call_at(original: Any) -> Any:
     def call_at(self: Any, when: Any, callback: Any, *args: Any, context: Any = None) -> Any:
         if state.note is not None:
-            callback = _after_caller(callback)
+            callback = _after_caller(callback, args)
         return original(self, when, callback, *args, context=context)
 
     return call_at
@@ -602,11 +740,12 @@ def _put_queues(patches: Patches) -> None:
 
 def _put_nowait(original: Any) -> Any:
     def put_nowait(self: Any, item: Any) -> None:
-        token = mark(QUEUE)
-        if token is None:
+        if state.note is None:
             return original(self, item)  # type: ignore[no-any-return]
+        if self.maxsize > 0 and not self.full():
+            room_of(self, self.qsize()).use()
         items = items_of(self)
-        items.add(item, token)
+        items.add(item, mark(QUEUE))
         try:
             return original(self, item)  # type: ignore[no-any-return]
         except BaseException:
@@ -618,10 +757,13 @@ def _put_nowait(original: Any) -> Any:
 
 def _get_nowait(original: Any) -> Any:
     def get_nowait(self: Any) -> Any:
+        room = room_of(self, self.qsize()) if self.maxsize > 0 and state.note is not None else None
         item = original(self)
         items = self.__dict__.get("_itc_items")
         if items is not None:
             take(items.remove(item))
+        if room is not None:
+            room.make()
         return item
 
     return get_nowait

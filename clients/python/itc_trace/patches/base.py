@@ -16,6 +16,7 @@ class Patches:
 
     def __init__(self) -> None:
         self._saved: list[tuple[Any, str, Any]] = []
+        self._endings: list[Callable[[], None]] = []
 
     def put(self, owner: Any, name: str, value: Any) -> None:
         """Gives the class or module another attribute."""
@@ -37,7 +38,12 @@ class Patches:
                 for found in [key for key, one in names.items() if one is old]:
                     self.put(other, found, value)
 
+    def when_taken_back(self, end: Callable[[], None]) -> None:
+        self._endings.append(end)
+
     def take_back(self) -> None:
+        for end in self._endings:
+            end()
         while self._saved:
             owner, name, value = self._saved.pop()
             if value is _MISSING:

@@ -13,9 +13,10 @@ import sys
 from collections.abc import Iterator
 from typing import Any
 
-from ..lines import FINISH, RESULT, SPAWN, SUBMIT, TAKE_END, WORKER, Line, state
+from ..lines import CALLBACK, FINISH, RESULT, SPAWN, SUBMIT, TAKE_END, WORKER, Line, Token, state
 from ..noting import current, enter, is_internal, local, mark, place, take
 from .base import Patches, like
+from .exits import await_at_exit
 
 _DONE = {base.CANCELLED, base.CANCELLED_AND_NOTIFIED, base.FINISHED}
 
@@ -102,11 +103,22 @@ def _done(original: Any) -> Any:
 
 def _add_done_callback(original: Any) -> Any:
     def add_done_callback(self: Any, fn: Any) -> None:
-        if self._state in _DONE and not is_internal(sys._getframe(1)):
-            take_result(self)  # It is called at once.
+        if state.note is not None and callable(fn) and not is_internal(sys._getframe(1)):
+            fn = _called_back(fn, mark(CALLBACK))
         return original(self, fn)  # type: ignore[no-any-return]
 
     return add_done_callback
+
+
+def _called_back(callback: Any, token: Token | None) -> Any:
+    """The callback, called after whoever added it, and after the result."""
+
+    def called(future: Any) -> Any:
+        take(token)
+        take_result(future)
+        return callback(future)
+
+    return like(callback, called)
 
 
 def _wait(original: Any) -> Any:
@@ -173,6 +185,7 @@ def _begin_job(item: Any, future: Any, pool: Any, name: str) -> None:
     future._itc_line = item._itc_line = line
     item._itc_is_after_worker = getattr(pool, "_initializer", None) is not None
     pool.__dict__.setdefault("_itc_jobs", []).append(line)
+    await_at_exit(line)
     note((SPAWN, current(), line, *place(sys._getframe(4))))
 
 

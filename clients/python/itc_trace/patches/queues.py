@@ -1,19 +1,21 @@
-"""Traces `queue`: an item is a message from who puts it to who gets it."""
+"""Traces `queue`: an item is a message from who puts it to who gets it, and room one from who gets to who puts."""
 
 from __future__ import annotations
 
 import _thread
+import asyncio
 import queue
 import sys
 from collections import deque
 from typing import Any
 
-from ..lines import DONE_ITEM, QUEUE, Token, state
+from ..lines import DONE_ITEM, QUEUE, ROOM, Token, state
 from ..noting import is_internal, mark, take
 from .base import Patches
 
 _guard = vars(_thread)["RLock"]()
 _PlainSimpleQueue: Any = queue.SimpleQueue
+_STACKS = queue.LifoQueue, asyncio.LifoQueue
 
 
 def put(patches: Patches) -> None:
@@ -50,12 +52,65 @@ class Items:
 def items_of(one: Any) -> Items:
     items: Items | None = one.__dict__.get("_itc_items")
     if items is None:
-        items = one.__dict__.setdefault("_itc_items", Items("Lifo" in type(one).__name__))
+        items = one.__dict__.setdefault("_itc_items", Items(isinstance(one, _STACKS)))
     return items
+
+
+class Room:
+    """The places of a bounded queue: who puts takes the place that was free first, and comes after who made it free."""
+
+    def __init__(self, places: int) -> None:
+        self._free: deque[Token | None] = deque([None] * places)
+
+    def make(self, depth: int = 2) -> None:
+        self._free.append(mark(ROOM, depth + 1))
+
+    def use(self, depth: int = 2) -> None:
+        if self._free:
+            take(self._free.popleft(), depth + 1)
+
+
+def room_of(one: Any, size: int) -> Room:
+    """The room of a bounded queue in which so many items lie."""
+    room: Room | None = one.__dict__.get("_itc_room")
+    if room is None:
+        room = one.__dict__.setdefault("_itc_room", Room(max(0, one.maxsize - size)))
+    return room
+
+
+class _Bounded:
+    """Stands for a bounded queue while the library puts or gets, so that its order is seen while nobody else has the queue."""
+
+    __slots__ = ("_itc_queue",)
+
+    def __init__(self, one: Any) -> None:
+        object.__setattr__(self, "_itc_queue", one)
+
+    def __getattr__(self, name: str) -> Any:
+        return getattr(self._itc_queue, name)
+
+    def __setattr__(self, name: str, value: Any) -> None:
+        setattr(self._itc_queue, name, value)
+
+    def _put(self, item: Any) -> None:
+        one = self._itc_queue
+        room_of(one, one._qsize()).use()
+        items_of(one).add(item, mark(QUEUE))
+        one._put(item)
+
+    def _get(self) -> Any:
+        one = self._itc_queue
+        room = room_of(one, one._qsize())
+        item = one._get()
+        take(items_of(one).remove(item))
+        room.make()
+        return item
 
 
 def _put(original: Any) -> Any:
     def put(self: Any, item: Any, block: bool = True, timeout: float | None = None) -> None:
+        if state.note is not None and self.maxsize > 0:
+            return original(_Bounded(self), item, block, timeout)  # type: ignore[no-any-return]
         token = mark(QUEUE)
         if token is None:
             return original(self, item, block, timeout)  # type: ignore[no-any-return]
@@ -72,6 +127,8 @@ def _put(original: Any) -> Any:
 
 def _get(original: Any) -> Any:
     def get(self: Any, block: bool = True, timeout: float | None = None) -> Any:
+        if state.note is not None and self.maxsize > 0:
+            return original(_Bounded(self), block, timeout)
         item = original(self, block, timeout)
         items = self.__dict__.get("_itc_items")
         if items is not None:

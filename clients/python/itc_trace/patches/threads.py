@@ -11,6 +11,7 @@ from typing import Any
 from ..lines import BARRIER, EVENT, FINISH, JOIN, NOTIFY, SEMAPHORE, SPAWN, Line, state
 from ..noting import current, enter, is_internal, mark, place, take, thread_name
 from .base import Patches
+from .exits import await_at_exit
 from .locks import TracedLock, TracedRLock, is_of_condition, traced_rlock
 from .waiters import Waiters
 
@@ -23,6 +24,9 @@ MOST_PERMITS = 65536
 def put(patches: Patches) -> None:
     patches.replace(threading, "Lock", TracedLock)
     patches.replace(threading, "RLock", TracedRLock)
+    patches.replace(_thread, "allocate_lock", TracedLock)
+    patches.replace(_thread, "allocate", TracedLock)
+    patches.replace(_thread, "RLock", TracedRLock)
     _put_threads(patches)
     _put_conditions(patches)
     _put_events(patches)
@@ -51,6 +55,8 @@ def _start(original: Any) -> Any:
         line = Line(state.tracer, thread_name(self))
         line.must_finish = True
         line.watch(self)
+        if not self.daemon:
+            await_at_exit(line)
         self._itc_line = line  # type: ignore[attr-defined]
         note((SPAWN, current(), line, *place(sys._getframe(1))))
         return original(self)  # type: ignore[no-any-return]
@@ -82,7 +88,9 @@ def _join(original: Any) -> Any:
     def join(self: threading.Thread, timeout: float | None = None) -> None:
         line = self.__dict__.get("_itc_line")
         if line is None or state.note is None:
-            return original(self, timeout)  # type: ignore[no-any-return]
+            original(self, timeout)
+            take(self.__dict__.get("_itc_end"))  # That is the main thread's.
+            return None
         line.waiting += 1
         try:
             original(self, timeout)

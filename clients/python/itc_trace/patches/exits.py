@@ -1,0 +1,59 @@
+"""Traces the end of the program: what runs in `atexit` comes after each thread that was waited for, and after its registration."""
+
+from __future__ import annotations
+
+import atexit
+import sys
+import threading
+from typing import Any
+
+from ..lines import END, EXIT, TAKE_END, Line, Token, state
+from ..noting import current, is_internal, mark, place, take
+from .base import Patches, like
+
+_awaited: list[Line] = []
+"""The lines of threads and of jobs that the end of the program waits for."""
+_registered: list[Token] = []
+
+
+def put(patches: Patches) -> None:
+    _awaited.clear()
+    _registered.clear()
+    patches.replace(atexit, "register", like(atexit.register, _register(atexit.register)))
+    patches.wrap(threading, "_shutdown", _shutdown)
+
+
+def await_at_exit(line: Line) -> None:
+    _awaited.append(line)
+
+
+def _register(original: Any) -> Any:
+    def register(func: Any, /, *args: Any, **kwargs: Any) -> Any:
+        told = original(func, *args, **kwargs)
+        if state.note is not None and not is_internal(sys._getframe(1)):
+            token = mark(EXIT)
+            if token is not None:
+                _registered.append(token)
+        return told
+
+    return register
+
+
+def _shutdown(original: Any) -> Any:
+    def _shutdown() -> None:
+        main: Any = threading.main_thread()
+        main._itc_end = mark(END, 1)
+        original()
+        if _registered:
+            _take_all()
+
+    return _shutdown
+
+
+def _take_all() -> None:
+    for token in _registered:
+        take(token)
+    for line in _awaited:
+        note = state.note
+        if note is not None and line.tracer is state.tracer:
+            note((TAKE_END, current(), line, *place(sys._getframe(1))))

@@ -1,0 +1,52 @@
+"""Puts patches in place of modules that the program has not imported, once it imports them."""
+
+from __future__ import annotations
+
+import importlib.util
+import sys
+from collections.abc import Callable
+from types import ModuleType
+from typing import Any
+
+_waiting: dict[str, Callable[[ModuleType], None]] = {}
+
+
+def once_imported(name: str, put: Callable[[ModuleType], None]) -> None:
+    """Calls it with the module: now, if the program has it, else when the program imports it."""
+    module = sys.modules.get(name)
+    if module is not None:
+        put(module)
+        return
+    _waiting[name] = put
+    if _finder not in sys.meta_path:
+        sys.meta_path.insert(0, _finder)
+
+
+def forget_all() -> None:
+    _waiting.clear()
+    if _finder in sys.meta_path:
+        sys.meta_path.remove(_finder)
+
+
+class _Finder:
+    """Finds a module that is waited for as the others do, and has it patched as soon as it was executed."""
+
+    def find_spec(self, name: str, path: Any = None, target: Any = None) -> Any:
+        put = _waiting.pop(name, None)
+        if put is None:
+            return None
+        spec = importlib.util.find_spec(name)
+        if spec is not None and spec.loader is not None and hasattr(spec.loader, "exec_module"):
+            spec.loader.exec_module = _then(spec.loader.exec_module, put)  # type: ignore[method-assign]
+        return spec
+
+
+def _then(execute: Callable[[ModuleType], None], put: Callable[[ModuleType], None]) -> Callable[[ModuleType], None]:
+    def exec_module(module: ModuleType) -> None:
+        execute(module)
+        put(module)
+
+    return exec_module
+
+
+_finder: Any = _Finder()

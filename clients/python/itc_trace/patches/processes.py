@@ -1,0 +1,136 @@
+"""Traces the locks and semaphores of `multiprocessing`, among the threads of this process."""
+
+from __future__ import annotations
+
+import sys
+from collections import deque
+from types import ModuleType
+from typing import Any
+
+from ..lines import SEMAPHORE, Line, Token, state
+from ..lock_identity import LockIdentity
+from ..noting import is_internal, mark, take
+from .base import Patches
+from .later import forget_all, once_imported
+from .locks import gave, took
+
+_MAKERS = ("multiprocessing.context", "multiprocessing.synchronize", "multiprocessing.sharedctypes")
+"""Modules that make locks for the program. Others of `multiprocessing` make them for themselves, and give no order."""
+MOST_PERMITS = 65536
+
+
+def put(patches: Patches) -> None:
+    patches.when_taken_back(forget_all)
+    once_imported("multiprocessing.synchronize", lambda module: _put_locks(patches, module))
+
+
+def _put_locks(patches: Patches, module: ModuleType) -> None:
+    kind: Any = vars(module)["SemLock"]
+    patches.wrap(kind, "__init__", _begin)
+    patches.wrap(kind, "__enter__", _enter)
+    patches.wrap(kind, "__exit__", _exit)
+
+
+class _Lock:
+    """What is known of a lock, and its methods. An `RLock` counts outermost alone."""
+
+    def __init__(self, semlock: Any, kind: str, frame: Any) -> None:
+        self._semlock = semlock
+        self._is_recursive = kind == "RLock"
+        self._itc_token: Token | None = None
+        self._itc_holder: Line | None = None
+        self._itc_identity = LockIdentity(f"multiprocessing.{kind}", frame)
+
+    def acquire(self, block: bool = True, timeout: float | None = None) -> bool:
+        is_acquired = bool(self._semlock.acquire(block, timeout))
+        if is_acquired:
+            self.was_acquired()
+        return is_acquired
+
+    def was_acquired(self) -> None:
+        if state.note is not None and self._is_outermost():
+            took(self)
+
+    def release(self) -> None:
+        self.is_released()
+        self._semlock.release()
+
+    def is_released(self) -> None:
+        if state.note is not None and self._is_outermost():
+            gave(self)
+
+    def _is_outermost(self) -> bool:
+        return not self._is_recursive or self._semlock._count() == 1 and bool(self._semlock._is_mine())
+
+
+class _Semaphore:
+    """The permits of a semaphore, as those of `threading`."""
+
+    def __init__(self, semlock: Any, value: int) -> None:
+        self._semlock = semlock
+        self._permits: deque[Token | None] = deque([None] * value)
+
+    def acquire(self, block: bool = True, timeout: float | None = None) -> bool:
+        is_acquired = bool(self._semlock.acquire(block, timeout))
+        if is_acquired:
+            self.was_acquired()
+        return is_acquired
+
+    def was_acquired(self) -> None:
+        if self._permits:
+            take(self._permits.popleft())
+
+    def release(self) -> None:
+        self.is_released()
+        try:
+            self._semlock.release()
+        except BaseException:
+            self._permits.pop()
+            raise
+
+    def is_released(self) -> None:
+        self._permits.append(mark(SEMAPHORE))
+
+
+def _begin(original: Any) -> Any:
+    def __init__(self: Any, kind: int, value: int, maxvalue: int, **named: Any) -> None:
+        original(self, kind, value, maxvalue, **named)
+        frame = _maker(sys._getframe(1))
+        name = type(self).__name__
+        if frame is None or value > MOST_PERMITS:
+            return
+        traced = _Lock(self._semlock, name, frame) if name in ("Lock", "RLock") else _Semaphore(self._semlock, value)
+        self._itc_traced, self.acquire, self.release = traced, traced.acquire, traced.release
+
+    return __init__
+
+
+def _maker(frame: Any) -> Any:
+    """The frame of the program that makes it. None, if a module of the library makes it for itself."""
+    while frame is not None and frame.f_globals.get("__name__") in _MAKERS:
+        frame = frame.f_back
+    if frame is None or is_internal(frame):
+        return None
+    name = frame.f_globals.get("__name__")
+    return None if isinstance(name, str) and name.startswith("multiprocessing.") else frame
+
+
+def _enter(original: Any) -> Any:
+    def __enter__(self: Any) -> Any:
+        told = original(self)
+        traced = self.__dict__.get("_itc_traced")
+        if traced is not None:
+            traced.was_acquired()
+        return told
+
+    return __enter__
+
+
+def _exit(original: Any) -> Any:
+    def __exit__(self: Any, *words: Any) -> Any:
+        traced = self.__dict__.get("_itc_traced")
+        if traced is not None:
+            traced.is_released()
+        return original(self, *words)
+
+    return __exit__
