@@ -20,8 +20,10 @@ _serials = itertools.count(1)
 class LockIdentity:
     """One lock. A task that holds it has it in `Line.held`, and the token of a release has it as what it stands for.
 
-    Whoever releases a lock that somebody else acquired gives a signal: it keeps nobody out. `signal` says so from then on.
-    A lock of a condition guards what the waiting ones look at, so to acquire it is an order as meant as a wake-up.
+    A release is a signal if another task acquired the lock. It is one too if a lock is still held that was acquired after it, as
+    in a read-write lock that is built of two. From then on `signal` of the lock says so, and of both in the second case.
+
+    The lock of a condition guards what the waiting ones look at. So to acquire it is an order as meant as a wake-up.
     """
 
     __slots__ = ("serial", "kind", "code", "instruction", "number", "signal", "is_of_condition", "_name")

@@ -149,7 +149,7 @@ class Held(TracedCase):
             thread.start()
             door.acquire()
             touch("x", write=True)
-            self.assertEqual(current().held, ())
+            self.assertEqual(current().held, (identity,))
             self.assertIsNotNone(identity.signal)
             door.release()
             thread.join()
@@ -172,6 +172,16 @@ class Held(TracedCase):
             thread.start()
             thread.join()
             self.assertIsNone(door._itc_token.what.lock)  # type: ignore[attr-defined]
+            self.assertEqual(current().held, ())
+            outer, inner = threading.Lock(), threading.Lock()
+            outer.acquire()
+            inner.acquire()
+            outer.release()
+            self.assertEqual(current().held, (inner._itc_identity,))  # type: ignore[attr-defined]
+            inner.release()
+            self.assertIsNone(outer._itc_token.what.lock)  # type: ignore[attr-defined]
+            self.assertIsNone(inner._itc_token.what.lock)  # type: ignore[attr-defined]
+            self.assertEqual(current().held, ())
 
         self.races(scenario)
 

@@ -31,7 +31,7 @@ from ..stretches import TURNS, leave
 from .base import Patches, like
 from .futures import take_any
 from .locks import gave, is_of_condition, took
-from .queues import items_of, note_done, room_of, take_done
+from .queues import has_few_places, items_of, note_done, room_of, take_done
 from .waiters import Waiters
 
 _PlainTask: Any = tasks.Task
@@ -742,7 +742,7 @@ def _put_nowait(original: Any) -> Any:
     def put_nowait(self: Any, item: Any) -> None:
         if state.note is None:
             return original(self, item)  # type: ignore[no-any-return]
-        if self.maxsize > 0 and not self.full():
+        if has_few_places(self) and not self.full():
             room_of(self, self.qsize()).use()
         items = items_of(self)
         items.add(item, mark(QUEUE))
@@ -757,7 +757,7 @@ def _put_nowait(original: Any) -> Any:
 
 def _get_nowait(original: Any) -> Any:
     def get_nowait(self: Any) -> Any:
-        room = room_of(self, self.qsize()) if self.maxsize > 0 and state.note is not None else None
+        room = room_of(self, self.qsize()) if state.note is not None and has_few_places(self) else None
         item = original(self)
         items = self.__dict__.get("_itc_items")
         if items is not None:

@@ -5,15 +5,17 @@ from __future__ import annotations
 import atexit
 import sys
 import threading
+from types import MethodType
 from typing import Any
 
 from ..lines import END, EXIT, TAKE_END, Line, Token, state
-from ..noting import current, is_internal, mark, place, take
+from ..noting import current, mark, place, take
 from .base import Patches, like
 
 _awaited: list[Line] = []
 """The lines of threads and of jobs that the end of the program waits for."""
-_registered: list[Token] = []
+_registered: list[Token | None] = []
+"""For each function that is to run at the end, the place of its registration. None stands for the main thread's."""
 
 
 def put(patches: Patches) -> None:
@@ -30,13 +32,16 @@ def await_at_exit(line: Line) -> None:
 def _register(original: Any) -> Any:
     def register(func: Any, /, *args: Any, **kwargs: Any) -> Any:
         told = original(func, *args, **kwargs)
-        if state.note is not None and not is_internal(sys._getframe(1)):
-            token = mark(EXIT)
-            if token is not None:
-                _registered.append(token)
+        if state.note is not None and not _is_ours(func):
+            is_main = threading.get_ident() == threading.main_thread().ident
+            _registered.append(None if is_main else mark(EXIT))
         return told
 
     return register
+
+
+def _is_ours(function: Any) -> bool:
+    return type(function) is MethodType and type(function.__self__).__module__.partition(".")[0] == "itc_trace"
 
 
 def _shutdown(original: Any) -> Any:

@@ -169,38 +169,49 @@ def gave(lock: Any) -> None:
     line = current()
     holder, lock._itc_holder = lock._itc_holder, None
     identity: LockIdentity = lock._itc_identity
-    what: LockIdentity | Signal = identity.signal or identity
     if holder is line:
         held = line.held
-        line.held = held[:-1] if held and held[-1] is identity else without(held, identity)
-    elif holder is not None:
-        what = _given_by_another(holder, identity)
+        if held and held[-1] is identity:
+            line.held = held[:-1]
+        else:
+            _outlived(line, identity)
+    elif holder is not None and holder.tracer is state.tracer:
+        _remove(holder, identity)
+        identity.become_signal()
+    what: LockIdentity | Signal = identity.signal or identity
     lock._itc_token = token = Token(line, what, code, instruction)
     note = state.note
     if note is not None:
         note((MARK, token))
 
 
-def _given_by_another(holder: Line, identity: LockIdentity) -> LockIdentity | Signal:
-    """The lock is released by a task that did not acquire it, and so it is a signal between the two."""
-    if holder.tracer is not state.tracer:
-        return identity
-    holder.held = without(holder.held, identity)
-    return identity.become_signal()
+def _outlived(line: Line, identity: LockIdentity) -> None:
+    """The lock is released while one is held that was acquired after it: both hand over more than what they enclose."""
+    is_later = False
+    for one in line.held:
+        if is_later:
+            one.become_signal()
+            identity.become_signal()
+        is_later = is_later or one is identity
+    _remove(line, identity)
 
 
-def without(held: tuple[LockIdentity, ...], identity: LockIdentity) -> tuple[LockIdentity, ...]:
-    return tuple(one for one in held if one is not identity)
+def _remove(line: Line, identity: LockIdentity) -> None:
+    """Takes the lock from what the task holds, also where that task acquires and releases others meanwhile."""
+    while True:
+        held = line.held
+        left = tuple(one for one in held if one is not identity)
+        if line.held is held:
+            line.held = left
+            return
 
 
 def took(lock: Any) -> None:
     """Notes that the lock was acquired. While it is held nobody else needs the place of its last release."""
     token = lock._itc_token
     line = current()
-    identity = lock._itc_identity
-    if identity.signal is None:
-        lock._itc_holder = line
-        line.held += (identity,)
+    lock._itc_holder = line
+    line.held += (lock._itc_identity,)
     if token is None:
         return
     lock._itc_token = None

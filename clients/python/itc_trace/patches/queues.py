@@ -4,6 +4,7 @@ from __future__ import annotations
 
 import _thread
 import asyncio
+import math
 import queue
 import sys
 from collections import deque
@@ -16,6 +17,8 @@ from .base import Patches
 _guard = vars(_thread)["RLock"]()
 _PlainSimpleQueue: Any = queue.SimpleQueue
 _STACKS = queue.LifoQueue, asyncio.LifoQueue
+MOST_PLACES = 16
+"""Who puts into a queue of more places comes after nobody: such a queue bounds memory, and to tell it would take an event an item."""
 
 
 def put(patches: Patches) -> None:
@@ -62,19 +65,23 @@ class Room:
     def __init__(self, places: int) -> None:
         self._free: deque[Token | None] = deque([None] * places)
 
-    def make(self, depth: int = 2) -> None:
-        self._free.append(mark(ROOM, depth + 1))
+    def make(self) -> None:
+        self._free.append(mark(ROOM))
 
-    def use(self, depth: int = 2) -> None:
+    def use(self) -> None:
         if self._free:
-            take(self._free.popleft(), depth + 1)
+            take(self._free.popleft())
+
+
+def has_few_places(one: Any) -> bool:
+    return 0 < one.maxsize <= MOST_PLACES
 
 
 def room_of(one: Any, size: int) -> Room:
     """The room of a bounded queue in which so many items lie."""
     room: Room | None = one.__dict__.get("_itc_room")
     if room is None:
-        room = one.__dict__.setdefault("_itc_room", Room(max(0, one.maxsize - size)))
+        room = one.__dict__.setdefault("_itc_room", Room(max(0, math.ceil(one.maxsize) - size)))
     return room
 
 
@@ -109,7 +116,7 @@ class _Bounded:
 
 def _put(original: Any) -> Any:
     def put(self: Any, item: Any, block: bool = True, timeout: float | None = None) -> None:
-        if state.note is not None and self.maxsize > 0:
+        if state.note is not None and has_few_places(self):
             return original(_Bounded(self), item, block, timeout)  # type: ignore[no-any-return]
         token = mark(QUEUE)
         if token is None:
@@ -127,7 +134,7 @@ def _put(original: Any) -> Any:
 
 def _get(original: Any) -> Any:
     def get(self: Any, block: bool = True, timeout: float | None = None) -> Any:
-        if state.note is not None and self.maxsize > 0:
+        if state.note is not None and has_few_places(self):
             return original(_Bounded(self), block, timeout)
         item = original(self, block, timeout)
         items = self.__dict__.get("_itc_items")
