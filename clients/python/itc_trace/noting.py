@@ -146,8 +146,9 @@ def take(token: Token | None, depth: int = 2) -> None:
     note = state.note
     if note is None or token is None or token.line.tracer is not state.tracer:
         return
-    line = current()
+    line = line_of_now()
     if line is not token.line:
+        leave()
         note((TAKE, line, token, *place(sys._getframe(depth))))
 
 

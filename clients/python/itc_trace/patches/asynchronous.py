@@ -120,7 +120,8 @@ def _adding(plain: Any) -> Any:
     def add_done_callback(self: Any, fn: Any, /, *, context: Any = None) -> None:
         if state.note is not None and not is_internal(sys._getframe(1)):
             self._itc_callbacks = [*self._itc_callbacks, (fn, mark(CALLBACK))]
-            self._itc_called = self._itc_called or []
+            if type(self._itc_called) is not list:
+                self._itc_called = []
         original(self, fn, context=context)
 
     return like(original, add_done_callback)
