@@ -4,6 +4,7 @@
 queues, pools and asyncio do; `shared` and `touch` say what is shared; `races` finds what nothing orders.
 """
 
+from .children import watch_as_child
 from .collector import Collector, NoCollector
 from .noting import touch
 from .races import Race, Races, find_races
@@ -17,3 +18,5 @@ __all__ = [
     "Cause", "Collector", "Middleware", "NoCollector", "Opener", "Race", "Races", "Refused", "Session", "Tracing", "Unseen", "Verdict",
     "find_races", "incoming", "install", "opener", "outgoing", "shared", "touch", "tracing", "uninstall",
 ]
+
+watch_as_child()

@@ -3,26 +3,31 @@
 from __future__ import annotations
 
 import argparse
+import random
 import sys
-from collections.abc import Iterator
 
 from .collector import HOST, NoCollector
-from .races import find_races
+from .faults import WORDS_REFUSED, Fault, look
+from .journal import NoJournal
 from .relay import relay
-from .run import Run, run, tell_if_untouched, told
+from .run import MOST_SEED, Run, run, tell_if_untouched, told
+from .seeing import lines_of, races_seen
 from .session import Refused
 from .snapshot import snapshot
 from .tracing import OWN_TENANT
 
-WORDS_REFUSED = 2
+NEW_SEED = -1
+FLAGS = {"--quiet", "--shake", "--no-shake", "--help", "-h"}
+MOST_RUNS = 10_000
 
 
 def _parser() -> argparse.ArgumentParser:
     parser = argparse.ArgumentParser(prog="python3 -m itc_trace", description=__doc__)
     commands = parser.add_subparsers(dest="command", required=True)
-    _add_run(commands.add_parser("run", help="run a program with tracing on, and list its races"))
+    _add_run(commands.add_parser("run", help="run a program with tracing on, and list its races", allow_abbrev=False))
     races = commands.add_parser("races", help="list the races of a trace by its journal")
     _add_port(races)
+    _add_fail_on(races)
     races.add_argument("tenant")
     races.add_argument("--picture", metavar="FILE", help="the picture of the trace, for links into it")
     races.add_argument("journal", nargs="+", help="the journal of each process")
@@ -40,6 +45,11 @@ def _add_port(parser: argparse.ArgumentParser) -> None:
     parser.add_argument("--host", default=HOST, help=argparse.SUPPRESS)
 
 
+def _add_fail_on(parser: argparse.ArgumentParser) -> None:
+    parser.add_argument("--fail-on", choices=("race", "possible"), default="race",
+                        help="end with 66 where there is a race, or where one is possible (race)")
+
+
 def _add_run(parser: argparse.ArgumentParser) -> None:
     parser.add_argument("--port", type=int, help="report to the collector at this port, and start none")
     parser.add_argument("--tenant", default=OWN_TENANT, help="the tenant to report for (trace)")
@@ -47,11 +57,31 @@ def _add_run(parser: argparse.ArgumentParser) -> None:
     parser.add_argument("--export", metavar="FILE", help="keep the trace there, and its journal beside it")
     parser.add_argument("--journal", metavar="FILE", help="keep the journal there")
     parser.add_argument("--picture", metavar="FILE", help="draw the trace there")
+    _add_fail_on(parser)
+    parser.add_argument("--runs", type=_runs, default=1, metavar="N", help="run the program N times, all but the first shaken")
+    parser.add_argument("--shake", type=_seed, nargs="?", const=NEW_SEED, metavar="SEED",
+                        help="perturb the schedule of each run; --shake=SEED as this seed did")
+    parser.add_argument("--no-shake", action="store_true", help="leave the schedule of each run as it is")
     parser.add_argument("--quiet", action="store_true", help="write nothing where there is no race")
     parser.usage = "%(prog)s [OPTIONS] PROGRAM|-m MODULE [ARGS..]"
 
 
-FLAGS = {"--quiet", "--help", "-h"}
+def _runs(word: str) -> int:
+    return _number(word, 1, MOST_RUNS)
+
+
+def _seed(word: str) -> int:
+    return _number(word, 0, MOST_SEED - 1)
+
+
+def _number(word: str, least: int, most: int) -> int:
+    try:
+        number = int(word)
+    except ValueError:
+        number = least - 1
+    if not least <= number <= most:
+        raise argparse.ArgumentTypeError(f"{word} is no number from {least} to {most}")
+    return number
 
 
 def _divided(words: list[str]) -> tuple[list[str], list[str]]:
@@ -67,23 +97,27 @@ def _divided(words: list[str]) -> tuple[list[str], list[str]]:
 
 def _run(words: argparse.Namespace, program: list[str]) -> int:
     if not program or program[0] == "-m" and len(program) < 2:
-        print("itc_trace: run wants a program, or -m and a module", file=sys.stderr)
-        return WORDS_REFUSED
-    return run(Run(program, words.port, words.tenant, words.process, words.export, words.journal, words.picture,
-                   quiet=words.quiet))
-
-
-def _journals(names: list[str]) -> Iterator[str]:
-    for name in names:
-        with open(name, encoding="utf-8") as rows:
-            yield from rows
+        raise Fault("run wants a program, or -m and a module")
+    return run(Run(
+        program, words.port, words.tenant, words.process, words.export, words.journal, words.picture, quiet=words.quiet,
+        fail_on_possible=words.fail_on == "possible", runs=words.runs, is_shaken=not words.no_shake,
+        seed=random.SystemRandom().randrange(MOST_SEED) if words.shake == NEW_SEED else words.shake,
+    ))
 
 
 def _races(words: argparse.Namespace) -> int:
-    found = find_races(words.tenant, words.port, _journals(words.journal), words.host)
+    look(words.tenant, words.port, words.host)
+    found = races_seen(words.tenant, words.port, lines_of(words.journal), words.host)
     print(told(found, words.picture))
     tell_if_untouched(found)
-    return int(found.verdict())
+    return int(found.verdict(words.fail_on == "possible"))
+
+
+def _relay(words: argparse.Namespace) -> None:
+    try:
+        relay(words.listen, words.port, words.host)
+    except OSError as fault:
+        raise Fault(f"port {words.listen} cannot be listened at: {fault.strerror}: choose another by --listen") from fault
 
 
 def main() -> int:
@@ -95,10 +129,11 @@ def main() -> int:
         if words.command == "races":
             return _races(words)
         if words.command == "relay":
-            relay(words.listen, words.port, words.host)
+            _relay(words)
         else:
+            look(words.tenant, words.port, words.host)
             snapshot(words.tenant, words.port, sys.stdout, words.host)
-    except (NoCollector, Refused, OSError) as fault:
+    except (NoCollector, NoJournal, Refused, OSError) as fault:
         print(f"itc_trace: {fault}", file=sys.stderr)
         return WORDS_REFUSED
     return 0

@@ -7,6 +7,7 @@ import shutil
 import socket
 import subprocess
 import sys
+import weakref
 from collections.abc import Iterator
 from pathlib import Path
 from types import TracebackType
@@ -62,7 +63,8 @@ class Collector:
 
     def __init__(self, *tenants: str) -> None:
         self.port: int = 0
-        self._process = self._start(find_program(), tenants or ("trace",))
+        self._process: subprocess.Popen[bytes] | None = self._start(find_program(), tenants or ("trace",))
+        _running.add(self)
 
     def _start(self, program: str, tenants: tuple[str, ...]) -> subprocess.Popen[bytes]:
         for _ in range(PORTS_TO_TRY):
@@ -77,7 +79,16 @@ class Collector:
 
     def close(self) -> None:
         """Ends the collector."""
-        _end(self._process)
+        process, self._process = self._process, None
+        if process is not None:
+            _end(process)
+
+    def forget(self) -> None:
+        """In a forked child: lets go of the collector, which is the parent's, so that it ends with the parent."""
+        process, self._process = self._process, None
+        if process is not None:
+            process.returncode = 0  # It is no child of this process, and not to be waited for.
+            _close_pipes(process)
 
     def __enter__(self) -> Collector:
         return self
@@ -86,6 +97,18 @@ class Collector:
         self, kind: type[BaseException] | None, error: BaseException | None, trace: TracebackType | None
     ) -> None:
         self.close()
+
+
+_running: weakref.WeakSet[Collector] = weakref.WeakSet()
+
+
+def _forget_all() -> None:
+    for collector in list(_running):
+        collector.forget()
+
+
+if hasattr(os, "register_at_fork"):
+    os.register_at_fork(after_in_child=_forget_all)
 
 
 def _run_beside(words: list[str]) -> subprocess.Popen[bytes]:
@@ -97,7 +120,11 @@ def _run_beside(words: list[str]) -> subprocess.Popen[bytes]:
 
 
 def _end(process: subprocess.Popen[bytes]) -> None:
+    _close_pipes(process)
+    process.wait()
+
+
+def _close_pipes(process: subprocess.Popen[bytes]) -> None:
     for pipe in (process.stdin, process.stdout):
         if pipe is not None:
             pipe.close()
-    process.wait()

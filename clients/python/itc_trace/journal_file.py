@@ -8,8 +8,9 @@ import os
 class JournalFile:
     """Adds whole lines to the file. Nothing is kept in between, so that a forked child has nothing to write twice."""
 
-    def __init__(self, path: str) -> None:
-        flags = os.O_WRONLY | os.O_CREAT | os.O_TRUNC | os.O_APPEND
+    def __init__(self, path: str, adds: bool = False) -> None:
+        """Writes the file anew, or adds to one that is there."""
+        flags = os.O_WRONLY | os.O_APPEND | (0 if adds else os.O_CREAT | os.O_TRUNC)
         self._file: int | None = os.open(path, flags | getattr(os, "O_CLOEXEC", 0), 0o666)
 
     def write(self, text: str) -> None:

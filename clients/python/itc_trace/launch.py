@@ -10,75 +10,178 @@ import builtins
 import json
 import os
 import runpy
+import signal
 import sys
+import threading
 import types
 from collections.abc import Callable
+from pathlib import Path
+from types import FrameType
+from typing import Any, NoReturn
 
+from .faults import WORDS_REFUSED
+from .patches.base import like
+from .shaking import Shaking
 from .tracing import Tracing
+from .verdict import Cause, Unseen
 
-WORDS_REFUSED = 2
 OWN_FILES = (__file__, runpy.__file__, "<frozen runpy>")
+REFUSED, RAISED = "refused", "raised"
+"""What `run` is told of a program that did not run to its end."""
+INTERRUPTED = 128 + signal.SIGINT
+ANOTHER_PROGRAM = Unseen(Cause.KILLED, "tracing stopped where the process was to go on as another program")
+ENDING_SIGNALS = [getattr(signal, name) for name in ("SIGTERM", "SIGHUP") if hasattr(signal, name)]
 
 
 def main() -> None:
     configuration = json.loads(sys.argv[1])
+    tell = Path(configuration.pop("told")).write_text
+    seed = configuration.pop("seed")
     words = sys.argv[2:]
+    shaking = None if seed is None else Shaking(seed)
     try:
-        traced = Tracing(**configuration).start()
+        traced = Tracing(**configuration, shaking=shaking).start()
     except OSError as fault:  # Another session reports, say.
-        print(f"itc_trace: {fault}", file=sys.stderr)
-        sys.exit(WORDS_REFUSED)
-    atexit.register(traced.stop)
-    _stop_at_exit(traced)
-    if words[0] == "-m":
-        _run_module(words[1], words[1:])
-    else:
-        _run_file(words[0], words)
+        _refuse(tell, str(fault))
+    ending = Ending(traced)
+    atexit.register(ending.finish)
+    try:
+        if words[0] == "-m":
+            _run_module(words[1], words[1:])
+        else:
+            _run_file(words[0], words)
+    except _NotRun as fault:
+        _refuse(tell, str(fault))
+    except SystemExit:
+        raise
+    except BaseException as error:
+        tell(RAISED)
+        if isinstance(error, KeyboardInterrupt):
+            traced.tell(_ended_by(signal.SIGINT))
+        _show(error)
+        sys.exit(INTERRUPTED if isinstance(error, KeyboardInterrupt) else 1)
 
 
-def _stop_at_exit(traced: Tracing) -> None:
-    """What was noted is reported too where the program ends without the interpreter's own end."""
-    original = os._exit
+def _refuse(tell: Callable[[str], object], text: str) -> NoReturn:
+    tell(REFUSED)
+    print(f"itc_trace: {text}", file=sys.stderr)
+    sys.exit(WORDS_REFUSED)
 
-    def leave(status: int) -> None:
-        traced.stop()
-        original(status)
 
-    os._exit = leave  # type: ignore[assignment]
+class _NotRun(Exception):
+    """The program could not be started."""
+
+
+class Ending:
+    """Has all that was noted reported before the process ends, also where it ends without the interpreter's own end."""
+
+    def __init__(self, traced: Tracing) -> None:
+        self._traced = traced
+        self._process = os.getpid()
+        self._waiting_signal: int | None = None
+        self._masks = threading.local()
+        self._before_the_end("_exit")
+        for name in ("execv", "execve"):
+            self._before_another_program(name)
+        for number in ENDING_SIGNALS:
+            if signal.getsignal(number) == signal.SIG_DFL:
+                signal.signal(number, self._end_by)
+        if hasattr(os, "register_at_fork"):
+            os.register_at_fork(before=self._hold_signals, after_in_parent=self._let_signals, after_in_child=self._in_child)
+
+    def finish(self) -> None:
+        if os.getpid() == self._process:
+            self._traced.tell_of_children()
+            self._traced.stop()
+            if self._waiting_signal is not None:
+                self._die(self._waiting_signal)
+
+    def _before_the_end(self, name: str) -> None:
+        original = getattr(os, name)
+
+        def leave(status: int) -> None:
+            self.finish()
+            original(status)
+
+        setattr(os, name, like(original, leave))
+
+    def _before_another_program(self, name: str) -> None:
+        original = getattr(os, name)
+
+        def replace(*words: Any) -> Any:
+            self._traced.tell(ANOTHER_PROGRAM)
+            self._traced.stop()
+            return original(*words)
+
+        setattr(os, name, like(original, replace))
+
+    def _hold_signals(self) -> None:
+        """Until the child has the signals' own effects back, none of them comes: it would be lost."""
+        self._masks.before = signal.pthread_sigmask(signal.SIG_BLOCK, ENDING_SIGNALS)
+
+    def _let_signals(self) -> None:
+        signal.pthread_sigmask(signal.SIG_SETMASK, self._masks.before)
+
+    def _in_child(self) -> None:
+        for number in ENDING_SIGNALS:
+            if signal.getsignal(number) == self._end_by:
+                signal.signal(number, signal.SIG_DFL)
+        self._let_signals()
+
+    def _end_by(self, number: int, _: FrameType | None) -> None:
+        """Reports what was noted, before the signal ends the process as it would untraced."""
+        self._traced.tell(_ended_by(number))
+        if self._traced.is_stopping:
+            self._waiting_signal = number
+            return
+        self._traced.stop()
+        self._die(number)
+
+    def _die(self, number: int) -> None:
+        signal.signal(number, signal.SIG_DFL)
+        os.kill(os.getpid(), number)
+
+
+def _ended_by(number: int) -> Unseen:
+    return Unseen(Cause.KILLED, f"the program was ended by {signal.Signals(number).name}")
 
 
 def _run_module(name: str, words: list[str]) -> None:
     sys.argv = words
     sys.path[0] = os.getcwd()
-    _guarded(lambda: runpy.run_module(name, run_name="__main__", alter_sys=True))
+    try:
+        runpy.run_module(name, run_name="__main__", alter_sys=True)
+    except ImportError as error:
+        if _own_trace(error) is None:  # Raised by runpy, and not by the module.
+            raise _NotRun(f"there is no module {name} to run: {error}") from error
+        raise
 
 
 def _run_file(program: str, words: list[str]) -> None:
     sys.argv = words
     sys.path[0] = os.path.dirname(os.path.realpath(program))
     if os.path.isdir(program):
-        _guarded(lambda: runpy.run_path(program, run_name="__main__"))
+        runpy.run_path(program, run_name="__main__")
         return
     with open(program, "rb") as file:
         source = file.read()
     module = types.ModuleType("__main__")
     module.__dict__.update(__file__=program, __builtins__=builtins, __cached__=None)
     sys.modules["__main__"] = module
-    _guarded(lambda: exec(compile(source, program, "exec", dont_inherit=True), module.__dict__))
+    exec(compile(source, program, "exec", dont_inherit=True), module.__dict__)
 
 
-def _guarded(run: Callable[[], object]) -> None:
-    """Runs it; an error of the program is shown without the frames of this package, and ends it as it would."""
-    try:
-        run()
-    except SystemExit:
-        raise
-    except BaseException as error:
-        trace = error.__traceback__
-        while trace is not None and trace.tb_frame.f_code.co_filename in OWN_FILES:
-            trace = trace.tb_next
-        sys.excepthook(type(error), error.with_traceback(trace), trace)
-        sys.exit(130 if isinstance(error, KeyboardInterrupt) else 1)
+def _show(error: BaseException) -> None:
+    """An error of the program, without the frames of this package."""
+    trace = _own_trace(error)
+    sys.excepthook(type(error), error.with_traceback(trace), trace)
+
+
+def _own_trace(error: BaseException) -> types.TracebackType | None:
+    trace = error.__traceback__
+    while trace is not None and trace.tb_frame.f_code.co_filename in OWN_FILES:
+        trace = trace.tb_next
+    return trace
 
 
 if __name__ == "__main__":

@@ -124,12 +124,16 @@ class Token:
 
 
 class State:
-    """Whether tracing is on: `note` takes notes where it is, and is None else. `lines` is how many were made."""
+    """Whether tracing is on: `note` takes notes where it is, and is None else. `lines` is how many were made.
 
-    __slots__ = ("note", "tracer", "lines")
+    `witness` is told of touches in a child process that is not traced, by thing and site.
+    """
+
+    __slots__ = ("note", "tracer", "witness", "lines")
 
     def __init__(self) -> None:
         self.note: Callable[[Note], object] | None = None
+        self.witness: Callable[[Any, Any], object] | None = None
         self.tracer: Tracer | None = None
         self.lines = 0
 

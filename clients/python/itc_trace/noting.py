@@ -154,7 +154,7 @@ def take(token: Token | None, depth: int = 2) -> None:
 
 def touch(thing: str, write: bool = False, label: str | None = None) -> None:
     """Notes that the current task reads or writes the thing, at the line of the program that calls this."""
-    if state.note is not None:
+    if state.note is not None or state.witness is not None:
         frame = sys._getframe(1)
         touch_at(thing, WRITE if write else READ, frame.f_code, frame.f_lasti, label)
 
@@ -171,6 +171,8 @@ def touched(key: Hashable, thing: Any, kind: str, site: Any) -> None:
     """Adds a touch to the stretch of this thread, by a key that stands for thing, kind and site."""
     note = state.note
     if note is None:
+        if state.witness is not None:
+            state.witness(thing, site)
         return
     stretch = STRETCHES.get(get_ident())
     if stretch is None:

@@ -79,12 +79,15 @@ class Races:
         """Which of the three answers this is."""
         return verdict_of(len(self.races) + (len(self.possible) if fail_on_possible else 0), self.unseen)
 
-    def summary(self) -> str:
+    def found(self) -> str:
+        """How many races there are, in few words."""
         found = "no race" if not self.races else _counted(len(self.races), "race")
         where = "in what was seen" if self.unseen else "in this run"
-        possible = f"; {len(self.possible)} possible" if self.possible else ""
+        return f"{found} {where}" + (f"; {len(self.possible)} possible" if self.possible else "")
+
+    def summary(self) -> str:
         return (
-            f"{found} {where}{possible}: "
+            f"{self.found()}: "
             f"{_counted(self.touches, 'touch', 'touches')} of {_counted(self.things, 'thing')}, "
             f"{_counted(self.events, 'event')}; asked {_counted(self.questions, 'question')} for "
             f"{_counted(self.pairs, 'pair')}"

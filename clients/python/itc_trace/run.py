@@ -2,27 +2,36 @@
 
 from __future__ import annotations
 
+import contextlib
+import importlib.util
 import json
 import os
-import signal
+import random
 import subprocess
 import sys
 import tempfile
-from dataclasses import dataclass
+from collections.abc import Iterator
+from dataclasses import dataclass, replace
 from pathlib import Path
 from urllib.parse import quote
 
 from .collector import HOST, Collector, find_in_repository
-from .races import Races, find_races
-from .session import Session
+from .ending import Child, Ended, ends_by_signals, is_asked_to_end
+from .faults import WORDS_REFUSED, Fault, look
+from .launch import REFUSED
+from .merging import Merged
+from .races import Race, Races
+from .seeing import races_seen
+from .session import Refused
 from .snapshot import snapshot
 from .tracing import OWN_TENANT
-from .verdict import Verdict, reasons
+from .verdict import BREAKS_OFF, Cause, Unseen, Verdict, reasons
 
 UNTOUCHED = """\
 itc_trace: nothing was touched, so there was no race to find
     Wrap what tasks share by itc_trace.shared(value, "name"), or call itc_trace.touch("name") where it is used.
     A number, a text or a tuple needs touch."""
+MOST_SEED = 1 << 32
 
 
 @dataclass
@@ -38,48 +47,165 @@ class Run:
     picture: str | None = None
     host: str = HOST
     quiet: bool = False
+    fail_on_possible: bool = False
+    runs: int = 1
+    seed: int | None = None
+    """By which the first run is shaken, and each later one by the next number."""
+    is_shaken: bool = True
+    """Whether the runs from the second one on are shaken."""
+
+    def of(self, number: int) -> Run:
+        """The run of this number, with files of its own."""
+        if self.runs == 1:
+            return self
+        named = {name: f"{file}.{number}" for name in ("export", "journal", "picture") if (file := getattr(self, name))}
+        return replace(self, **named)
+
+
+@dataclass
+class Outcome:
+    """What became of one run."""
+
+    status: int
+    races: Races
+    picture: str | None = None
 
 
 def run(asked: Run) -> int:
     """The program's own status where the verdict is 0, else that of the verdict."""
-    with tempfile.TemporaryDirectory(prefix="itc_trace_") as work:
-        if asked.port is not None:
-            Session(asked.tenant, asked.port, "view", asked.host).close()  # Where there is none, nothing is run.
-            return _run_with(asked, asked.port, work)
-        with Collector(asked.tenant) as collector:
-            return _run_with(asked, collector.port, work)
-
-
-def _run_with(asked: Run, port: int, work: str) -> int:
-    journal = asked.journal or (f"{asked.export}.journal" if asked.export else os.path.join(work, "journal"))
-    Path(journal).write_text("")
-    status = _run_program(asked, port, journal)
+    _check(asked)
     try:
-        races = _races(asked, port, journal)
-        picture = _keep(asked, port, journal, work)
-    except (OSError, ValueError) as fault:  # The collector is gone, say.
-        print(f"itc_trace: incomplete: races cannot be told: {fault}", file=sys.stderr)
+        with ends_by_signals():
+            return _run_once(asked, asked.seed) if asked.runs == 1 else _run_often(asked)
+    except Ended as ended:
+        _say(f"itc_trace: incomplete: {ended}")
         return int(Verdict.INCOMPLETE)
-    verdict = races.verdict()
-    if verdict or not asked.quiet:
-        print(told(races, picture), file=sys.stderr)
-        tell_if_untouched(races)
-    return int(verdict) or status
 
 
-def _run_program(asked: Run, port: int, journal: str) -> int:
+def _check(asked: Run) -> None:
+    """Finds what keeps the program from being run before anything is started."""
+    program = asked.words[0]
+    if program == "-m":
+        _check_module(asked.words[1])
+    elif not os.path.exists(program):
+        raise Fault(f"there is no program {program}: name a file, or -m and a module")
+    elif not os.path.isdir(program):
+        _check_syntax(program)
+    for number in range(1, asked.runs + 1):
+        for file in (asked.of(number).export, asked.of(number).journal, asked.of(number).picture):
+            if file is not None:
+                _check_writable(file)
+    if asked.port is not None:
+        look(asked.tenant, asked.port, asked.host)
+
+
+def _check_module(name: str) -> None:
+    top = name.partition(".")[0]
+    sys.path.insert(0, os.getcwd())
+    try:
+        if importlib.util.find_spec(top) is None:
+            raise Fault(f"there is no module {name}: name one that python3 -m would find, or a file")
+    except ValueError:
+        pass  # A module without a specification is there.
+    finally:
+        del sys.path[0]
+
+
+def _check_syntax(program: str) -> None:
+    source = Path(program).read_bytes()
+    if source.startswith(b"PK"):
+        return  # An archive with a program in it.
+    try:
+        compile(source, program, "exec", dont_inherit=True)
+    except SyntaxError as error:
+        raise Fault(f"{program} cannot be run: {error.msg} at line {error.lineno}: mend it first") from error
+    except ValueError as error:
+        raise Fault(f"{program} cannot be run: {error}: name a program of Python") from error
+
+
+def _check_writable(file: str) -> None:
+    try:
+        with open(file, "ab"):
+            pass
+    except OSError as error:
+        raise Fault(f"{file} cannot be written: {error.strerror}") from error
+
+
+def _run_once(asked: Run, seed: int | None) -> int:
+    outcome = _outcome(asked, seed)
+    if outcome is None:
+        return WORDS_REFUSED
+    races = outcome.races
+    verdict = races.verdict(asked.fail_on_possible)
+    if verdict or races.possible or not asked.quiet:
+        _say(told(races, outcome.picture))
+        if _is_untouched(races) and outcome.status == 0:
+            _say(UNTOUCHED)
+    return int(verdict) or outcome.status
+
+
+def _run_often(asked: Run) -> int:
+    """Runs it several times, and tells what was found in all of them together."""
+    merged = Merged()
+    first_seed = random.SystemRandom().randrange(MOST_SEED) if asked.seed is None else asked.seed
+    for number in range(1, asked.runs + 1):
+        is_shaken = asked.seed is not None or asked.is_shaken and number > 1
+        seed = (first_seed + number - 1) % MOST_SEED if is_shaken else None
+        outcome = _outcome(asked.of(number), seed)
+        if outcome is None:
+            return WORDS_REFUSED
+        merged.add(outcome.races, outcome.status, seed)
+        if not asked.quiet:
+            _say(f"itc_trace: run {number} of {asked.runs}{_by_seed(seed)}: {outcome.races.found()}")
+        if is_asked_to_end():
+            break
+    verdict = merged.verdict(asked.fail_on_possible)
+    if verdict or merged.has_possible or not asked.quiet:
+        _say(merged.text())
+    return int(verdict) or merged.status
+
+
+def _by_seed(seed: int | None) -> str:
+    return "" if seed is None else f" (--shake={seed})"
+
+
+def _outcome(asked: Run, seed: int | None) -> Outcome | None:
+    """What became of one run. None where the program could not be started, which was told."""
+    with tempfile.TemporaryDirectory(prefix="itc_trace_") as work, _port(asked) as port:
+        journal = asked.journal or (f"{asked.export}.journal" if asked.export else os.path.join(work, "journal"))
+        Path(journal).write_text("")
+        child = _run_program(asked, port, journal, os.path.join(work, "told"), seed)
+        if child.told == REFUSED:
+            return None
+        with open(journal, encoding="utf-8") as rows:
+            races = races_seen(asked.tenant, port, rows, asked.host)
+        if child.signal_name and not _is_killed(races):
+            killed = Unseen(Cause.KILLED, f"the program was ended by {child.signal_name}")
+            races.unseen = [killed, *(one for one in races.unseen if one != BREAKS_OFF)]
+        return Outcome(child.status, races, _keep(asked, port, journal, work, races))
+
+
+def _is_killed(races: Races) -> bool:
+    return any(one.cause is Cause.KILLED for one in races.unseen)
+
+
+@contextlib.contextmanager
+def _port(asked: Run) -> Iterator[int]:
+    if asked.port is not None:
+        yield asked.port
+        return
+    with Collector(asked.tenant) as collector:
+        yield collector.port
+
+
+def _run_program(asked: Run, port: int, journal: str, told: str, seed: int | None) -> Child:
     configuration = {
         "port": port, "tenant": asked.tenant, "journal": os.path.abspath(journal), "process": asked.process, "host": asked.host,
+        "told": told, "seed": seed,
     }
     flags = subprocess._args_from_interpreter_flags()  # type: ignore[attr-defined]
     words = [sys.executable, *flags, "-m", "itc_trace.launch", json.dumps(configuration), *asked.words]
-    child = subprocess.Popen(words, env=_environment())
-    before = signal.signal(signal.SIGINT, signal.SIG_IGN)  # The program is told of it as well, and decides.
-    try:
-        status = child.wait()
-    finally:
-        signal.signal(signal.SIGINT, before)
-    return status if status >= 0 else 128 - status
+    return Child(words, _environment(), told)
 
 
 def _environment() -> dict[str, str]:
@@ -91,49 +217,58 @@ def _environment() -> dict[str, str]:
     return environment
 
 
-def _races(asked: Run, port: int, journal: str) -> Races:
-    with open(journal, encoding="utf-8") as rows:
-        found = find_races(asked.tenant, port, rows, asked.host)
-    if not found.touches:
-        Session(asked.tenant, port, "view", asked.host).close()  # Where the collector is gone, touches may be missing.
-    return found
-
-
-def _keep(asked: Run, port: int, journal: str, work: str) -> str | None:
+def _keep(asked: Run, port: int, journal: str, work: str, races: Races) -> str | None:
     """Writes the export and the picture, where they are asked for. Gives where the picture is."""
     if asked.export is None and asked.picture is None:
         return None
     export = asked.export or os.path.join(work, "export")
-    with open(export, "w", encoding="ascii", newline="\n") as output:
-        snapshot(asked.tenant, port, output, asked.host)
-    if asked.picture is None:
+    try:
+        with open(export, "w", encoding="ascii", newline="\n") as output:
+            snapshot(asked.tenant, port, output, asked.host)
+        return asked.picture if asked.picture is not None and _draw(export, journal, asked.picture) else None
+    except (OSError, Refused) as fault:  # The collector is gone, say.
+        races.unseen.append(Unseen(Cause.COLLECTOR, f"the trace cannot be kept ({fault})"))
         return None
-    return asked.picture if _draw(export, journal, asked.picture) else None
 
 
 def _draw(export: str, journal: str, picture: str) -> bool:
     command = os.environ.get("ITC_PICTURE") or find_in_repository("picture")
     if command is None:
-        print("itc_trace: no picture: the command of that name is in the repository of itc_trace", file=sys.stderr)
+        _say("itc_trace: no picture: the command of that name is in the repository of itc_trace")
         return False
     with open(export, "rb") as given, open(picture, "wb") as page:
         return subprocess.run([command, "--labels", journal], stdin=given, stdout=page, check=False).returncode == 0
 
 
+def _say(text: str) -> None:
+    """Writes to standard error, if there still is one."""
+    try:
+        print(text, file=sys.stderr, flush=True)
+    except OSError:
+        pass
+
+
 def told(races: Races, picture: str | None = None) -> str:
     """Why it is incomplete, where it is, and the races, each with a link into the picture, where there is one."""
     lines = [f"itc_trace: incomplete: {reasons(races.unseen)}"] if races.unseen else []
-    for race in races:
+    for race in [*races.races, *races.possible]:
         lines.append(f"itc_trace: {race}")
         if picture is not None:
-            first, second = race.example
-            address = f"file://{quote(os.path.abspath(picture))}#event={first.event}&other={second.event}"
-            lines.append(f"    {address}")
+            lines.append(f"    {_link(race, picture)}")
     lines.append(f"itc_trace: {races.summary()}")
     return "\n".join(lines)
 
 
+def _link(race: Race, picture: str) -> str:
+    first, second = race.example
+    return f"file://{quote(os.path.abspath(picture))}#event={first.event}&other={second.event}"
+
+
+def _is_untouched(races: Races) -> bool:
+    return not races.touches and not races.unseen
+
+
 def tell_if_untouched(races: Races) -> None:
     """Says on standard error what a program has to do for its races to be found, where nothing was touched."""
-    if not races.touches and races.verdict() is Verdict.NO_RACE:
-        print(UNTOUCHED, file=sys.stderr)
+    if _is_untouched(races):
+        _say(UNTOUCHED)

@@ -20,6 +20,7 @@ class Refused(Exception):
 
     def __init__(self, request: str, reply: str) -> None:
         super().__init__(f"{request}: {reply}")
+        self.reply = reply
         self.code: int = int(reply[:3]) if reply[:3].isdigit() else 0
 
 

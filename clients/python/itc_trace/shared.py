@@ -57,7 +57,7 @@ def shared(value: T, name: str) -> T:
     Use what it returns in place of the value. Where tracing is off it is the value itself. So is a number, a text or a tuple
     while a program is traced: a warning says so.
     """
-    if state.note is None and not _patched():
+    if state.note is None and state.witness is None and not _patched():
         return value
     if isinstance(value, NEVER_WRAPPED):
         _warn_of_unwatched(value, name)
@@ -83,7 +83,7 @@ def _patched() -> bool:
 
 
 def _note(name: str, is_write: bool) -> None:
-    if state.note is None:
+    if state.note is None and state.witness is None:
         return
     frame: types.FrameType | None = sys._getframe(2)
     while frame is not None and is_internal(frame):

@@ -16,11 +16,13 @@ from sys import getrefcount
 from types import CodeType
 
 from .collector import HOST, MOST_TASKS
+from .faults import FULL, Fault, nobody_listens, refusal
 from .journal import Places, Touch, TouchTexts
 from .journal_file import JournalFile
-from .lines import END, GONE, JOIN, RESULT, SPAWN, STOP, TAKE, TAKE_END, Line, Note, Token, state
+from .lines import END, GONE, JOIN, RESULT, SPAWN, STOP, TAKE, TAKE_END, TOUCH, Line, Note, Token, state
 from .lock_identity import LockIdentity
 from .noting import enter
+from .shaking import Shaking
 from .stretches import STRETCHES, Stretch
 from .verdict import END_ROW, Cause, Unseen
 
@@ -48,7 +50,6 @@ def _references_of_nobody() -> int:
 
 REFERENCES_OF_NOBODY = _references_of_nobody()
 
-FULL = {413, 414, 415}
 NOT_MINE = {405, 407}
 """What a message of another process may be refused for: it was never sent, or this task has it."""
 
@@ -152,11 +153,14 @@ class Waiter:
 class Tracer:
     """Reports for one process to one tenant, from `start` to `stop`."""
 
-    def __init__(self, port: int, tenant: str, journal: JournalFile, process: str | None = None, host: str = HOST) -> None:
+    def __init__(self, port: int, tenant: str, journal: JournalFile, process: str | None = None, host: str = HOST,
+                 shaking: Shaking | None = None) -> None:
         self.notes: deque[Note] = deque()
         self.lines_made = 0
         self.most_lines = MOST_TASKS // 2
         self._journal = journal
+        self._shaking = shaking
+        self._note: Callable[[Note], object] = self.notes.append if shaking is None else self._note_shaken
         self._places = Places()
         self._outstanding: deque[Outstanding] = deque()
         self._texts: list[str] = []
@@ -181,24 +185,30 @@ class Tracer:
             self._mark, self._take, self._take_end, self._spawn, self._finish, self._join, self._touch, self._gone,
             self._send_outside, self._receive_outside, self._stop_reporting,
         ]
-        self._connect(host, port, tenant, process)
+        self._tenant, self._port = tenant, port
+        self._connect(host, process)
         self._touch_texts = TouchTexts(self._places, self.prefix)
 
     # Beginning
 
-    def _connect(self, host: str, port: int, tenant: str, process: str | None) -> None:
-        self._socket = socket.create_connection((host, port))
+    def _connect(self, host: str, process: str | None) -> None:
+        tenant, port = self._tenant, self._port
+        try:
+            self._socket = socket.create_connection((host, port))
+        except ConnectionRefusedError as refused:
+            raise Fault(nobody_listens(port)) from refused
         try:
             self._socket.setsockopt(socket.IPPROTO_TCP, socket.TCP_NODELAY, 1)
             self._rest = b""
             count = self._ask(f"report {tenant}\ncount")
             if not count.startswith("200 "):
-                raise ConnectionError(f"{tenant}: {count}")
+                raise Fault(refusal(count, tenant, port))
+            self._events_before = int(count.split()[1])
             self.main = Line(self, "root")
             self.main.name = "root"
             self.parent_of_strangers = self.main
             self.prefix = ""
-            if process is not None or int(count.split()[1]) > 0:
+            if process is not None or self._events_before > 0:
                 self._begin_beside_others(process or ANY_PROCESS)
         except BaseException:
             self._socket.close()
@@ -219,7 +229,7 @@ class Tracer:
                 self._journal.write(self._row(int(reply[4:]), row))
                 return
             if not reply.startswith("402"):
-                raise ConnectionError(f"spawn root {tag}: {reply}")
+                raise Fault(refusal(reply, self._tenant, self._port))
 
     def _ask(self, lines: str) -> str:
         self._socket.sendall(f"{lines}\n".encode())
@@ -241,7 +251,9 @@ class Tracer:
             self.parent_of_strangers = Line(self, "others")
             self.notes.append((SPAWN, self.main, self.parent_of_strangers, None, 0))
         state.tracer = self
-        state.note = self.notes.append
+        state.note = self._note
+        if self._shaking is not None:
+            self._shaking.begin()
 
     # Ending
 
@@ -384,11 +396,16 @@ class Tracer:
             return
         with self._switch:
             if state.tracer is self and state.note is not None:
-                state.note = self._note_slowly if waiting > FEW_WAITING else self.notes.append
+                state.note = self._note_slowly if waiting > FEW_WAITING else self._note
 
     def _note_slowly(self, note: Note) -> None:
         while len(self.notes) > FEW_WAITING and not self._is_over:
             time.sleep(0.001)
+        self.notes.append(note)
+
+    def _note_shaken(self, note: Note) -> None:
+        if note[0] == TOUCH and self._shaking is not None:
+            self._shaking.pause()
         self.notes.append(note)
 
     # Reports
@@ -716,9 +733,17 @@ class Tracer:
         if report.may_be_refused and code in NOT_MINE:
             return
         if code in FULL:
-            self._give_up(Cause.FULL, f"the trace is full ({reply})")
+            self._give_up(Cause.FULL, f"the trace is full ({reply}){self._kept()}")
         else:
-            self._give_up(Cause.TRACER, f"{report.text.strip()}: {reply}")
+            self._give_up(Cause.TRACER, f"{report.text.strip()}: {refusal(reply, self._tenant, self._port)}")
+
+    def _kept(self) -> str:
+        """What filled the trace besides this run, and what to do about it."""
+        if not self._events_before:
+            return ""
+        return (
+            f": {self._events_before} of its events were there before: name another tenant by --tenant, or start a fresh server"
+        )
 
     def _row(self, event: int, report: Outstanding) -> str:
         place = self._places.text(report.code, report.instruction)

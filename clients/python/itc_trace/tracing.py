@@ -2,17 +2,22 @@
 
 from __future__ import annotations
 
+import _thread
 import atexit
 import os
 import tempfile
 from types import TracebackType
 
+from .children import IN_CHILD, LEFT_CHILD, Announced, ForkedChildren, Witness
 from .collector import HOST, Collector
 from .journal_file import JournalFile
 from .lines import state
 from .patches import put_all
-from .races import Races, find_races
+from .races import Races
+from .seeing import races_seen
+from .shaking import Shaking
 from .tracer import Tracer
+from .verdict import Unseen
 
 OWN_TENANT = "trace"
 
@@ -22,12 +27,13 @@ class Tracing:
 
     def __init__(
         self, port: int | None = None, tenant: str = OWN_TENANT, journal: str | os.PathLike[str] | None = None,
-        process: str | None = None, host: str = HOST,
+        process: str | None = None, host: str = HOST, shaking: Shaking | None = None,
     ) -> None:
         """Without a port a collector of its own is started. A journal that is not named is kept in a temporary file."""
         self.tenant = tenant
         self.host = host
         self.process = process
+        self._shaking = shaking
         self.port = 0 if port is None else port
         self._has_own_collector = port is None
         self._collector: Collector | None = None
@@ -36,6 +42,10 @@ class Tracing:
         self._is_temporary = journal is None
         self.journal: str = "" if journal is None else os.fspath(journal)
         self._file: JournalFile | None = None
+        self._children: ForkedChildren | None = None
+        self._announced: Announced | None = None
+        self._stopping = _thread.RLock()
+        self.is_stopping = False
 
     def start(self) -> Tracing:
         """Begins to trace. One thing at a time is traced in a process."""
@@ -57,24 +67,56 @@ class Tracing:
             handle, self.journal = tempfile.mkstemp(suffix=".journal", prefix="itc_trace_")
             os.close(handle)
         self._file = JournalFile(self.journal)
-        self._tracer = Tracer(self.port, self.tenant, self._file, self.process, self.host)
+        self._tracer = Tracer(self.port, self.tenant, self._file, self.process, self.host, self._shaking)
+        self._children = ForkedChildren()
+        self._announced = Announced(self.journal)
+        state.witness = None
+        _active.add(self)
         self._tracer.start()
 
     def stop(self) -> None:
         """Traces no more, and waits until the collector has all that was noted."""
-        if self._tracer is not None:
-            self._tracer.stop()
-            self._tracer = None
+        with self._stopping:
+            tracer, self._tracer = self._tracer, None
+            file, self._file = self._file, None
+            children, self._children = self._children, None
+            announced, self._announced = self._announced, None
+            _active.discard(self)
+            if tracer is not None:
+                self.is_stopping = True
+                tracer.stop()
+                self.is_stopping = False
+            for one in (file, children, announced):
+                if one is not None:
+                    one.close()
+
+    def tell(self, unseen: Unseen) -> None:
+        """Says in the journal what of the run is not seen."""
         if self._file is not None:
-            self._file.close()
-            self._file = None
+            self._file.write(unseen.row())
+
+    def tell_of_children(self) -> None:
+        """Before the process ends: says in the journal that the program goes on in a forked child, where it does."""
+        if self._children is not None and self._children.have_one():
+            self.tell(LEFT_CHILD)
+
+    def forget(self) -> None:
+        """In a forked child: the session, the journal and the collector are the parent's."""
+        if self._tracer is not None:
+            self._tracer.forget()
+        if self._file is not None:
+            state.witness = Witness(self._file)
+        self._tracer = self._file = self._collector = self._announced = None
+        self._stopping = _thread.RLock()
+        self._is_temporary = self._has_own_collector = False
+        self._found = Races(unseen=[IN_CHILD])
 
     def races(self) -> Races:
         """The races of what was traced. It ends tracing."""
         if self._found is None:
             self.stop()
             with open(self.journal, encoding="utf-8") as journal:
-                self._found = find_races(self.tenant, self.port, journal, self.host)
+                self._found = races_seen(self.tenant, self.port, journal, self.host)
         return self._found
 
     def close(self) -> None:
@@ -138,10 +180,15 @@ def uninstall() -> None:
         _installed = None
 
 
+_active: set[Tracing] = set()
+"""What traces this process now."""
+
+
 def _forget() -> None:
     """A forked child reports nothing: the session is its parent's."""
-    if state.tracer is not None:
-        state.tracer.forget()
+    for traced in list(_active):
+        traced.forget()
+    _active.clear()
 
 
 if hasattr(os, "register_at_fork"):

@@ -97,10 +97,10 @@ class Ends(ProgramCase):
         with Served() as served:
             ran = run_traced("--port", str(served.port), program, VICTIM=str(served.process.pid))
             self.assertEqual((ran.returncode, ran.stdout), (67, "done: 8\n"), ran.stderr)
-            lines = ran.stderr.splitlines()
-            self.assertEqual(lines[0], "itc_trace: tracing stops: the collector is gone")
-            self.assertEqual(len(lines), 2, ran.stderr)
-            self.assertTrue(lines[1].startswith("itc_trace: incomplete: races cannot be told: "), ran.stderr)
+            stops, incomplete, summary = ran.stderr.splitlines()
+            self.assertEqual(stops, "itc_trace: tracing stops: the collector is gone")
+            self.assertEqual(incomplete, "itc_trace: incomplete: the collector is gone")
+            self.assertTrue(summary.startswith("itc_trace: no race in what was seen: "), summary)
 
     def test_no_collector_is_told_before_the_program_runs(self) -> None:
         ran = run_traced("--port", str(free_port()), self.program(COUNTING))
@@ -144,7 +144,7 @@ if child:
 """
         with tempfile.NamedTemporaryFile("r") as journal:
             ran = run_traced("--quiet", "--journal", journal.name, self.program(text))
-            self.assertEqual((ran.returncode, ran.stdout, ran.stderr), (0, "parent\n", ""))
+            self.assertEqual((ran.returncode, ran.stdout), (67, "parent\n"), ran.stderr)
             self.assertEqual([row.thing for row in read_journal(journal)], ["x", "x"])
 
     def test_two_runs_report_to_one_tenant(self) -> None:

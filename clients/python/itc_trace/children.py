@@ -1,0 +1,91 @@
+"""Child processes of a process that is traced. They are not traced, and what is known of them is told."""
+
+from __future__ import annotations
+
+import os
+import select
+from typing import Any
+
+from .journal import line_of
+from .journal_file import JournalFile
+from .lines import state
+from .stretches import SITES, STRETCHES
+from .verdict import Cause, Unseen
+
+VARIABLE = "ITC_TRACE_CHILD_OF"
+"""Names the journal of a traced process to those that it starts."""
+
+LEFT_CHILD = Unseen(Cause.CHILD, "a child process goes on after its parent, and was not traced")
+IN_CHILD = Unseen(Cause.CHILD, "this is a child process, which is not traced")
+
+
+class Witness:
+    """Tells in the parent's journal of the first touch in a child process. Further ones take no time."""
+
+    def __init__(self, journal: JournalFile) -> None:
+        self._journal = journal
+        STRETCHES.clear()  # What the parent touched last is no touch of the child.
+
+    def __call__(self, thing: Any, site: Any) -> None:
+        state.witness = None
+        name = thing if isinstance(thing, str) else thing.name
+        told = Unseen(Cause.CHILD, f"a child process was not traced, and touched {name} at {_place(site)}")
+        try:
+            self._journal.write(told.row())
+        except OSError:
+            pass
+
+
+def _place(site: Any) -> str:
+    """A site of the program, or where a marked touch stands."""
+    if isinstance(site, int):
+        return f"{SITES[site].file}:{SITES[site].line}"
+    code, instruction, _ = site
+    return f"{code.co_filename}:{line_of(code, instruction)}"
+
+
+class Announced:
+    """Names the journal to the processes that this one starts, until it is closed."""
+
+    def __init__(self, journal: str) -> None:
+        self._journal = os.path.abspath(journal)
+        self._before = os.environ.get(VARIABLE)
+        os.environ[VARIABLE] = self._journal
+
+    def close(self) -> None:
+        if os.environ.get(VARIABLE) != self._journal:
+            return  # The program has put another environment in place.
+        if self._before is None:
+            del os.environ[VARIABLE]
+        else:
+            os.environ[VARIABLE] = self._before
+
+
+class ForkedChildren:
+    """Knows whether forked children are left, by a pipe that each of them holds open until it ends or runs another program."""
+
+    def __init__(self) -> None:
+        self._end, self._held = os.pipe()
+
+    def have_one(self) -> bool:
+        """Whether a child is left. It can be asked once."""
+        held, self._held = self._held, -1
+        if held >= 0:
+            os.close(held)
+        return not select.select([self._end], [], [], 0)[0]
+
+    def close(self) -> None:
+        for file in (self._end, self._held):
+            if file >= 0:
+                os.close(file)
+        self._end = self._held = -1
+
+
+def watch_as_child() -> None:
+    """Where the process that started this one is traced: lets its journal tell of what is touched here."""
+    path = os.environ.get(VARIABLE)
+    if path:
+        try:
+            state.witness = Witness(JournalFile(path, adds=True))
+        except OSError:
+            pass  # The traced process and its journal are gone.

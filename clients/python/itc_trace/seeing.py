@@ -1,0 +1,41 @@
+"""What is seen of a run, also where the collector no longer answers."""
+
+from __future__ import annotations
+
+from collections.abc import Iterable, Iterator
+
+from .collector import HOST
+from .journal import Journal, NoJournal, read_whole
+from .races import Races, find_races
+from .session import Refused
+from .verdict import BREAKS_OFF, END_ROW, Cause, Unseen
+
+
+def races_seen(tenant: str, port: int, journal: Iterable[str], host: str = HOST) -> Races:
+    """The races among what the journal lists, and none where the collector cannot be asked, with that reason."""
+    lines = list(journal)
+    try:
+        return find_races(tenant, port, lines, host)
+    except (OSError, Refused) as fault:
+        return _unknown(read_whole(lines), fault)
+
+
+def _unknown(whole: Journal, fault: Exception) -> Races:
+    touches = [row for row in whole.rows if row.is_touch]
+    unseen = [*whole.unseen, Unseen(Cause.COLLECTOR, f"the collector does not tell the order of events ({fault})")]
+    return Races(unseen=unseen, events=len(whole.rows), touches=len(touches), things=len({row.thing for row in touches}))
+
+
+def lines_of(journals: Iterable[str]) -> Iterator[str]:
+    """The lines of several journals as of one, with a word of each that breaks off."""
+    for name in journals:
+        with open(name, encoding="utf-8", errors="replace") as file:
+            lines = list(file)
+        try:
+            unseen = read_whole(lines).unseen
+        except NoJournal as fault:
+            raise NoJournal(f"{name} is no journal: {fault}: name the FILE of --journal, or FILE.journal of --export") from fault
+        yield from (line for line in lines if line.endswith("\n"))
+        if BREAKS_OFF in unseen:
+            yield Unseen(Cause.JOURNAL, f"{name} breaks off before the end of its process").row()
+    yield END_ROW

@@ -1,0 +1,168 @@
+"""Child processes: they end as fast as untraced, and what they touch untraced is no all-clear."""
+
+from __future__ import annotations
+
+import json
+import os
+import tempfile
+import time
+import unittest
+
+from itc_trace import Cause, Verdict, touch, tracing
+from itc_trace.journal import read_whole
+
+from .support import ProgramCase, fresh_tenant, run_traced
+
+PROGRAM = """
+import multiprocessing, os, sys, time
+import itc_trace
+
+stock = itc_trace.shared({"left": 9}, "stock")
+
+def work(touches):
+    if touches:
+        stock["left"] -= 1
+
+def in_fork(touches, leave):
+    child = os.fork()
+    if child == 0:
+        work(touches)
+        leave(0)
+    os.waitpid(child, 0)
+
+def in_process(method, touches):
+    context = multiprocessing.get_context(method)
+    children = [context.Process(target=work, args=(touches,)) for _ in range(2)]
+    for child in children:
+        child.start()
+    for child in children:
+        child.join()
+
+if __name__ == "__main__":
+    began = time.monotonic()
+    how, touches = sys.argv[1], sys.argv[2] == "touches"
+    if how == "_exit":
+        in_fork(touches, os._exit)
+    elif how == "exit":
+        in_fork(touches, sys.exit)
+    else:
+        in_process(how, touches)
+    print(time.monotonic() - began)
+"""
+WAYS = ("_exit", "exit", "fork", "forkserver", "spawn")
+LEFT = """
+import os, time
+if os.fork() == 0:
+    time.sleep(3)
+    os._exit(0)
+"""
+AGAIN = """
+import os, sys
+print("again" if sys.argv[1:] else "first", flush=True)
+if not sys.argv[1:]:
+    os.execv(sys.executable, [sys.executable, __file__, "again"])
+"""
+OTHER_PROGRAM = """
+import subprocess, sys
+subprocess.run([sys.executable, "-c", "import itc_trace; itc_trace.touch('x')" if sys.argv[1:] else "pass"], check=True)
+"""
+MOST_SECONDS = 8.0
+"""A child that waits for a thread which it does not have takes ten."""
+
+
+@unittest.skipUnless(hasattr(os, "fork"), "there is no fork here")
+class Children(ProgramCase):
+    def test_a_child_ends_without_waiting_for_threads_it_does_not_have(self) -> None:
+        program = self.program(PROGRAM)
+        for how in WAYS:
+            with self.subTest(how=how):
+                ran = run_traced(program, how, "no")
+                self.assertLess(float(ran.stdout), MOST_SECONDS)
+
+    def test_a_child_that_touches_nothing_leaves_the_run_whole(self) -> None:
+        program = self.program(PROGRAM)
+        for how in WAYS:
+            with self.subTest(how=how):
+                ran = run_traced(program, how, "no")
+                self.assertEqual(ran.returncode, Verdict.NO_RACE, ran.stderr)
+
+    def test_a_child_that_touches_what_is_shared_is_told_as_not_seen(self) -> None:
+        program = self.program(PROGRAM)
+        for how in WAYS:
+            with self.subTest(how=how):
+                ran = run_traced(program, how, "touches")
+                self.assertEqual(ran.returncode, Verdict.INCOMPLETE, ran.stderr)
+                self.assertEqual(
+                    ran.stderr.splitlines()[0],
+                    f"itc_trace: incomplete: a child process was not traced, and touched stock at {program}:9",
+                )
+
+    def test_a_program_that_goes_on_in_a_child_is_not_seen_whole(self) -> None:
+        ran = run_traced(self.program(LEFT))
+        self.assertEqual(ran.returncode, Verdict.INCOMPLETE, ran.stderr)
+        self.assertIn("incomplete: a child process goes on after its parent, and was not traced", ran.stderr)
+
+    def test_a_program_that_another_one_takes_the_place_of_is_not_seen_whole(self) -> None:
+        ran = run_traced(self.program(AGAIN))
+        self.assertEqual((ran.returncode, ran.stdout), (Verdict.INCOMPLETE, "first\nagain\n"), ran.stderr)
+        self.assertIn("incomplete: tracing stopped where the process was to go on as another program", ran.stderr)
+
+    def test_another_program_counts_only_where_it_touches_what_is_shared(self) -> None:
+        program = self.program(OTHER_PROGRAM)
+        self.assertEqual(run_traced(program).returncode, Verdict.NO_RACE)
+        ran = run_traced(program, "touches")
+        self.assertEqual(ran.returncode, Verdict.INCOMPLETE, ran.stderr)
+        self.assertIn("touched x at <string>:1", ran.stderr)
+
+    def test_a_child_that_is_ended_ends_at_once(self) -> None:
+        program = self.program(
+            "import multiprocessing, time\n"
+            "child = multiprocessing.get_context('fork').Process(target=time.sleep, args=(60,))\n"
+            "child.start(); child.terminate(); child.join()\nprint(child.exitcode)\n"
+        )
+        ran = run_traced(program)
+        self.assertEqual((ran.returncode, ran.stdout), (Verdict.NO_RACE, "-15\n"), ran.stderr)
+
+    def test_a_child_writes_no_line_of_its_parent_s_journal_again(self) -> None:
+        port, tenant = fresh_tenant()
+        with tempfile.NamedTemporaryFile("r", suffix=".journal") as journal:
+            with tracing(port=port, tenant=tenant, journal=journal.name):
+                for _ in range(50):
+                    touch("x", write=True)
+                    child = os.fork()
+                    if child == 0:
+                        os._exit(0)
+                    os.waitpid(child, 0)
+            events = [row["event"] for row in map(json.loads, journal) if "event" in row]
+        self.assertEqual(events, list(range(1, 51)))
+
+    def test_a_child_leaves_the_parent_s_journal_and_collector(self) -> None:
+        with tracing() as traced:
+            child = os.fork()
+            if child == 0:
+                touch("x", write=True)
+                traced.close()
+                os._exit(0 if traced.races().verdict() is Verdict.INCOMPLETE else 1)
+            self.assertEqual(os.waitstatus_to_exitcode(os.waitpid(child, 0)[1]), 0)
+            touch("y", write=True)
+        self.assertEqual([one.cause for one in traced.races().unseen], [Cause.CHILD])
+        self.assertEqual(traced.races().touches, 1)
+
+    def test_a_child_that_is_left_does_not_hold_the_collector(self) -> None:
+        began = time.monotonic()
+        with tracing():
+            child = os.fork()
+            if child == 0:
+                time.sleep(15)
+                os._exit(0)
+        self.assertLess(time.monotonic() - began, 12)
+        os.kill(child, 9)
+        os.waitpid(child, 0)
+
+    def test_a_child_s_word_does_not_stand_for_the_end_of_its_parent(self) -> None:
+        whole = read_whole(['{"unseen":"child","text":"x"}\n'])
+        self.assertEqual([one.cause for one in whole.unseen], [Cause.CHILD, Cause.JOURNAL])
+
+
+if __name__ == "__main__":
+    unittest.main()

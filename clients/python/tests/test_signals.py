@@ -1,0 +1,155 @@
+"""Signals that end a run: what was seen by then is listed and kept, and nothing that was cut short is an all-clear."""
+
+from __future__ import annotations
+
+import os
+import signal
+import subprocess
+import sys
+import tempfile
+import time
+import unittest
+from pathlib import Path
+
+from itc_trace import Verdict
+from itc_trace.collector import find_program
+
+from .support import PACKAGE, ProgramCase, run_traced
+
+SELLING = """
+import sys, threading, time, itc_trace
+lock = threading.Lock()
+def sell():
+    if "clean" in sys.argv:
+        with lock:
+            itc_trace.touch("stock", write=True)
+    else:
+        itc_trace.touch("stock", write=True)
+threads = [threading.Thread(target=sell) for _ in range(2)]
+for thread in threads:
+    thread.start()
+for thread in threads:
+    thread.join()
+print("sold", flush=True)
+"""
+WAITING = SELLING + "time.sleep(100)\n"
+BUSY = SELLING + "while True: pass\n"
+IN_A_JOIN = SELLING + "threading.Thread(target=time.sleep, args=(100,)).start()\n"
+DEAF = SELLING + "import signal; signal.signal(signal.SIGTERM, signal.SIG_IGN)\nprint('deaf', flush=True)\ntime.sleep(100)\n"
+POLITE = SELLING + """
+import signal
+signal.signal(signal.SIGTERM, lambda *_: sys.exit(0))
+print("ready", flush=True)
+time.sleep(100)
+"""
+MANY = """
+import itc_trace
+print("sold", flush=True)
+while True:
+    for _ in range(100): itc_trace.touch("x")
+"""
+
+
+class Started:
+    """A run that is started, and read from."""
+
+    def __init__(self, *words: str) -> None:
+        environment = {**os.environ, "PYTHONPATH": str(PACKAGE)}
+        self.process = subprocess.Popen(
+            [sys.executable, "-m", "itc_trace", "run", *words], stdout=subprocess.PIPE, stderr=subprocess.PIPE, text=True,
+            env=environment, start_new_session=True,
+        )
+
+    def wait_for(self, line: str) -> None:
+        assert self.process.stdout is not None
+        for told in self.process.stdout:
+            if told == f"{line}\n":
+                return
+        raise AssertionError(f"{line} did not come")
+
+    def end(self, number: int, is_for_all: bool = False) -> tuple[int, str]:
+        if is_for_all:
+            os.killpg(self.process.pid, number)
+        else:
+            os.kill(self.process.pid, number)
+        _, errors = self.process.communicate(timeout=120)
+        return self.process.returncode, errors
+
+
+class Signals(ProgramCase):
+    def ended(self, text: str, number: int, *words: str, line: str = "sold", is_for_all: bool = False) -> tuple[int, str]:
+        run = Started(*words, self.program(text), *(["clean"] if "clean" in words else []))
+        run.wait_for(line)
+        return run.end(number, is_for_all)
+
+    def test_a_run_that_is_ended_lists_the_races_that_were_seen(self) -> None:
+        for text in (WAITING, BUSY, IN_A_JOIN):
+            for number in (signal.SIGTERM, signal.SIGHUP):
+                for is_for_all in (False, True):
+                    with self.subTest(text=text[-40:], number=number, is_for_all=is_for_all):
+                        status, errors = self.ended(text, number, is_for_all=is_for_all)
+                        self.assertEqual(status, Verdict.RACES, errors)
+                        first, second, *_ = errors.splitlines()
+                        self.assertEqual(first, f"itc_trace: incomplete: the program was ended by {number.name}")
+                        self.assertTrue(second.startswith("itc_trace: race on stock: "), errors)
+
+    def test_a_run_that_is_cut_short_is_no_all_clear(self) -> None:
+        program = self.program(WAITING)
+        for number in (signal.SIGTERM, signal.SIGHUP):
+            run = Started(program, "clean")
+            run.wait_for("sold")
+            status, errors = run.end(number)
+            self.assertEqual(status, Verdict.INCOMPLETE, errors)
+            self.assertIn("itc_trace: no race in what was seen: 2 touches of 1 thing", errors)
+
+    def test_a_run_that_is_ended_keeps_its_trace(self) -> None:
+        with tempfile.TemporaryDirectory() as folder:
+            export = str(Path(folder, "trace"))
+            self.ended(WAITING, signal.SIGTERM, "--export", export)
+            with open(export, "rb") as given:
+                checked = subprocess.run([find_program(), "check"], stdin=given, capture_output=True, text=True, check=False)
+            self.assertRegex(checked.stdout, r"^yes \d+\n$")
+
+    def test_nothing_that_was_noted_before_a_signal_is_lost(self) -> None:
+        """Also where many notes wait to be reported."""
+        text = SELLING.replace('print("sold", flush=True)', """
+for _ in range(4000): itc_trace.touch("other")
+itc_trace.touch("last")
+import os, signal
+os.kill(os.getpid(), signal.SIGTERM)
+time.sleep(100)
+""")
+        ran = run_traced(self.program(text))
+        self.assertEqual(ran.returncode, Verdict.RACES, ran.stderr)
+        self.assertIn("in what was seen: 4003 touches of 3 things", ran.stderr)
+
+    def test_a_program_that_does_not_end_is_killed(self) -> None:
+        began = time.monotonic()
+        status, errors = self.ended(DEAF, signal.SIGTERM, line="deaf")
+        self.assertLess(time.monotonic() - began, 90)
+        self.assertEqual(status, Verdict.RACES, errors)
+        self.assertTrue(errors.startswith("itc_trace: incomplete: the program was ended by SIGKILL\n"), errors)
+
+    def test_a_program_that_ends_by_itself_when_it_is_asked_to_was_seen_whole(self) -> None:
+        run = Started(self.program(POLITE), "clean")
+        run.wait_for("ready")
+        status, errors = run.end(signal.SIGTERM)
+        self.assertEqual(status, 0, errors)
+        self.assertIn("no race in this run: 2 touches", errors)
+
+    def test_a_program_that_is_killed_is_no_all_clear(self) -> None:
+        for name in ("SIGKILL", "SIGABRT", "SIGSEGV"):
+            ran = run_traced(self.program(f"import os, signal; os.kill(os.getpid(), signal.{name})"))
+            self.assertEqual(ran.returncode, Verdict.INCOMPLETE, ran.stderr)
+            self.assertTrue(ran.stderr.startswith(f"itc_trace: incomplete: the program was ended by {name}\n"), ran.stderr)
+
+    def test_an_interrupt_is_the_program_s_and_no_all_clear(self) -> None:
+        run = Started(self.program(WAITING), "clean")
+        run.wait_for("sold")
+        status, errors = run.end(signal.SIGINT, is_for_all=True)
+        self.assertEqual(status, Verdict.INCOMPLETE, errors)
+        self.assertIn("KeyboardInterrupt\nitc_trace: incomplete: the program was ended by SIGINT\n", errors)
+
+
+if __name__ == "__main__":
+    unittest.main()
