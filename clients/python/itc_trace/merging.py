@@ -55,11 +55,16 @@ class Merged:
         lines = [f"itc_trace: incomplete: {reasons(self.unseen)}"] if self.unseen else []
         for often in [*self._races.values(), *self._only_possible.values()]:
             by_seed = "" if often.seed is None else f" (--shake={often.seed})"
-            lines.append(f"itc_trace: {often.example}\n    in {often.runs} of {self.runs} runs, first in run {often.first_run}{by_seed}")
+            lines.append(f"itc_trace: {often.example}")
+            lines.append(f"    in {often.runs} of {_runs(self.runs)}, first in run {often.first_run}{by_seed}")
         return "\n".join([*lines, f"itc_trace: {self._summary()}"])
 
     def _summary(self) -> str:
         count = len(self._races)
         found = "no race" if count == 0 else "1 race" if count == 1 else f"{count} races"
         possible = f"; {len(self._only_possible)} possible" if self._only_possible else ""
-        return f"{found} in {self.runs} runs{possible}" if not self.unseen else f"{found} in what was seen of {self.runs} runs{possible}"
+        return f"{found} in {'what was seen of ' if self.unseen else ''}{_runs(self.runs)}{possible}"
+
+
+def _runs(count: int) -> str:
+    return "1 run" if count == 1 else f"{count} runs"

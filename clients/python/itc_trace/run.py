@@ -124,11 +124,14 @@ def _check_syntax(program: str) -> None:
 
 
 def _check_writable(file: str) -> None:
+    was_there = os.path.exists(file)
     try:
         with open(file, "ab"):
             pass
     except OSError as error:
         raise Fault(f"{file} cannot be written: {error.strerror}") from error
+    if not was_there:
+        os.unlink(file)
 
 
 def _run_once(asked: Run, seed: int | None) -> int:

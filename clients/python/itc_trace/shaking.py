@@ -14,8 +14,8 @@ from .noting import is_internal
 from .patches.base import like
 
 SHORTEST_TURN, LONGEST_TURN = 1e-6, 1e-4
-LONGEST_PAUSE = 0.001
-OFTEN = 4
+LONGEST_PAUSE = 0.004
+OFTEN = 2
 """At the beginning one in so many places has a pause, and later ever fewer."""
 PAUSES_OF_AN_OCTAVE = 256
 
@@ -47,9 +47,11 @@ class Shaking:
                 original = vars(owner)[name]
                 setattr(owner, name, like(original, self._paused(original)))
 
-    def _paused(self, original: Any) -> Any:
+        threading.Thread.run = like(threading.Thread.run, self._paused(threading.Thread.run, always=True))  # type: ignore[method-assign]
+
+    def _paused(self, original: Any, always: bool = False) -> Any:
         def paused(*words: Any, **named: Any) -> Any:
-            if not is_internal(sys._getframe(1)):  # Else a lock of the library or of this package may be held.
+            if always or not is_internal(sys._getframe(1)):  # Else a lock of the library or of this package may be held.
                 self.pause()
             return original(*words, **named)
 
@@ -60,4 +62,4 @@ class Shaking:
         rarely = OFTEN << (self._pauses // PAUSES_OF_AN_OCTAVE)
         if self._random.random() * rarely < 1:
             self._pauses += 1
-            sleep(self._random.random() * LONGEST_PAUSE)
+            sleep(self._random.random() ** 2 * LONGEST_PAUSE)
