@@ -127,14 +127,14 @@ class Children(ProgramCase):
         port, tenant = fresh_tenant()
         with tempfile.NamedTemporaryFile("r", suffix=".journal") as journal:
             with tracing(port=port, tenant=tenant, journal=journal.name):
-                for _ in range(50):
-                    touch("x", write=True)
+                for number in range(50):
+                    touch(f"x{number}", write=True)
                     child = os.fork()
                     if child == 0:
                         os._exit(0)
                     os.waitpid(child, 0)
-            events = [row["event"] for row in map(json.loads, journal) if "event" in row]
-        self.assertEqual(events, list(range(1, 51)))
+            things = [row["thing"] for row in map(json.loads, journal) if "event" in row]
+        self.assertEqual(things, [f"x{number}" for number in range(50)])
 
     def test_a_child_leaves_the_parent_s_journal_and_collector(self) -> None:
         with tracing() as traced:

@@ -113,15 +113,15 @@ class Signals(ProgramCase):
     def test_nothing_that_was_noted_before_a_signal_is_lost(self) -> None:
         """Also where many notes wait to be reported."""
         text = SELLING.replace('print("sold", flush=True)', """
-for _ in range(4000): itc_trace.touch("other")
-itc_trace.touch("last")
+for number in range(4000):
+    with lock: itc_trace.touch(f"part {number}")
 import os, signal
 os.kill(os.getpid(), signal.SIGTERM)
 time.sleep(100)
 """)
         ran = run_traced(self.program(text))
         self.assertEqual(ran.returncode, Verdict.RACES, ran.stderr)
-        self.assertIn("in what was seen: 4003 touches of 3 things", ran.stderr)
+        self.assertIn("in what was seen: 4002 touches of 4001 things", ran.stderr)
 
     def test_a_program_that_does_not_end_is_killed(self) -> None:
         began = time.monotonic()
