@@ -24,6 +24,13 @@ class _LikeLock(type):
         return isinstance(instance, _thread.LockType)
 
 
+class _LikeRLock(type):
+    """The same of locks that their owner may acquire again, but for classes of the program."""
+
+    def __instancecheck__(cls, instance: object) -> bool:
+        return isinstance(instance, _PlainRLock) if cls is TracedRLock else type.__instancecheck__(cls, instance)
+
+
 class TracedLock(metaclass=_LikeLock):
     """A lock whose last release is known to whoever acquires it next. It has all that a lock has."""
 
@@ -89,8 +96,10 @@ class TracedLock(metaclass=_LikeLock):
         return repr(self._lock)
 
 
-class TracedRLock(_PlainRLock):  # type: ignore[misc]
+class TracedRLock(_PlainRLock, metaclass=_LikeRLock):  # type: ignore[misc]
     """A lock that its owner may acquire again. Only what happens outermost is a message."""
+
+    __module__ = "_thread"  # Programs look whether it is the one that a signal handler may acquire, and it is.
 
     _itc_token: Token | None
     _itc_identity: LockIdentity
@@ -144,6 +153,9 @@ class TracedRLock(_PlainRLock):  # type: ignore[misc]
         _PlainRLock._at_fork_reinit(self)
         self._itc_token = self._itc_holder = None
         self._depth = 0
+
+
+TracedRLock.__name__ = TracedRLock.__qualname__ = "RLock"
 
 
 def traced_rlock(frame: Any, cls: Any = TracedRLock, *words: Any, **named: Any) -> Any:
