@@ -17,7 +17,7 @@ from .snapshot import snapshot
 from .tracing import OWN_TENANT
 
 NEW_SEED = -1
-FLAGS = {"--quiet", "--shake", "--no-shake", "--help", "-h"}
+FLAGS = {"--quiet", "--watch-nothing", "--shake", "--no-shake", "--help", "-h"}
 MOST_RUNS = 10_000
 
 
@@ -63,6 +63,8 @@ def _add_run(parser: argparse.ArgumentParser) -> None:
                         help="perturb the schedule of each run; --shake=SEED as this seed did")
     parser.add_argument("--no-shake", action="store_true", help="leave the schedule of each run as it is")
     parser.add_argument("--quiet", action="store_true", help="write nothing where there is no race")
+    parser.add_argument("--watch", metavar="PACKAGE", action="append", help="watch an installed package, too")
+    parser.add_argument("--watch-nothing", action="store_true", help="note only what is shared or touched by hand")
     parser.usage = "%(prog)s [OPTIONS] PROGRAM|-m MODULE [ARGS..]"
 
 
@@ -102,6 +104,7 @@ def _run(words: argparse.Namespace, program: list[str]) -> int:
         program, words.port, words.tenant, words.process, words.export, words.journal, words.picture, quiet=words.quiet,
         fail_on_possible=words.fail_on == "possible", runs=words.runs, is_shaken=not words.no_shake,
         seed=random.SystemRandom().randrange(MOST_SEED) if words.shake == NEW_SEED else words.shake,
+        watched=None if words.watch_nothing else words.watch,
     ))
 
 

@@ -19,6 +19,7 @@ from pathlib import Path
 from types import FrameType
 from typing import Any, NoReturn
 
+from . import watch
 from .faults import WORDS_REFUSED
 from .patches.base import like
 from .shaking import Shaking
@@ -38,6 +39,9 @@ def main() -> None:
     tell = Path(configuration.pop("told")).write_text
     seed = configuration.pop("seed")
     words = sys.argv[2:]
+    packages = configuration.pop("watched")
+    if packages is not None:
+        watch.watch([_folder_of(words)], packages)
     shaking = None if seed is None else Shaking(seed)
     try:
         traced = Tracing(**configuration, shaking=shaking).start()
@@ -157,6 +161,14 @@ def _run_module(name: str, words: list[str]) -> None:
         raise
 
 
+def _folder_of(words: list[str]) -> str:
+    """Where the program's own modules are."""
+    if words[0] == "-m":
+        return os.getcwd()
+    program = os.path.realpath(words[0])
+    return program if os.path.isdir(program) else os.path.dirname(program)
+
+
 def _run_file(program: str, words: list[str]) -> None:
     sys.argv = words
     sys.path[0] = os.path.dirname(os.path.realpath(program))
@@ -168,7 +180,8 @@ def _run_file(program: str, words: list[str]) -> None:
     module = types.ModuleType("__main__")
     module.__dict__.update(__file__=program, __builtins__=builtins, __cached__=None)
     sys.modules["__main__"] = module
-    exec(compile(source, program, "exec", dont_inherit=True), module.__dict__)
+    plain = compile(source, program, "exec", dont_inherit=True)
+    exec(watch.code_of(source, program, plain), module.__dict__)
 
 
 def _show(error: BaseException) -> None:

@@ -47,6 +47,8 @@ class Run:
     picture: str | None = None
     host: str = HOST
     quiet: bool = False
+    watched: list[str] | None = None
+    """The packages that are watched beside the program's own modules. None watches nothing."""
     fail_on_possible: bool = False
     runs: int = 1
     seed: int | None = None
@@ -204,6 +206,7 @@ def _port(asked: Run) -> Iterator[int]:
 def _run_program(asked: Run, port: int, journal: str, told: str, seed: int | None) -> Child:
     configuration = {
         "port": port, "tenant": asked.tenant, "journal": os.path.abspath(journal), "process": asked.process, "host": asked.host,
+        "watched": asked.watched,
         "told": told, "seed": seed,
     }
     flags = subprocess._args_from_interpreter_flags()  # type: ignore[attr-defined]

@@ -9,6 +9,7 @@ import tempfile
 from types import TracebackType
 
 from .children import IN_CHILD, LEFT_CHILD, Announced, ForkedChildren, Witness
+from . import watch
 from .collector import HOST, Collector
 from .journal_file import JournalFile
 from .lines import state
@@ -73,6 +74,7 @@ class Tracing:
         state.witness = None
         _active.add(self)
         self._tracer.start()
+        watch.begin()
 
     def stop(self) -> None:
         """Traces no more, and waits until the collector has all that was noted."""
@@ -84,6 +86,7 @@ class Tracing:
             _active.discard(self)
             if tracer is not None:
                 self.is_stopping = True
+                watch.end()
                 tracer.stop()
                 self.is_stopping = False
             for one in (file, children, announced):
@@ -103,6 +106,7 @@ class Tracing:
     def forget(self) -> None:
         """In a forked child: the session, the journal and the collector are the parent's."""
         if self._tracer is not None:
+            watch.end()
             self._tracer.forget()
         if self._file is not None:
             state.witness = Witness(self._file)

@@ -1,0 +1,72 @@
+"""Watches a program that nobody changed: its own modules get hooks where they read and write what tasks may share."""
+
+from __future__ import annotations
+
+import os
+import sys
+from collections.abc import Sequence
+from types import CodeType
+from typing import Any
+
+from ..lines import Line, state
+from . import hooks, things
+from .finder import Finder, Selection, with_hooks
+
+_finder: Finder | None = None
+_plain_line_begin: Any = None
+
+
+def watch(folders: Sequence[str], packages: Sequence[str] = ()) -> None:
+    """From here on modules in these folders and of these packages are rewritten as they are imported."""
+    global _finder
+    if _finder is not None:
+        sys.meta_path.remove(_finder)  # type: ignore[arg-type]
+    _finder = Finder(Selection(folders, packages))
+    hooks.put(False)
+    sys.meta_path.insert(0, _finder)  # type: ignore[arg-type]
+
+
+def code_of(source: bytes, program: str, plain: CodeType) -> CodeType:
+    """The code of the program's main file, with hooks if it is watched."""
+    if _finder is None or not _finder.selection.has_file("__main__", os.path.abspath(program)):
+        return plain
+    return with_hooks(source, program, "__main__", _finder.selection, plain)
+
+
+def begin() -> None:
+    """Notes touches as soon as there is a second task: whatever comes before it starts, comes before all that it does."""
+    global _plain_line_begin
+    tracer = state.tracer
+    if _finder is None or tracer is None:
+        return
+    if tracer.parent_of_strangers is not tracer.main:
+        hooks.put(True)
+        return
+    if _plain_line_begin is None:
+        _plain_line_begin = Line.__init__
+        Line.__init__ = _begin_line  # type: ignore[method-assign]
+
+
+def _begin_line(line: Line, *words: Any, **named: Any) -> None:
+    _switch_on()
+    line.__init__(*words, **named)  # type: ignore[misc]
+
+
+def _switch_on() -> None:
+    global _plain_line_begin
+    if _plain_line_begin is not None:
+        Line.__init__ = _plain_line_begin  # type: ignore[method-assign]
+        _plain_line_begin = None
+        hooks.put(True)
+
+
+def end() -> None:
+    """Notes nothing any more, and holds nothing."""
+    global _plain_line_begin
+    if _finder is None:
+        return
+    if _plain_line_begin is not None:
+        Line.__init__ = _plain_line_begin  # type: ignore[method-assign]
+        _plain_line_begin = None
+    hooks.put(False)
+    things.let_go()

@@ -1,0 +1,111 @@
+"""Finds the modules of the program, and has them rewritten as they are imported."""
+
+from __future__ import annotations
+
+import importlib.machinery
+import os
+import sys
+import sysconfig
+import warnings
+from collections.abc import Sequence
+from types import CodeType, ModuleType
+
+from .decisions import WATCHED
+from .rewrite import rewritten
+
+OWN_FOLDER = os.path.dirname(os.path.dirname(os.path.abspath(__file__)))
+LIBRARY_FOLDERS = tuple(
+    os.path.realpath(path) + os.sep for path in {sysconfig.get_path(name) for name in ("stdlib", "platstdlib", "purelib", "platlib")}
+)
+INSTALLED = ("site-packages", "dist-packages")
+
+
+class Selection:
+    """Which modules are watched: those in the folders of the program, and packages that were named."""
+
+    def __init__(self, folders: Sequence[str], packages: Sequence[str] = ()) -> None:
+        self.folders = [os.path.realpath(folder) for folder in folders]
+        self.packages = frozenset(packages)
+
+    def has_file(self, name: str, file: str | None) -> bool:
+        """Whether the module of this name and file is watched."""
+        if not file or not file.endswith(".py") or _is_within(file, OWN_FOLDER):
+            return False
+        return self.has_package(name) or self.has_own(file)
+
+    def has_package(self, name: str) -> bool:
+        parts = name.split(".")
+        return any(".".join(parts[: length + 1]) in self.packages for length in range(len(parts)))
+
+    def has_own(self, file: str) -> bool:
+        path = os.path.realpath(file)
+        if any(f"{os.sep}{one}{os.sep}" in path for one in INSTALLED) or path.startswith(LIBRARY_FOLDERS):
+            return False
+        return any(_is_within(path, folder) for folder in self.folders)
+
+    def has_import(self, name: str) -> bool:
+        """Whether what is imported by this dotted name may be of a module that is watched."""
+        first = name.partition(".")[0]
+        if self.has_package(name) or any(one.partition(".")[0] == first for one in self.packages):
+            return True
+        return any(
+            os.path.isfile(os.path.join(folder, first + ".py")) or os.path.isdir(os.path.join(folder, first))
+            for folder in (*self.folders, *sys.path[:1])
+        )
+
+
+def _is_within(file: str, folder: str) -> bool:
+    return os.path.realpath(file).startswith(folder.rstrip(os.sep) + os.sep)
+
+
+class Loader(importlib.machinery.SourceFileLoader):
+    """Loads a module with hooks; one that cannot be rewritten runs as it is."""
+
+    selection: Selection
+
+    def get_code(self, fullname: str) -> CodeType | None:
+        plain = super().get_code(fullname)
+        if plain is None:
+            return None
+        path = self.get_filename(fullname)
+        return with_hooks(self.get_data(path), path, fullname, self.selection, plain)
+
+
+def with_hooks(source: bytes, file: str, module: str, selection: Selection, plain: CodeType) -> CodeType:
+    """The code of a module with hooks, else its plain one; then one line says so."""
+    try:
+        with warnings.catch_warnings():
+            warnings.simplefilter("ignore")
+            made = rewritten(source, file, module, selection.has_import)
+    except (SyntaxError, ValueError, RecursionError, MemoryError) as fault:
+        tell_unwatched(file, fault)
+        return plain
+    WATCHED.add(module)
+    return made
+
+
+def tell_unwatched(file: str, fault: BaseException) -> None:
+    if sys.__stderr__ is not None:
+        reason = f"{type(fault).__name__}: {fault}".splitlines()[0]
+        print(f"itc_trace: {os.path.basename(file)} runs as it is, and is not watched: {reason}", file=sys.__stderr__, flush=True)
+
+
+class Finder:
+    """Stands before the finders of the language, and gives watched modules another loader."""
+
+    def __init__(self, selection: Selection) -> None:
+        self.selection = selection
+
+    def find_spec(
+        self, name: str, path: Sequence[str] | None = None, target: ModuleType | None = None
+    ) -> importlib.machinery.ModuleSpec | None:
+        spec = importlib.machinery.PathFinder.find_spec(name, path, target)
+        if spec is None or type(spec.loader) is not importlib.machinery.SourceFileLoader:
+            return None
+        if not self.selection.has_file(name, spec.origin):
+            return None
+        assert spec.origin is not None
+        loader = Loader(name, spec.origin)
+        loader.selection = self.selection
+        spec.loader = loader
+        return spec

@@ -1,0 +1,586 @@
+"""The hooks that stand in a rewritten module. Each gives back what it was given, and runs no code of the program.
+
+They look at types alone. A touch that was noted in this stretch already costs a look into two dictionaries. What only one variable
+of a function refers to is shared with nobody, and is not noted.
+"""
+
+from __future__ import annotations
+
+import builtins
+import types
+from _thread import get_ident
+from collections import defaultdict
+from collections.abc import Callable, Iterable
+from sys import _getframe, getrefcount
+from typing import Any
+
+from ..conflicts import ADDITION, ITERATION, LENGTH, LOOKUP, READ, REMOVAL, REPLACEMENT, REWRITE, WRITE
+from ..noting import touched
+from ..stretches import STRETCHES
+from .decisions import (
+    OF_CLASS, OF_MODULE, OF_TYPE, OWN_FIELD, PLAIN, SKIP, WATCHED, class_with, decision, family_of, fields_of,
+    has_own_method, name_of,
+)
+from .kinds import DEQUE, DICT, KEYED, LIST, WHOLE
+from .places import ACCESSES, SKIPPED, Access
+from .rewrite import ON, PREFIX
+from .things import BASES, OWNERS, Owner, element_of, field_of, made_by, made_here, owner_of, shape_of, variable_of
+
+SIMPLE = frozenset({str, int, bytes, float, bool, type(None)})
+MOST_PARTS = 8
+READ_ONLY = "r"
+LOOKING = frozenset(("r", "rw", "c"))
+CHANGING = frozenset(("w", "rw", "d"))
+ANYBODY = 0
+"""A limit of references that nothing is within."""
+
+base_of = BASES.get
+stretch_of = STRETCHES.get
+
+
+def _references(one: Any, site: int) -> int:
+    return _references_below(one, site)
+
+
+def _references_below(one: Any, site: int) -> int:
+    return getrefcount(one)
+
+
+def _references_of_variable() -> int:
+    one: list[Any] = []
+    return _references(one, 0)
+
+
+OF_TEMPORARY = _references([], 0)
+"""How many references a hook sees of what only its caller's expression refers to."""
+OF_VARIABLE = _references_of_variable()
+OF_VARIABLE_IN_USE = OF_VARIABLE + 1
+
+
+# Fields
+
+
+def hook_o(one: Any, site: int) -> Any:
+    """Before an attribute is read or written."""
+    base = base_of(id(one))
+    if base is not None:
+        stretch = stretch_of(get_ident())
+        if stretch is not None and base + site in stretch:
+            return one
+    if id(type(one)) not in SKIPPED[site]:
+        _touch_field(one, site)
+    return one
+
+
+def hook_o_local(one: Any, site: int) -> Any:
+    base = base_of(id(one))
+    if base is not None:
+        stretch = stretch_of(get_ident())
+        if stretch is not None and base + site in stretch:
+            return one
+    elif getrefcount(one) <= OF_VARIABLE - 1:
+        return one
+    if id(type(one)) not in SKIPPED[site]:
+        _touch_field(one, site)
+    return one
+
+
+def hook_A(one: Any, name: Any, site: int) -> Any:
+    """Before `getattr` and its like."""
+    if type(name) is str:
+        access = ACCESSES[site]
+        _touch_field(one, site, Access("named", access.kinds, name, "", access.module))
+    return one
+
+
+def _touch_field(one: Any, site: int, access: Access | None = None) -> None:
+    key = site
+    if access is None:
+        access = ACCESSES[site]
+    else:
+        key = hash((site, access.name)) | 1 << 62
+    kind, name, kinds = type(one), access.name, access.kinds or READ_ONLY
+    found = decision(kind, access, site)
+    if found == SKIP:
+        return
+    holder, holder_name = one, ""
+    if found == OF_MODULE:
+        module = fields_of(one).get("__name__")
+        if module in WATCHED:
+            _note(owner_of(one, name).base, key, variable_of(module, name), kinds, site)
+        return
+    if found == OF_TYPE:
+        if kinds == READ_ONLY:
+            holder = class_with(one, name)
+            if holder is None:
+                return
+        holder_name = name_of(holder)
+    elif found == OF_CLASS and kinds == READ_ONLY and name not in fields_of(one):
+        holder = class_with(kind, name)
+        holder_name = name_of(holder)
+    elif found == OWN_FIELD and name not in fields_of(one):
+        return
+    owner = owner_of(holder, "")
+    base = owner.base
+    if holder is not one:
+        own = owner_of(one, "")
+        base = own.base
+        if found == OF_CLASS:  # The object was looked at first, and had none of its own.
+            touched((base, key), field_of(own, name_of(kind), name), READ, site)
+    _note(base, key, field_of(owner, holder_name or name_of(kind), name), kinds, site)
+    if access.what == "field" and access.text and kinds == "rw":
+        _touch_in_place(fields_of(one).get(name), access.text, site)
+
+
+def _touch_in_place(value: Any, kind: str, site: int) -> None:
+    """What an assignment as `+=` does to the container that stands in a field."""
+    if family_of(type(value)) is not None:
+        owner = owner_of(value, ACCESSES[site].name)
+        touched(owner.base + site, shape_of(owner), kind, site)
+
+
+def _note(base: int, site_key: int, thing: Any, kinds: str, site: int) -> None:
+    """Notes a read, a write or both. The key by which the hook looks comes last."""
+    key = base + site_key
+    if kinds == "r":
+        touched(key, thing, READ, site)
+    elif kinds == "w":
+        touched(key, thing, WRITE, site)
+    else:
+        touched(-key, thing, READ, site)
+        touched(key, thing, WRITE, site)
+
+
+hook_A_local = hook_A
+
+
+# Variables and cells
+
+
+def hook_g(site: int) -> None:
+    """Before a variable of a module is read, or behind where it was written."""
+    stretch = stretch_of(get_ident())
+    if stretch is None or site not in stretch:
+        access = ACCESSES[site]
+        _note(0, site, variable_of(access.module, access.name), access.kinds, site)
+
+
+def hook_v(value: Any, site: int) -> Any:
+    hook_g(site)
+    return value
+
+
+def hook_c(function: Any, site: int) -> None:
+    """The same of a cell, which is that of a function."""
+    closure = function.__closure__
+    if not closure:
+        return
+    cell = closure[0]
+    base = base_of(id(cell))
+    if base is not None:
+        stretch = stretch_of(get_ident())
+        if stretch is not None and base + site in stretch:
+            return
+    access = ACCESSES[site]
+    owner = owner_of(cell, access.name)
+    thing = owner.things.get(access.name)
+    if thing is None:
+        owner.name, owner.made = access.name, ""
+        thing = owner.things[access.name] = shape_of(owner)
+    _note(owner.base, site, thing, access.kinds, site)
+
+
+# Containers as a whole
+
+
+def hook_h(one: Any, site: int) -> Any:
+    """Before all of a container, or its length, is looked at."""
+    if type(one) in PLAIN:
+        return one
+    base = base_of(id(one))
+    if base is not None:
+        stretch = stretch_of(get_ident())
+        if stretch is not None and base + site in stretch:
+            return one
+    _touch_whole(one, site, OF_TEMPORARY)
+    return one
+
+
+def hook_h_local(one: Any, site: int) -> Any:
+    if type(one) in PLAIN:
+        return one
+    base = base_of(id(one))
+    if base is not None:
+        stretch = stretch_of(get_ident())
+        if stretch is not None and base + site in stretch:
+            return one
+    _touch_whole(one, site, OF_VARIABLE)
+    return one
+
+
+def _touch_whole(one: Any, site: int, limit: int) -> None:
+    kind = type(one)
+    family = family_of(kind)
+    if family is None:
+        if kind is types.GeneratorType and ACCESSES[site].kinds == ITERATION and getrefcount(one) > limit:
+            _touch_generator(one, site)
+        return
+    owner = OWNERS.get(id(one))
+    if owner is None:
+        if getrefcount(one) <= limit:
+            return
+        owner = owner_of(one, ACCESSES[site].text)
+    touched(owner.base + site, shape_of(owner), ACCESSES[site].kinds, site)
+
+
+def _touch_generator(one: Any, site: int) -> None:
+    """A step of a generator changes it."""
+    owner = owner_of(one, ACCESSES[site].text or "a generator")
+    touched(owner.base + site, shape_of(owner), WRITE, site)
+
+
+def hook_f(one: Any, site: int) -> Any:
+    """Before a loop goes through a container: each step looks at it."""
+    return one if type(one) in PLAIN else _stepping(one, site, OF_TEMPORARY)
+
+
+def hook_f_local(one: Any, site: int) -> Any:
+    return one if type(one) in PLAIN else _stepping(one, site, OF_VARIABLE)
+
+
+def _stepping(one: Any, site: int, limit: int) -> Any:
+    kind = type(one)
+    is_generator = kind is types.GeneratorType
+    if not is_generator and (family_of(kind) is None or has_own_method(kind, "__iter__")):
+        return one
+    owner = OWNERS.get(id(one))
+    if owner is None:
+        if getrefcount(one) <= limit:
+            return one
+        owner = owner_of(one, ACCESSES[site].text)
+    return map(_step(owner, site, WRITE if is_generator else ITERATION), one)
+
+
+def _step(owner: Owner, site: int, kind: str) -> Callable[[Any], Any]:
+    key, thing = owner.base + site, shape_of(owner)
+    touched(key, thing, kind, site)
+
+    def step(element: Any) -> Any:
+        stretch = stretch_of(get_ident())
+        if stretch is None or key not in stretch:
+            touched(key, thing, kind, site)
+        return element
+
+    return step
+
+
+def hook_F(view: Iterable[Any], one: Any, site: int) -> Any:
+    """Before a loop goes through a view of a dictionary."""
+    owner = OWNERS.get(id(one))
+    if owner is None or family_of(type(one)) != DICT:
+        return view
+    return map(_step(owner, site, ITERATION), view)
+
+
+# Elements and methods
+
+
+def hook_k(one: Any, key: Any, site: int) -> Any:
+    """Before an element is touched, or a method with a key is called. It gives back the container."""
+    if type(one) in PLAIN:
+        return one
+    base = base_of(id(one))
+    if base is not None and type(key) in SIMPLE:
+        stretch = stretch_of(get_ident())
+        if stretch is not None and (base + site, key) in stretch:
+            return one
+    _touch_keyed(one, key, site, OF_TEMPORARY)
+    return one
+
+
+def hook_k_local(one: Any, key: Any, site: int) -> Any:
+    if type(one) in PLAIN:
+        return one
+    base = base_of(id(one))
+    if base is not None and type(key) in SIMPLE:
+        stretch = stretch_of(get_ident())
+        if stretch is not None and (base + site, key) in stretch:
+            return one
+    _touch_keyed(one, key, site, OF_VARIABLE)
+    return one
+
+
+def hook_K(one: Any, key: Any, site: int) -> Any:
+    """The same, but it gives back the key."""
+    if type(one) not in PLAIN:
+        _touch_keyed(one, key, site, ANYBODY)
+    return key
+
+
+def hook_K_local(one: Any, key: Any, site: int) -> Any:
+    if type(one) in PLAIN:
+        return key
+    base = base_of(id(one))
+    if base is not None and type(key) in SIMPLE:
+        stretch = stretch_of(get_ident())
+        if stretch is not None and (base + site, key) in stretch:
+            return key
+    _touch_keyed(one, key, site, OF_VARIABLE_IN_USE)
+    return key
+
+
+def _is_simple(key: Any) -> bool:
+    """Whether the key can be looked up without any code of the program."""
+    kind = type(key)
+    return kind in SIMPLE or kind is tuple and len(key) <= MOST_PARTS and all(type(part) in SIMPLE for part in key)
+
+
+def _touch_keyed(one: Any, key: Any, site: int, limit: int) -> None:
+    kind = type(one)
+    if id(kind) in SKIPPED[site]:
+        return
+    family, access = family_of(kind), ACCESSES[site]
+    if family is None:
+        if access.what == "method":
+            _touch_field(one, site)
+        return
+    if access.what == "method" and has_own_method(kind, access.name):
+        return
+    owner = OWNERS.get(id(one))
+    if owner is None:
+        if getrefcount(one) <= limit:
+            return
+        owner = owner_of(one, access.text)
+    kinds = access.kinds if access.what == "element" else KEYED.get(access.name, {}).get(family, "")
+    if not kinds:
+        _touch_shape(owner, WHOLE[family].get(access.name), site)
+    elif family == LIST or family == DEQUE:
+        _touch_index(one, owner, key, kinds, family, site)
+    else:
+        _touch_key(one, owner, key, kinds, family, site)
+
+
+def _touch_shape(owner: Owner, kind: str | None, site: int) -> None:
+    if kind is not None:
+        touched(owner.base + site, shape_of(owner), kind, site)
+
+
+def _touch_index(one: Any, owner: Owner, key: Any, kinds: str, family: int, site: int) -> None:
+    shape = shape_of(owner)
+    whole = owner.base + site
+    if kinds == "c" or type(key) is not int:
+        touched(whole, shape, ITERATION if kinds in "cr" else REWRITE, site)
+        return
+    if family == DEQUE:
+        touched((whole, key), shape, LENGTH if kinds == "r" else REPLACEMENT if kinds in "rw" else REWRITE, site)
+        return
+    if kinds == "d":
+        touched((whole, REMOVAL), shape, REMOVAL, site)
+        return
+    if key < 0:
+        touched((whole, LENGTH), shape, LENGTH, site)
+        key_of_element = key + (list.__len__(one) if issubclass(type(one), list) else bytearray.__len__(one))
+    else:
+        key_of_element = key
+    element = element_of(owner, key_of_element, True)
+    if kinds != "w":
+        touched((whole, LOOKUP), shape, LOOKUP, site)
+    if kinds != "r":
+        touched((whole, REPLACEMENT), shape, REPLACEMENT, site)
+    _note_element(whole, key, element, kinds, site)
+
+
+def _note_element(whole: int, key: Any, element: Any, kinds: str, site: int) -> None:
+    if kinds == "r":
+        touched((whole, key), element, READ, site)
+    elif kinds == "w":
+        touched((whole, key), element, WRITE, site)
+    else:
+        touched((whole, key, "read"), element, READ, site)
+        touched((whole, key), element, WRITE, site)
+
+
+def _touch_key(one: Any, owner: Owner, key: Any, kinds: str, family: int, site: int) -> None:
+    is_simple = _is_simple(key)
+    mark = key if is_simple else ("object", id(key))
+    whole, shape, element = owner.base + site, shape_of(owner), element_of(owner, key, is_simple)
+    is_there = is_simple and (dict.__contains__(one, key) if family == DICT else set.__contains__(one, key))
+    access = ACCESSES[site]
+    if kinds == "rw" and access.what == "method" and is_there:
+        kinds = "r"
+    elif kinds == "r" and not is_there and is_simple and access.what == "element" and issubclass(type(one), defaultdict):
+        kinds = "rw"
+    if kinds in LOOKING:
+        touched((whole, LOOKUP), shape, LOOKUP, site)
+    if kinds in CHANGING:
+        change = ADDITION if kinds == "d" or not is_there else REPLACEMENT
+        touched((whole, change), shape, change, site)
+    _note_element(whole, mark, element, {"c": "r", "d": "w"}.get(kinds, kinds), site)
+
+
+def hook_m(one: Any, site: int) -> Any:
+    """Before a method is called that may be one of a container."""
+    if type(one) in PLAIN:
+        return one
+    base = base_of(id(one))
+    if base is not None:
+        stretch = stretch_of(get_ident())
+        if stretch is not None and base + site in stretch:
+            return one
+    if id(type(one)) not in SKIPPED[site]:
+        _touch_method(one, site, OF_TEMPORARY)
+    return one
+
+
+def hook_m_local(one: Any, site: int) -> Any:
+    if type(one) in PLAIN:
+        return one
+    base = base_of(id(one))
+    if base is not None:
+        stretch = stretch_of(get_ident())
+        if stretch is not None and base + site in stretch:
+            return one
+    if id(type(one)) not in SKIPPED[site]:
+        _touch_method(one, site, OF_VARIABLE)
+    return one
+
+
+def _touch_method(one: Any, site: int, limit: int) -> None:
+    kind = type(one)
+    family = family_of(kind)
+    access = ACCESSES[site]
+    if family is None:
+        _touch_field(one, site)
+        return
+    if has_own_method(kind, access.name):
+        return
+    owner = OWNERS.get(id(one))
+    if owner is None:
+        if getrefcount(one) <= limit:
+            return
+        owner = owner_of(one, access.text)
+    kind_of_touch = WHOLE[family].get(access.name)
+    if kind_of_touch is None and access.name in KEYED:
+        kind_of_touch = REMOVAL if KEYED[access.name].get(family) else None
+    _touch_shape(owner, kind_of_touch, site)
+
+
+# What comes behind its arguments
+
+
+def hook_l(value: Any, one: Any, site: int) -> Any:
+    """Behind the value that is about to be stored in a field, or handed to a method."""
+    _touch_late(one, site, ANYBODY)
+    return value
+
+
+def hook_l_local(value: Any, one: Any, site: int) -> Any:
+    _touch_late(one, site, OF_VARIABLE_IN_USE + 1)
+    return value
+
+
+def _touch_late(one: Any, site: int, limit: int) -> None:
+    if type(one) in PLAIN:
+        return
+    if ACCESSES[site].what == "field":
+        _touch_field(one, site)
+    elif id(type(one)) not in SKIPPED[site]:
+        _touch_method(one, site, limit)
+
+
+def hook_L(value: Any, one: Any, key: Any, site: int) -> Any:
+    """Behind the value that is about to be stored in an element."""
+    if type(one) not in PLAIN:
+        _touch_keyed(one, key, site, ANYBODY)
+    return value
+
+
+PENDING: dict[tuple[int, int], Any] = {}
+"""What a place has evaluated already, by its frame, until the rest of what is touched is there."""
+
+
+def hook_p(one: Any, place: int, site: int) -> Any:
+    """Keeps the first part of what is touched."""
+    PENDING[id(_getframe(1)), place] = one
+    if site:
+        _touch_field(one, site)
+    return one
+
+
+def hook_q(key: Any, place: int, site: int, is_kept: bool) -> Any:
+    """The key, behind the container."""
+    mark = id(_getframe(1)), place
+    one = PENDING.pop(mark, None)
+    if one is not None and type(one) not in PLAIN:
+        _touch_keyed(one, key, site, ANYBODY)
+        if is_kept:
+            PENDING[mark] = one, key
+    return key
+
+
+def hook_b(one: Any, place: int) -> Any:
+    """The container, behind the key that is looked for in it."""
+    key = PENDING.pop((id(_getframe(1)), place), None)
+    if type(one) not in PLAIN:
+        _touch_keyed(one, key, place, ANYBODY)
+    return one
+
+
+def hook_z(value: Any, place: int) -> Any:
+    """The value, behind what it is to be stored in or handed to."""
+    kept = PENDING.pop((id(_getframe(1)), place), None)
+    if kept is None:
+        return value
+    if ACCESSES[place].what == "element":
+        _touch_keyed(kept[0], kept[1], place, ANYBODY)
+    else:
+        _touch_late(kept, place, ANYBODY)
+    return value
+
+
+# Where things are made
+
+
+def hook_n(one: Any, site: int) -> Any:
+    """Behind where a container is made. This hook is there while there is one task, too."""
+    made_here(one, site)
+    return one
+
+
+def hook_N(one: Any) -> None:
+    """At the begin of a constructor."""
+    frame = _getframe(2)
+    while frame.f_code.co_name == "__init__" and frame.f_back is not None:
+        frame = frame.f_back
+    made_by(one, frame.f_code, frame.f_lasti)
+
+
+# Switching
+
+
+def _first(one: Any, *_: Any) -> Any:
+    return one
+
+
+def _second(_: Any, one: Any, *__: Any) -> Any:
+    return one
+
+
+def _nothing(*_: Any) -> None:
+    return None
+
+
+HOOKS: dict[str, Callable[..., Any]] = {name[5:]: one for name, one in list(globals().items()) if name.startswith("hook_")}
+ALWAYS = frozenset(("n", "N"))
+QUIET: dict[str, Callable[..., Any]] = {
+    **dict.fromkeys(HOOKS, _first), **dict.fromkeys(("K", "K_local"), _second), **dict.fromkeys(("g", "c"), _nothing),
+    **{name: HOOKS[name] for name in ALWAYS},
+}
+
+
+def put(is_on: bool) -> None:
+    """Puts the hooks where every module finds them: those that note, or those that do nothing."""
+    for name, one in (HOOKS if is_on else QUIET).items():
+        setattr(builtins, PREFIX + name, one)
+    setattr(builtins, ON, is_on)
+

@@ -1,0 +1,730 @@
+"""Rewrites a module's syntax tree, so that what several tasks may share is noted where it is read and written.
+
+Each simple statement stands there twice: with hooks for while there is more than one task, and as it was. The hooks take the
+operands, and give them back. So the program's own instructions stay, in their order and with their lines.
+"""
+
+from __future__ import annotations
+
+import ast
+import builtins
+from collections.abc import Callable, Iterator
+from types import CodeType
+from typing import Any
+
+from .kinds import KEYED, LATE_METHODS, METHODS, known_function
+from .places import Access, new_site
+from .scopes import CLASS, COMPREHENSION, COMPREHENSIONS, FUNCTION, MODULE, Scope, Scopes
+
+PREFIX = "_itc_"
+ON = PREFIX + "on"
+
+READERS = {
+    "len": "length", "bool": "length",
+    **dict.fromkeys("list tuple set dict frozenset sorted sum min max any all next iter reversed str repr print".split(), "iteration"),
+}
+"""Functions of the language that look at what they are given."""
+STEPPERS = frozenset(("enumerate", "zip", "map", "filter"))
+"""Those that look at it step by step."""
+OF_ATTRIBUTES = {"getattr": "r", "hasattr": "r", "setattr": "w", "delattr": "w"}
+MAKERS = frozenset("dict list set bytearray deque defaultdict OrderedDict Counter".split())
+DISPLAYS = (ast.Dict, ast.List, ast.Set, ast.DictComp, ast.ListComp, ast.SetComp)
+VIEWS = frozenset(("items", "keys", "values"))
+SCOPED = (*COMPREHENSIONS, ast.Lambda, ast.Slice)
+"""What no choice may stand around: what has variables of its own is compiled once, and a slice is no value."""
+PARTS = (ast.Starred,)
+REACHED = (ast.Name, ast.Attribute, ast.Subscript)
+LATE = (ast.Call, ast.Await, ast.Yield, ast.YieldFrom)
+IN_PLACE = {
+    ast.Add: "addition", **dict.fromkeys((ast.Mult, ast.BitOr, ast.BitAnd, ast.BitXor, ast.Sub), "rewrite"),
+}
+
+
+def rewritten(source: bytes | str, file: str, module: str, is_watched: Callable[[str], bool], optimize: int = -1) -> CodeType:
+    """The module's code with hooks. What it cannot be compiled for, it could not be without them."""
+    tree, twin = ast.parse(source, file), ast.parse(source, file)
+    _pair(tree, twin)
+    rewriter = Rewriter(Scopes(tree), file, module, is_watched)
+    return compile(rewriter.module(tree), file, "exec", dont_inherit=True, optimize=optimize)  # type: ignore[no-any-return]
+
+
+def _pair(node: Any, twin: Any) -> bool:
+    """Gives each node the same one of an untouched tree, and tells whether it has scopes of its own inside."""
+    is_scoped = False
+    for name in node._fields:
+        one = getattr(node, name, None)
+        if isinstance(one, list):
+            for child, other in zip(one, getattr(twin, name)):
+                if isinstance(child, ast.AST):
+                    is_scoped |= _pair(child, other)
+        elif isinstance(one, ast.AST):
+            is_scoped |= _pair(one, getattr(twin, name))
+    node.twin, node.is_scoped = twin, is_scoped or isinstance(node, SCOPED)
+    return bool(node.is_scoped)
+
+
+def _is_new(value: Any) -> bool:
+    """Whether the expression makes a container."""
+    return isinstance(value, DISPLAYS) or isinstance(value, ast.Call) and isinstance(value.func, ast.Name) and value.func.id in MAKERS
+
+
+def _makes(node: ast.AST) -> bool:
+    return isinstance(node, ast.Assign) and isinstance(node.targets[0], REACHED) and _is_new(node.value)
+
+
+def _contains(node: ast.AST, kinds: tuple[type, ...]) -> bool:
+    return any(isinstance(one, kinds) for one in ast.walk(node))
+
+
+class Rewriter:
+    """Rewrites one module."""
+
+    def __init__(self, scopes: Scopes, file: str, module: str, is_watched: Callable[[str], bool]) -> None:
+        self._scopes = scopes
+        self._file = file
+        self._module = module
+        self._is_watched = is_watched
+        self._scope: Scope = scopes.module
+        self._hooks = 0
+        self._is_guarding = False
+        self._before: list[ast.stmt] = []
+        self._after: list[ast.stmt] = []
+
+    def module(self, tree: ast.Module) -> ast.Module:
+        tree.body = self._statements(tree.body)
+        return ast.fix_missing_locations(tree)
+
+    # Sites and hooks
+
+    def _site(self, node: Any, what: str, kinds: str, name: str = "", text: str = "") -> int:
+        return new_site(self._file, node.lineno, self._scope.name or "<module>", Access(what, kinds, name, text, self._module))
+
+    def _hook(self, name: str, node: ast.AST, *words: Any) -> ast.Call:
+        self._hooks += 1
+        made = [word if isinstance(word, ast.AST) else ast.Constant(word) for word in words]
+        return ast.copy_location(ast.Call(ast.Name(PREFIX + name, ast.Load()), made, []), node)
+
+    def _is_on(self, node: ast.AST) -> ast.Name:
+        return ast.copy_location(ast.Name(ON, ast.Load()), node)
+
+    def _choice(self, hooked: ast.expr, node: Any) -> ast.expr:
+        """The hooked expression while hooks are on, else the one that stood there."""
+        return ast.copy_location(ast.IfExp(self._is_on(node), hooked, node.twin), node)
+
+    def _operand(self, node: Any, hook: str, *words: Any) -> ast.expr:
+        """The expression, passed through a hook."""
+        name = hook + "_local" if self._is_local(node) else hook
+        if not self._is_guarding:
+            return self._hook(name, node, self._visit(node), *words)
+        if node.is_scoped:
+            return self._hook(name, node, self._child(node), *words)
+        return self._choice(self._hook(name, node, self._raw(node), *words), node)
+
+    def _key_of(self, owner: Any, key: Any, site: int) -> ast.expr:
+        """The key, passed through a hook with the variable that has the container."""
+        name = "K_local" if self._is_local(owner) else "K"
+        return self._hook(name, key, owner.twin, self._child(key), site)
+
+    def _behind(self, hook: str, owner: Any, value: Any, site: int) -> ast.expr:
+        """The value, passed through a hook with the variable that it goes to."""
+        name = hook + "_local" if self._is_local(owner) else hook
+        return self._hook(name, value, self._child(value), owner.twin, site)
+
+    def _raw(self, node: Any) -> Any:
+        before, self._is_guarding = self._is_guarding, False
+        made = self._visit(node)
+        self._is_guarding = before
+        return made
+
+    def _child(self, node: Any) -> Any:
+        return self._guarded(node) if self._is_guarding else self._visit(node)
+
+    def _guarded(self, node: Any, visit: Callable[[Any], Any] | None = None) -> Any:
+        """An expression of a statement that stands there once: each part without scopes of its own stands there twice."""
+        visit = visit or self._visit
+        before = self._is_guarding, self._hooks
+        is_whole = not node.is_scoped and not isinstance(node, PARTS)
+        self._is_guarding = not is_whole
+        made = visit(node)
+        self._is_guarding = before[0]
+        if not is_whole or self._hooks == before[1] or not isinstance(getattr(node, "ctx", ast.Load()), ast.Load):
+            return made
+        return self._choice(made, node)
+
+    # Names
+
+    def _mangled(self, name: str) -> str:
+        owner = self._scope.class_name
+        if owner is None or not name.startswith("__") or name.endswith("__"):
+            return name
+        return f"_{owner.lstrip('_')}{name}"
+
+    def _is_shared(self, name: str) -> bool:
+        return self._scopes.may_be_shared(self._scope, name)
+
+    def _is_local(self, node: Any) -> bool:
+        """Whether it is a variable that only its own function can see."""
+        if not isinstance(node, ast.Name):
+            return False
+        owner = self._scope.owner(node.id)
+        return owner.kind in (FUNCTION, COMPREHENSION) and node.id not in owner.captured
+
+    def _is_simple(self, node: Any) -> bool:
+        """Whether it may be looked at twice, and gives the same without any code of the program."""
+        if isinstance(node, ast.UnaryOp) and isinstance(node.op, ast.USub):
+            node = node.operand
+        return isinstance(node, ast.Constant) or isinstance(node, ast.Name)
+
+    def _import_of(self, node: Any) -> str | None:
+        """The dotted name of what is imported and not bound to anything else."""
+        if isinstance(node, ast.Attribute):
+            base = self._import_of(node.value)
+            return None if base is None else f"{base}.{node.attr}"
+        if isinstance(node, ast.Name) and self._scope.owner(node.id).kind == MODULE and self._scopes.module.bound[node.id] == 1:
+            return self._scopes.imported.get(node.id)
+        return None
+
+    def _is_foreign(self, node: Any) -> bool:
+        """Whether it is of a module that is not watched, or of the language."""
+        if isinstance(node, ast.Constant) or isinstance(node, ast.Call) and isinstance(node.func, ast.Name) and node.func.id == "super":
+            return True
+        if isinstance(node, ast.Name) and self._is_builtin(node.id):
+            return True
+        name = self._import_of(node)
+        return name is not None and not name.startswith(".") and not self._is_watched(name)
+
+    def _is_builtin(self, name: str) -> bool:
+        owner = self._scope.owner(name)
+        return owner.kind == MODULE and not owner.bound[name] and hasattr(builtins, name)
+
+    def _text(self, node: Any) -> str:
+        """How a person would write it, in short. `self` is known by its class."""
+        if isinstance(node, ast.Name):
+            owner = self._scope.class_name
+            return owner if node.id in ("self", "cls") and owner is not None else node.id
+        if isinstance(node, ast.Attribute):
+            return f"{self._text(node.value)}.{node.attr}"
+        if isinstance(node, ast.Subscript):
+            inside = repr(node.slice.value) if isinstance(node.slice, ast.Constant) else ".."
+            return f"{self._text(node.value)}[{inside}]"
+        return ""
+
+    def _variable(self, node: Any, name: str, kinds: str) -> ast.expr:
+        """A hook that notes a touch of a variable, and gives None."""
+        owner = self._scope.owner(name)
+        site = self._site(node, "variable", kinds, name)
+        if owner.kind == MODULE:
+            return self._hook("g", node, site)
+        empty = ast.arguments(posonlyargs=[], args=[], kwonlyargs=[], kw_defaults=[], defaults=[])
+        looked = ast.Lambda(empty, ast.copy_location(ast.Name(name, ast.Load()), node))
+        return self._hook("c", node, ast.copy_location(looked, node), site)
+
+    def _bindings(self, target: Any) -> Iterator[ast.Name]:
+        for one in ast.walk(target):
+            if isinstance(one, ast.Name) and not isinstance(one.ctx, ast.Load) and self._is_shared(one.id):
+                yield one
+
+    def _stores(self, targets: list[Any], node: Any, kinds: str = "w") -> list[ast.stmt]:
+        """Statements that note that these variables were written."""
+        return [
+            ast.copy_location(ast.Expr(self._variable(one, one.id, kinds)), node) for target in targets for one in self._bindings(target)
+        ]
+
+    def _only_on(self, statements: list[ast.stmt], node: ast.AST) -> list[ast.stmt]:
+        return [ast.copy_location(ast.If(self._is_on(node), statements, []), node)] if statements else []
+
+    # Statements
+
+    def _statements(self, body: list[Any]) -> list[ast.stmt]:
+        return [made for one in body for made in self._statement(one)]
+
+    def _statement(self, node: Any) -> list[ast.stmt]:
+        compound = getattr(self, "_do_" + type(node).__name__, None)
+        if compound is not None:
+            return compound(node)  # type: ignore[no-any-return]
+        if not isinstance(node, (ast.Expr, ast.Assign, ast.AugAssign, ast.AnnAssign, ast.Return, ast.Delete, ast.Raise, ast.Assert)):
+            return [node]
+        before_hooks, self._before, self._after = self._hooks, [], []
+        is_twice = not node.is_scoped and not isinstance(node, ast.AnnAssign) and not _makes(node)
+        self._is_guarding = not is_twice
+        simple = getattr(self, "_simple_" + type(node).__name__, self._generic)
+        made = simple(node)
+        self._is_guarding = False
+        if self._hooks == before_hooks:
+            return [made]
+        if is_twice:
+            return [ast.copy_location(ast.If(self._is_on(node), [*self._before, made, *self._after], [node.twin]), node)]
+        return [*self._only_on(self._before, node), made, *self._only_on(self._after, node)]
+
+    def _simple_Assign(self, node: ast.Assign) -> ast.stmt:
+        node.value = self._made(node.value, node.targets[0])
+        if any(isinstance(target, (ast.Tuple, ast.List)) for target in node.targets) and isinstance(node.value, REACHED):
+            node.value = self._operand(node.value, "h", self._site(node.value, "whole", "i", "", self._text(node.value)))
+        else:
+            node.value = node.value if _is_hook(node.value) else self._child(node.value)
+        node.targets = [self._child(target) for target in node.targets]
+        self._after += self._stores([target.twin for target in node.targets if hasattr(target, "twin")], node)
+        return node
+
+    def _simple_AnnAssign(self, node: ast.AnnAssign) -> ast.stmt:
+        if node.value is None:
+            return node
+        value = self._made(node.value, node.target)
+        node.value = value if _is_hook(value) else self._child(value)
+        node.target = self._child(node.target)
+        self._after += self._stores([node.target.twin], node)  # type: ignore[union-attr]
+        return node
+
+    def _simple_AugAssign(self, node: ast.AugAssign) -> ast.stmt:
+        target = node.target
+        is_late = _contains(node.value, LATE)
+        if isinstance(target, ast.Name):
+            if self._is_shared(target.id):
+                self._before += [ast.copy_location(ast.Expr(self._variable(target, target.id, "r")), node)]
+                self._after += self._stores([target], node)
+            if not isinstance(node.value, (ast.Constant, ast.BinOp)) and type(node.op) in IN_PLACE:
+                loaded = ast.copy_location(ast.Name(target.id, ast.Load()), target)
+                site = self._site(node, "whole", IN_PLACE[type(node.op)], "", self._text(target))
+                self._before.append(ast.copy_location(ast.Expr(self._hook("h", node, loaded, site)), node))
+            node.value = self._child(node.value)
+        elif isinstance(target, ast.Attribute):
+            self._augment_attribute(node, target, is_late)
+        elif isinstance(target, ast.Subscript):
+            self._augment_subscript(node, target, is_late)
+        return node
+
+    def _augment_attribute(self, node: ast.AugAssign, target: ast.Attribute, is_late: bool) -> None:
+        owner: Any = target.value
+        name, text = self._mangled(target.attr), self._text(target)
+        in_place = IN_PLACE.get(type(node.op), "") if not isinstance(node.value, ast.Constant) else ""
+        if not is_late:
+            target.value = self._operand(owner, "o", self._site(node, "field", "rw", name, in_place))
+            node.value = self._child(node.value)
+            return
+        reads = self._site(node, "field", "r", name, in_place)
+        writes = self._site(node, "field", "w", name, text)
+        if isinstance(owner, ast.Name):
+            target.value = self._operand(owner, "o", reads)
+            node.value = self._behind("l", owner, node.value, writes)
+        else:
+            target.value = self._operand(owner, "p", writes, reads)
+            node.value = self._hook("z", node.value, self._child(node.value), writes)
+
+    def _augment_subscript(self, node: ast.AugAssign, target: ast.Subscript, is_late: bool) -> None:
+        owner: Any = target.value
+        text = self._text(owner)
+        if isinstance(target.slice, ast.Slice):
+            target.value = self._operand(owner, "h", self._site(node, "whole", "rewrite", "", text))
+            target.slice, node.value = self._child(target.slice), self._child(node.value)
+            return
+        if not is_late:
+            self._element(target, self._site(node, "element", "rw", "", text))
+            node.value = self._child(node.value)
+            return
+        key: Any = target.slice
+        reads, writes = self._site(node, "element", "r", "", text), self._site(node, "element", "w", "", text)
+        if isinstance(owner, ast.Name) and self._is_simple(key):
+            self._element(target, reads)
+            node.value = self._hook("L", node.value, self._child(node.value), owner.twin, key.twin, writes)  # type: ignore[attr-defined]
+        else:
+            target.value = self._operand(owner, "p", writes, 0)
+            target.slice = self._hook("q", key, self._child(key), writes, reads, True)
+            node.value = self._hook("z", node.value, self._child(node.value), writes)
+
+    def _simple_Delete(self, node: ast.Delete) -> ast.stmt:
+        node.targets = [self._child(target) for target in node.targets]
+        self._after += self._stores([target.twin for target in node.targets if hasattr(target, "twin")], node)
+        return node
+
+    def _simple_Assert(self, node: ast.Assert) -> ast.stmt:
+        node.test = self._truth(node.test)
+        if node.msg is not None:
+            node.msg = self._child(node.msg)
+        return node
+
+    def _made(self, value: Any, target: Any) -> Any:
+        """A new container, passed through a hook that keeps where it was made, and for which name."""
+        if not _is_new(value) or not isinstance(target, REACHED):
+            return value
+        return self._hook("n", value, self._child(value), self._site(value, "made", "", "", self._text(target)))
+
+    # Compound statements
+
+    def _in_scope(self, node: ast.AST, work: Callable[[], None]) -> None:
+        before = self._scope
+        self._scope = self._scopes.by_node[node]
+        work()
+        self._scope = before
+
+    def _do_FunctionDef(self, node: Any) -> list[ast.stmt]:
+        node.decorator_list = [self._guarded(one) for one in node.decorator_list]
+        self._visit_defaults(node.args)
+
+        def work() -> None:
+            node.body = self._statements(node.body)
+
+        is_constructor = node.name == "__init__" and self._scope.kind == CLASS
+        self._in_scope(node, work)
+        first = next(iter((*node.args.posonlyargs, *node.args.args)), None)
+        if is_constructor and first is not None:
+            self._note_making(node, first.arg)
+        return [node]
+
+    _do_AsyncFunctionDef = _do_FunctionDef
+
+    def _note_making(self, node: ast.FunctionDef, name: str) -> None:
+        """Has a constructor tell where it was called."""
+        place = 1 if ast.get_docstring(node, clean=False) is not None else 0
+        at = node.body[min(place, len(node.body) - 1)]
+        call = self._hook("N", at, ast.copy_location(ast.Name(name, ast.Load()), at))
+        node.body.insert(place, ast.copy_location(ast.Expr(call), at))
+
+    def _visit_defaults(self, arguments: ast.arguments) -> None:
+        arguments.defaults = [self._guarded(one) for one in arguments.defaults]
+        arguments.kw_defaults = [None if one is None else self._guarded(one) for one in arguments.kw_defaults]
+
+    def _do_ClassDef(self, node: ast.ClassDef) -> list[ast.stmt]:
+        def work() -> None:
+            node.body = self._statements(node.body)
+
+        self._in_scope(node, work)
+        return [node]
+
+    def _do_If(self, node: Any) -> list[ast.stmt]:
+        node.test = self._guarded(node.test, self._truth)
+        node.body, node.orelse = self._statements(node.body), self._statements(node.orelse)
+        return [node]
+
+    _do_While = _do_If
+
+    def _do_For(self, node: Any) -> list[ast.stmt]:
+        node.iter = self._guarded(node.iter, self._iteration) if isinstance(node, ast.For) else self._guarded(node.iter)
+        return self._bind_and_go_on(node, [node.target])
+
+    _do_AsyncFor = _do_For
+
+    def _bind_and_go_on(self, node: Any, targets: list[Any]) -> list[ast.stmt]:
+        """Visits what a compound statement binds, and its bodies."""
+        self._is_guarding = True
+        for target in targets:
+            self._visit(target)
+        self._is_guarding = False
+        stores = self._only_on(self._stores([target.twin for target in targets], targets[0]) if targets else [], node)
+        node.body = [*stores, *self._statements(node.body)]
+        if hasattr(node, "orelse"):
+            node.orelse = self._statements(node.orelse)
+        return [node]
+
+    def _do_With(self, node: Any) -> list[ast.stmt]:
+        for item in node.items:
+            item.context_expr = self._guarded(item.context_expr)
+        return self._bind_and_go_on(node, [item.optional_vars for item in node.items if item.optional_vars is not None])
+
+    _do_AsyncWith = _do_With
+
+    def _do_Try(self, node: Any) -> list[ast.stmt]:
+        node.body = self._statements(node.body)
+        for handler in node.handlers:
+            if handler.type is not None:
+                handler.type = self._guarded(handler.type)
+            handler.body = self._statements(handler.body)
+        node.orelse, node.finalbody = self._statements(node.orelse), self._statements(node.finalbody)
+        return [node]
+
+    _do_TryStar = _do_Try
+
+    def _do_Match(self, node: ast.Match) -> list[ast.stmt]:
+        node.subject = self._guarded(node.subject)
+        for case in node.cases:
+            if case.guard is not None:
+                case.guard = self._guarded(case.guard, self._truth)
+            case.body = self._statements(case.body)
+        return [node]
+
+    # Expressions
+
+    def _visit(self, node: Any) -> Any:
+        visit = getattr(self, "_visit_" + type(node).__name__, None)
+        return self._generic(node) if visit is None else visit(node)
+
+    def _generic(self, node: Any) -> Any:
+        for name, one in ast.iter_fields(node):
+            if isinstance(one, list):
+                setattr(node, name, [self._child(child) if isinstance(child, ast.expr) else self._inner(child) for child in one])
+            elif isinstance(one, ast.expr):
+                setattr(node, name, self._child(one))
+            else:
+                self._inner(one)
+        return node
+
+    def _inner(self, node: Any) -> Any:
+        """What is no expression itself, but may have some: a keyword."""
+        if isinstance(node, ast.keyword):
+            self._keyword(node)
+        return node
+
+    def _keyword(self, node: ast.keyword) -> None:
+        if node.arg is None and isinstance(node.value, REACHED):
+            node.value = self._operand(node.value, "h", self._site(node.value, "whole", "iteration", "", self._text(node.value)))
+        else:
+            node.value = self._child(node.value)
+
+    def _visit_Name(self, node: ast.Name) -> ast.expr:
+        if not isinstance(node.ctx, ast.Load) or not self._is_shared(node.id):
+            return node
+        return ast.copy_location(ast.BoolOp(ast.Or(), [self._variable(node, node.id, "r"), node]), node)
+
+    def _visit_Constant(self, node: ast.Constant) -> ast.expr:
+        return node
+
+    def _visit_Attribute(self, node: ast.Attribute) -> ast.expr:
+        if node.attr.startswith("__") and node.attr.endswith("__") or self._is_foreign(node.value):
+            node.value = self._child(node.value)
+        else:
+            kinds = "r" if isinstance(node.ctx, ast.Load) else "w"
+            node.value = self._operand(node.value, "o", self._site(node, "field", kinds, self._mangled(node.attr)))
+        return node
+
+    def _visit_Subscript(self, node: ast.Subscript) -> ast.expr:
+        kinds = "r" if isinstance(node.ctx, ast.Load) else "d" if isinstance(node.ctx, ast.Del) else "w"
+        if self._is_foreign(node.value):
+            return self._generic(node)  # type: ignore[no-any-return]
+        if isinstance(node.slice, ast.Slice):
+            whole = "iteration" if kinds == "r" else "rewrite"
+            node.value = self._operand(node.value, "h", self._site(node, "whole", whole, "", self._text(node.value)))
+            node.slice = self._child(node.slice)
+        else:
+            self._element(node, self._site(node, "element", kinds, "", self._text(node.value)))
+        return node
+
+    def _element(self, node: ast.Subscript, site: int) -> None:
+        """Notes a touch of an element, with the container and the key at hand."""
+        owner: Any = node.value
+        key: Any = node.slice
+        if self._is_simple(key):
+            node.value = self._operand(owner, "k", key.twin, site)
+            node.slice = self._child(key)
+        elif isinstance(owner, ast.Name):
+            node.value = self._child(owner)
+            node.slice = self._key_of(owner, key, site)
+        else:
+            node.value = self._operand(owner, "p", site, 0)
+            node.slice = self._hook("q", key, self._child(key), site, site, False)
+
+    def _visit_Call(self, node: ast.Call) -> ast.expr:
+        known = known_function(self._import_of(node.func))
+        if known is not None:
+            return self._call_known(node, known)
+        if isinstance(node.func, ast.Attribute):
+            return self._call_method(node, node.func)
+        if isinstance(node.func, ast.Name) and self._is_builtin(node.func.id):
+            self._arguments_of_builtin(node, node.func.id)
+        else:
+            node.func = self._child(node.func)
+            node.args = [self._child(one) for one in node.args]
+        for keyword in node.keywords:
+            self._keyword(keyword)
+        return node
+
+    def _call_known(self, node: ast.Call, kinds: str) -> ast.expr:
+        """A function of the library that looks at its first argument, or changes it."""
+        for place, one in enumerate(node.args):
+            if place == 0 and not isinstance(one, ast.Starred):
+                node.args[0] = self._operand(one, "h", self._site(node, "whole", kinds, "", self._text(one)))
+            else:
+                node.args[place] = self._child(one)
+        for keyword in node.keywords:
+            self._keyword(keyword)
+        return node
+
+    def _arguments_of_builtin(self, node: ast.Call, name: str) -> None:
+        if name in OF_ATTRIBUTES and len(node.args) > 1 and self._is_simple(node.args[1]):
+            field = node.args[1].twin  # type: ignore[attr-defined]
+            first = self._operand(node.args[0], "A", field, self._site(node, "field", OF_ATTRIBUTES[name]))
+            node.args = [first, *(self._child(one) for one in node.args[1:])]
+        elif name in READERS or name in STEPPERS:
+            node.args = [self._looked_at(one, name) for one in node.args]
+        else:
+            node.args = [self._child(one) for one in node.args]
+
+    def _looked_at(self, node: Any, name: str) -> ast.expr:
+        if isinstance(node, ast.Starred) or not isinstance(node, (*REACHED, ast.Call)):
+            return self._child(node)  # type: ignore[no-any-return]
+        hook = "f" if name in STEPPERS else "h"
+        return self._operand(node, hook, self._site(node, "whole", READERS.get(name, "iteration"), "", self._text(node)))
+
+    def _call_method(self, node: ast.Call, func: ast.Attribute) -> ast.expr:
+        name, owner = func.attr, func.value
+        is_late = any(_contains(one, LATE) for one in node.args)
+        if name not in METHODS or self._is_foreign(owner):
+            node.func = self._child(func)
+            node.args = [self._child(one) for one in node.args]
+        elif name in KEYED and node.args and not isinstance(node.args[0], ast.Starred):
+            self._call_keyed(node, func, self._site(node, "method", "", name, self._text(owner)))
+        elif is_late and name in LATE_METHODS and not isinstance(node.args[-1], ast.Starred):
+            self._call_late(node, func, self._site(node, "method", "", name, self._text(owner)))
+        else:
+            func.value = self._operand(owner, "m", self._site(node, "method", "", name, self._text(owner)))
+            node.args = [self._child(one) for one in node.args]
+        for keyword in node.keywords:
+            self._keyword(keyword)
+        return node
+
+    def _call_keyed(self, node: ast.Call, func: ast.Attribute, site: int) -> None:
+        owner: Any = func.value
+        first: Any = node.args[0]
+        rest = [self._child(one) for one in node.args[1:]]
+        if self._is_simple(first):
+            func.value = self._operand(owner, "k", first.twin, site)
+            node.args = [self._child(first), *rest]
+        elif isinstance(owner, ast.Name):
+            func.value = self._child(owner)
+            node.args = [self._key_of(owner, first, site), *rest]
+        else:
+            func.value = self._operand(owner, "p", site, 0)
+            node.args = [self._hook("q", first, self._child(first), site, site, False), *rest]
+
+    def _call_late(self, node: ast.Call, func: ast.Attribute, site: int) -> None:
+        """A method whose argument takes its time: the touch comes behind it."""
+        owner: Any = func.value
+        last = node.args[-1]
+        rest = [self._child(one) for one in node.args[:-1]]
+        if isinstance(owner, ast.Name):
+            func.value = self._child(owner)
+            node.args = [*rest, self._behind("l", owner, last, site)]
+        else:
+            func.value = self._operand(owner, "p", site, 0)
+            node.args = [*rest, self._hook("z", last, self._child(last), site)]
+
+    def _visit_Compare(self, node: ast.Compare) -> ast.expr:
+        if len(node.ops) != 1 or not isinstance(node.ops[0], (ast.In, ast.NotIn)):
+            return self._compare_values(node)
+        left: Any = node.left
+        owner: Any = node.comparators[0]
+        if not isinstance(owner, (*REACHED, ast.Call)):
+            return self._generic(node)  # type: ignore[no-any-return]
+        site = self._site(node, "element", "c", "", self._text(owner))
+        if self._is_simple(left):
+            node.left = self._child(left)
+            node.comparators = [self._operand(owner, "k", left.twin, site)]
+        elif isinstance(owner, ast.Name):
+            node.left = self._hook("K", left, owner.twin, self._child(left), site)  # type: ignore[attr-defined]
+            node.comparators = [self._child(owner)]
+        else:
+            node.left = self._operand(left, "p", site, 0)
+            node.comparators = [self._hook("b", owner, self._child(owner), site)]
+        return node
+
+    def _compare_values(self, node: ast.Compare) -> ast.expr:
+        sides: list[Any] = [node.left, *node.comparators]
+        is_plain = any(isinstance(side, ast.Constant) for side in sides)
+        made = []
+        for side in sides:
+            is_looked_at = isinstance(side, ast.Attribute) and not is_plain and isinstance(node.ops[0], (ast.Eq, ast.NotEq))
+            if is_looked_at and not self._is_foreign(side.value):
+                made.append(self._operand(side, "h", self._site(side, "whole", "iteration", "", self._text(side))))
+            else:
+                made.append(self._child(side))
+        node.left, node.comparators = made[0], made[1:]
+        return node
+
+    def _truth(self, node: Any) -> Any:
+        """An expression whose truth is asked for: that of a container is its length."""
+        if isinstance(node, REACHED) and not self._is_foreign(node):
+            return self._operand(node, "h", self._site(node, "whole", "length", "", self._text(node)))
+        return self._child_or_self(node)
+
+    def _child_or_self(self, node: Any) -> Any:
+        visit = getattr(self, "_visit_" + type(node).__name__, None)
+        return self._generic(node) if visit is None else visit(node)
+
+    def _visit_BoolOp(self, node: ast.BoolOp) -> ast.expr:
+        node.values = [*(self._part(one, self._truth) for one in node.values[:-1]), self._part(node.values[-1], self._visit)]
+        return node
+
+    def _part(self, node: Any, visit: Callable[[Any], Any]) -> Any:
+        return self._guarded(node, visit) if self._is_guarding else visit(node)
+
+    def _visit_UnaryOp(self, node: ast.UnaryOp) -> ast.expr:
+        node.operand = self._part(node.operand, self._truth if isinstance(node.op, ast.Not) else self._visit)
+        return node
+
+    def _visit_IfExp(self, node: ast.IfExp) -> ast.expr:
+        node.test = self._part(node.test, self._truth)
+        node.body, node.orelse = self._child(node.body), self._child(node.orelse)
+        return node
+
+    def _visit_FormattedValue(self, node: ast.FormattedValue) -> ast.expr:
+        if isinstance(node.value, (ast.Attribute, ast.Name)):
+            node.value = self._operand(node.value, "h", self._site(node.value, "whole", "iteration", "", self._text(node.value)))
+        else:
+            node.value = self._child(node.value)
+        return node  # What it is formatted by is left as it is.
+
+    def _visit_JoinedStr(self, node: ast.JoinedStr) -> ast.expr:
+        node.values = [self._visit(one) if isinstance(one, ast.FormattedValue) else one for one in node.values]
+        return node
+
+    def _visit_Starred(self, node: ast.Starred) -> ast.expr:
+        if isinstance(node.ctx, ast.Load) and isinstance(node.value, REACHED):
+            node.value = self._operand(node.value, "h", self._site(node.value, "whole", "iteration", "", self._text(node.value)))
+        else:
+            node.value = self._child(node.value)
+        return node
+
+    def _visit_NamedExpr(self, node: ast.NamedExpr) -> ast.expr:
+        node.value = self._child(node.value)
+        if self._is_shared(node.target.id) and self._scope.owner(node.target.id).kind == MODULE:
+            node.value = self._hook("v", node.value, node.value, self._site(node, "variable", "w", node.target.id))
+        return node
+
+    def _visit_Lambda(self, node: ast.Lambda) -> ast.expr:
+        self._visit_defaults(node.args)
+
+        def work() -> None:
+            node.body = self._guarded(node.body)
+
+        self._in_scope(node, work)
+        return node
+
+    def _visit_comprehension_of(self, node: Any) -> ast.expr:
+        node.generators[0].iter = self._iterated(node.generators[0])
+
+        def work() -> None:
+            for place, part in enumerate(node.generators):
+                if place > 0:
+                    part.iter = self._iterated(part)
+                part.ifs = [self._guarded(one, self._truth) for one in part.ifs]
+            for name in ("elt", "key", "value"):
+                if hasattr(node, name):
+                    setattr(node, name, self._guarded(getattr(node, name)))
+
+        self._in_scope(node, work)
+        return node  # type: ignore[no-any-return]
+
+    _visit_ListComp = _visit_SetComp = _visit_DictComp = _visit_GeneratorExp = _visit_comprehension_of
+
+    def _iterated(self, part: ast.comprehension) -> Any:
+        return self._guarded(part.iter) if part.is_async else self._guarded(part.iter, self._iteration)
+
+    def _iteration(self, node: Any) -> Any:
+        """What a loop goes through: each step is a look at it."""
+        if isinstance(node, ast.Call) and isinstance(node.func, ast.Name) and self._is_builtin(node.func.id):
+            return self._visit(node)
+        if isinstance(node, ast.Call) and isinstance(node.func, ast.Attribute) and node.func.attr in VIEWS and not node.args:
+            return self._iteration_of_view(node, node.func)
+        if isinstance(node, (*REACHED, ast.Call)) and not self._is_foreign(node):
+            return self._operand(node, "f", self._site(node, "whole", "iteration", "", self._text(node)))
+        return self._visit(node)
+
+    def _iteration_of_view(self, node: ast.Call, func: ast.Attribute) -> Any:
+        owner: Any = func.value
+        made = self._visit(node)
+        if not isinstance(owner, ast.Name):
+            return made
+        site = self._site(node, "whole", "iteration", "", self._text(owner))
+        return self._hook("F", node, made, owner.twin, site)  # type: ignore[attr-defined]
+
+
+def _is_hook(node: Any) -> bool:
+    return isinstance(node, ast.Call) and isinstance(node.func, ast.Name) and node.func.id.startswith(PREFIX)
