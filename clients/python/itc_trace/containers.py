@@ -23,7 +23,7 @@ READS = frozenset(
     "__getitem__ __contains__ __iter__ __len__ __reversed__ __eq__ __ne__ __lt__ __le__ __gt__ __ge__ __add__ __radd__ "
     "__mul__ __rmul__ __or__ __ror__ __and__ __rand__ __sub__ __rsub__ __xor__ __rxor__ __bool__ __str__ __repr__ __format__ "
     "__copy__ __deepcopy__ get keys values items copy index count union intersection difference symmetric_difference isdisjoint "
-    "issubset issuperset most_common elements total decode hex find startswith endswith".split()
+    "issubset issuperset most_common elements total decode hex find startswith endswith tolist tobytes tounicode buffer_info".split()
 )
 """Methods that only look. Of a type of the library every other one writes."""
 
@@ -102,6 +102,11 @@ OF_CALL = _probed(False) if _COUNTS else 0
 OF_VARIABLE = _of_variable() if _COUNTS else 0
 
 
+def is_noted(value: Any) -> bool:
+    """Whether it is a container that notes what is done to it."""
+    return type(value) in _all_noted and value._itc_name is not None
+
+
 def is_noted_by_type(kind: type) -> bool:
     """Whether a container of exactly this type can be made to note what is done to it."""
     return kind in _MADE_AGAIN
@@ -131,6 +136,7 @@ def noted(value: Any, name: str) -> Any:
 
 
 _noted_types: dict[type, type] = {}
+_all_noted: set[type] = set()
 
 
 def _noted_type(base: type) -> type:
@@ -142,14 +148,25 @@ def _noted_type(base: type) -> type:
         methods["__hash__"] = None
         if base is defaultdict:
             methods["__missing__"] = _missing
+        if base in (list, deque, bytearray):
+            methods["__radd__"] = _added_to
         named = {"_itc_name": None, "__module__": base.__module__}
         made = _noted_types[base] = type(base.__name__, (base,), {**methods, **named})
+        _all_noted.add(made)
     return made
 
 
 def _plain(base: type, value: Any) -> Any:
     """A copy is of the program's type, and is no part of what is shared."""
     return value
+
+
+def _added_to(self: Any, other: Any) -> Any:
+    """What stands to the right of a plain list is asked before the list."""
+    if not isinstance(other, (list, deque, bytes, bytearray)):
+        return NotImplemented
+    note(self._itc_name, READ)
+    return type(other).__add__(other, self)
 
 
 def is_method(base: type, name: str) -> bool:

@@ -40,7 +40,8 @@ def shared(value: T, name: str) -> T:
         _warn_of_unwatched(value, name)
         return value
     kind: Any = type(value)
-    if is_noted_by_type(kind) and sys.getrefcount(value) <= REFERENCES_OF_A_NEW_VALUE:
+    is_taken_by_its_methods = kind is not set  # Others may be in C, and take what is in a set without them.
+    if is_taken_by_its_methods and is_noted_by_type(kind) and sys.getrefcount(value) <= REFERENCES_OF_A_NEW_VALUE:
         return cast(T, noted(value, name))
     return cast(T, stand_in(value, name))
 

@@ -4,6 +4,7 @@ from __future__ import annotations
 
 import sys
 import types
+from collections import deque
 from collections.abc import Callable
 from typing import Any
 
@@ -38,6 +39,9 @@ def stand_in(value: Any, name: str) -> Any:
     made: Any = object.__new__(_type_for(type(value)))
     object.__setattr__(made, "_itc_value", value)
     object.__setattr__(made, "_itc_name", name)
+    names = getattr(value, "__dict__", None)
+    if type(names) is dict:
+        object.__setattr__(made, "__dict__", names)  # Methods that set an attribute by `object.__setattr__` set the value's.
     return made
 
 
@@ -71,8 +75,17 @@ def _type_for(base: type) -> type:
     if made is None:
         names = [one for one in dir(base) if one.startswith("__") and one.endswith("__") and one not in _OWN]
         methods = {one: _special(base, one) for one in names if is_method(base, one)}
-        made = _types[base] = type(base.__name__, (StandIn,), {**methods, "__hash__": StandIn.__hash__})
+        marks = {one: getattr(base, one) for one in names if not callable(getattr(base, one, len))}
+        own = {"__hash__": StandIn.__hash__, "__reduce_ex__": StandIn.__reduce_ex__}
+        if issubclass(base, (list, deque, bytearray)):
+            own["__radd__"] = _added_to
+        made = _types[base] = type(base.__name__, (StandIn,), {**marks, **methods, **own})
     return made
+
+
+def _added_to(self: Any, other: Any) -> Any:
+    note(name_of(self), READ)
+    return other + value_of(self)
 
 
 def _special(base: type, name: str) -> Callable[..., Any]:
@@ -97,6 +110,10 @@ def value_of(one: Any) -> Any:
     return object.__getattribute__(one, "_itc_value") if isinstance(type(one), type) and issubclass(type(one), StandIn) else one
 
 
+def name_of(one: StandIn) -> str:
+    return str(object.__getattribute__(one, "_itc_name"))
+
+
 class StandIn:
     """Stands before an object: attributes are read and written there, and each time is noted."""
 
@@ -108,6 +125,9 @@ class StandIn:
 
     def __getattribute__(self, name: str) -> Any:
         value = object.__getattribute__(self, "_itc_value")
+        if name == "__dict__":
+            note(object.__getattribute__(self, "_itc_name"), READ)
+            return value.__dict__
         if name in type(self).__dict__:
             return object.__getattribute__(self, name)
         if name.startswith("__") and name.endswith("__"):
@@ -117,7 +137,7 @@ class StandIn:
             return types.MethodType(found, self)
         if isinstance(found, property) and isinstance(found.fget, types.FunctionType):
             return found.fget(self)
-        if isinstance(value, CONTAINERS) and callable(found):
+        if callable(found) and (isinstance(value, CONTAINERS) or type(value).__module__ == "array"):
             return _noted_method(value, name, object.__getattribute__(self, "_itc_name"))
         try:
             told = getattr(value, name)
@@ -156,12 +176,16 @@ class StandIn:
         return bool(object.__getattribute__(self, "_itc_value") == value_of(other))
 
     def __bool__(self) -> bool:
-        return bool(object.__getattribute__(self, "_itc_value"))
+        value = object.__getattribute__(self, "_itc_value")
+        if hasattr(type(value), "__len__"):
+            note(object.__getattribute__(self, "_itc_name"), READ)
+        return bool(value)
 
     def __dir__(self) -> list[str]:
         return dir(object.__getattribute__(self, "_itc_value"))
 
     def __reduce_ex__(self, protocol: Any) -> Any:
+        note(object.__getattribute__(self, "_itc_name"), READ)
         return object.__getattribute__(self, "_itc_value").__reduce_ex__(protocol)
 
 

@@ -3,13 +3,16 @@
 from __future__ import annotations
 
 import _thread
+import array
 import asyncio
 import collections
 import collections.abc
 import copy
+import dataclasses
 import datetime
 import decimal
 import functools
+import heapq
 import io
 import json
 import math
@@ -19,6 +22,7 @@ import os
 import pickle
 import queue
 import threading
+import types
 import unittest
 from concurrent.futures import Future
 from typing import Any
@@ -67,6 +71,39 @@ class Shared(TracedCase):
             with self.subTest(value=value, wanted=wanted):
                 self.assertEqual(self.kinds(lambda: use(shared(value, "t"))), wanted)
 
+    def test_what_goes_past_the_methods_of_a_container_counts_too(self) -> None:
+        uses: list[tuple[Any, str, Any]] = [
+            ([2, 1], "w", heapq.heapify), ([1], "w", lambda one: heapq.heappush(one, 0)), ([1], "w", heapq.heappop),
+            (held([1]), "w", heapq.heappop), ([1], "r", lambda one: [0] + one), (bytearray(b"a"), "r", lambda one: b"b" + one),
+            ({1}, "r", set), ({1}, "r", lambda one: {2}.union(one)), ({1}, "r", lambda one: {2} | one),
+            (collections.deque([1]), "r", bool), (held(collections.deque([1])), "r", bool), (held([1]), "r", bool),
+            (array.array("i", [1]), "w", lambda one: one.append(2)), (array.array("i", [1]), "r", lambda one: one.tolist()),
+        ]
+        for value, wanted, use in uses:
+            with self.subTest(value=value, wanted=wanted):
+                self.assertEqual(self.kinds(lambda: use(shared(value, "t"))), wanted)
+
+    def test_a_data_class_stays_one(self) -> None:
+        def work() -> None:
+            one: Any = shared(Order(rows=[1]), "t")
+            self.assertEqual(dataclasses.asdict(one), {"number": 1, "rows": [1]})
+            self.assertEqual(dataclasses.astuple(one), (1, [1]))
+            self.assertEqual(dataclasses.replace(one, number=3), Order(3, [1]))
+            self.assertEqual(copy.deepcopy(one), Order(1, [1]))
+            self.assertEqual(vars(one), {"number": 1, "rows": [1]})
+            one.mark()
+            self.assertEqual((one.number, vars(one)["number"]), (9, 9))
+            match one:
+                case Order(number=number):
+                    self.assertEqual(number, 9)
+            names: Any = shared(types.SimpleNamespace(a=1), "t")
+            vars(names)["b"] = 2
+            self.assertEqual((names.b, vars(names)), (2, {"a": 1, "b": 2}))
+
+        self.races(work)
+        self.assertEqual(self.kinds(lambda: vars(shared(Order(), "t"))), "r")
+        self.assertEqual(self.kinds(lambda: copy.copy(shared(Order(), "t"))), "r")
+
     def test_attributes_methods_and_properties_of_an_object_count(self) -> None:
         uses: list[tuple[str, Any]] = [
             ("r", lambda one: one.field), ("w", lambda one: setattr(one, "field", 5)), ("rwr", lambda one: one.raise_by(2)),
@@ -113,6 +150,17 @@ class Shared(TracedCase):
                 self.assertEqual(warned.filename, __file__)
 
         self.races(work)
+
+
+@dataclasses.dataclass
+class Order:
+    """A data class with a list."""
+
+    number: int = 1
+    rows: list[int] = dataclasses.field(default_factory=list)
+
+    def mark(self) -> None:
+        object.__setattr__(self, "number", 9)
 
 
 class Slotted:

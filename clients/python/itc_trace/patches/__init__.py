@@ -2,7 +2,7 @@
 
 from __future__ import annotations
 
-from . import asynchronous, cached, entry_queue, exits, futures, importlib_bootstrap, processes, queues, threads
+from . import asynchronous, cached, entry_queue, exits, futures, heaps, importlib_bootstrap, processes, queues, threads
 from .base import Patches
 
 _patches: Patches | None = None
@@ -13,7 +13,7 @@ def put_all() -> None:
     global _patches
     if _patches is None:
         _patches = Patches()
-        for module in (threads, exits, queues, futures, asynchronous, cached, processes, entry_queue, importlib_bootstrap):
+        for module in (threads, exits, queues, futures, asynchronous, cached, heaps, processes, entry_queue, importlib_bootstrap):
             module.put(_patches)
 
 
