@@ -7,7 +7,7 @@ from dataclasses import dataclass, field
 from .races import Race, Races
 from .verdict import Unseen, Verdict, reasons, verdict_of
 
-Key = tuple[str, tuple[object, ...]]
+Key = object
 
 
 @dataclass
@@ -36,7 +36,7 @@ class Merged:
         self.status = self.status or status
         self.unseen += [Unseen(one.cause, f"run {self.runs}: {one.text}") for one in races.unseen]
         for found, known in ((races.races, self._races), (races.possible, self._possible)):
-            for key, race in {(race.thing, race.sides): race for race in found}.items():
+            for key, race in {race.key: race for race in found}.items():
                 known.setdefault(key, Often(race, self.runs, seed)).runs += 1
 
     @property

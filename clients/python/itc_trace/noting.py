@@ -12,7 +12,7 @@ from collections.abc import Callable, Hashable
 from types import CodeType, FrameType
 from typing import Any
 
-from .conflicts import READ, WRITE
+from .conflicts import MAKING, READ, WRITE
 from .lines import MARK, SPAWN, TAKE, TOUCH, Line, Token, What, state
 from .stretches import STRETCHES, TURNS, Stretch, leave
 
@@ -171,7 +171,7 @@ def touched(key: Hashable, thing: Any, kind: str, site: Any) -> None:
     """Adds a touch to the stretch of this thread, by a key that stands for thing, kind and site."""
     note = state.note
     if note is None:
-        if state.witness is not None:
+        if state.witness is not None and kind != MAKING:
             state.witness(thing, site)
         return
     stretch = STRETCHES.get(get_ident())

@@ -1,27 +1,30 @@
-"""Finds the races of a trace: touches of one thing, at least one a write, by tasks that nothing keeps in order.
+"""Finds the races of a trace: touches of one thing that conflict, by tasks that nothing keeps in order.
 
-The order comes from the collector alone. For each thing it is asked far less often than there are pairs: the touches of one task
-come one after another, so of another task's touches those that come before one of them are the first ones, up to some
-boundary, and those that come after it are the last ones, from some boundary on. Both boundaries only move forward.
+The order comes from the collector alone. For each thing it is asked of the few pairs of touches that decide whether there is a race.
+Only if there is one, all pairs of places that race are looked for. A race is possible if nothing but locks that the two tasks do
+not both hold put two touches in order.
 """
 
 from __future__ import annotations
 
-import bisect
-import itertools
+import linecache
 from collections import defaultdict
-from collections.abc import Generator, Iterable, Iterator
+from collections.abc import Iterable, Iterator
 from dataclasses import dataclass, field
 
 from .collector import HOST
+from .conflicts import CHANGING, CONFLICTING, MAKING
+from .fast_track import deciding_pairs
 from .journal import Row, read_whole
-from .session import Refused, Session
+from .order import Order
+from .racing_pairs import Bounds, Pair, racing_pairs
+from .session import Session
 from .verdict import Unseen, Verdict, verdict_of
+from .without_locks import Signals, Trace, WithoutLocks, first_lock_that_tells
 
-WRITE = "write"
-NO_SUCH_REQUEST = 400
-EVENTS_OF_AN_ORDER = 50
-"""A cut looks at all events, and takes about as long as one order for so many of them."""
+MAKERS = ("__init__", "__new__", "__post_init__")
+"""Functions that make an object. What they write for the first time is made there."""
+NOTHING = "nothing orders them"
 
 
 @dataclass(frozen=True)
@@ -30,6 +33,7 @@ class Side:
 
     kind: str
     place: str
+    function: str = ""
 
     def __str__(self) -> str:
         return f"{self.kind} at {self.place}"
@@ -43,14 +47,32 @@ class Race:
     sides: tuple[Side, Side]
     example: tuple[Row, Row]
     times: int = 0
+    why: str = NOTHING
+    is_possible: bool = False
+    """Whether it was kept in order in this run, by luck alone."""
+
+    @property
+    def key(self) -> object:
+        """What is the same of races that are listed as one, in other runs too."""
+        return _key(self.example)
 
     def __str__(self) -> str:
-        (one, other), (first, second) = self.sides, self.example
+        first, second = self.example
+        made = f" ({first.made})" if first.made else ""
+        width = max(len(side.kind) for side in self.sides)
+        places = [_place(side, width) for side in self.sides]
         times = "once" if self.times == 1 else f"{self.times} times"
-        return (
-            f"race on {self.thing}: {one} and {other}, {times}\n"
-            f"    event {first.event} of {first.task} and event {second.event} of {second.task}: nothing orders them"
-        )
+        tasks = "tasks" if first.loop or second.loop else "threads"
+        order = f"{tasks} {first.task} and {second.task}: {self.why}; {times}, as events {first.event} and {second.event}"
+        word = "possible race" if self.is_possible else "race"
+        return "\n    ".join([f"{word} on {self.thing}{made}", *places, order])
+
+
+def _place(side: Side, width: int) -> str:
+    where = f" in {side.function}" if side.function and side.function != "<module>" else ""
+    file, _, line = side.place.rpartition(":")
+    source = linecache.getline(file, int(line)).strip() if line.isdigit() else ""
+    return f"{side.kind:{width}} at {side.place}{where}{':  ' if source else ''}{source}"
 
 
 @dataclass
@@ -61,10 +83,10 @@ class Races:
     possible: list[Race] = field(default_factory=list)
     unseen: list[Unseen] = field(default_factory=list)
     touches: int = 0
+    places: int = 0
     things: int = 0
     events: int = 0
     questions: int = 0
-    pairs: int = 0
 
     def __bool__(self) -> bool:
         return bool(self.races)
@@ -87,223 +109,198 @@ class Races:
 
     def summary(self) -> str:
         return (
-            f"{self.found()}: "
-            f"{_counted(self.touches, 'touch', 'touches')} of {_counted(self.things, 'thing')}, "
-            f"{_counted(self.events, 'event')}; asked {_counted(self.questions, 'question')} for "
-            f"{_counted(self.pairs, 'pair')}"
+            f"{self.found()}: {_counted(self.places, 'place')} of {_counted(self.things, 'thing')}, "
+            f"{_counted(self.events, 'event')}"
         )
 
     def text(self) -> str:
-        return "\n".join([str(race) for race in self.races] + [self.summary()])
+        return "\n".join([*map(str, self.races), *map(str, self.possible), self.summary()])
 
 
-def _counted(count: int, one: str, many: str = "") -> str:
-    return f"{count} {one if count == 1 else many or one + 's'}"
+def _counted(count: int, one: str) -> str:
+    return f"{count} {one if count == 1 else one + 's'}"
 
 
-class _Touches:
-    """The touches of one thing by one task, in their order."""
+class _Thing:
+    """The touches of one thing, in the order of their events."""
 
     def __init__(self, rows: list[Row]) -> None:
-        self.rows = rows
-        self.events = [row.event for row in rows]
-        self.sides: dict[Side, list[int]] = defaultdict(list)
-        for index, row in enumerate(rows):
-            self.sides[Side(row.kind, row.place)].append(index)
-        self.has_write = any(row.is_write for row in rows)
+        self.touches = [row for row in rows if row.kind != MAKING]
+        self.making = next((row for row in rows if row.kind == MAKING), None) or _first_written(rows)
+        self.tasks = {row.task for row in self.touches}
+        self.is_named = not rows[0].name
+        """Whether the program itself has named it: then its touches count as they stand, also those of one loop."""
+
+    @property
+    def may_race(self) -> bool:
+        """Whether two tasks touch it in ways that conflict."""
+        tasks: dict[str, set[str]] = defaultdict(set)
+        for touch in self.touches:
+            tasks[touch.kind].add(touch.task)
+        pairs = ((tasks[kind], tasks[other]) for kind in list(tasks) for other in CONFLICTING[kind] if other in tasks)
+        return len(self.tasks) > 1 and any(len(ones | others) > 1 for ones, others in pairs)
+
+    @property
+    def has_lock_in_common(self) -> bool:
+        """Whether some lock is held at each touch."""
+        return bool(frozenset(self.touches[0].held).intersection(*(touch.held for touch in self.touches)))
 
 
-Things = dict[str, dict[str, _Touches]]
-Question = tuple[int, int]
+def _first_written(rows: list[Row]) -> Row | None:
+    """The first touch, where a constructor writes."""
+    first = rows[0]
+    return first if first.kind in CHANGING and first.function.rpartition(".")[2] in MAKERS else None
 
 
-class _Cuts:
-    """Knows the order by cuts: one question for all touches between two receipts of a task."""
+def find_races(tenant: str, port: int, journal: Iterable[str], host: str = HOST, strict: bool = False) -> Races:
+    """The races among the touches that the journal lists, by the order that the collector answers.
 
-    def __init__(self, view: Session, rows: list[Row], is_complete: bool) -> None:
-        self._view = view
-        self._task_of = {row.event: row.task for row in rows}
-        self._epochs = _epochs(rows, is_complete)
-        self._cuts: dict[int, dict[str, int]] = {}
-        self.questions = 0
-
-    def wanted(self, things: Things) -> int:
-        """How many cuts are to be asked for."""
-        return len(self._wanted(things))
-
-    def _wanted(self, things: Things) -> set[int]:
-        return {
-            self._epochs[event] for tasks in things.values() for touches in tasks.values() for event in touches.events
-        }
-
-    def prepare(self, things: Things) -> None:
-        """Asks for the cut of each touch that may be part of a race, and of no two with the same one."""
-        events = sorted(self._wanted(things))
-        self.questions += len(events)
-        for event, reply in zip(events, self._view.ask(f"cut {event}" for event in events)):
-            self._cuts[event] = self._read(event, reply)
-
-    def _read(self, event: int, reply: str) -> dict[str, int]:
-        words = reply.split()
-        if words[0] != "200":
-            raise Refused(f"cut {event}", reply)
-        known = ((self._task_of.get(int(word)), int(word)) for word in words[2:])
-        return {task: last for task, last in known if task is not None}
-
-    def before(self, task: str, touches: _Touches, others: _Touches) -> list[int]:
-        """Of each of the others, how many of the task's touches happened before it."""
-        cuts, epochs = self._cuts, self._epochs
-        return [bisect.bisect_right(touches.events, cuts[epochs[event]].get(task, 0)) for event in others.events]
-
-
-def _epochs(rows: list[Row], is_complete: bool) -> dict[int, int]:
-    """Of each event one that knows as much of other tasks: the first of its task since the last receipt, where all are listed."""
-    epochs: dict[int, int] = {}
-    current: dict[str, int] = {}
-    for row in rows:
-        if not is_complete or row.kind in ("recv", "join") or row.task not in current:
-            current[row.task] = row.event
-        epochs[row.event] = current[row.task]
-    return epochs
-
-
-Walk = Generator[Question, bool, list[int]]
-
-
-def _walk(touches: _Touches, others: _Touches) -> Walk:
-    """Finds the same by asking for orders: the boundary only moves forward, in steps that double."""
-    events, boundary, boundaries = touches.events, 0, []
-    for other in others.events:
-        earlier = bisect.bisect_left(events, other)  # A later event is never before an earlier one.
-        step, limit = 1, earlier
-        while boundary < limit:
-            probe = min(boundary + step, limit) - 1
-            if (yield events[probe], other):
-                boundary, step = probe + 1, 2 * step
-            else:
-                limit, step = probe, max(1, (probe - boundary) // 2)
-        boundaries.append(boundary)
-    return boundaries
-
-
-class _Orders:
-    """Knows the order by questions for pairs of events, many of them on their way at once."""
-
-    def __init__(self, view: Session) -> None:
-        self._view = view
-        self._known: dict[tuple[int, int], list[int]] = {}
-        self.questions = 0
-
-    def expected(self, things: Things) -> int:
-        """About how many orders are to be asked for: one for each touch and each other task."""
-        return sum((len(tasks) - 1) * sum(len(touches.events) for touches in tasks.values()) for tasks in things.values())
-
-    def prepare(self, things: Things) -> None:
-        walks = {
-            (id(one), id(other)): _walk(one, other)
-            for tasks in things.values() for one in tasks.values() for other in tasks.values()
-            if one is not other and (one.has_write or other.has_write)
-        }
-        asked: dict[tuple[int, int], Question] = {}
-        for key, walk in walks.items():
-            self._go_on(key, walk, None, asked)
-        while asked:
-            questions, asked = asked, {}
-            self.questions += len(questions)
-            replies = self._view.ask(f"order {first} {second}" for first, second in questions.values())
-            for key, reply in zip(questions, replies):
-                self._go_on(key, walks[key], reply == "200 before", asked)
-
-    def _go_on(self, key: tuple[int, int], walk: Walk, answer: bool | None, asked: dict[tuple[int, int], Question]) -> None:
-        try:
-            asked[key] = next(walk) if answer is None else walk.send(answer)
-        except StopIteration as stopped:
-            self._known[key] = stopped.value
-
-    def before(self, task: str, touches: _Touches, others: _Touches) -> list[int]:
-        return self._known[id(touches), id(others)]
-
-
-def find_races(tenant: str, port: int, journal: Iterable[str], host: str = HOST) -> Races:
-    """The races among the touches that the journal lists, by the order that the collector answers."""
+    If it is strict, two tasks of one loop race as two threads do. If it is not, only a read that a task writes back in a later turn
+    of the loop, with a change by another task in between, is a race of them. Things that the program has named are always strict.
+    """
     whole = read_whole(journal)
     rows = sorted(dict.fromkeys(whole.rows), key=lambda row: row.event)
-    found = Races(events=len({row.event for row in rows}), touches=sum(row.is_touch for row in rows), unseen=whole.unseen)
-    found.things = len({row.thing for row in rows if row.is_touch})
-    things = _shared_things(rows)
-    if not things:
-        return found
-    with Session(tenant, port, "view", host) as view:
-        orders = _ask_for_orders(view, rows, things)
-    for thing, tasks in things.items():
-        found.races += _races_of(thing, tasks, orders, found)
-    found.questions = orders.questions
+    touches = [row for row in rows if row.is_touch and row.kind != MAKING]
+    found = Races(unseen=whole.unseen, touches=len(touches), events=len({row.event for row in rows}))
+    found.places = len({(row.thing, row.place) for row in touches})
+    found.things = len({row.thing for row in touches})
+    things = [thing for thing in _things_of(rows) if thing.may_race]
+    if things:
+        with Session(tenant, port, "view", host) as view:
+            _Finder(view, rows, found, strict).find(things)
     return found
 
 
-def _ask_for_orders(view: Session, rows: list[Row], things: Things) -> _Cuts | _Orders:
-    """By cuts or by orders, whichever takes less time; by orders, where a collector knows no cut."""
-    cuts = _Cuts(view, rows, is_complete=view.count()[0] == len({row.event for row in rows}))
-    orders = _Orders(view)
-    if cuts.wanted(things) * max(1, len(rows) // EVENTS_OF_AN_ORDER) <= orders.expected(things):
-        try:
-            cuts.prepare(things)
-            return cuts
-        except Refused as refused:
-            if refused.code != NO_SUCH_REQUEST:
-                raise
-    orders.prepare(things)
-    return orders
-
-
-def _shared_things(rows: list[Row]) -> Things:
-    """The touches of each thing that two tasks touch at least, one of them by a write."""
-    by_thing: dict[str, dict[str, list[Row]]] = defaultdict(lambda: defaultdict(list))
+def _things_of(rows: list[Row]) -> list[_Thing]:
+    by_thing: dict[str, list[Row]] = defaultdict(list)
     for row in rows:
         if row.thing is not None:
-            by_thing[row.thing][row.task].append(row)
-    things = {thing: {task: _Touches(one) for task, one in tasks.items()} for thing, tasks in by_thing.items()}
-    return {
-        thing: tasks for thing, tasks in things.items()
-        if len(tasks) > 1 and any(touches.has_write for touches in tasks.values())
-    }
+            by_thing[row.thing].append(row)
+    return [_Thing(rows) for rows in by_thing.values()]
 
 
-def _races_of(thing: str, tasks: dict[str, _Touches], orders: _Cuts | _Orders, found: Races) -> list[Race]:
-    races: dict[tuple[Side, Side], Race] = {}
-    for (first, one), (second, other) in itertools.combinations(tasks.items(), 2):
-        found.pairs += len(one.rows) * len(other.rows)
-        if not (one.has_write or other.has_write):
-            continue
-        lows = orders.before(first, one, other)
-        highs = orders.before(second, other, one)
-        _add_races(thing, one, other, lows, highs, races)
-    return sorted(races.values(), key=lambda race: (race.example[0].event, race.example[1].event))
+class _Finder:
+    """Looks for the races of things, and for those that are possible."""
+
+    def __init__(self, view: Session, rows: list[Row], found: Races, is_strict: bool) -> None:
+        self._view = view
+        self._rows = rows
+        self._found = found
+        self._is_strict = is_strict
+        self._locks = {row.event: row.lock for row in rows if row.lock is not None}
+        self._order = Order(view, rows, is_complete=view.count()[0] == found.events)
+
+    def find(self, things: list[_Thing]) -> None:
+        self._find_races(things)
+        if self._locks:
+            self._find_possible([thing for thing in things if not thing.has_lock_in_common])
+        self._found.questions += self._order.questions
+
+    def _find_races(self, things: list[_Thing]) -> None:
+        order = self._order
+        deciding = [list(deciding_pairs(thing.touches)) for thing in things]
+        order.ask(pair for pairs in deciding for pair in pairs)
+        racing = [thing for thing, pairs in zip(things, deciding) if not all(order.is_before(*pair) for pair in pairs)]
+        order.ask_known(touch.event for thing in racing for touch in thing.touches)
+
+        def bounds(touch: Row, task: str) -> tuple[int, int]:
+            return order.known(touch.event).get(task, 0), touch.event - 1
+
+        listed: dict[object, Race] = {}
+        for thing in racing:
+            for pair in racing_pairs(thing.touches, bounds, False, self._is_strict or thing.is_named):
+                _list(pair, listed)
+        self._found.races = _sorted(listed)
+
+    def _find_possible(self, things: list[_Thing]) -> None:
+        deciding = [list(deciding_pairs(thing.touches, with_locks=True)) for thing in things]
+        if not any(deciding):
+            return
+        trace = Trace(self._view, set(self._locks))
+        with WithoutLocks(trace) as tenant:
+            tenant.ask(pair for pairs in deciding for pair in pairs)
+            unordered = [thing for thing, pairs in zip(things, deciding) if any(tenant.is_concurrent(*pair) for pair in pairs)]
+            self._list_possible(unordered, trace, tenant)
+            self._found.questions += tenant.questions
+
+    def _list_possible(self, things: list[_Thing], trace: Trace, tenant: WithoutLocks) -> None:
+        order, last = self._order, {touch.task: touch.event for thing in things for touch in thing.touches}
+        for thing in things:
+            for touch in thing.touches:
+                last[touch.task] = max(last[touch.task], touch.event)
+        order.ask_known(touch.event for thing in things for touch in thing.touches)
+        signals = Signals(trace, order, last)
+        races = {_key(race.example) for race in self._found.races}
+        listed: dict[object, Race] = {}
+        for thing in things:
+            bounds = self._luck(thing, signals)
+            for first, second, times in racing_pairs(thing.touches, bounds, True, self._is_strict or thing.is_named):
+                if _key((first, second)) not in races and tenant.is_concurrent(first.event, second.event):
+                    _list((first, second, times), listed)
+        for race in listed.values():
+            race.is_possible = True
+            race.why = self._reason(trace, *race.example)
+        self._found.possible = _sorted(listed)
+
+    def _luck(self, thing: _Thing, signals: Signals) -> Bounds:
+        """Which events of a task came before a touch by locks alone."""
+        order, handed_over = self._order, self._handed_over(thing)
+
+        def bounds(touch: Row, task: str) -> tuple[int, int]:
+            known = signals.known(touch.task, touch.event)
+            low = known.get(task, 0)
+            if thing.making is not None and task == thing.making.task and known.get(task, 0) < thing.making.event:
+                low = max(low, handed_over)
+            return low, order.known(touch.event).get(task, 0)
+
+        return bounds
+
+    def _handed_over(self, thing: _Thing) -> int:
+        """The last event up to which whoever made the thing had it for himself."""
+        if thing.making is None:
+            return 0
+        maker, first = thing.making.task, {}
+        for touch in thing.touches:
+            if touch.task != maker:
+                first.setdefault(touch.task, touch.event)
+        return min((self._order.known(event).get(maker, 0) for event in first.values()), default=0)
+
+    def _reason(self, trace: Trace, first: Row, second: Row) -> str:
+        receipt = first_lock_that_tells(trace, self._order, first.event, second.event)
+        lock = self._locks.get(receipt) if receipt is not None else None
+        if lock is None:
+            return "ordered in this run only by locks"
+        lacks = [lock not in touch.held for touch in (first, second)]
+        who = "neither holds" if all(lacks) else "the first does not hold" if lacks[0] else "the second does not hold"
+        return f"ordered in this run only by {lock.partition(' ')[2]}, which {who}"
 
 
-def _add_races(
-    thing: str, one: _Touches, other: _Touches, lows: list[int], highs: list[int], races: dict[tuple[Side, Side], Race]
-) -> None:
-    """Counts, for each touch of the second task, those of the first that are neither before it nor after it."""
-    for index, row in enumerate(other.rows):
-        low, high = lows[index], bisect.bisect_right(highs, index)
-        if low >= high:
-            continue
-        side = Side(row.kind, row.place)
-        for other_side, places in one.sides.items():
-            if not row.is_write and other_side.kind != WRITE:
-                continue
-            start, end = bisect.bisect_left(places, low), bisect.bisect_left(places, high)
-            if start < end:
-                _count(thing, one.rows[places[start]], row, other_side, side, end - start, races)
+def _key(example: tuple[Row, Row]) -> object:
+    """What races are listed as one by: the same kind of thing at the same two places."""
+    one, other = sorted(row.place for row in example)
+    first = example[0]
+    return first.group or first.name or first.thing, one, other
 
 
-def _count(
-    thing: str, first: Row, second: Row, first_side: Side, second_side: Side, times: int,
-    races: dict[tuple[Side, Side], Race],
-) -> None:
-    if (str(first_side), first.event) > (str(second_side), second.event):
-        first, second, first_side, second_side = second, first, second_side, first_side
-    key = (first_side, second_side)
-    race = races.setdefault(key, Race(thing, key, (first, second)))
+def _list(pair: Pair, listed: dict[object, Race]) -> None:
+    first, second, times = pair
+    key = _key((first, second))
+    race = listed.get(key)
+    if race is None:
+        race = listed[key] = Race(first.name or first.thing or "", _sides(first, second), (first, second))
+    elif _tells_more(first, second, race.example):
+        race.sides, race.example = _sides(first, second), (first, second)
     race.times += times
+
+
+def _sides(first: Row, second: Row) -> tuple[Side, Side]:
+    return Side(first.kind, first.place, first.function), Side(second.kind, second.place, second.function)
+
+
+def _tells_more(first: Row, second: Row, example: tuple[Row, Row]) -> bool:
+    """Whether these two are the better example: where lines change a thing it is these that are shown."""
+    return first.place != second.place and first.is_write + second.is_write > sum(row.is_write for row in example)
+
+
+def _sorted(listed: dict[object, Race]) -> list[Race]:
+    return sorted(listed.values(), key=lambda race: (race.example[0].event, race.example[1].event))

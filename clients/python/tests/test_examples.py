@@ -18,7 +18,7 @@ RACE, CLEAN = 66, 0
 
 def racing_things(text: str) -> set[str]:
     lines = (line for line in text.splitlines() if "race on " in line)
-    return {line.partition("race on ")[2].rpartition(": ")[0].partition(":")[0] for line in lines}
+    return {line.partition("race on ")[2].partition(" (")[0] for line in lines}
 
 
 class Examples(unittest.TestCase):

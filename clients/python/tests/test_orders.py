@@ -719,7 +719,7 @@ class Ends(ProgramCase):
                     "atexit.register(lambda: itc_trace.touch('x'))\n"
                     + ("thread.start()\n" if "pool" not in wait else "") + wait + "\n"
                 )
-                self.assertRegex(told, r"no race in this run: 2 touches of 1 thing.* \(0\)")
+                self.assertRegex(told, r"no race in this run: 2 places of 1 thing.* \(0\)")
 
     def test_what_runs_at_exit_is_not_ordered_with_a_daemon(self) -> None:
         told = self.told(
@@ -737,7 +737,7 @@ class Ends(ProgramCase):
             "threading.Thread(target=work, daemon=True).start()\n"
             "time.sleep(0.2)\n"
         )
-        self.assertRegex(told, r"no race in this run: 2 touches of 1 thing.* \(0\)")
+        self.assertRegex(told, r"no race in this run: 2 places of 1 thing.* \(0\)")
 
     def test_who_joins_the_main_thread_comes_after_it(self) -> None:
         told = self.told(
@@ -746,7 +746,7 @@ class Ends(ProgramCase):
             "threading.Thread(target=work).start()\n"
             "itc_trace.touch('x', write=True)\n"
         )
-        self.assertRegex(told, r"no race in this run: 2 touches of 1 thing.* \(0\)")
+        self.assertRegex(told, r"no race in this run: 2 places of 1 thing.* \(0\)")
 
     def test_a_function_can_be_unregistered(self) -> None:
         told = self.told(

@@ -54,7 +54,7 @@ class Shared(TracedCase):
     def kinds(self, work: Any) -> str:
         """The touches of what the work does, as r and w."""
         self.races(work)
-        return "".join(row.kind[0] for row in self.rows if row.thing == "t")
+        return "".join(KINDS[row.kind] for row in self.rows if row.thing == "t")
 
     def test_each_use_of_a_container_is_one_event(self) -> None:
         uses: list[tuple[Any, str, Any]] = [
@@ -119,7 +119,8 @@ class Shared(TracedCase):
             one["a"] += 1
 
         self.races(work)
-        self.assertEqual({(row.file, row.line) for row in self.rows}, {(__file__, work.__code__.co_firstlineno + 2)})
+        touches = {(row.file, row.line) for row in self.rows if row.kind != "making"}
+        self.assertEqual(touches, {(__file__, work.__code__.co_firstlineno + 2)})
 
     def test_what_is_wrapped_behaves_as_it_did(self) -> None:
         def work() -> None:
@@ -188,7 +189,7 @@ class Shelf:
         return not self.lock.locked()
 
 
-KINDS = {"read": "r", "write": "w"}
+KINDS = {"read": "r", "write": "w", "making": ""}
 
 
 class Parts(TracedCase):

@@ -91,7 +91,7 @@ class Signals(ProgramCase):
                         self.assertEqual(status, Verdict.RACES, errors)
                         first, second, *_ = errors.splitlines()
                         self.assertEqual(first, f"itc_trace: incomplete: the program was ended by {number.name}")
-                        self.assertTrue(second.startswith("itc_trace: race on stock: "), errors)
+                        self.assertEqual(second, "itc_trace: race on stock", errors)
 
     def test_a_run_that_is_cut_short_is_no_all_clear(self) -> None:
         program = self.program(WAITING)
@@ -100,7 +100,7 @@ class Signals(ProgramCase):
             run.wait_for("sold")
             status, errors = run.end(number)
             self.assertEqual(status, Verdict.INCOMPLETE, errors)
-            self.assertIn("itc_trace: no race in what was seen: 2 touches of 1 thing", errors)
+            self.assertIn("itc_trace: no race in what was seen: 1 place of 1 thing", errors)
 
     def test_a_run_that_is_ended_keeps_its_trace(self) -> None:
         with tempfile.TemporaryDirectory() as folder:
@@ -121,7 +121,7 @@ time.sleep(100)
 """)
         ran = run_traced(self.program(text))
         self.assertEqual(ran.returncode, Verdict.RACES, ran.stderr)
-        self.assertIn("in what was seen: 4002 touches of 4001 things", ran.stderr)
+        self.assertIn("in what was seen: 4001 places of 4001 things", ran.stderr)
 
     def test_a_program_that_does_not_end_is_killed(self) -> None:
         began = time.monotonic()
@@ -135,7 +135,7 @@ time.sleep(100)
         run.wait_for("ready")
         status, errors = run.end(signal.SIGTERM)
         self.assertEqual(status, 0, errors)
-        self.assertIn("no race in this run: 2 touches", errors)
+        self.assertIn("no race in this run: 1 place", errors)
 
     def test_a_program_that_is_killed_is_no_all_clear(self) -> None:
         for name in ("SIGKILL", "SIGABRT", "SIGSEGV"):

@@ -36,7 +36,7 @@ class Untouched(ProgramCase):
     def test_a_run_without_a_touch_says_so(self) -> None:
         ran = run_traced(self.program(UNSHARED))
         first, *rest = ran.stderr.splitlines()
-        self.assertRegex(first, r"^itc_trace: no race in this run: 0 touches of 0 things, \d+ events; asked 0 questions for 0 pairs$")
+        self.assertRegex(first, r"^itc_trace: no race in this run: 0 places of 0 things, \d+ events$")
         self.assertEqual((rest, ran.returncode), (UNTOUCHED.splitlines(), 0))
 
     def test_a_quiet_run_without_a_touch_says_nothing(self) -> None:
@@ -52,7 +52,7 @@ class Untouched(ProgramCase):
             journal.write(END_ROW)
             journal.flush()
             ran = run_python("-m", "itc_trace", "races", "--port", str(collector.port), "trace", journal.name)
-        self.assertEqual(ran.stdout, "itc_trace: no race in this run: 0 touches of 0 things, 0 events; asked 0 questions for 0 pairs\n")
+        self.assertEqual(ran.stdout, "itc_trace: no race in this run: 0 places of 0 things, 0 events\n")
         self.assertEqual((ran.stderr, ran.returncode), (f"{UNTOUCHED}\n", 0))
 
     def test_a_number_that_is_shared_is_warned_of_and_touched_by_nobody(self) -> None:
