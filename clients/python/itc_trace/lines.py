@@ -12,7 +12,8 @@ from typing import TYPE_CHECKING, Any, NamedTuple
 
 if TYPE_CHECKING:
     from .lock_identity import LockIdentity, Signal
-    from .tracer import TouchEvent, Tracer
+    from .touch_rows import TouchEvent
+    from .tracer import Tracer
 
 MARK, TAKE, TAKE_END, SPAWN, FINISH, JOIN, TOUCH, GONE, SEND, RECV, STOP = range(11)
 

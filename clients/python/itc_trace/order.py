@@ -86,8 +86,15 @@ class Order:
         words = reply.split()
         if words[0] != "200":
             raise Refused(f"cut {event}", reply)
-        known = ((self._task_of.get(last), last) for last in map(int, words[2:]))
-        return {task: last for task, last in known if task is not None}
+        return {self._task(last): last for last in map(int, words[2:])}
+
+    def _task(self, event: int) -> str:
+        """The task of an event. A journal that breaks off does not have all."""
+        task = self._task_of.get(event)
+        if task is None:
+            words = next(iter(self._view.ask([f"event {event}"]))).split()
+            task = self._task_of[event] = words[2] if words[0] == "200" else ""
+        return task
 
     def known(self, event: int) -> Known:
         """Of each other task the last event that happened before this one."""

@@ -19,11 +19,10 @@ from .journal import Row, read_whole
 from .order import Order
 from .racing_pairs import Bounds, Pair, racing_pairs
 from .session import Session
+from .touch_rows import MAKERS
 from .verdict import Unseen, Verdict, verdict_of
 from .without_locks import Signals, Trace, WithoutLocks, first_lock_that_tells
 
-MAKERS = ("__init__", "__new__", "__post_init__")
-"""Functions that make an object. What they write for the first time is made there."""
 NOTHING = "nothing orders them"
 
 

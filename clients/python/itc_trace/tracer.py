@@ -11,19 +11,20 @@ import sys
 import threading
 import time
 from collections import defaultdict, deque
-from collections.abc import Callable, Hashable
+from collections.abc import Callable
 from sys import getrefcount
 from types import CodeType
 
 from .collector import HOST, MOST_TASKS
 from .faults import FULL, Fault, nobody_listens, refusal
-from .journal import Places, Touch, TouchTexts
+from .journal import Places, TouchTexts
 from .journal_file import JournalFile
 from .lines import END, GONE, JOIN, RESULT, SPAWN, STOP, TAKE, TAKE_END, TOUCH, Line, Note, Token, state
 from .lock_identity import LockIdentity
 from .noting import enter
 from .shaking import Shaking
 from .stretches import STRETCHES, Stretch
+from .touch_rows import TouchEvent, TouchRows
 from .verdict import END_ROW, Cause, Unseen
 
 NOTES_AT_ONCE = 1024
@@ -98,32 +99,6 @@ class Outstanding:
         self.may_be_refused = False
 
 
-class TouchEvent:
-    """An event that stands for what a task touches, up to the next event of this task."""
-
-    __slots__ = ("task", "event", "stretches", "touches", "written", "is_open")
-
-    def __init__(self, task: str) -> None:
-        self.task = task
-        self.event = 0
-        """Its number, once the collector has answered."""
-        self.stretches: list[Stretch] = []
-        self.touches: dict[Hashable, Touch] = {}
-        self.written = 0
-        self.is_open = True
-
-    def read_stretches(self) -> None:
-        """Takes over what was noted in its stretches. Of those but the last nothing more is to come."""
-        touches = self.touches
-        for stretch in self.stretches:
-            held, loop, turn = stretch.held, stretch.loop, stretch.turn
-            read = list(stretch.items())
-            for key, touched in read[stretch.read:] if stretch.read else read:
-                touches[key, held, loop, turn] = Touch(*touched, held, loop, turn)
-            stretch.read = len(read)
-        del self.stretches[:-1]
-
-
 def _release(lock: _thread.LockType) -> None:
     """Releases a lock, also where somebody else was faster."""
     try:
@@ -188,6 +163,7 @@ class Tracer:
         self._tenant, self._port = tenant, port
         self._connect(host, process)
         self._touch_texts = TouchTexts(self._places, self.prefix)
+        self._touch_rows = TouchRows(self._touch_texts)
 
     # Beginning
 
@@ -271,7 +247,7 @@ class Tracer:
         self._end_session()
         self._reader_ended.wait(ANSWER_WAIT)
         self._socket.close()
-        self._write_touches()
+        self._write_touches(is_last=True)
         if not self._is_over:
             self._journal_row(END_ROW)
 
@@ -291,7 +267,7 @@ class Tracer:
             self._is_over = True
             if state.tracer is self:
                 state.note = None
-        self._write_touches()
+        self._write_touches(is_last=True)
         self._journal_row(Unseen(cause, reason).row())
         self.notes.clear()
         self._end_session()
@@ -630,24 +606,24 @@ class Tracer:
             stretch.read = 0
             self._goes_on.append(stretch)
 
-    def _write_touches(self) -> None:
+    def _write_touches(self, is_last: bool = False) -> None:
         """Brings the journal up to what was touched by now."""
         with self._writing:
-            unwritten = []
+            gone = self._touch_rows.gone()
+            is_whole = is_last or bool(gone) and not self.notes
+            unwritten, rows = [], []
             for event in self._touch_events:
                 if event.is_open:
-                    event.read_stretches()
-                if event.event and len(event.touches) > event.written:
-                    self._write_rows(self._touch_rows(event))
+                    event.read_stretches(is_whole)
+                if event.event:
+                    rows.append(self._touch_rows.rows(event, is_last or not event.is_open))
                 if event.is_open or not event.event:
                     unwritten.append(event)
             self._touch_events = unwritten
-
-    def _touch_rows(self, event: TouchEvent) -> str:
-        touches = list(event.touches.values())[event.written:]
-        event.written += len(touches)
-        start = f'{{"event":{event.event},"task":"{event.task}",'
-        return "".join([start + self._touch_texts.text(touch) for touch in touches])
+            if is_whole and all(event.event for event in unwritten):
+                self._touch_rows.forget(gone)
+            if any(rows):
+                self._write_rows("".join(rows))
 
     def _gone(self, line: Line) -> None:
         """Nobody can wait for the task any more: it ends, and its place in the clock goes to whoever waited first."""

@@ -1,0 +1,120 @@
+"""The rows of a journal that tell of touches. What one task alone touches is nobody's race, and has none."""
+
+from __future__ import annotations
+
+from collections.abc import Hashable
+from typing import Any
+
+from .conflicts import CHANGING
+from .journal import Touch, TouchTexts
+from .stretches import SITES, Stretch
+
+MAKERS = ("__init__", "__new__", "__post_init__")
+"""Functions that make an object. What they write nobody else has seen."""
+MOST_PRIVATE = 10000
+
+
+class TouchEvent:
+    """An event that stands for what a task touches, up to the next event of this task."""
+
+    __slots__ = ("task", "event", "stretches", "touches", "looked_at", "has_row", "is_open")
+
+    def __init__(self, task: str) -> None:
+        self.task = task
+        self.event = 0
+        """Its number, once the collector has answered."""
+        self.stretches: list[Stretch] = []
+        self.touches: dict[Hashable, Touch] = {}
+        self.looked_at = 0
+        self.has_row = False
+        self.is_open = True
+
+    def read_stretches(self, is_whole: bool = True) -> None:
+        """Takes over what was noted in its stretches. Of those but the last nothing more is to come.
+
+        If it need not be whole, the last one is read only once it has twice as much as before.
+        """
+        touches = self.touches
+        for stretch in self.stretches:
+            if not is_whole and len(stretch) < 2 * stretch.read:
+                continue
+            held, loop, turn = stretch.held, stretch.loop, stretch.turn
+            read = list(stretch.copy().items())  # A copy is made at once. The program may add more while a list is made.
+            for key, touched in read[stretch.read:] if stretch.read else read:
+                touches[key, held, loop, turn] = Touch(*touched, held, loop, turn)
+            stretch.read = len(read)
+        del self.stretches[:-1]
+
+
+class _Alone:
+    """What is known of a thing, as long as one task alone has touched it, or nobody has changed it."""
+
+    __slots__ = ("thing", "task", "waiting", "has_other_task", "is_changed")
+
+    def __init__(self, thing: Any, task: str) -> None:
+        self.thing = thing
+        self.task = task
+        self.waiting: list[tuple[TouchEvent, Touch]] = []
+        self.has_other_task = False
+        self.is_changed = False
+
+
+class TouchRows:
+    """Makes the rows of touch events, each touch once."""
+
+    def __init__(self, texts: TouchTexts) -> None:
+        self._texts = texts
+        self._alone: dict[int, _Alone | None] = {}
+        """Of each thing that was seen by its number, and None of those that are listed."""
+        self._swept = 0
+
+    def rows(self, event: TouchEvent, is_last: bool = False) -> str:
+        """The rows that are new since the last time. An event that has none of its own is told by one row, when nothing more comes."""
+        touches = list(event.touches.values())[event.looked_at:]
+        event.looked_at += len(touches)
+        rows: list[str] = []
+        for touch in touches:
+            if isinstance(touch.thing, str):
+                rows.append(self._row(event, touch))
+            else:
+                self._add(event, touch, rows)
+        if is_last and not event.has_row:
+            event.has_row = True
+            rows.append(f'{{"event":{event.event},"task":"{event.task}","thing":null,"kind":"local","file":null,"line":0,"label":"touch"}}\n')
+        return "".join(rows)
+
+    def _add(self, event: TouchEvent, touch: Touch, rows: list[str]) -> None:
+        number = touch.thing.number
+        alone = self._alone.get(number)
+        if alone is None:
+            if number in self._alone:
+                rows.append(self._row(event, touch))
+                return
+            alone = self._alone[number] = _Alone(touch.thing, event.task)
+        alone.waiting.append((event, touch))
+        alone.has_other_task = alone.has_other_task or event.task != alone.task
+        alone.is_changed = alone.is_changed or touch.kind in CHANGING and not _is_of_maker(touch)
+        if alone.has_other_task and alone.is_changed:
+            rows += [self._row(*one) for one in alone.waiting]
+            self._alone[number] = None
+
+    def _row(self, event: TouchEvent, touch: Touch) -> str:
+        event.has_row = True
+        return f'{{"event":{event.event},"task":"{event.task}",{self._texts.text(touch)}'
+
+    def gone(self) -> list[int]:
+        """The things that one task alone has touched and that are no more, if it is time to forget some."""
+        if len(self._alone) < self._swept + MOST_PRIVATE:
+            return []
+        return [number for number, alone in self._alone.items() if alone is not None and alone.thing.is_gone]
+
+    def forget(self, things: list[int]) -> None:
+        """Forgets those that are still touched by one task alone, once no touch of them may still come."""
+        for number in things:
+            if self._alone.get(number) is not None:
+                del self._alone[number]
+        self._swept = len(self._alone)
+
+
+def _is_of_maker(touch: Touch) -> bool:
+    return SITES[touch.site].function.rpartition(".")[2] in MAKERS
