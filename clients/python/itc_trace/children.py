@@ -4,16 +4,25 @@ from __future__ import annotations
 
 import os
 import select
+import sys
+from collections.abc import Callable
+from types import FrameType
 from typing import Any
 
+from . import watch
 from .journal import line_of
 from .journal_file import JournalFile
 from .lines import state
+from .patches.base import like
+from .patches.later import once_imported
 from .stretches import SITES, STRETCHES
 from .verdict import Cause, Unseen
 
 VARIABLE = "ITC_TRACE_CHILD_OF"
 """Names the journal of a traced process to those that it starts."""
+
+STARTING = frozenset({"multiprocessing", "concurrent", "itc_trace"})
+"""Modules that start processes for the program."""
 
 LEFT_CHILD = Unseen(Cause.CHILD, "a child process goes on after its parent, and was not traced")
 IN_CHILD = Unseen(Cause.CHILD, "this is a child process, which is not traced")
@@ -28,6 +37,7 @@ class Witness:
 
     def __call__(self, thing: Any, site: Any) -> None:
         state.witness = None
+        watch.end()
         name = thing if isinstance(thing, str) else thing.name
         told = Unseen(Cause.CHILD, f"a child process was not traced, and touched {name} at {_place(site)}")
         try:
@@ -42,6 +52,29 @@ def _place(site: Any) -> str:
         return f"{SITES[site].file}:{SITES[site].line}"
     code, instruction, _ = site
     return f"{code.co_filename}:{line_of(code, instruction)}"
+
+
+def tell_of_processes(tell: Callable[[Unseen], None]) -> None:
+    """Tells of the processes of a program that is watched. Nobody knows what they touch, as their shared memory is not watched."""
+    once_imported("multiprocessing.process", lambda module: _wrap_start(module.BaseProcess, tell))
+
+
+def _wrap_start(kind: Any, tell: Callable[[Unseen], None]) -> None:
+    original = kind.start
+
+    def start(self: Any) -> None:
+        original(self)
+        method = getattr(self._popen, "method", "fork")
+        tell(Unseen(Cause.CHILD, f"a child process was not traced: it was started by {method} at {_starting_place()}"))
+
+    kind.start = like(original, start)
+
+
+def _starting_place() -> str:
+    frame: FrameType | None = sys._getframe(2)
+    while frame is not None and str(frame.f_globals.get("__name__")).partition(".")[0] in STARTING:
+        frame = frame.f_back
+    return "?" if frame is None else f"{frame.f_code.co_filename}:{frame.f_lineno}"
 
 
 class Announced:

@@ -20,6 +20,7 @@ from types import FrameType
 from typing import Any, NoReturn
 
 from . import watch
+from .children import tell_of_processes
 from .faults import WORDS_REFUSED
 from .patches.base import like
 from .shaking import Shaking
@@ -47,6 +48,8 @@ def main() -> None:
         traced = Tracing(**configuration, shaking=shaking).start()
     except OSError as fault:  # Another session reports, say.
         _refuse(tell, str(fault))
+    if watch.is_on():
+        tell_of_processes(traced.tell)
     ending = Ending(traced)
     atexit.register(ending.finish)
     try:
@@ -114,7 +117,7 @@ class Ending:
 
         def replace(*words: Any) -> Any:
             self._traced.tell(ANOTHER_PROGRAM)
-            self._traced.stop()
+            self.finish()
             return original(*words)
 
         setattr(os, name, like(original, replace))
@@ -134,12 +137,13 @@ class Ending:
 
     def _end_by(self, number: int, _: FrameType | None) -> None:
         """Reports what was noted, before the signal ends the process as it would untraced."""
-        self._traced.tell(_ended_by(number))
-        if self._traced.is_stopping:
-            self._waiting_signal = number
+        if self._waiting_signal is not None:
             return
-        self._traced.stop()
-        self._die(number)
+        self._waiting_signal = number
+        self._traced.tell(_ended_by(number))
+        if not self._traced.is_stopping:  # Else whoever stops it looks for the signal.
+            self._traced.stop()
+            self._die(number)
 
     def _die(self, number: int) -> None:
         signal.signal(number, signal.SIG_DFL)

@@ -79,19 +79,19 @@ class Tracing:
     def stop(self) -> None:
         """Traces no more, and waits until the collector has all that was noted."""
         with self._stopping:
+            self.is_stopping = True
             tracer, self._tracer = self._tracer, None
             file, self._file = self._file, None
             children, self._children = self._children, None
             announced, self._announced = self._announced, None
             _active.discard(self)
             if tracer is not None:
-                self.is_stopping = True
                 watch.end()
                 tracer.stop()
-                self.is_stopping = False
             for one in (file, children, announced):
                 if one is not None:
                     one.close()
+            self.is_stopping = False
 
     def tell(self, unseen: Unseen) -> None:
         """Says in the journal what of the run is not seen."""
@@ -110,6 +110,7 @@ class Tracing:
             self._tracer.forget()
         if self._file is not None:
             state.witness = Witness(self._file)
+            watch.witness()
         self._tracer = self._file = self._collector = self._announced = None
         self._stopping = _thread.RLock()
         self._is_temporary = self._has_own_collector = False

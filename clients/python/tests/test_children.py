@@ -23,23 +23,27 @@ def work(touches):
     if touches:
         stock["left"] -= 1
 
+def end(touches):
+    work(touches)
+    sys.stdout.flush()
+    os.write(1, f"{time.monotonic()}\\n".encode())
+
 def in_fork(touches, leave):
     child = os.fork()
     if child == 0:
-        work(touches)
+        end(touches)
         leave(0)
     os.waitpid(child, 0)
 
 def in_process(method, touches):
     context = multiprocessing.get_context(method)
-    children = [context.Process(target=work, args=(touches,)) for _ in range(2)]
+    children = [context.Process(target=end, args=(touches,)) for _ in range(2)]
     for child in children:
         child.start()
     for child in children:
         child.join()
 
 if __name__ == "__main__":
-    began = time.monotonic()
     how, touches = sys.argv[1], sys.argv[2] == "touches"
     if how == "_exit":
         in_fork(touches, os._exit)
@@ -47,9 +51,22 @@ if __name__ == "__main__":
         in_fork(touches, sys.exit)
     else:
         in_process(how, touches)
-    print(time.monotonic() - began)
+    print(time.monotonic())
 """
 WAYS = ("_exit", "exit", "fork", "forkserver", "spawn")
+SHARED_MEMORY = """
+import multiprocessing, sys
+def work(count):
+    count.value += 1
+if __name__ == "__main__":
+    context = multiprocessing.get_context(sys.argv[1])
+    count = context.Value("i", 0, lock=False)
+    children = [context.Process(target=work, args=(count,)) for _ in range(2)]
+    for child in children:
+        child.start()
+    for child in children:
+        child.join()
+"""
 LEFT = """
 import os, time
 if os.fork() == 0:
@@ -66,8 +83,8 @@ OTHER_PROGRAM = """
 import subprocess, sys
 subprocess.run([sys.executable, "-c", "import itc_trace; itc_trace.touch('x')" if sys.argv[1:] else "pass"], check=True)
 """
-MOST_SECONDS = 8.0
-"""A child that waits for a thread which it does not have takes ten."""
+MOST_SECONDS, TRIES = 8.0, 2
+"""A child that waits for a thread which it does not have takes ten. A machine with other work may be as slow once."""
 
 
 @unittest.skipUnless(hasattr(os, "fork"), "there is no fork here")
@@ -76,8 +93,12 @@ class Children(ProgramCase):
         program = self.program(PROGRAM)
         for how in WAYS:
             with self.subTest(how=how):
-                ran = run_traced(program, how, "no")
-                self.assertLess(float(ran.stdout), MOST_SECONDS)
+                self.assertLess(min(self.seconds_to_end(program, how) for _ in range(TRIES)), MOST_SECONDS)
+
+    def seconds_to_end(self, program: str, how: str) -> float:
+        """From the last line of the first child to when its parent has seen it end."""
+        *children, parent = map(float, run_traced(program, how, "no").stdout.split())
+        return parent - min(children)
 
     def test_a_child_that_touches_nothing_leaves_the_run_whole(self) -> None:
         program = self.program(PROGRAM)
@@ -96,6 +117,19 @@ class Children(ProgramCase):
                     ran.stderr.splitlines()[0],
                     f"itc_trace: incomplete: a child process was not traced, and touched stock at {program}:9",
                 )
+
+    def test_a_process_of_a_watched_program_is_told_as_not_seen(self) -> None:
+        for method in ("fork", "forkserver", "spawn"):
+            program = self.program(SHARED_MEMORY)
+            with self.subTest(method=method):
+                ran = run_traced("--watch", "itc_no_such_package", program, method)
+                self.assertEqual(ran.returncode, Verdict.INCOMPLETE, ran.stderr)
+                self.assertIn(f"incomplete: a child process was not traced: it was started by {method} at {program}:10\n", ran.stderr)
+
+    def test_a_fork_that_runs_another_program_leaves_a_watched_run_whole(self) -> None:
+        program = self.program("import os\nif os.fork() == 0:\n    os.execvp('true', ['true'])\nos.wait()\n")
+        ran = run_traced("--watch", "itc_no_such_package", program)
+        self.assertEqual(ran.returncode, Verdict.NO_RACE, ran.stderr)
 
     def test_a_program_that_goes_on_in_a_child_is_not_seen_whole(self) -> None:
         ran = run_traced(self.program(LEFT))

@@ -60,6 +60,17 @@ def _switch_on() -> None:
         hooks.put(True)
 
 
+def is_on() -> bool:
+    """Whether modules of the program are watched."""
+    return _finder is not None
+
+
+def witness() -> None:
+    """In a forked child: hooks note touches, for the first one to be told."""
+    if _finder is not None:
+        hooks.put(True)
+
+
 def end() -> None:
     """Notes nothing any more, and holds nothing."""
     global _plain_line_begin
