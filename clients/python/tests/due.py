@@ -18,7 +18,8 @@ from pathlib import Path
 
 RACE, CLEAN = 66, 0
 VERDICTS = ("race", "possible", "none")
-READS, WRITES = {"read", "lookup", "length", "iteration"}, {"write", "addition", "rewrite"}
+READS = {"read", "lookup", "length", "iteration"}
+WRITES = {"write", "addition", "removal", "replacement", "rewrite"}
 
 _MARK = re.compile(r"#\s*(race|also):\s*((?:read|write)(?:,\s*(?:read|write))*)\s*$")
 _HEADING = re.compile(r"^itc_trace: (possible )?race on (.*)$")
