@@ -81,6 +81,8 @@ class Races:
     races: list[Race] = field(default_factory=list)
     possible: list[Race] = field(default_factory=list)
     unseen: list[Unseen] = field(default_factory=list)
+    silenced: int = 0
+    """How many more there are, but meant."""
     touches: int = 0
     places: int = 0
     things: int = 0
@@ -104,7 +106,8 @@ class Races:
         """How many races there are, in few words."""
         found = "no race" if not self.races else _counted(len(self.races), "race")
         where = "in what was seen" if self.unseen else "in this run"
-        return f"{found} {where}" + (f"; {len(self.possible)} possible" if self.possible else "")
+        return f"{found} {where}" + (f"; {len(self.possible)} possible" if self.possible else "") + (
+            f"; {self.silenced} silenced" if self.silenced else "")
 
     def summary(self) -> str:
         return (

@@ -4,6 +4,7 @@ from __future__ import annotations
 
 from collections.abc import Iterable, Iterator
 
+from .benign import Looking
 from .collector import HOST
 from .journal import Journal, NoJournal, read_whole
 from .races import Races, find_races
@@ -11,11 +12,13 @@ from .session import Refused
 from .verdict import BREAKS_OFF, END_ROW, Cause, Unseen
 
 
-def races_seen(tenant: str, port: int, journal: Iterable[str], host: str = HOST) -> Races:
+def races_seen(tenant: str, port: int, journal: Iterable[str], host: str = HOST, looking: Looking | None = None) -> Races:
     """The races among what the journal lists, and none where the collector cannot be asked, with that reason."""
-    lines = list(journal)
+    lines, looking = list(journal), looking or Looking()
     try:
-        return find_races(tenant, port, lines, host)
+        found = find_races(tenant, port, lines, host, looking.strict)
+        looking.silence(found)
+        return found
     except (OSError, Refused) as fault:
         return _unknown(read_whole(lines), fault)
 
