@@ -6,6 +6,7 @@ import argparse
 import random
 import sys
 
+from .benign import Looking, read_patterns
 from .collector import HOST, NoCollector
 from .faults import WORDS_REFUSED, Fault, look
 from .journal import NoJournal
@@ -17,7 +18,7 @@ from .snapshot import snapshot
 from .tracing import OWN_TENANT
 
 NEW_SEED = -1
-FLAGS = {"--quiet", "--watch-nothing", "--shake", "--no-shake", "--help", "-h"}
+FLAGS = {"--strict", "--quiet", "--watch-nothing", "--shake", "--no-shake", "--help", "-h"}
 MOST_RUNS = 10_000
 
 
@@ -28,6 +29,7 @@ def _parser() -> argparse.ArgumentParser:
     races = commands.add_parser("races", help="list the races of a trace by its journal")
     _add_port(races)
     _add_fail_on(races)
+    _add_looking(races)
     races.add_argument("tenant")
     races.add_argument("--picture", metavar="FILE", help="the picture of the trace, for links into it")
     races.add_argument("journal", nargs="+", help="the journal of each process")
@@ -50,6 +52,11 @@ def _add_fail_on(parser: argparse.ArgumentParser) -> None:
                         help="end with 66 where there is a race, or where one is possible (race)")
 
 
+def _add_looking(parser: argparse.ArgumentParser) -> None:
+    parser.add_argument("--strict", action="store_true", help="two tasks of one loop race as two threads do")
+    parser.add_argument("--benign", metavar="FILE", action="append", default=[], help="races that are meant: a thing and places a line")
+
+
 def _add_run(parser: argparse.ArgumentParser) -> None:
     parser.add_argument("--port", type=int, help="report to the collector at this port, and start none")
     parser.add_argument("--tenant", default=OWN_TENANT, help="the tenant to report for (trace)")
@@ -58,6 +65,7 @@ def _add_run(parser: argparse.ArgumentParser) -> None:
     parser.add_argument("--journal", metavar="FILE", help="keep the journal there")
     parser.add_argument("--picture", metavar="FILE", help="draw the trace there")
     _add_fail_on(parser)
+    _add_looking(parser)
     parser.add_argument("--runs", type=_runs, default=1, metavar="N", help="run the program N times, all but the first shaken")
     parser.add_argument("--shake", type=_seed, nargs="?", const=NEW_SEED, metavar="SEED",
                         help="perturb the schedule of each run; --shake=SEED as this seed did")
@@ -104,13 +112,17 @@ def _run(words: argparse.Namespace, program: list[str]) -> int:
         program, words.port, words.tenant, words.process, words.export, words.journal, words.picture, quiet=words.quiet,
         fail_on_possible=words.fail_on == "possible", runs=words.runs, is_shaken=not words.no_shake,
         seed=random.SystemRandom().randrange(MOST_SEED) if words.shake == NEW_SEED else words.shake,
-        watched=None if words.watch_nothing else words.watch,
+        watched=None if words.watch_nothing else words.watch or [], looking=_looking(words),
     ))
+
+
+def _looking(words: argparse.Namespace) -> Looking:
+    return Looking(words.strict, [pattern for file in words.benign for pattern in read_patterns(file)])
 
 
 def _races(words: argparse.Namespace) -> int:
     look(words.tenant, words.port, words.host)
-    found = races_seen(words.tenant, words.port, lines_of(words.journal), words.host)
+    found = races_seen(words.tenant, words.port, lines_of(words.journal), words.host, _looking(words))
     print(told(found, words.picture))
     tell_if_untouched(found)
     return int(found.verdict(words.fail_on == "possible"))

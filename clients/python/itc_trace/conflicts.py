@@ -3,7 +3,7 @@
 from __future__ import annotations
 
 READ, WRITE = "read", "write"
-LOOKUP, LENGTH, ITERATION = "lookup", "length", "iteration"
+LOOKUP, LENGTH, KEYS, ITERATION = "lookup", "length", "keys", "iteration"
 ADDITION, REMOVAL, REPLACEMENT, REWRITE = "addition", "removal", "replacement", "rewrite"
 MAKING = "making"
 """The thing is made here. It conflicts with nothing, and tells whose the thing was at first."""
@@ -12,13 +12,14 @@ _PAIRS = (
     (WRITE, WRITE), (WRITE, READ), (WRITE, LOOKUP), (WRITE, LENGTH), (WRITE, ITERATION), (WRITE, ADDITION), (WRITE, REWRITE),
     (REWRITE, REWRITE), (REWRITE, READ), (REWRITE, LOOKUP), (REWRITE, LENGTH), (REWRITE, ITERATION), (REWRITE, ADDITION),
     (ADDITION, READ), (ADDITION, LENGTH), (ADDITION, ITERATION),
+    *((KEYS, kind) for kind in (WRITE, ADDITION, REMOVAL, REWRITE)),
     *((REMOVAL, kind) for kind in (REMOVAL, READ, WRITE, LOOKUP, LENGTH, ITERATION, ADDITION, REPLACEMENT, REWRITE)),
     *((REPLACEMENT, kind) for kind in (READ, WRITE, ITERATION, REWRITE)),
 )
 
 CONFLICTING: dict[str, frozenset[str]] = {
     kind: frozenset({one for pair in _PAIRS if kind in pair for one in pair if one != kind or pair == (kind, kind)})
-    for kind in (READ, WRITE, LOOKUP, LENGTH, ITERATION, ADDITION, REMOVAL, REPLACEMENT, REWRITE, MAKING)
+    for kind in (READ, WRITE, LOOKUP, LENGTH, KEYS, ITERATION, ADDITION, REMOVAL, REPLACEMENT, REWRITE, MAKING)
 }
 """Of each kind those that conflict with it."""
 

@@ -14,7 +14,7 @@ from typing import Any
 
 from .conflicts import MAKING, READ, WRITE
 from .lines import MARK, SPAWN, TAKE, TOUCH, Line, Token, What, state
-from .stretches import STRETCHES, TURNS, Stretch, leave
+from .stretches import STRETCHES, TURNS, Stretch, Touched, leave
 
 local = threading.local()
 """`line` is the thread's own line, and that of a pool's job while it runs there."""
@@ -179,6 +179,20 @@ def touched(key: Hashable, thing: Any, kind: str, site: Any) -> None:
         stretch = _begin_stretch()
         note((TOUCH, stretch))
     stretch[key] = thing, kind, site
+
+
+def touched_all(touches: dict[Hashable, Touched]) -> None:
+    """Adds several touches to the stretch of this thread, each by its key."""
+    note = state.note
+    if note is None:
+        for thing, kind, site in touches.values():
+            touched((), thing, kind, site)
+        return
+    stretch = STRETCHES.get(get_ident())
+    if stretch is None:
+        stretch = _begin_stretch()
+        note((TOUCH, stretch))
+    stretch.update(touches)
 
 
 def _begin_stretch() -> Stretch:

@@ -11,10 +11,11 @@ import subprocess
 import sys
 import tempfile
 from collections.abc import Iterator
-from dataclasses import dataclass, replace
+from dataclasses import dataclass, field, replace
 from pathlib import Path
 from urllib.parse import quote
 
+from .benign import Looking
 from .collector import HOST, Collector, find_in_repository
 from .ending import Child, Ended, ends_by_signals, is_asked_to_end
 from .faults import WORDS_REFUSED, Fault, look
@@ -49,6 +50,7 @@ class Run:
     quiet: bool = False
     watched: list[str] | None = None
     """The packages that are watched beside the program's own modules. None watches nothing."""
+    looking: Looking = field(default_factory=Looking)
     fail_on_possible: bool = False
     runs: int = 1
     seed: int | None = None
@@ -144,7 +146,7 @@ def _run_once(asked: Run, seed: int | None) -> int:
     verdict = races.verdict(asked.fail_on_possible)
     if verdict or races.possible or not asked.quiet:
         _say(told(races, outcome.picture))
-        if _is_untouched(races) and outcome.status == 0:
+        if asked.watched is None and _is_untouched(races) and outcome.status == 0:
             _say(UNTOUCHED)
     return int(verdict) or outcome.status
 
@@ -183,7 +185,7 @@ def _outcome(asked: Run, seed: int | None) -> Outcome | None:
         if child.told == REFUSED:
             return None
         with open(journal, encoding="utf-8") as rows:
-            races = races_seen(asked.tenant, port, rows, asked.host)
+            races = races_seen(asked.tenant, port, rows, asked.host, asked.looking)
         if child.signal_name and not _is_killed(races):
             killed = Unseen(Cause.KILLED, f"the program was ended by {child.signal_name}")
             races.unseen = [killed, *(one for one in races.unseen if one != BREAKS_OFF)]

@@ -18,7 +18,7 @@ from pathlib import Path
 
 RACE, CLEAN = 66, 0
 VERDICTS = ("race", "possible", "none")
-READS = {"read", "lookup", "length", "iteration"}
+READS = {"read", "lookup", "length", "keys", "iteration"}
 WRITES = {"write", "addition", "removal", "replacement", "rewrite"}
 
 _MARK = re.compile(r"#\s*(race|also):\s*((?:read|write)(?:,\s*(?:read|write))*)\s*$")

@@ -1,4 +1,4 @@
-"""A program that touches nothing is told so, and not only that it has no race."""
+"""A program of which nothing is watched, and that touches nothing, is told so, and not only that it has no race."""
 
 from __future__ import annotations
 
@@ -34,16 +34,20 @@ for _ in range(3):
 
 class Untouched(ProgramCase):
     def test_a_run_without_a_touch_says_so(self) -> None:
-        ran = run_traced(self.program(UNSHARED))
+        ran = run_traced("--watch-nothing", self.program(UNSHARED))
         first, *rest = ran.stderr.splitlines()
         self.assertRegex(first, r"^itc_trace: no race in this run: 0 places of 0 things, \d+ events$")
         self.assertEqual((rest, ran.returncode), (UNTOUCHED.splitlines(), 0))
 
+    def test_a_watched_run_in_which_nothing_is_shared_says_no_more(self) -> None:
+        ran = run_traced(self.program("print(1)"))
+        self.assertEqual(ran.stderr.count("\n"), 1, ran.stderr)
+
     def test_a_quiet_run_without_a_touch_says_nothing(self) -> None:
-        self.assertEqual(run_traced("--quiet", self.program(UNSHARED)).stderr, "")
+        self.assertEqual(run_traced("--watch-nothing", "--quiet", self.program(UNSHARED)).stderr, "")
 
     def test_a_run_with_a_touch_does_not_say_so(self) -> None:
-        ran = run_traced(self.program(TOUCHED))
+        ran = run_traced("--watch-nothing", self.program(TOUCHED))
         self.assertEqual(ran.returncode, 66, ran.stderr)
         self.assertNotIn("nothing was touched", ran.stderr)
 
@@ -56,12 +60,12 @@ class Untouched(ProgramCase):
         self.assertEqual((ran.stderr, ran.returncode), (f"{UNTOUCHED}\n", 0))
 
     def test_a_number_that_is_shared_is_warned_of_and_touched_by_nobody(self) -> None:
-        ran = run_traced(self.program(RACY))
+        ran = run_traced("--watch-nothing", self.program(RACY))
         self.assertRegex(ran.stderr, r"program\.py:3: UserWarning: shared\('count'\) gives back the int as it is")
         self.assertTrue(ran.stderr.endswith(f"{UNTOUCHED}\n"), ran.stderr)
 
     def test_a_line_is_warned_of_once(self) -> None:
-        self.assertEqual(run_traced(self.program(IN_TURNS)).stderr.count("UserWarning"), 1)
+        self.assertEqual(run_traced("--watch-nothing", self.program(IN_TURNS)).stderr.count("UserWarning"), 1)
 
     def test_an_untraced_program_is_not_warned(self) -> None:
         self.assertEqual(run_python("-W", "error", self.program(RACY)).stderr, "")

@@ -8,6 +8,7 @@ from __future__ import annotations
 import threading
 import types
 import weakref
+from builtins import any, id, issubclass, len, next, str, type
 from collections import Counter, OrderedDict, defaultdict, deque
 from typing import Any
 

@@ -59,16 +59,14 @@ def _is_within(file: str, folder: str) -> bool:
 
 
 class Loader(importlib.machinery.SourceFileLoader):
-    """Loads a module with hooks; one that cannot be rewritten runs as it is."""
+    """Loads a module with hooks, whose code is at hand: so no frame of this package stands in the traceback of an import."""
 
-    selection: Selection
+    def __init__(self, name: str, path: str, code: CodeType) -> None:
+        super().__init__(name, path)
+        self._code = code
 
     def get_code(self, fullname: str) -> CodeType | None:
-        plain = super().get_code(fullname)
-        if plain is None:
-            return None
-        path = self.get_filename(fullname)
-        return with_hooks(self.get_data(path), path, fullname, self.selection, plain)
+        return self._code
 
 
 def with_hooks(source: bytes, file: str, module: str, selection: Selection, plain: CodeType) -> CodeType:
@@ -104,8 +102,17 @@ class Finder:
             return None
         if not self.selection.has_file(name, spec.origin):
             return None
-        assert spec.origin is not None
-        loader = Loader(name, spec.origin)
-        loader.selection = self.selection
-        spec.loader = loader
+        code = self._code_of(name, spec.loader)
+        if code is None or spec.origin is None:
+            return None
+        spec.loader = Loader(name, spec.origin, code)
         return spec
+
+    def _code_of(self, name: str, loader: importlib.machinery.SourceFileLoader) -> CodeType | None:
+        """The code with hooks. What the program's own import would fail for is left to that."""
+        try:
+            plain = loader.get_code(name)
+            source = loader.get_data(loader.path)
+        except Exception:
+            return None
+        return None if plain is None else with_hooks(source, loader.path, name, self.selection, plain)

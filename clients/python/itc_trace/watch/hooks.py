@@ -11,14 +11,15 @@ import types
 from _thread import get_ident
 from collections import defaultdict
 from collections.abc import Callable, Iterable
+from builtins import hash, id, issubclass, len, map, setattr, type
 from sys import _getframe, getrefcount
 from typing import Any
 
-from ..conflicts import ADDITION, ITERATION, LENGTH, LOOKUP, READ, REMOVAL, REPLACEMENT, REWRITE, WRITE
-from ..noting import touched
+from ..conflicts import ADDITION, ITERATION, KEYS, LENGTH, LOOKUP, READ, REMOVAL, REPLACEMENT, REWRITE, WRITE
+from ..noting import touched, touched_all
 from ..stretches import STRETCHES
 from .decisions import (
-    OF_CLASS, OF_MODULE, OF_TYPE, OWN_FIELD, PLAIN, SKIP, WATCHED, class_with, decision, family_of, fields_of,
+    FIELD, OF_CLASS, OF_MODULE, OF_TYPE, OWN_FIELD, PLAIN, SKIP, WATCHED, class_with, decision, family_of, fields_of,
     has_own_method, name_of,
 )
 from .kinds import DEQUE, DICT, KEYED, LIST, WHOLE
@@ -35,6 +36,7 @@ ANYBODY = 0
 """A limit of references that nothing is within."""
 
 base_of = BASES.get
+owner_at = OWNERS.get
 stretch_of = STRETCHES.get
 
 
@@ -67,6 +69,10 @@ def hook_o(one: Any, site: int) -> Any:
         stretch = stretch_of(get_ident())
         if stretch is not None and base + site in stretch:
             return one
+        owner = owner_at(id(one))
+        if owner is not None and base + site in owner.recipes:
+            touched_all(owner.recipes[base + site])
+            return one
     if id(type(one)) not in SKIPPED[site]:
         _touch_field(one, site)
     return one
@@ -77,6 +83,10 @@ def hook_o_local(one: Any, site: int) -> Any:
     if base is not None:
         stretch = stretch_of(get_ident())
         if stretch is not None and base + site in stretch:
+            return one
+        owner = owner_at(id(one))
+        if owner is not None and base + site in owner.recipes:
+            touched_all(owner.recipes[base + site])
             return one
     elif getrefcount(one) <= OF_VARIABLE - 1:
         return one
@@ -127,7 +137,9 @@ def _touch_field(one: Any, site: int, access: Access | None = None) -> None:
         base = own.base
         if found == OF_CLASS:  # The object was looked at first, and had none of its own.
             touched((base, key), field_of(own, name_of(kind), name), READ, site)
-    _note(base, key, field_of(owner, holder_name or name_of(kind), name), kinds, site)
+    recipe = _note(base, key, field_of(owner, holder_name or name_of(kind), name), kinds, site)
+    if found == FIELD and not (kinds == "rw" and access.text):
+        owner.recipes[base + key] = recipe
     if access.what == "field" and access.text and kinds == "rw":
         _touch_in_place(fields_of(one).get(name), access.text, site)
 
@@ -139,16 +151,17 @@ def _touch_in_place(value: Any, kind: str, site: int) -> None:
         touched(owner.base + site, shape_of(owner), kind, site)
 
 
-def _note(base: int, site_key: int, thing: Any, kinds: str, site: int) -> None:
+def _note(base: int, site_key: int, thing: Any, kinds: str, site: int) -> dict[Any, Any]:
     """Notes a read, a write or both. The key by which the hook looks comes last."""
     key = base + site_key
     if kinds == "r":
-        touched(key, thing, READ, site)
+        touches = {key: (thing, READ, site)}
     elif kinds == "w":
-        touched(key, thing, WRITE, site)
+        touches = {key: (thing, WRITE, site)}
     else:
-        touched(-key, thing, READ, site)
-        touched(key, thing, WRITE, site)
+        touches = {-key: (thing, READ, site), key: (thing, WRITE, site)}
+    touched_all(touches)
+    return touches
 
 
 hook_A_local = hook_A
@@ -222,7 +235,7 @@ def _touch_whole(one: Any, site: int, limit: int) -> None:
     kind = type(one)
     family = family_of(kind)
     if family is None:
-        if kind is types.GeneratorType and ACCESSES[site].kinds == ITERATION and getrefcount(one) > limit:
+        if kind is types.GeneratorType and ACCESSES[site].kinds == KEYS and getrefcount(one) > limit:
             _touch_generator(one, site)
         return
     owner = OWNERS.get(id(one))
@@ -230,7 +243,12 @@ def _touch_whole(one: Any, site: int, limit: int) -> None:
         if getrefcount(one) <= limit:
             return
         owner = owner_of(one, ACCESSES[site].text)
-    touched(owner.base + site, shape_of(owner), ACCESSES[site].kinds, site)
+    touched(owner.base + site, shape_of(owner), _kind_of(ACCESSES[site].kinds, family), site)
+
+
+def _kind_of(kind: str, family: int | None) -> str:
+    """Only what goes through the keys of a dictionary does not look at its values."""
+    return ITERATION if kind == KEYS and family != DICT else kind
 
 
 def _touch_generator(one: Any, site: int) -> None:
@@ -250,15 +268,15 @@ def hook_f_local(one: Any, site: int) -> Any:
 
 def _stepping(one: Any, site: int, limit: int) -> Any:
     kind = type(one)
-    is_generator = kind is types.GeneratorType
-    if not is_generator and (family_of(kind) is None or has_own_method(kind, "__iter__")):
+    is_generator, family = kind is types.GeneratorType, family_of(kind)
+    if not is_generator and (family is None or has_own_method(kind, "__iter__")):
         return one
     owner = OWNERS.get(id(one))
     if owner is None:
         if getrefcount(one) <= limit:
             return one
         owner = owner_of(one, ACCESSES[site].text)
-    return map(_step(owner, site, WRITE if is_generator else ITERATION), one)
+    return map(_step(owner, site, WRITE if is_generator else _kind_of(KEYS, family)), one)
 
 
 def _step(owner: Owner, site: int, kind: str) -> Callable[[Any], Any]:
@@ -279,7 +297,7 @@ def hook_F(view: Iterable[Any], one: Any, site: int) -> Any:
     owner = OWNERS.get(id(one))
     if owner is None or family_of(type(one)) != DICT:
         return view
-    return map(_step(owner, site, ITERATION), view)
+    return map(_step(owner, site, ACCESSES[site].kinds), view)
 
 
 # Elements and methods
@@ -292,7 +310,12 @@ def hook_k(one: Any, key: Any, site: int) -> Any:
     base = base_of(id(one))
     if base is not None and type(key) in SIMPLE:
         stretch = stretch_of(get_ident())
-        if stretch is not None and (base + site, key) in stretch:
+        mark = base + site, key
+        if stretch is not None and mark in stretch:
+            return one
+        owner = owner_at(id(one))
+        if owner is not None and mark in owner.recipes and (type(one) is not dict or key in one):
+            touched_all(owner.recipes[mark])
             return one
     _touch_keyed(one, key, site, OF_TEMPORARY)
     return one
@@ -332,7 +355,7 @@ def hook_K_local(one: Any, key: Any, site: int) -> Any:
 def _is_simple(key: Any) -> bool:
     """Whether the key can be looked up without any code of the program."""
     kind = type(key)
-    return kind in SIMPLE or kind is tuple and len(key) <= MOST_PARTS and all(type(part) in SIMPLE for part in key)
+    return kind in SIMPLE or kind is tuple and len(key) <= MOST_PARTS and SIMPLE.issuperset(map(type, key))
 
 
 def _touch_keyed(one: Any, key: Any, site: int, limit: int) -> None:
@@ -366,38 +389,36 @@ def _touch_shape(owner: Owner, kind: str | None, site: int) -> None:
 
 
 def _touch_index(one: Any, owner: Owner, key: Any, kinds: str, family: int, site: int) -> None:
-    shape = shape_of(owner)
-    whole = owner.base + site
+    shape, whole = shape_of(owner), owner.base + site
     if kinds == "c" or type(key) is not int:
-        touched(whole, shape, ITERATION if kinds in "cr" else REWRITE, site)
+        touched(whole, shape, ITERATION if kinds in LOOKING else REWRITE, site)
         return
     if family == DEQUE:
-        touched((whole, key), shape, LENGTH if kinds == "r" else REPLACEMENT if kinds in "rw" else REWRITE, site)
+        touched((whole, key), shape, LENGTH if kinds == "r" else REPLACEMENT if kinds in ("w", "rw") else REWRITE, site)
         return
     if kinds == "d":
         touched((whole, REMOVAL), shape, REMOVAL, site)
         return
+    touches = {}
+    place = key
     if key < 0:
-        touched((whole, LENGTH), shape, LENGTH, site)
-        key_of_element = key + (list.__len__(one) if issubclass(type(one), list) else bytearray.__len__(one))
-    else:
-        key_of_element = key
-    element = element_of(owner, key_of_element, True)
+        touches[whole, LENGTH] = shape, LENGTH, site
+        place = key + (list.__len__(one) if issubclass(type(one), list) else bytearray.__len__(one))
     if kinds != "w":
-        touched((whole, LOOKUP), shape, LOOKUP, site)
+        touches[whole, LOOKUP] = shape, LOOKUP, site
     if kinds != "r":
-        touched((whole, REPLACEMENT), shape, REPLACEMENT, site)
-    _note_element(whole, key, element, kinds, site)
+        touches[whole, REPLACEMENT] = shape, REPLACEMENT, site
+    _add_element(touches, whole, key, element_of(owner, place, True), kinds, site)
+    touched_all(touches)
+    if key >= 0:
+        owner.recipes[whole, key] = touches
 
 
-def _note_element(whole: int, key: Any, element: Any, kinds: str, site: int) -> None:
-    if kinds == "r":
-        touched((whole, key), element, READ, site)
-    elif kinds == "w":
-        touched((whole, key), element, WRITE, site)
-    else:
-        touched((whole, key, "read"), element, READ, site)
-        touched((whole, key), element, WRITE, site)
+def _add_element(touches: dict[Any, Any], whole: int, mark: Any, element: Any, kinds: str, site: int) -> None:
+    """The key by which the hook looks comes last."""
+    if kinds == "rw":
+        touches[whole, mark, READ] = element, READ, site
+    touches[whole, mark] = element, READ if kinds == "r" else WRITE, site
 
 
 def _touch_key(one: Any, owner: Owner, key: Any, kinds: str, family: int, site: int) -> None:
@@ -410,12 +431,16 @@ def _touch_key(one: Any, owner: Owner, key: Any, kinds: str, family: int, site: 
         kinds = "r"
     elif kinds == "r" and not is_there and is_simple and access.what == "element" and issubclass(type(one), defaultdict):
         kinds = "rw"
+    touches = {}
     if kinds in LOOKING:
-        touched((whole, LOOKUP), shape, LOOKUP, site)
+        touches[whole, LOOKUP] = shape, LOOKUP, site
     if kinds in CHANGING:
         change = ADDITION if kinds == "d" or not is_there else REPLACEMENT
-        touched((whole, change), shape, change, site)
-    _note_element(whole, mark, element, {"c": "r", "d": "w"}.get(kinds, kinds), site)
+        touches[whole, change] = shape, change, site
+    _add_element(touches, whole, mark, element, {"c": "r", "d": "w"}.get(kinds, kinds), site)
+    touched_all(touches)
+    if is_there and kinds != "d" and type(key) in SIMPLE:
+        owner.recipes[whole, mark] = touches
 
 
 def hook_m(one: Any, site: int) -> Any:

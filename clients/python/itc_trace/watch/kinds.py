@@ -2,7 +2,7 @@
 
 from __future__ import annotations
 
-from ..conflicts import ADDITION, ITERATION, REMOVAL, REWRITE
+from ..conflicts import ADDITION, ITERATION, KEYS, REMOVAL, REWRITE
 
 LIST, DICT, SET, DEQUE = range(4)
 
@@ -14,7 +14,7 @@ WHOLE: dict[int, dict[str, str]] = {
         **dict.fromkeys(("clear", "sort", "reverse"), REWRITE),
     },
     DICT: {
-        **dict.fromkeys("items keys values copy most_common elements total".split(), ITERATION), "popitem": REMOVAL,
+        **dict.fromkeys("items values copy most_common elements total".split(), ITERATION), "keys": KEYS, "popitem": REMOVAL,
         **dict.fromkeys("update clear move_to_end subtract".split(), REWRITE),
     },
     SET: {

@@ -12,6 +12,7 @@ from collections.abc import Callable, Iterator
 from types import CodeType
 from typing import Any
 
+from ..conflicts import ADDITION, ITERATION, KEYS, LENGTH, REWRITE
 from .kinds import KEYED, LATE_METHODS, METHODS, known_function
 from .places import Access, new_site
 from .scopes import CLASS, COMPREHENSION, COMPREHENSIONS, FUNCTION, MODULE, Scope, Scopes
@@ -20,8 +21,8 @@ PREFIX = "_itc_"
 ON = PREFIX + "on"
 
 READERS = {
-    "len": "length", "bool": "length",
-    **dict.fromkeys("list tuple set dict frozenset sorted sum min max any all next iter reversed str repr print".split(), "iteration"),
+    **dict.fromkeys(("len", "bool"), LENGTH), **dict.fromkeys(("dict", "str", "repr", "print"), ITERATION),
+    **dict.fromkeys("list tuple set frozenset sorted sum min max any all next iter reversed enumerate zip map filter".split(), KEYS),
 }
 """Functions of the language that look at what they are given."""
 STEPPERS = frozenset(("enumerate", "zip", "map", "filter"))
@@ -36,7 +37,7 @@ PARTS = (ast.Starred,)
 REACHED = (ast.Name, ast.Attribute, ast.Subscript)
 LATE = (ast.Call, ast.Await, ast.Yield, ast.YieldFrom)
 IN_PLACE = {
-    ast.Add: "addition", **dict.fromkeys((ast.Mult, ast.BitOr, ast.BitAnd, ast.BitXor, ast.Sub), "rewrite"),
+    ast.Add: ADDITION, **dict.fromkeys((ast.Mult, ast.BitOr, ast.BitAnd, ast.BitXor, ast.Sub), REWRITE),
 }
 
 
@@ -259,7 +260,7 @@ class Rewriter:
     def _simple_Assign(self, node: ast.Assign) -> ast.stmt:
         node.value = self._made(node.value, node.targets[0])
         if any(isinstance(target, (ast.Tuple, ast.List)) for target in node.targets) and isinstance(node.value, REACHED):
-            node.value = self._operand(node.value, "h", self._site(node.value, "whole", "i", "", self._text(node.value)))
+            node.value = self._operand(node.value, "h", self._site(node.value, "whole", KEYS, "", self._text(node.value)))
         else:
             node.value = node.value if _is_hook(node.value) else self._child(node.value)
         node.targets = [self._child(target) for target in node.targets]
@@ -314,7 +315,7 @@ class Rewriter:
         owner: Any = target.value
         text = self._text(owner)
         if isinstance(target.slice, ast.Slice):
-            target.value = self._operand(owner, "h", self._site(node, "whole", "rewrite", "", text))
+            target.value = self._operand(owner, "h", self._site(node, "whole", REWRITE, "", text))
             target.slice, node.value = self._child(target.slice), self._child(node.value)
             return
         if not is_late:
@@ -465,7 +466,7 @@ class Rewriter:
 
     def _keyword(self, node: ast.keyword) -> None:
         if node.arg is None and isinstance(node.value, REACHED):
-            node.value = self._operand(node.value, "h", self._site(node.value, "whole", "iteration", "", self._text(node.value)))
+            node.value = self._operand(node.value, "h", self._site(node.value, "whole", ITERATION, "", self._text(node.value)))
         else:
             node.value = self._child(node.value)
 
@@ -490,7 +491,7 @@ class Rewriter:
         if self._is_foreign(node.value):
             return self._generic(node)  # type: ignore[no-any-return]
         if isinstance(node.slice, ast.Slice):
-            whole = "iteration" if kinds == "r" else "rewrite"
+            whole = ITERATION if kinds == "r" else REWRITE
             node.value = self._operand(node.value, "h", self._site(node, "whole", whole, "", self._text(node.value)))
             node.slice = self._child(node.slice)
         else:
@@ -548,10 +549,11 @@ class Rewriter:
             node.args = [self._child(one) for one in node.args]
 
     def _looked_at(self, node: Any, name: str) -> ast.expr:
-        if isinstance(node, ast.Starred) or not isinstance(node, (*REACHED, ast.Call)):
+        is_new = isinstance(node, ast.Call) and isinstance(node.func, ast.Name) and self._is_builtin(node.func.id)
+        if isinstance(node, ast.Starred) or is_new or not isinstance(node, (*REACHED, ast.Call)):
             return self._child(node)  # type: ignore[no-any-return]
         hook = "f" if name in STEPPERS else "h"
-        return self._operand(node, hook, self._site(node, "whole", READERS.get(name, "iteration"), "", self._text(node)))
+        return self._operand(node, hook, self._site(node, "whole", READERS[name], "", self._text(node)))
 
     def _call_method(self, node: ast.Call, func: ast.Attribute) -> ast.expr:
         name, owner = func.attr, func.value
@@ -622,7 +624,7 @@ class Rewriter:
         for side in sides:
             is_looked_at = isinstance(side, ast.Attribute) and not is_plain and isinstance(node.ops[0], (ast.Eq, ast.NotEq))
             if is_looked_at and not self._is_foreign(side.value):
-                made.append(self._operand(side, "h", self._site(side, "whole", "iteration", "", self._text(side))))
+                made.append(self._operand(side, "h", self._site(side, "whole", ITERATION, "", self._text(side))))
             else:
                 made.append(self._child(side))
         node.left, node.comparators = made[0], made[1:]
@@ -631,12 +633,11 @@ class Rewriter:
     def _truth(self, node: Any) -> Any:
         """An expression whose truth is asked for: that of a container is its length."""
         if isinstance(node, REACHED) and not self._is_foreign(node):
-            return self._operand(node, "h", self._site(node, "whole", "length", "", self._text(node)))
-        return self._child_or_self(node)
-
-    def _child_or_self(self, node: Any) -> Any:
-        visit = getattr(self, "_visit_" + type(node).__name__, None)
-        return self._generic(node) if visit is None else visit(node)
+            return self._operand(node, "h", self._site(node, "whole", LENGTH, "", self._text(node)))
+        if isinstance(node, ast.BoolOp):
+            node.values = [self._part(one, self._truth) for one in node.values]
+            return node
+        return self._visit(node)
 
     def _visit_BoolOp(self, node: ast.BoolOp) -> ast.expr:
         node.values = [*(self._part(one, self._truth) for one in node.values[:-1]), self._part(node.values[-1], self._visit)]
@@ -656,7 +657,7 @@ class Rewriter:
 
     def _visit_FormattedValue(self, node: ast.FormattedValue) -> ast.expr:
         if isinstance(node.value, (ast.Attribute, ast.Name)):
-            node.value = self._operand(node.value, "h", self._site(node.value, "whole", "iteration", "", self._text(node.value)))
+            node.value = self._operand(node.value, "h", self._site(node.value, "whole", ITERATION, "", self._text(node.value)))
         else:
             node.value = self._child(node.value)
         return node  # What it is formatted by is left as it is.
@@ -667,7 +668,7 @@ class Rewriter:
 
     def _visit_Starred(self, node: ast.Starred) -> ast.expr:
         if isinstance(node.ctx, ast.Load) and isinstance(node.value, REACHED):
-            node.value = self._operand(node.value, "h", self._site(node.value, "whole", "iteration", "", self._text(node.value)))
+            node.value = self._operand(node.value, "h", self._site(node.value, "whole", KEYS, "", self._text(node.value)))
         else:
             node.value = self._child(node.value)
         return node
@@ -714,7 +715,7 @@ class Rewriter:
         if isinstance(node, ast.Call) and isinstance(node.func, ast.Attribute) and node.func.attr in VIEWS and not node.args:
             return self._iteration_of_view(node, node.func)
         if isinstance(node, (*REACHED, ast.Call)) and not self._is_foreign(node):
-            return self._operand(node, "f", self._site(node, "whole", "iteration", "", self._text(node)))
+            return self._operand(node, "f", self._site(node, "whole", KEYS, "", self._text(node)))
         return self._visit(node)
 
     def _iteration_of_view(self, node: ast.Call, func: ast.Attribute) -> Any:
@@ -722,7 +723,7 @@ class Rewriter:
         made = self._visit(node)
         if not isinstance(owner, ast.Name):
             return made
-        site = self._site(node, "whole", "iteration", "", self._text(owner))
+        site = self._site(node, "whole", KEYS if func.attr == "keys" else ITERATION, "", self._text(owner))
         return self._hook("F", node, made, owner.twin, site)  # type: ignore[attr-defined]
 
 

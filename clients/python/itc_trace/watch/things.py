@@ -8,6 +8,7 @@ from __future__ import annotations
 
 import os
 import weakref
+from builtins import id, len, min, next, repr, type
 from collections import deque
 from sys import getrefcount
 from types import CodeType
@@ -17,7 +18,7 @@ from ..conflicts import MAKING
 from ..journal import line_of
 from ..lines import Line, state
 from ..noting import line_of_now, touched
-from ..stretches import SITES
+from ..stretches import SITES, Touched
 from .decisions import name_of
 from .places import ACCESSES
 
@@ -79,7 +80,7 @@ class KeyOfType(str):
 class Owner:
     """An object, a class, a module or a cell, with the things of it that were touched."""
 
-    __slots__ = ("base", "name", "made", "maker", "site", "things", "reference")
+    __slots__ = ("base", "name", "made", "maker", "site", "things", "recipes", "reference")
 
     def __init__(self, base: int, name: str, made: str, maker: Line | None, site: int, reference: Any) -> None:
         self.base = base
@@ -88,6 +89,8 @@ class Owner:
         self.maker = maker
         self.site = site
         self.things: dict[Any, Thing | Element] = {}
+        self.recipes: dict[Any, dict[Any, Touched]] = {}
+        """What is noted where a place touches it once more, in another stretch."""
         self.reference = reference
 
     def leave(self) -> None:
@@ -109,6 +112,8 @@ BASES: dict[int, int] = {}
 """Of each object that is known, by its identity, the first part of the keys of its touches."""
 OWNERS: dict[int, Owner] = {}
 MADE: dict[int, Made] = {}
+KEPT: dict[int, Any] = {}
+"""What cannot be referred to weakly, and is held therefore."""
 HELD: deque[int] = deque()
 
 _numbers = iter(range(1, 1 << 62))
@@ -134,8 +139,8 @@ def _new_owner(one: Any, key: int, name: str) -> Owner:
     try:
         owner.reference = weakref.ref(one, gone)
     except TypeError:
-        owner.reference = one
         _look_through()
+        KEPT[key] = one
         HELD.append(key)
     OWNERS[key] = owner
     BASES[key] = owner.base
@@ -149,23 +154,22 @@ def _look_through() -> None:
             key = HELD.popleft()
         except IndexError:
             return
-        owner = OWNERS.get(key)
-        if owner is None:
+        if key not in KEPT:
             continue
-        is_alone = getrefcount(owner.reference) <= REFERENCES_OF_HELD
-        if is_alone or len(HELD) >= MOST_HELD:
-            BASES.pop(key, None)
-            OWNERS.pop(key, None)
-            owner.reference = None
-            if is_alone:
-                owner.leave()
-        else:
+        is_alone = getrefcount(KEPT[key]) <= REFERENCES_OF_HELD
+        if not is_alone and len(HELD) < MOST_HELD:
             HELD.append(key)
+            continue
+        BASES.pop(key, None)
+        owner = OWNERS.pop(key, None)
+        if is_alone and owner is not None:
+            owner.leave()
+        KEPT.pop(key, None)
 
 
 def _references_of_held() -> int:
-    owner = Owner(0, "", "", None, 0, [])
-    return getrefcount(owner.reference)
+    kept: dict[int, Any] = {0: []}
+    return getrefcount(kept[0])
 
 
 REFERENCES_OF_HELD = _references_of_held()
@@ -176,6 +180,7 @@ def let_go() -> None:
     BASES.clear()
     OWNERS.clear()
     HELD.clear()
+    KEPT.clear()
     MADE.clear()
 
 
