@@ -1,15 +1,20 @@
-"""A plugin of pytest: a test that is marked `races` fails where its run has a race.
+"""A plugin of pytest: a test that is marked `races` fails where its run has a race. With `--races` every test does.
 
-The traced methods are put in place before the tests are imported, and note nothing but while a marked test runs.
+The traced methods are put in place before the tests are imported, and note nothing but while such a test runs. The functions of the
+project are watched from the first such test on, those of the tests with the assertions of pytest.
 """
 
 from __future__ import annotations
 
+import ast
+import sys
 from collections.abc import Generator
 from typing import Any
 
 import pytest
 
+from . import watch
+from .benign import Looking, read_patterns
 from .collector import Collector, NoCollector
 from .patches import put_all
 from .run import told
@@ -43,6 +48,14 @@ class _Tenants:
 _tenants = _Tenants()
 
 
+def pytest_addoption(parser: pytest.Parser) -> None:
+    group = parser.getgroup("races")
+    group.addoption("--races", action="store_true", help="trace every test, and fail it where its run has a race")
+    group.addoption("--races-watch", metavar="PACKAGE", action="append", default=[], help="watch an installed package, too")
+    group.addoption("--races-watch-nothing", action="store_true", help="note only what is shared or touched by hand")
+    group.addoption("--races-benign", metavar="FILE", action="append", default=[], help="races that are meant")
+
+
 def pytest_configure(config: pytest.Config) -> None:
     config.addinivalue_line("markers", f"{MARK}: trace the test, and fail it where its run has a race")
     put_all()
@@ -52,18 +65,45 @@ def pytest_unconfigure() -> None:
     _tenants.close()
 
 
+def _looking(config: pytest.Config) -> Looking:
+    return Looking(patterns=[pattern for file in config.getoption("--races-benign") for pattern in read_patterns(file)])
+
+
+def _watch(config: pytest.Config) -> None:
+    """Has the functions of the project noted, also those of tests that were imported meanwhile."""
+    if not config.getoption("--races-watch-nothing"):
+        watch.watch_loaded([str(config.rootpath)], config.getoption("--races-watch"), _with_assertions(config))
+
+
+def _with_assertions(config: pytest.Config) -> watch.Prepare:
+    """What pytest itself does to the tests that it imports: their assertions tell what was compared."""
+    from _pytest.assertion.rewrite import AssertionRewritingHook, rewrite_asserts
+
+    def prepare(tree: ast.Module, source: bytes, file: str) -> None:
+        is_by_pytest = any(
+            getattr(module, "__file__", None) == file and isinstance(getattr(module, "__loader__", None), AssertionRewritingHook)
+            for module in list(sys.modules.values())
+        )
+        if is_by_pytest:
+            rewrite_asserts(tree, source, file, config)
+
+    return prepare
+
+
 @pytest.hookimpl(hookwrapper=True)  # type: ignore[misc]
 def pytest_pyfunc_call(pyfuncitem: pytest.Function) -> Generator[None, Any, None]:
-    if pyfuncitem.get_closest_marker(MARK) is None:
+    config = pyfuncitem.config
+    if pyfuncitem.get_closest_marker(MARK) is None and not config.getoption("--races"):
         yield
         return
+    _watch(config)
     try:
         port, tenant = _tenants.next()
     except NoCollector as fault:
         pyfuncitem.stash[_found] = str(fault)
         yield
         return
-    traced = Tracing(port, tenant).start()
+    traced = Tracing(port, tenant, looking=_looking(config)).start()
     try:
         yield
         races = traced.races()

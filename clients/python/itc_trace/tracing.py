@@ -6,10 +6,12 @@ import _thread
 import atexit
 import os
 import tempfile
+from collections.abc import Sequence
 from types import TracebackType
 
 from .children import IN_CHILD, LEFT_CHILD, Announced, ForkedChildren, Witness
 from . import watch
+from .benign import Looking
 from .collector import HOST, Collector
 from .journal_file import JournalFile
 from .lines import state
@@ -28,13 +30,14 @@ class Tracing:
 
     def __init__(
         self, port: int | None = None, tenant: str = OWN_TENANT, journal: str | os.PathLike[str] | None = None,
-        process: str | None = None, host: str = HOST, shaking: Shaking | None = None,
+        process: str | None = None, host: str = HOST, shaking: Shaking | None = None, looking: Looking | None = None,
     ) -> None:
         """Without a port a collector of its own is started. A journal that is not named is kept in a temporary file."""
         self.tenant = tenant
         self.host = host
         self.process = process
         self._shaking = shaking
+        self._looking = looking
         self.port = 0 if port is None else port
         self._has_own_collector = port is None
         self._collector: Collector | None = None
@@ -121,7 +124,7 @@ class Tracing:
         if self._found is None:
             self.stop()
             with open(self.journal, encoding="utf-8") as journal:
-                self._found = races_seen(self.tenant, self.port, journal, self.host)
+                self._found = races_seen(self.tenant, self.port, journal, self.host, self._looking)
         return self._found
 
     def close(self) -> None:
@@ -153,13 +156,20 @@ class Tracing:
 
 def tracing(
     port: int | None = None, tenant: str = OWN_TENANT, journal: str | os.PathLike[str] | None = None,
-    process: str | None = None, host: str = HOST,
+    process: str | None = None, host: str = HOST, watched: Sequence[str] | None = (),
 ) -> Tracing:
     """Traces a block: `with itc_trace.tracing() as traced: ..`; behind it `traced.races()` has what was found.
 
-    A process that reports beside others to one tenant gives its name, and has a task of its own in place of `root`.
+    A process that reports beside others to one tenant gives its name, and has a task of its own in place of `root`. The functions in
+    the folder of the program are watched, and those of the packages that are named; with None no more than what is marked.
     """
+    _watch(watched)
     return Tracing(port, tenant, journal, process, host)
+
+
+def _watch(watched: Sequence[str] | None) -> None:
+    if watched is not None:
+        watch.watch_main(watched)
 
 
 _installed: Tracing | None = None
@@ -167,10 +177,11 @@ _installed: Tracing | None = None
 
 def install(
     port: int, tenant: str = OWN_TENANT, journal: str | os.PathLike[str] | None = None, process: str | None = None,
-    host: str = HOST,
+    host: str = HOST, watched: Sequence[str] | None = (),
 ) -> Tracing:
-    """Traces from here on to the end of the program."""
+    """Traces from here on to the end of the program, and watches as `tracing` does."""
     global _installed
+    _watch(watched)
     _installed = Tracing(port, tenant, journal, process, host).start()
     atexit.register(_installed.stop)
     return _installed

@@ -11,6 +11,9 @@ from typing import Any
 from ..lines import Line, state
 from . import hooks, things
 from .finder import Finder, Selection, with_hooks
+from .loaded import Prepare, folder_of_main, rewrite_loaded
+
+__all__ = ["Prepare", "begin", "code_of", "end", "watch", "watch_loaded", "watch_main"]
 
 _finder: Finder | None = None
 _plain_line_begin: Any = None
@@ -24,6 +27,20 @@ def watch(folders: Sequence[str], packages: Sequence[str] = ()) -> None:
     _finder = Finder(Selection(folders, packages))
     hooks.put(False)
     sys.meta_path.insert(0, _finder)  # type: ignore[arg-type]
+
+
+def watch_loaded(folders: Sequence[str], packages: Sequence[str] = (), prepare: Prepare | None = None) -> None:
+    """The same, and of modules that are there already."""
+    watch(folders, packages)
+    assert _finder is not None
+    rewrite_loaded(_finder.selection, prepare)
+
+
+def watch_main(packages: Sequence[str]) -> None:
+    """Watches the modules in the folder of a program that traces itself, and those that are named."""
+    folder = folder_of_main()
+    if _finder is None:
+        watch_loaded([] if folder is None else [folder], packages)
 
 
 def code_of(source: bytes, program: str, plain: CodeType) -> CodeType:

@@ -41,12 +41,19 @@ IN_PLACE = {
 }
 
 
-def rewritten(source: bytes | str, file: str, module: str, is_watched: Callable[[str], bool], optimize: int = -1) -> CodeType:
-    """The module's code with hooks. What it cannot be compiled for, it could not be without them."""
+def rewritten(
+    source: bytes | str, file: str, module: str, is_watched: Callable[[str], bool],
+    prepare: Callable[[ast.Module, bytes, str], None] | None = None,
+) -> CodeType:
+    """The module's code with hooks. `prepare` is what somebody else does to its tree first."""
     tree, twin = ast.parse(source, file), ast.parse(source, file)
+    if prepare is not None:
+        text = source if isinstance(source, bytes) else source.encode()
+        prepare(tree, text, file)
+        prepare(twin, text, file)
     _pair(tree, twin)
     rewriter = Rewriter(Scopes(tree), file, module, is_watched)
-    return compile(rewriter.module(tree), file, "exec", dont_inherit=True, optimize=optimize)  # type: ignore[no-any-return]
+    return compile(rewriter.module(tree), file, "exec", dont_inherit=True)  # type: ignore[no-any-return]
 
 
 def _pair(node: Any, twin: Any) -> bool:

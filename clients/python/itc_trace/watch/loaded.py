@@ -1,0 +1,75 @@
+"""Gives the functions of modules that were imported already the code with hooks, in place."""
+
+from __future__ import annotations
+
+import ast
+import gc
+import os
+import sys
+import warnings
+from collections.abc import Callable, Iterator
+from types import CodeType, FunctionType, ModuleType
+
+from .decisions import WATCHED
+from .finder import Selection, tell_unwatched
+from .rewrite import rewritten
+
+Prepare = Callable[[ast.Module, bytes, str], None]
+"""What somebody else does to the syntax tree of a module before it is compiled."""
+
+_done: set[str] = set()
+
+
+def rewrite_loaded(selection: Selection, prepare: Prepare | None = None) -> None:
+    """From here on the functions of watched modules note what they touch, wherever they are referred to."""
+    files: dict[str, ModuleType] = {}
+    for name, module in list(sys.modules.items()):
+        file = getattr(module, "__file__", None)
+        if isinstance(file, str) and name not in WATCHED and name not in _done and selection.has_file(name, file):
+            files[file] = module
+            _done.add(name)
+    codes = {file: _codes_of(file, module, selection, prepare) for file, module in files.items()}
+    if codes:
+        for one in gc.get_objects():
+            if type(one) is FunctionType and one.__code__.co_filename in codes:
+                _replace(one, codes[one.__code__.co_filename])
+
+
+Mark = tuple[str, int, tuple[str, ...]]
+
+
+def _mark_of(code: CodeType) -> Mark:
+    return code.co_qualname, code.co_firstlineno, code.co_freevars
+
+
+def _codes_of(file: str, module: ModuleType, selection: Selection, prepare: Prepare | None) -> dict[Mark, CodeType]:
+    name = module.__name__
+    try:
+        with open(file, "rb") as source, warnings.catch_warnings():
+            warnings.simplefilter("ignore")
+            made = rewritten(source.read(), file, name, selection.has_import, prepare=prepare)
+    except (OSError, SyntaxError, ValueError, RecursionError, MemoryError) as fault:
+        tell_unwatched(file, fault)
+        return {}
+    WATCHED.add(name)
+    return {_mark_of(code): code for code in _all_codes(made)}
+
+
+def _all_codes(code: CodeType) -> Iterator[CodeType]:
+    for one in code.co_consts:
+        if isinstance(one, CodeType):
+            yield one
+            yield from _all_codes(one)
+
+
+def _replace(function: FunctionType, codes: dict[Mark, CodeType]) -> None:
+    """Gives a function its code with hooks. Two lambdas of one line are told apart by nothing, and left as they are."""
+    made = codes.get(_mark_of(function.__code__))
+    if made is not None and made.co_argcount == function.__code__.co_argcount and made.co_varnames == function.__code__.co_varnames:
+        function.__code__ = made
+
+
+def folder_of_main() -> str | None:
+    """Where the program's own modules are, if it was started by a file."""
+    file = getattr(sys.modules.get("__main__"), "__file__", None)
+    return os.path.dirname(os.path.realpath(file)) if isinstance(file, str) else None
