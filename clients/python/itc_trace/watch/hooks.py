@@ -15,7 +15,7 @@ from builtins import hash, id, issubclass, len, map, setattr, type
 from sys import _getframe, getrefcount
 from typing import Any
 
-from ..conflicts import ADDITION, ITERATION, KEYS, LENGTH, LOOKUP, READ, REMOVAL, REPLACEMENT, REWRITE, WRITE
+from ..conflicts import ADDITION, ITERATION, KEYS, LENGTH, LOOKUP, MAKING, READ, REMOVAL, REPLACEMENT, REWRITE, WRITE
 from ..noting import touched, touched_all
 from ..stretches import STRETCHES
 from .decisions import (
@@ -437,6 +437,8 @@ def _touch_key(one: Any, owner: Owner, key: Any, kinds: str, family: int, site: 
     if kinds in CHANGING:
         change = ADDITION if kinds == "d" or not is_there else REPLACEMENT
         touches[whole, change] = shape, change, site
+        if change is ADDITION and kinds != "d":
+            touches[MAKING, element.number] = element, MAKING, site
     _add_element(touches, whole, mark, element, {"c": "r", "d": "w"}.get(kinds, kinds), site)
     touched_all(touches)
     if is_there and kinds != "d" and type(key) in SIMPLE:

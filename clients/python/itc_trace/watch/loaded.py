@@ -48,7 +48,7 @@ def _codes_of(file: str, module: ModuleType, selection: Selection, prepare: Prep
         with open(file, "rb") as source, warnings.catch_warnings():
             warnings.simplefilter("ignore")
             made = rewritten(source.read(), file, name, selection.has_import, prepare=prepare)
-    except (OSError, SyntaxError, ValueError, RecursionError, MemoryError) as fault:
+    except Exception as fault:  # What prepares the tree is somebody else's.
         tell_unwatched(file, fault)
         return {}
     WATCHED.add(name)

@@ -128,7 +128,7 @@ def owner_of(one: Any, name: str) -> Owner:
 def _new_owner(one: Any, key: int, name: str) -> Owner:
     kind_name = name_of(type(one))
     named, told, maker, site = _making(key, kind_name)
-    owner = Owner(next(_bases), named or name or f"a {kind_name}", told, maker, site, None)
+    owner = Owner(next(_bases), named or name or _with_article(kind_name), told, maker, site, None)
 
     def gone(_: Any) -> None:
         if OWNERS.get(key) is owner:
@@ -216,9 +216,13 @@ def _making(key: int, kind: str) -> tuple[str, str, Line | None, int]:
         return "", "", None, 0
     if made.code is not None:
         place = f"{os.path.basename(made.code.co_filename)}:{line_of(made.code, made.place)}"
-        return "", f"a {kind} made at {place}", None, 0
+        return "", f"{_with_article(kind)} made at {place}", None, 0
     site = SITES[made.place]
-    return ACCESSES[made.place].text, f"a {kind} made at {os.path.basename(site.file)}:{site.line}", made.maker, made.place
+    return ACCESSES[made.place].text, f"{_with_article(kind)} made at {os.path.basename(site.file)}:{site.line}", made.maker, made.place
+
+
+def _with_article(kind: str) -> str:
+    return f"{'an' if kind[:1] in 'AEIOUaeiou' else 'a'} {kind}"
 
 
 # The things of an owner
