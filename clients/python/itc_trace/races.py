@@ -12,15 +12,15 @@ from collections import defaultdict
 from collections.abc import Iterable, Iterator
 from dataclasses import dataclass, field
 
-from .collector import HOST
+from .collector import HOST, NoCollector
 from .conflicts import CHANGING, CONFLICTING, MAKING
 from .fast_track import deciding_pairs
 from .journal import Row, read_whole
 from .order import Order
 from .racing_pairs import Bounds, Pair, racing_pairs
-from .session import Session
+from .session import Refused, Session
 from .touch_rows import MAKERS
-from .verdict import Unseen, Verdict, verdict_of
+from .verdict import Cause, Unseen, Verdict, verdict_of
 from .without_locks import Signals, Trace, WithoutLocks, first_lock_that_tells
 
 NOTHING = "nothing orders them"
@@ -195,7 +195,10 @@ class _Finder:
     def find(self, things: list[_Thing]) -> None:
         self._find_races(things)
         if self._locks:
-            self._find_possible([thing for thing in things if not thing.has_lock_in_common])
+            try:
+                self._find_possible([thing for thing in things if not thing.has_lock_in_common])
+            except (NoCollector, Refused, OSError) as fault:
+                self._found.unseen.append(Unseen(Cause.COLLECTOR, f"possible races cannot be told: {fault}"))
         self._found.questions += self._order.questions
 
     def _find_races(self, things: list[_Thing]) -> None:
