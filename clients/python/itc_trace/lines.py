@@ -12,6 +12,7 @@ from typing import TYPE_CHECKING, Any, NamedTuple
 
 if TYPE_CHECKING:
     from .lock_identity import LockIdentity, Signal
+    from .stretches import Stretch
     from .touch_rows import TouchEvent
     from .tracer import Tracer
 
@@ -55,13 +56,13 @@ OUTSIDE = What("out", "send to another process", "receive from another process")
 
 
 class Line:
-    """The events of one task, in their order. All but the first six fields belong to the thread that reports.
+    """The events of one task, in their order. All but the first seven fields belong to the thread that reports.
 
     `held` has the locks that the task holds now, in the order of their acquiring.
     """
 
     __slots__ = (
-        "tracer", "hint", "waiting", "reference", "must_finish", "held",
+        "tracer", "hint", "waiting", "reference", "must_finish", "held", "section",
         "name", "count", "message", "lock", "sent", "pending", "known", "known_by_locks", "parent", "parent_count", "touches",
         "end_token", "is_finished", "has_ended", "is_gone", "joined_by", "joined_at", "joined", "first_taker",
     )
@@ -73,6 +74,8 @@ class Line:
         self.reference: weakref.ref[Any] | None = None
         self.must_finish = False
         self.held: tuple[LockIdentity, ...] = ()
+        self.section: Section | None = None
+        """The section of a lock that it has left, if it has done nothing else since."""
         self.name = ""
         self.count = 0
         self.message: str | None = None
@@ -122,6 +125,21 @@ class Token:
         self.instruction = instruction
         self.count = 0
         self.message: str | None = None
+
+
+class Section:
+    """What a task did with a lock held, and the token of its release.
+
+    If the task acquires the lock again before anybody else, and has done nothing in between, it goes on in the section: the stretch
+    and the token stay, and nothing is noted.
+    """
+
+    __slots__ = ("token", "stretch", "is_entered_again")
+
+    def __init__(self, token: Token, stretch: Stretch | None) -> None:
+        self.token = token
+        self.stretch = stretch
+        self.is_entered_again = False
 
 
 class State:

@@ -56,7 +56,9 @@ def place(frame: FrameType | None) -> tuple[CodeType | None, int]:
 def current() -> Line:
     """The line of whatever runs now, which is about to note a synchronization: its stretch ends."""
     STRETCHES.pop(get_ident(), None)
-    return line_of_now()
+    line = line_of_now()
+    line.section = None
+    return line
 
 
 def line_of_now() -> Line:
@@ -198,5 +200,6 @@ def touched_all(touches: dict[Hashable, Touched]) -> None:
 def _begin_stretch() -> Stretch:
     line, loop, thread = line_of_now(), _get_running_loop(), get_ident()
     turn = 0 if loop is None else TURNS.get(thread, 0)
+    line.section = None
     stretch = STRETCHES[thread] = Stretch(line, 0 if loop is None else id(loop), turn, thread)
     return stretch

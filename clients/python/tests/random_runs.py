@@ -10,7 +10,6 @@ from collections.abc import Iterable, Iterator
 from itc_trace.conflicts import ADDITION, CHANGING, ITERATION, LENGTH, MAKING, READ, WRITE, conflicts
 from itc_trace.journal import Row
 
-KINDS = (READ, READ, WRITE, WRITE, ADDITION, LENGTH, ITERATION)
 LOCKS = ("#1 lock A (a.py:1)", "#2 lock B (a.py:2)")
 MOST_TASKS = 5
 
@@ -154,8 +153,14 @@ class Run:
 class RandomRun(Run):
     """A run in which tasks are started and joined, take locks, send messages and touch things."""
 
+    kinds: tuple[str, ...] = (READ, READ, WRITE, WRITE, ADDITION, LENGTH, ITERATION)
+    has_loops = has_makings = True
+    releases_in_turn = False
+
     def __init__(self, seed: int, steps: int = 40) -> None:
         super().__init__()
+        self.acts: list[tuple[str, str, str, Row | None]] = []
+        """Who does what, in words, with a name or a touch."""
         self.chance = random.Random(seed)
         self._live = ["root"]
         self._ended: list[str] = []
@@ -165,7 +170,7 @@ class RandomRun(Run):
         self._made: set[str] = set()
         self._turn = 0
         self._in_turn = ""
-        self._is_looped = self.chance.random() < 0.4
+        self._is_looped = self.has_loops and self.chance.random() < 0.4
         self._has_own_lines = self.chance.random() < 0.5
         locking, signalling, touching = self.chance.choice(((2, 1, 3), (8, 0, 2), (8, 2, 2), (8, 4, 1), (1, 6, 2)))
         actions = [self._touch] * touching + [self._acquire, self._release] * locking + [self._send, self._receive] * signalling
@@ -199,11 +204,11 @@ class RandomRun(Run):
         for _ in range(self.chance.choice((1, 1, 2))):
             thing, line = self.chance.choice("xy"), self.chance.randrange(10, 16)
             line += 10 * list(self._last).index(task) if self._has_own_lines else 0
-            is_making = self.chance.random() < 0.15
+            is_making = self.has_makings and self.chance.random() < 0.15
             if is_making and thing in self._made:
                 continue
             self._made.add(thing)
-            kind = MAKING if is_making else self.chance.choice(KINDS)
+            kind = MAKING if is_making else self.chance.choice(self.kinds)
             loop = 1 if self._is_looped and task != "root" else 0
             row = Row(
                 event.number, task, thing, kind, "a.py", line, kind, name=f"Thing.{thing}" if self._is_looped else "",
@@ -211,6 +216,7 @@ class RandomRun(Run):
             )
             if row not in self.rows:
                 self.rows.append(row)
+                self.acts.append((task, "touch", "", row))
         if self.rows[-1].event != event.number:
             self.rows.append(Row(event.number, task, None, "local", None, 0, "touch"))
 
@@ -219,6 +225,7 @@ class RandomRun(Run):
         if not free:
             return
         lock = self.chance.choice(free)
+        self.acts.append((task, "acquire", lock, None))
         released = self._released.get(lock)
         if released is not None and released.task != task:
             self.add("recv", task, released.name, lock, released.number)
@@ -226,11 +233,14 @@ class RandomRun(Run):
 
     def _release(self, task: str) -> None:
         if self._held[task]:
-            lock = self._held[task].pop(self.chance.randrange(len(self._held[task])))
+            lock = self._held[task].pop(-1 if self.releases_in_turn else self.chance.randrange(len(self._held[task])))
+            self.acts.append((task, "release", lock, None))
             self._released[lock] = self.add("send", task, f"m{len(self.events)}", lock)
 
     def _send(self, task: str) -> None:
-        self._signals.append((self.add("send", task, f"m{len(self.events)}"), {task}))
+        sent = self.add("send", task, f"m{len(self.events)}")
+        self._signals.append((sent, {task}))
+        self.acts.append((task, "send", sent.name, None))
 
     def _receive(self, task: str) -> None:
         new = [signal for signal in self._signals if task not in signal[1]]
@@ -238,16 +248,19 @@ class RandomRun(Run):
             sent, receivers = self.chance.choice(new)
             receivers.add(task)
             self.add("recv", task, sent.name, source=sent.number)
+            self.acts.append((task, "recv", sent.name, None))
 
     def _spawn(self, task: str) -> None:
         if len(self._last) < MOST_TASKS:
             child = f"t{len(self._last)}"
             self.add("spawn", task, child)
+            self.acts.append((task, "spawn", child, None))
             self._live.append(child)
 
     def _end(self, task: str) -> None:
         if task != "root" and not self._held[task] and self.chance.random() < 0.3:
             self.add("end", task)
+            self.acts.append((task, "end", "", None))
             self._live.remove(task)
             self._ended.append(task)
 
@@ -255,6 +268,7 @@ class RandomRun(Run):
         if self._ended:
             child = self._ended.pop(self.chance.randrange(len(self._ended)))
             self.add("join", task, child, source=self._last[child])
+            self.acts.append((task, "join", child, None))
 
 
 def _by_event(one: Row, other: Row) -> tuple[Row, Row]:

@@ -7,11 +7,13 @@ from __future__ import annotations
 
 import _thread
 import sys
+from _thread import get_ident
 from typing import Any
 
-from ..lines import MARK, TAKE, Line, Token, state
+from ..lines import MARK, TAKE, Line, Section, Token, state
 from ..lock_identity import LockIdentity, Signal
-from ..noting import current, is_internal, place
+from ..noting import current, is_internal, line_of_now, place
+from ..stretches import STRETCHES
 
 _allocate = _thread.allocate_lock
 _PlainRLock: Any = vars(_thread)["RLock"]
@@ -176,9 +178,13 @@ def is_of_condition(lock: Any) -> None:
 
 def gave(lock: Any) -> None:
     """Notes that the lock is about to be released."""
+    thread = get_ident()
+    stretch = STRETCHES.pop(thread, None)
+    line = line_of_now()
+    if line.section is not None and _left_again(lock, line, line.section):
+        return
     frame = sys._getframe(2)
     code, instruction = place(frame) if is_internal(frame) else (frame.f_code, frame.f_lasti)
-    line = current()
     holder, lock._itc_holder = lock._itc_holder, None
     identity: LockIdentity = lock._itc_identity
     if holder is line:
@@ -192,9 +198,33 @@ def gave(lock: Any) -> None:
         identity.become_signal()
     what: LockIdentity | Signal = identity.signal or identity
     lock._itc_token = token = Token(line, what, code, instruction)
+    line.section = None
     note = state.note
     if note is not None:
         note((MARK, token))
+        line.section = Section(token, stretch) if stretch is None or not stretch.loop else None
+
+
+def _left_again(lock: Any, line: Line, section: Section) -> bool:
+    """Whether this is the end of a section that was entered again, and in which nothing has happened that is not in its stretch."""
+    identity, held = lock._itc_identity, line.held
+    if not section.is_entered_again or section.token.what is not identity or not held or held[-1] is not identity or identity.signal:
+        return False
+    section.is_entered_again = False
+    lock._itc_holder = None
+    line.held = held[:-1]
+    lock._itc_token = section.token
+    return True
+
+
+def _entered_again(lock: Any, line: Line, section: Section) -> None:
+    """The task that released the lock goes on in its section."""
+    section.is_entered_again = True
+    lock._itc_holder = line
+    line.held += (lock._itc_identity,)
+    lock._itc_token = None
+    if section.stretch is not None:
+        STRETCHES[section.stretch.thread] = section.stretch
 
 
 def _outlived(line: Line, identity: LockIdentity) -> None:
@@ -221,6 +251,11 @@ def _remove(line: Line, identity: LockIdentity) -> None:
 def took(lock: Any) -> None:
     """Notes that the lock was acquired. While it is held nobody else needs the place of its last release."""
     token = lock._itc_token
+    if token is not None and token.line.section is not None and token.line.section.token is token:
+        line = line_of_now()
+        if line is token.line and line.section is not None:
+            _entered_again(lock, line, line.section)
+            return
     line = current()
     lock._itc_holder = line
     line.held += (lock._itc_identity,)
