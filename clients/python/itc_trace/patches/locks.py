@@ -36,6 +36,7 @@ class _LikeRLock(type):
 class TracedLock(metaclass=_LikeLock):
     """A lock whose last release is known to whoever acquires it next. It has all that a lock has."""
 
+    __module__ = "_thread"
     __slots__ = ("_lock", "_itc_token", "_itc_identity", "_itc_holder", "__weakref__")
 
     _lock: Any
@@ -157,6 +158,7 @@ class TracedRLock(_PlainRLock, metaclass=_LikeRLock):  # type: ignore[misc]
         self._depth = 0
 
 
+TracedLock.__name__ = TracedLock.__qualname__ = "lock"
 TracedRLock.__name__ = TracedRLock.__qualname__ = "RLock"
 
 

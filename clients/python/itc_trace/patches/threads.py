@@ -10,7 +10,7 @@ from typing import Any
 
 from ..lines import BARRIER, EVENT, FINISH, JOIN, NOTIFY, SEMAPHORE, SPAWN, Line, state
 from ..noting import current, enter, is_internal, mark, place, take, thread_name
-from .base import Patches
+from .base import Patches, like
 from .exits import await_at_exit
 from .locks import TracedLock, TracedRLock, is_of_condition, traced_rlock
 from .waiters import Waiters
@@ -140,7 +140,7 @@ def _start_plain(original: Any) -> Any:
                 _note_end(line)
 
         note((SPAWN, current(), line, *place(frame)))
-        return original(run, *words)  # type: ignore[no-any-return]
+        return original(like(function, run), *words)  # type: ignore[no-any-return]
 
     return start_new_thread
 
