@@ -1,10 +1,14 @@
 """Measures what tracing costs, what the relay carries, and how long races take: the numbers of docs/python.md.
 
 Usage: python3 measure.py [cost] [relay] [races]
+       python3 measure.py beside FOLDER    what tracing costs with this package and with the one in the folder, by turns
 """
 
+import asyncio
+import http.server
 import json
 import multiprocessing
+import os
 import queue
 import random
 import subprocess
@@ -12,9 +16,10 @@ import sys
 import threading
 import time
 from collections.abc import Callable, Iterator
+from pathlib import Path
 from typing import Any
 
-from itc_trace import Collector, Session, find_races, touch, tracing
+from itc_trace import Collector, Session, find_races, shared, touch, tracing
 
 TURNS, TRIES = 10000, 5
 PROCESSES, REPORTS, AT_ONCE = 32, 512, 64
@@ -65,6 +70,88 @@ def two_threads_turns(turns: int) -> None:
         thread.join()
 
 
+def locked_update_turns(turns: int) -> None:
+    stock, lock = shared({"left": 0}, "stock"), threading.Lock()
+
+    def work() -> None:
+        for _ in range(turns // 2):
+            with lock:
+                stock["left"] += 1
+
+    threads = [threading.Thread(target=work) for _ in range(2)]
+    for thread in threads:
+        thread.start()
+    for thread in threads:
+        thread.join()
+
+
+def handed_over_turns(turns: int) -> None:
+    one: queue.Queue[int] = queue.Queue()
+
+    def work() -> None:
+        for _ in range(turns):
+            one.get()
+
+    thread = threading.Thread(target=work)
+    thread.start()
+    for _ in range(turns):
+        one.put(1)
+    thread.join()
+
+
+def asyncio_lock_turns(turns: int) -> None:
+    async def main() -> None:
+        lock = asyncio.Lock()
+
+        async def work() -> None:
+            for _ in range(turns // 100):
+                async with lock:
+                    touch("x", write=True)
+
+        await asyncio.gather(*(work() for _ in range(100)))
+
+    asyncio.run(main())
+
+
+class Counting(http.server.BaseHTTPRequestHandler):
+    """Counts its requests under a lock."""
+
+    lock = None
+    count: dict[str, int] = {}
+
+    def do_GET(self) -> None:
+        with self.lock:
+            self.count["requests"] += 1
+        self.send_response(200)
+        self.send_header("Content-Length", "2")
+        self.end_headers()
+        self.wfile.write(b"ok")
+
+    def log_message(self, *_: object) -> None:
+        pass
+
+
+ASK = """
+import sys, urllib.request
+for _ in range(int(sys.argv[2])):
+    urllib.request.urlopen(f"http://127.0.0.1:{sys.argv[1]}/").read()
+"""
+
+
+def server_turns(turns: int) -> None:
+    """So many requests for a hundred turns, from 4 clients in processes of their own."""
+    Counting.lock, Counting.count = threading.Lock(), shared({"requests": 0}, "count")
+    server = http.server.ThreadingHTTPServer(("127.0.0.1", 0), Counting)
+    serving = threading.Thread(target=server.serve_forever, args=(0.01,))
+    serving.start()
+    words = [sys.executable, "-c", ASK, str(server.server_address[1]), str(turns // 100)]
+    for client in [subprocess.Popen(words) for _ in range(4)]:
+        client.wait()
+    server.shutdown()
+    serving.join()
+    server.server_close()
+
+
 def microseconds(run: Callable[[int], None]) -> float:
     start = time.perf_counter()
     run(TURNS)
@@ -84,6 +171,37 @@ def measure_cost() -> None:
         plain = min(microseconds(run) for _ in range(TRIES))
         traced = min(traced_microseconds(run) for _ in range(TRIES))
         print(f"{run.__name__}: {plain:.1f} microseconds untraced, {traced:.1f} traced", flush=True)
+
+
+JOBS = {
+    "a free lock": lock_turns, "a touch": touch_turns, "a lock and an update, two threads": locked_update_turns,
+    "a queue": queue_turns, "a queue, two threads": handed_over_turns, "an asyncio lock, 100 tasks": asyncio_lock_turns,
+    "a web server": server_turns,
+}
+
+
+def measure_one(job: str) -> None:
+    """Prints the processor time of the job traced, with all that is reported of it, in microseconds for a turn."""
+    traced = tracing().start()
+    start = time.process_time()
+    JOBS[job](TURNS)
+    traced.stop()
+    print((time.process_time() - start) / TURNS * 1e6)
+    traced.close()
+
+
+def measure_beside(folder: str) -> None:
+    for job in JOBS:
+        times: dict[str, list[float]] = {folder: [], str(Path(__file__).parent): []}
+        for _ in range(TRIES):
+            for package, found in times.items():
+                words = [sys.executable, "-P", __file__, "one", job]  # Not the package beside this file, but that of the path.
+                ran = subprocess.run(
+                    words, env={**os.environ, "PYTHONPATH": package}, capture_output=True, text=True, check=True,
+                )
+                found.append(float(ran.stdout))
+        before, now = (min(found) for found in times.values())
+        print(f"{job}: {before:.1f} before, {now:.1f} now, {now / before:.2f} times", flush=True)
 
 
 # Reports through the relay
@@ -164,6 +282,12 @@ def journal_line(event: int, line: str, kind: str, thing: str | None) -> str:
 
 
 if __name__ == "__main__":
+    if sys.argv[1:2] == ["one"]:
+        measure_one(sys.argv[2])
+        sys.exit()
+    if sys.argv[1:2] == ["beside"]:
+        measure_beside(sys.argv[2])
+        sys.exit()
     for name, measured in (("cost", measure_cost), ("relay", measure_relay), ("races", measure_races)):
         if name in sys.argv[1:] or len(sys.argv) == 1:
             measured()
