@@ -5,11 +5,12 @@ from __future__ import annotations
 import _thread
 import asyncio
 import atexit
-import collections
+import contextvars
 import functools
 import importlib
 import multiprocessing
 import multiprocessing.pool
+import os
 import queue
 import sys
 import tempfile
@@ -17,7 +18,7 @@ import threading
 import time
 import unittest
 from collections.abc import Awaitable, Callable
-from concurrent.futures import Future, ThreadPoolExecutor
+from concurrent.futures import Future, ProcessPoolExecutor, ThreadPoolExecutor
 from pathlib import Path
 from typing import Any
 
@@ -187,6 +188,21 @@ class Callbacks(TracedCase):
             await asyncio.gather(asyncio.create_task(cancel()), task)
 
         self.loop("y", main)
+
+    def test_what_a_timer_calls_comes_after_who_set_it(self) -> None:
+        async def main() -> None:
+            loop = asyncio.get_running_loop()
+
+            async def set_timers() -> None:
+                write("x")
+                write("y")
+                loop.call_later(0.001, write, "x")
+                loop.call_at(loop.time() + 0.001, write, "y")
+
+            await asyncio.create_task(set_timers())
+            await asyncio.sleep(0.01)
+
+        self.loop("", main)
 
     def test_who_sees_a_future_cancelled_comes_after_who_cancelled(self) -> None:
         async def main() -> None:
@@ -409,6 +425,35 @@ class Processes(TracedCase):
                     in_turn(lambda: (write("x"), give()), lambda: (take(), write("x")))
 
                 self.assert_ordered(scenario)
+
+    def test_a_barrier_of_processes_orders_threads(self) -> None:
+        def scenario() -> None:
+            barrier = multiprocessing.Barrier(2)
+
+            def work(mine: str, other: str) -> None:
+                write(mine)
+                barrier.wait(WAIT)
+                touch(other)
+
+            threads = [threading.Thread(target=work, args=names) for names in (("x", "y"), ("y", "x"))]
+            for thread in threads:
+                thread.start()
+            for thread in threads:
+                thread.join()
+
+        self.assert_ordered(scenario)
+
+    def test_the_result_of_another_process_comes_after_who_set_it(self) -> None:
+        def scenario() -> None:
+            with ProcessPoolExecutor(1, multiprocessing.get_context("spawn")) as pool:
+                write("x")
+                future = pool.submit(abs, -5)
+                called = threading.Event()
+                future.add_done_callback(lambda _: (touch("x"), called.set()))
+                self.assertEqual(future.result(WAIT), 5)
+                called.wait(WAIT)
+
+        self.assert_ordered(scenario)
 
     def test_a_pool_of_threads_orders_a_job_with_who_takes_its_result(self) -> None:
         def scenario() -> None:
@@ -634,6 +679,20 @@ class BoundedQueues(TracedCase):
 
         self.assert_race(scenario)
 
+    def test_room_of_a_larger_queue_orders_nothing(self) -> None:
+        def scenario() -> None:
+            one: queue.Queue[int] = queue.Queue(17)
+
+            def fill_and_take() -> None:
+                for number in range(17):
+                    one.put(number)
+                write("x")
+                one.get()
+
+            in_turn(fill_and_take, lambda: (one.put(17), write("x")))
+
+        self.assert_race(scenario)
+
     def test_a_put_that_fails_takes_no_room(self) -> None:
         def scenario() -> None:
             one: queue.Queue[int] = queue.Queue(1)
@@ -771,6 +830,94 @@ class NoOrders(TracedCase):
                 time.sleep(0.001)
             write()
             thread.join()
+
+        self.assert_race(scenario)
+
+    def test_a_list_of_the_threads_orders_nothing(self) -> None:
+        def scenario() -> None:
+            thread = threading.Thread(target=write)
+            thread.start()
+            while thread in threading.enumerate():
+                time.sleep(0.001)
+            write()
+            thread.join()
+
+        self.assert_race(scenario)
+
+    def test_a_poll_of_a_queue_or_of_a_lock_orders_nothing(self) -> None:
+        def poll_of_queue() -> tuple[Any, Any]:
+            one: queue.Queue[int] = queue.Queue()
+            return lambda: one.put(1), lambda: one.empty() or one.qsize()
+
+        def poll_of_lock() -> tuple[Any, Any]:
+            lock = threading.Lock()
+            return lock.acquire, lock.locked
+
+        for make in (poll_of_queue, poll_of_lock):
+            with self.subTest(make=make):
+
+                def scenario() -> None:
+                    give, look = make()
+                    in_turn(lambda: (write(), give()), lambda: (self.assertTrue(look()), write()))
+
+                self.assert_race(scenario)
+
+    def test_a_barrier_that_breaks_orders_nothing(self) -> None:
+        def scenario() -> None:
+            barrier = threading.Barrier(2)
+
+            def wait() -> None:
+                with self.assertRaises(threading.BrokenBarrierError):
+                    barrier.wait(WAIT)
+                write()
+
+            in_turn(lambda: (write(), barrier.abort()), wait)
+
+        self.assert_race(scenario)
+
+    def test_a_context_orders_nothing(self) -> None:
+        variable: contextvars.ContextVar[int] = contextvars.ContextVar("variable")
+        context = contextvars.copy_context()
+
+        def scenario() -> None:
+            in_turn(lambda: (write(), context.run(variable.set, 1)), lambda: (context.run(variable.get), write()))
+
+        self.assert_race(scenario)
+
+    def test_what_a_thread_keeps_to_itself_orders_nothing(self) -> None:
+        own = threading.local()
+
+        def scenario() -> None:
+            in_turn(lambda: (write(), setattr(own, "x", 1)), lambda: (setattr(own, "x", 2), write()))
+
+        self.assert_race(scenario)
+
+    def test_a_pipe_orders_nothing(self) -> None:
+        def scenario() -> None:
+            one, other = multiprocessing.Pipe()
+            in_turn(lambda: (write(), one.send(1)), lambda: (other.recv(), write()))
+            one.close()
+            other.close()
+
+        self.assert_race(scenario)
+
+    def test_a_descriptor_of_a_loop_orders_nothing(self) -> None:
+        def scenario() -> None:
+            one, other = os.pipe()
+
+            async def main() -> None:
+                seen = asyncio.Event()
+                asyncio.get_running_loop().add_reader(one, seen.set)
+                thread = threading.Thread(target=lambda: (write(), os.write(other, b"x")))
+                thread.start()
+                await seen.wait()
+                asyncio.get_running_loop().remove_reader(one)
+                write()
+                await asyncio.to_thread(thread.join)
+
+            asyncio.run(main())
+            os.close(one)
+            os.close(other)
 
         self.assert_race(scenario)
 
