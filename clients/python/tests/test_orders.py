@@ -16,6 +16,7 @@ import sys
 import tempfile
 import threading
 import time
+import traceback
 import unittest
 from collections.abc import Awaitable, Callable
 from concurrent.futures import Future, ProcessPoolExecutor, ThreadPoolExecutor
@@ -565,6 +566,24 @@ class Imports(TracedCase):
 
         self.races(scenario)
 
+    def test_a_traceback_shows_no_frame_of_the_package(self) -> None:
+        name = self.module("raise ValueError('spoilt')\n")
+        importlib.invalidate_caches()
+
+        def files(load: Callable[[], object]) -> list[str]:
+            try:
+                load()
+            except (ValueError, ImportError) as error:
+                return [frame.filename for frame in traceback.extract_tb(error.__traceback__)]
+            return []
+
+        loads: list[Callable[[], object]] = [
+            lambda: exec(f"import {name}"), lambda: importlib.import_module(name), lambda: exec("import no_module_of_orders"),
+        ]
+        plain = [files(load) for load in loads]
+        self.races(lambda: self.assertEqual([files(load) for load in loads], plain))
+        self.assertTrue(all(plain))
+
     def test_a_warning_of_a_module_names_the_line_that_imports_it(self) -> None:
         name = self.module("import warnings\nwarnings.warn('old', DeprecationWarning, stacklevel=2)\n")
         importlib.invalidate_caches()
@@ -814,8 +833,7 @@ class Ends(ProgramCase):
             "assert atexit.register(work) is work\n"
             "atexit.unregister(work)\n"
         )
-        self.assertIn("nothing was touched", run_traced(self.program("")).stderr)
-        self.assertNotRegex(told, "1 touch of")
+        self.assertIn("of 0 things", told)
 
 
 class NoOrders(TracedCase):

@@ -46,7 +46,11 @@ def _is_worth(name: str) -> bool:
 
 def _import(original: Any) -> Any:
     def __import__(name: str, globals: Any = None, locals: Any = None, fromlist: Any = (), level: int = 0) -> Any:
-        module = original(name, globals, locals, fromlist, level)
+        try:
+            module = original(name, globals, locals, fromlist, level)
+        except BaseException as error:
+            _pass_over(error)
+            raise
         if _executed and state.note is not None:
             full = name if not level else _bootstrap._resolve_name(name, _bootstrap._calc___package__(globals), level)
             _take_all(full, fromlist)
@@ -55,9 +59,19 @@ def _import(original: Any) -> Any:
     return __import__
 
 
+def _pass_over(error: BaseException) -> None:
+    """Leaves the frame of this package out of the traceback. To raise the error again does not bring it back."""
+    if error.__traceback__ is not None:
+        error.__traceback__ = error.__traceback__.tb_next
+
+
 def _import_module(original: Any) -> Any:
     def import_module(name: str, package: str | None = None) -> Any:
-        module = original(name, package)
+        try:
+            module = original(name, package)
+        except BaseException as error:
+            _pass_over(error)
+            raise
         if _executed and state.note is not None:
             _take_all(module.__name__, ())
         return module
