@@ -1,4 +1,5 @@
-"""A plugin of pytest: a test that is marked `races` fails where its run has a race. With `--races` every test does.
+"""A plugin of pytest: a test that is marked `races` fails where its run has a race, or was not seen whole. With `--races` every
+test does.
 
 The traced methods are put in place before the tests are imported, and note nothing but while such a test runs. The functions of the
 project are watched from the first such test on, those of the tests with the assertions of pytest.
@@ -21,6 +22,7 @@ from .run import told
 from .tracing import Tracing
 
 MARK = "races"
+FAIL_ON, RACE, POSSIBLE = "--races-fail-on", "race", "possible"
 TENANTS = tuple(f"test{number}" for number in range(16))
 
 _found: Any = pytest.StashKey[str]()
@@ -54,10 +56,11 @@ def pytest_addoption(parser: pytest.Parser) -> None:
     group.addoption("--races-watch", metavar="PACKAGE", action="append", default=[], help="watch an installed package, too")
     group.addoption("--races-watch-nothing", action="store_true", help="note only what is shared or touched by hand")
     group.addoption("--races-benign", metavar="FILE", action="append", default=[], help="races that are meant")
+    group.addoption(FAIL_ON, choices=(RACE, POSSIBLE), default=RACE, help="fail a test where a race is possible, too")
 
 
 def pytest_configure(config: pytest.Config) -> None:
-    config.addinivalue_line("markers", f"{MARK}: trace the test, and fail it where its run has a race")
+    config.addinivalue_line("markers", f"{MARK}: trace the test, and fail it where its run has a race or was not seen whole")
     put_all()
 
 
@@ -107,7 +110,7 @@ def pytest_pyfunc_call(pyfuncitem: pytest.Function) -> Generator[None, Any, None
     try:
         yield
         races = traced.races()
-        if races:
+        if races.verdict(pyfuncitem.config.getoption(FAIL_ON) == POSSIBLE):
             pyfuncitem.stash[_found] = told(races)
     finally:
         traced.close()
