@@ -12,7 +12,7 @@ from .faults import WORDS_REFUSED, Fault, look
 from .journal import NoJournal
 from .relay import relay
 from .run import MOST_SEED, Run, run, tell_if_untouched, told
-from .seeing import lines_of, races_seen
+from .seeing import check_trace, lines_of, races_seen
 from .session import Refused
 from .snapshot import snapshot
 from .tracing import OWN_TENANT
@@ -122,7 +122,9 @@ def _looking(words: argparse.Namespace) -> Looking:
 
 def _races(words: argparse.Namespace) -> int:
     look(words.tenant, words.port, words.host)
-    found = races_seen(words.tenant, words.port, lines_of(words.journal), words.host, _looking(words))
+    lines = list(lines_of(words.journal))
+    check_trace(words.tenant, words.port, lines, words.host)
+    found = races_seen(words.tenant, words.port, lines, words.host, _looking(words))
     print(told(found, words.picture))
     tell_if_untouched(found)
     return int(found.verdict(words.fail_on == "possible"))

@@ -41,6 +41,8 @@ def find_in_repository(name: str) -> str | None:
 def find_program() -> str:
     """The collector's program: ITC_TRACE of the environment, else of the PATH, else of the repository."""
     named = os.environ.get("ITC_TRACE")
+    if named and shutil.which(named) is None:
+        raise NoCollector(f"ITC_TRACE names {named}, which is no program: set it to the path of itc_trace")
     found = named or shutil.which("itc_trace") or find_in_repository("itc_trace")
     if found is None:
         raise NoCollector("no itc_trace found: set ITC_TRACE to its path, or have it on the PATH")
@@ -75,7 +77,7 @@ class Collector:
             if process.stdout.readline().startswith(b"listening"):
                 return process
             _end(process)  # The port was taken in between, say.
-        raise NoCollector(f"{program} does not serve")
+        raise NoCollector(f"{program} does not serve as a collector: set ITC_TRACE to the path of itc_trace")
 
     def close(self) -> None:
         """Ends the collector."""

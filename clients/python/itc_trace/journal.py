@@ -78,12 +78,12 @@ def read_whole(lines: Iterable[str]) -> Journal:
     for number, line in enumerate(lines, 1):
         if not line.endswith("\n"):
             break
-        read = _object_of(line)
-        if read is not None and "event" in read:
-            rows.append(_row_of(read))
-        elif read is not None and "unseen" in read:
-            unseen.append(Unseen(Cause(read["unseen"]), str(read["text"])))
-        elif read is not None and "end" in read:
+        read = _read(line)
+        if isinstance(read, Row):
+            rows.append(read)
+        elif isinstance(read, Unseen):
+            unseen.append(read)
+        elif read == END:
             has_ended = True
         elif number == 1:
             raise NoJournal("its first line is none of a journal")
@@ -94,19 +94,30 @@ def read_whole(lines: Iterable[str]) -> Journal:
     return Journal(rows, unseen)
 
 
+END = "end"
+
+
+def _read(line: str) -> Row | Unseen | str | None:
+    """What a line of a journal says. None if it is no such line."""
+    try:
+        read = json.loads(line)
+        if "event" in read:
+            return _row_of(read)
+        if "unseen" in read:
+            return Unseen(Cause(read["unseen"]), str(read["text"]))
+        return END if "end" in read else None
+    except (ValueError, TypeError, KeyError):
+        return None
+
+
 def _row_of(read: dict[str, Any]) -> Row:
     known = {key: read[key] for key in KEYS if key in read}
     if "held" in known:
         known["held"] = tuple(known["held"])
-    return Row(**known)
-
-
-def _object_of(line: str) -> dict[str, Any] | None:
-    try:
-        read = json.loads(line)
-    except ValueError:
-        return None
-    return read if isinstance(read, dict) else None
+    row = Row(**known)
+    if not isinstance(row.event, int) or not isinstance(row.task, str):
+        raise TypeError("an event has a number and a task")
+    return row
 
 
 class Places:

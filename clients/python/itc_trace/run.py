@@ -19,7 +19,7 @@ from .benign import Looking
 from .collector import HOST, Collector, find_in_repository
 from .ending import Child, Ended, ends_by_signals, is_asked_to_end
 from .faults import WORDS_REFUSED, Fault, look
-from .launch import REFUSED
+from .launch import RAISED, REFUSED
 from .merging import Merged
 from .races import Race, Races
 from .seeing import races_seen
@@ -72,6 +72,8 @@ class Outcome:
 
     status: int
     races: Races
+    has_raised: bool
+    """Whether an error of the program ended it."""
     picture: str | None = None
 
 
@@ -129,6 +131,8 @@ def _check_syntax(program: str) -> None:
 
 def _check_writable(file: str) -> None:
     was_there = os.path.exists(file)
+    if was_there and not os.path.isfile(file):
+        raise Fault(f"{file} cannot be written: it is no regular file, which is read again at the end")
     try:
         with open(file, "ab"):
             pass
@@ -146,7 +150,7 @@ def _run_once(asked: Run, seed: int | None) -> int:
     verdict = races.verdict(asked.fail_on_possible)
     if verdict or races.possible or not asked.quiet:
         _say(told(races, outcome.picture))
-        if asked.watched is None and _is_untouched(races) and outcome.status == 0:
+        if asked.watched is None and _is_untouched(races) and not outcome.has_raised:
             _say(UNTOUCHED)
     return int(verdict) or outcome.status
 
@@ -189,7 +193,7 @@ def _outcome(asked: Run, seed: int | None) -> Outcome | None:
         if child.signal_name and not _is_killed(races):
             killed = Unseen(Cause.KILLED, f"the program was ended by {child.signal_name}")
             races.unseen = [killed, *(one for one in races.unseen if one != BREAKS_OFF)]
-        return Outcome(child.status, races, _keep(asked, port, journal, work, races))
+        return Outcome(child.status, races, child.told == RAISED, _keep(asked, port, journal, work, races))
 
 
 def _is_killed(races: Races) -> bool:

@@ -8,8 +8,10 @@ from .benign import Looking
 from .collector import HOST
 from .journal import Journal, NoJournal, read_whole
 from .races import Races, find_races
-from .session import Refused
+from .session import Refused, Session
 from .verdict import BREAKS_OFF, END_ROW, Cause, Unseen
+
+MOST_LOOKED_AT = 64
 
 
 def races_seen(tenant: str, port: int, journal: Iterable[str], host: str = HOST, looking: Looking | None = None) -> Races:
@@ -21,6 +23,20 @@ def races_seen(tenant: str, port: int, journal: Iterable[str], host: str = HOST,
         return found
     except (OSError, Refused) as fault:
         return _unknown(read_whole(lines), fault)
+
+
+def check_trace(tenant: str, port: int, lines: Iterable[str], host: str = HOST) -> None:
+    """Makes sure that a journal is of the trace that this tenant has, by some of its events."""
+    rows = read_whole(lines).rows
+    some = [*rows[:: max(1, len(rows) // MOST_LOOKED_AT)], *rows[-1:]]
+    with Session(tenant, port, "view", host) as view:
+        for row, reply in zip(some, view.ask(f"event {row.event}" for row in some)):
+            words = reply.split()
+            if words[0] != "200" or words[2] != row.task:
+                raise NoJournal(
+                    f"the journal is of another trace: tenant {tenant} at port {port} has no event {row.event} of {row.task}: "
+                    "name the tenant that it was reported to"
+                )
 
 
 def _unknown(whole: Journal, fault: Exception) -> Races:
