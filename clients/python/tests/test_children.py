@@ -97,21 +97,21 @@ class Children(ProgramCase):
 
     def seconds_to_end(self, program: str, how: str) -> float:
         """From the last line of the first child to when its parent has seen it end."""
-        *children, parent = map(float, run_traced(program, how, "no").stdout.split())
+        *children, parent = map(float, run_traced("--watch-nothing", program, how, "no").stdout.split())
         return parent - min(children)
 
     def test_a_child_that_touches_nothing_leaves_the_run_whole(self) -> None:
         program = self.program(PROGRAM)
         for how in WAYS:
             with self.subTest(how=how):
-                ran = run_traced(program, how, "no")
+                ran = run_traced("--watch-nothing", program, how, "no")
                 self.assertEqual(ran.returncode, Verdict.NO_RACE, ran.stderr)
 
     def test_a_child_that_touches_what_is_shared_is_told_as_not_seen(self) -> None:
         program = self.program(PROGRAM)
         for how in WAYS:
             with self.subTest(how=how):
-                ran = run_traced(program, how, "touches")
+                ran = run_traced("--watch-nothing", program, how, "touches")
                 self.assertEqual(ran.returncode, Verdict.INCOMPLETE, ran.stderr)
                 self.assertEqual(
                     ran.stderr.splitlines()[0],
@@ -122,13 +122,13 @@ class Children(ProgramCase):
         for method in ("fork", "forkserver", "spawn"):
             program = self.program(SHARED_MEMORY)
             with self.subTest(method=method):
-                ran = run_traced("--watch", "itc_no_such_package", program, method)
+                ran = run_traced(program, method)
                 self.assertEqual(ran.returncode, Verdict.INCOMPLETE, ran.stderr)
                 self.assertIn(f"incomplete: a child process was not traced: it was started by {method} at {program}:10\n", ran.stderr)
 
     def test_a_fork_that_runs_another_program_leaves_a_watched_run_whole(self) -> None:
         program = self.program("import os\nif os.fork() == 0:\n    os.execvp('true', ['true'])\nos.wait()\n")
-        ran = run_traced("--watch", "itc_no_such_package", program)
+        ran = run_traced(program)
         self.assertEqual(ran.returncode, Verdict.NO_RACE, ran.stderr)
 
     def test_a_program_that_goes_on_in_a_child_is_not_seen_whole(self) -> None:
@@ -154,7 +154,7 @@ class Children(ProgramCase):
             "child = multiprocessing.get_context('fork').Process(target=time.sleep, args=(60,))\n"
             "child.start(); child.terminate(); child.join()\nprint(child.exitcode)\n"
         )
-        ran = run_traced(program)
+        ran = run_traced("--watch-nothing", program)
         self.assertEqual((ran.returncode, ran.stdout), (Verdict.NO_RACE, "-15\n"), ran.stderr)
 
     def test_a_child_writes_no_line_of_its_parent_s_journal_again(self) -> None:
