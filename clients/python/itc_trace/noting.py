@@ -151,6 +151,7 @@ def take(token: Token | None, depth: int = 2) -> None:
     line = line_of_now()
     if line is not token.line:
         leave()
+        line.section = None
         note((TAKE, line, token, *place(sys._getframe(depth))))
 
 

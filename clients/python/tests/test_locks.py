@@ -3,16 +3,18 @@
 from __future__ import annotations
 
 import asyncio
+import queue
 import sys
 import threading
 import unittest
+from concurrent.futures import Future
 from typing import Any
 
 from itc_trace import touch
 from itc_trace.lines import state
 from itc_trace.noting import current
 
-from .support import WAIT, TracedCase, in_turn
+from .support import WAIT, Step, TracedCase, in_turn
 
 
 def held() -> list[str]:
@@ -190,6 +192,66 @@ class Held(TracedCase):
         lock: Any = threading.Lock()
         with lock:
             pass
+
+
+class Sections(TracedCase):
+    """A task that acquires a lock again goes on in its section only if it has done nothing in between."""
+
+    def test_what_was_learnt_in_between_is_known_in_the_next_section(self) -> None:
+        def by_queue() -> tuple[Any, Any]:
+            one: queue.Queue[int] = queue.Queue()
+            return lambda: one.put(1), one.get
+
+        def by_event() -> tuple[Any, Any]:
+            event = threading.Event()
+            return event.set, event.wait
+
+        def by_permit() -> tuple[Any, Any]:
+            semaphore = threading.Semaphore(0)
+            return semaphore.release, semaphore.acquire
+
+        def by_result() -> tuple[Any, Any]:
+            future: Future[int] = Future()
+            return lambda: future.set_result(1), future.result
+
+        def by_lock() -> tuple[Any, Any]:
+            other = threading.Lock()
+
+            def enter() -> None:
+                with other:
+                    pass
+
+            return enter, enter
+
+        for make in (by_queue, by_event, by_permit, by_result, by_lock):
+            with self.subTest(make=make):
+
+                def scenario() -> None:
+                    lock, between, told = threading.Lock(), Step(), Step()
+                    give, take = make()
+
+                    def first() -> None:
+                        with lock:
+                            touch("x", write=True)
+                        between.done()
+                        told.wait()
+                        take()
+                        with lock:
+                            touch("y", write=True)
+
+                    def second() -> None:
+                        between.wait()
+                        touch("y", write=True)
+                        give()
+                        told.done()
+
+                    threads = [threading.Thread(target=step) for step in (first, second)]
+                    for thread in threads:
+                        thread.start()
+                    for thread in threads:
+                        thread.join()
+
+                self.assert_ordered(scenario)
 
 
 class Notifying(TracedCase):

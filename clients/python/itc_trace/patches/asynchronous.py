@@ -189,6 +189,7 @@ def _tell_cancelled(line: Line) -> None:
     """The task does not run now. When it goes on, it comes after whoever cancelled it."""
     note, token = state.note, mark(CANCEL, 3)
     if note is not None and token is not None and token.line is not line and line.tracer is state.tracer:
+        line.section = None
         note((TAKE, line, token, token.code, token.instruction))
 
 
