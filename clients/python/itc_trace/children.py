@@ -54,9 +54,15 @@ def _place(site: Any) -> str:
     return f"{code.co_filename}:{line_of(code, instruction)}"
 
 
+_is_told_of_processes = False
+
+
 def tell_of_processes(tell: Callable[[Unseen], None]) -> None:
     """Tells of the processes of a program that is watched. Nobody knows what they touch, as their shared memory is not watched."""
-    once_imported("multiprocessing.process", lambda module: _wrap_start(module.BaseProcess, tell))
+    global _is_told_of_processes
+    if not _is_told_of_processes:
+        _is_told_of_processes = True
+        once_imported("multiprocessing.process", lambda module: _wrap_start(module.BaseProcess, tell))
 
 
 def _wrap_start(kind: Any, tell: Callable[[Unseen], None]) -> None:

@@ -20,7 +20,6 @@ from types import FrameType
 from typing import Any, NoReturn
 
 from . import watch
-from .children import tell_of_processes
 from .faults import WORDS_REFUSED
 from .patches.base import like
 from .shaking import Shaking
@@ -48,8 +47,6 @@ def main() -> None:
         traced = Tracing(**configuration, shaking=shaking).start()
     except OSError as fault:  # Another session reports, say.
         _refuse(tell, str(fault))
-    if watch.is_on():
-        tell_of_processes(traced.tell)
     ending = Ending(traced)
     atexit.register(ending.finish)
     try:

@@ -9,7 +9,7 @@ import tempfile
 from collections.abc import Sequence
 from types import TracebackType
 
-from .children import IN_CHILD, LEFT_CHILD, Announced, ForkedChildren, Witness
+from .children import IN_CHILD, LEFT_CHILD, Announced, ForkedChildren, Witness, tell_of_processes
 from . import watch
 from .benign import Looking
 from .collector import HOST, Collector
@@ -76,6 +76,8 @@ class Tracing:
         self._announced = Announced(self.journal)
         state.witness = None
         _active.add(self)
+        if watch.is_on():
+            tell_of_processes(_tell)
         self._tracer.start()
         watch.begin()
 
@@ -198,6 +200,11 @@ def uninstall() -> None:
 
 _active: set[Tracing] = set()
 """What traces this process now."""
+
+
+def _tell(unseen: Unseen) -> None:
+    for traced in list(_active):
+        traced.tell(unseen)
 
 
 def _forget() -> None:
