@@ -68,16 +68,23 @@ def line_of_now() -> Line:
         task = _task_of(loop)
         if task is not None:
             line: Line | None = getattr(task, "_itc_line", None)
-            return line if line is not None and line.tracer is state.tracer else _adopt_task(task)
+            if line is not None and line.tracer is state.tracer:
+                return line
+            line = _adopt_task(task)
+            if line is not None:
+                return line
     own: Line | None = getattr(local, "line", None)
     return own if own is not None and own.tracer is state.tracer else _adopt_thread()
 
 
-def _adopt_task(task: Any) -> Line:
-    """Gives a task a line that was made before tracing began, or by other means than asyncio's own."""
+def _adopt_task(task: Any) -> Line | None:
+    """Gives a task a line that was made before tracing began, or by other means than asyncio's own. None where it takes none."""
     line = Line(state.tracer, coroutine_name(task))
-    line.watch(task)
-    task._itc_line = line
+    try:
+        line.watch(task)
+        task._itc_line = line
+    except Exception:
+        return None
     _begin(line)
     return line
 
@@ -119,7 +126,7 @@ def _begin(line: Line) -> None:
 
 def thread_name(thread: threading.Thread) -> str:
     """The name that a thread was given, else that of what it runs with a number."""
-    name = thread.name
+    name = _text(lambda: thread.name, "thread#")
     if name.startswith("Thread-") and name.endswith(")"):
         return name.partition("(")[2][:-1] + "#"
     return "thread#" if name.startswith("Thread-") else name
@@ -127,10 +134,26 @@ def thread_name(thread: threading.Thread) -> str:
 
 def coroutine_name(task: Any) -> str:
     """The name that a task was given, else that of its coroutine with a number."""
-    name = task.get_name()
+    name = _text(lambda: task.get_name(), "Task-")
     if not name.startswith("Task-"):
-        return str(name)
-    return getattr(task.get_coro(), "__name__", "task") + "#"
+        return name
+    return _text(lambda: task.get_coro().__name__, "task") + "#"
+
+
+def _text(get: Callable[[], Any], otherwise: str) -> str:
+    """What the program gives, if it gives a text."""
+    try:
+        found = get()
+    except Exception:
+        return otherwise
+    return found if isinstance(found, str) else otherwise
+
+
+def failed(fault: Exception) -> None:
+    """Stops tracing, where a hook failed. The program goes on."""
+    tracer = state.tracer
+    if tracer is not None:
+        tracer.fail(fault)
 
 
 def mark(what: What, depth: int = 2) -> Token | None:
@@ -138,9 +161,13 @@ def mark(what: What, depth: int = 2) -> Token | None:
     note = state.note
     if note is None:
         return None
-    token = Token(current(), what, *place(sys._getframe(depth)))
-    note((MARK, token))
-    return token
+    try:
+        token = Token(current(), what, *place(sys._getframe(depth)))
+        note((MARK, token))
+        return token
+    except Exception as fault:
+        failed(fault)
+        return None
 
 
 def take(token: Token | None, depth: int = 2) -> None:
@@ -159,7 +186,10 @@ def touch(thing: str, write: bool = False, label: str | None = None) -> None:
     """Notes that the current task reads or writes the thing, at the line of the program that calls this."""
     if state.note is not None or state.witness is not None:
         frame = sys._getframe(1)
-        touch_at(thing, WRITE if write else READ, frame.f_code, frame.f_lasti, label)
+        try:
+            touch_at(thing, WRITE if write else READ, frame.f_code, frame.f_lasti, label)
+        except Exception as fault:
+            failed(fault)
 
 
 def touch_at(thing: str, kind: str, code: CodeType, instruction: int, label: str | None = None) -> None:

@@ -259,6 +259,10 @@ class Tracer:
         self._is_over = True
         self._socket.close()
 
+    def fail(self, fault: Exception) -> None:
+        """A hook in the program's own thread failed."""
+        self._give_up(Cause.TRACER, f"{type(fault).__name__} in a hook: {fault}")
+
     def _give_up(self, cause: Cause, reason: str) -> None:
         """Stops tracing in the middle. The program goes on."""
         with self._switch:

@@ -57,7 +57,7 @@ def _start(original: Any) -> Any:
         line.watch(self)
         if not self.daemon:
             await_at_exit(line)
-        self._itc_line = line  # type: ignore[attr-defined]
+        self.__dict__["_itc_line"] = line  # The program's own class may refuse attributes.
         note((SPAWN, current(), line, *place(sys._getframe(1))))
         return original(self)  # type: ignore[no-any-return]
 

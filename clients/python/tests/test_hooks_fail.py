@@ -1,0 +1,84 @@
+"""A hook that fails stops tracing, which is told, and never reaches the program."""
+
+from __future__ import annotations
+
+import unittest
+from unittest import mock
+
+from itc_trace import Cause, Verdict, noting, touch, tracing
+from itc_trace.lines import EVENT
+
+from .support import ProgramCase, run_python, run_traced
+
+ODD_THREADS = """
+import threading
+class Nameless(threading.Thread):
+    name = property(lambda self: 1 / 0, lambda self, name: None)
+class Numbered(threading.Thread):
+    name = property(lambda self: 7, lambda self, name: None)
+class Closed(threading.Thread):
+    def __setattr__(self, name, value):
+        if name.startswith("_itc"):
+            raise AttributeError(name)
+        super().__setattr__(name, value)
+for kind in (Nameless, Numbered, Closed):
+    threads = [kind(target=lambda: None) for _ in range(2)]
+    for thread in threads:
+        thread.start()
+    for thread in threads:
+        thread.join()
+print("done")
+"""
+ODD_TASKS = """
+import asyncio
+class Odd(asyncio.Task):
+    def get_name(self):
+        raise ValueError("no name")
+    def get_coro(self):
+        raise ValueError("no coroutine")
+class Numbered(asyncio.Task):
+    def get_name(self):
+        return 7
+async def work():
+    await asyncio.sleep(0)
+async def main():
+    for kind in (Odd, Numbered):
+        asyncio.get_running_loop().set_task_factory(lambda loop, coro, **named: kind(coro, loop=loop))
+        await asyncio.gather(work(), work())
+    print("done")
+asyncio.run(main())
+"""
+ODD_TOUCH = """
+import itc_trace
+itc_trace.touch(["a", "list"], write=True)
+print("done")
+"""
+
+
+class FailingHooks(ProgramCase):
+    def test_odd_threads_and_tasks_run_as_untraced(self) -> None:
+        for text in (ODD_THREADS, ODD_TASKS):
+            with self.subTest(text=text):
+                program = self.program(text)
+                plain, ran = run_python(program), run_traced("--quiet", program)
+                self.assertEqual((ran.returncode, ran.stdout, ran.stderr), (0, plain.stdout, plain.stderr))
+
+    def test_a_touch_that_cannot_be_noted_is_told_and_not_raised(self) -> None:
+        ran = run_traced(self.program(ODD_TOUCH))
+        self.assertEqual((ran.returncode, ran.stdout), (Verdict.INCOMPLETE, "done\n"), ran.stderr)
+        self.assertIn("itc_trace: incomplete: TypeError in a hook: unhashable type: 'list'", ran.stderr)
+
+    def test_a_failing_hook_is_no_all_clear(self) -> None:
+        for name in ("place", "current", "touch_at"):
+            with self.subTest(name=name):
+                with tracing() as traced:
+                    touch("x", write=True)
+                    with mock.patch.object(noting, name, side_effect=RuntimeError("planted")):
+                        touch("x", write=True)
+                        noting.mark(EVENT)
+                self.assertIs(traced.races().verdict(), Verdict.INCOMPLETE)
+                self.assertEqual([one.cause for one in traced.races().unseen], [Cause.TRACER])
+
+
+if __name__ == "__main__":
+    unittest.main()
