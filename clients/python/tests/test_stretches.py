@@ -88,6 +88,19 @@ class Events(TracedCase):
         self.assertEqual([[len(locks) for locks in one] for one in held], [[0], [1], [2]])
         self.assertEqual(held[1].pop(), held[2].pop()[:1])
 
+    def test_a_line_that_is_reached_with_and_without_a_lock_is_told_twice(self) -> None:
+        def look() -> None:
+            touch("x")
+
+        def scenario() -> None:
+            lock = threading.Lock()
+            look()
+            with lock:
+                look()
+
+        self.races(scenario)
+        self.assertEqual(sorted(len(row.held) for row in self.touches()), [0, 1])
+
     def test_touches_around_a_release_are_apart_once_somebody_takes_it(self) -> None:
         taken = Step()
 
@@ -117,6 +130,7 @@ class Events(TracedCase):
     def test_a_lock_in_a_task_makes_it_no_child_of_whoever_took_it_later(self) -> None:
         async def first(lock: asyncio.Lock) -> None:
             async with lock:
+                touch("y")
                 await asyncio.sleep(0)
             await asyncio.sleep(0.01)
             touch("x", write=True)
@@ -167,9 +181,9 @@ class Events(TracedCase):
 
         def scenario() -> None:
             touch("z")
+            time.sleep(0.3)  # The thread that reports rests by now, so that it sees the rest at once.
             _start_untraced[0](stranger, ())
             begun.wait()
-            time.sleep(0.05)
             touch("x", write=True)
             go_on.done()
             begun.wait()
@@ -195,9 +209,18 @@ class Events(TracedCase):
         self.assertEqual(len(found), 1, found.text())
 
     def test_nothing_is_kept_of_an_earlier_tracing(self) -> None:
-        self.races(lambda: touch("x"))
-        self.races(lambda: touch("x"))
-        self.assertEqual(len(self.touches()), 1)
+        steps = [Step() for _ in range(4)]
+
+        def stay() -> None:
+            for number in (0, 2):
+                steps[number].wait()
+                touch("x")
+                steps[number + 1].done()
+
+        _start_untraced[0](stay, ())
+        for number in (0, 2):
+            self.races(lambda: (steps[number].done(), steps[number + 1].wait()))
+            self.assertEqual(len(self.touches()), 1)
         self.races(lambda: None)
         self.assertEqual(STRETCHES, {})
 
