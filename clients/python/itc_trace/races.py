@@ -149,9 +149,9 @@ class _Thing:
 
 
 def _first_written(rows: list[Row]) -> Row | None:
-    """The first touch, where a constructor writes."""
+    """The first touch of a thing that the program has named, where a constructor writes. A making of any other is noted as such."""
     first = rows[0]
-    return first if first.kind in CHANGING and first.function.rpartition(".")[2] in MAKERS else None
+    return first if not first.name and first.kind in CHANGING and first.function.rpartition(".")[2] in MAKERS else None
 
 
 def find_races(tenant: str, port: int, journal: Iterable[str], host: str = HOST, strict: bool = False) -> Races:

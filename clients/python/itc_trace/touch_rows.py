@@ -7,7 +7,7 @@ from typing import Any
 
 from .conflicts import CHANGING
 from .journal import Touch, TouchTexts
-from .stretches import SITES, Stretch
+from .stretches import Stretch
 
 MAKERS = ("__init__", "__new__", "__post_init__")
 """Functions that make an object. What they write nobody else has seen."""
@@ -93,7 +93,7 @@ class TouchRows:
             alone = self._alone[number] = _Alone(touch.thing, event.task)
         alone.waiting.append((event, touch))
         alone.has_other_task = alone.has_other_task or event.task != alone.task
-        alone.is_changed = alone.is_changed or touch.kind in CHANGING and not _is_of_maker(touch)
+        alone.is_changed = alone.is_changed or touch.kind in CHANGING
         if alone.has_other_task and alone.is_changed:
             rows += [self._row(*one) for one in alone.waiting]
             self._alone[number] = None
@@ -114,7 +114,3 @@ class TouchRows:
             if self._alone.get(number) is not None:
                 del self._alone[number]
         self._swept = len(self._alone)
-
-
-def _is_of_maker(touch: Touch) -> bool:
-    return SITES[touch.site].function.rpartition(".")[2] in MAKERS

@@ -175,9 +175,9 @@ class Luck(unittest.TestCase):
         sent = run.add("send", "a", "m", lock).number
         run.add("recv", "b", "m", lock, sent)
         second = run.add("local", "b").number
-        for function, count in (("Shop.__init__", 0), ("Shop.fill", 1)):
-            rows = [Row(first, "a", "#1", "write", "a.py", 1, "", name="Shop.stock", function=function),
-                    Row(second, "b", "#1", "write", "a.py", 2, "", name="Shop.stock", function="sell")]
+        for function, name, count in (("Shop.__init__", "", 0), ("Shop.fill", "", 1), ("Shop.__init__", "Shop.stock", 1)):
+            rows = [Row(first, "a", "stock", "write", "a.py", 1, "", name=name, function=function),
+                    Row(second, "b", "stock", "write", "a.py", 2, "", name=name, function="sell")]
             run.close()
             whole, run.rows = run.rows, sorted([*run.rows, *rows], key=lambda row: row.event)
             self.assertEqual(len(found_in(run, Answers(run)).possible), count)

@@ -8,10 +8,10 @@ from __future__ import annotations
 
 import builtins
 import types
+from builtins import hash, id, issubclass, len, map, setattr, type
 from _thread import get_ident
 from collections import defaultdict
 from collections.abc import Callable, Iterable
-from builtins import hash, id, issubclass, len, map, setattr, type
 from sys import _getframe, getrefcount
 from typing import Any
 
@@ -59,6 +59,11 @@ OF_VARIABLE = _references_of_variable()
 OF_VARIABLE_IN_USE = OF_VARIABLE + 1
 
 
+BEGUN: dict[tuple[int, int], int] = {}
+"""How many references there were of an object when a constructor of it began."""
+MOST_BEGUN = 10_000
+
+
 # Fields
 
 
@@ -89,6 +94,20 @@ def hook_o_local(one: Any, site: int) -> Any:
             touched_all(owner.recipes[base + site])
             return one
     elif getrefcount(one) <= OF_VARIABLE - 1:
+        return one
+    if id(type(one)) not in SKIPPED[site]:
+        _touch_field(one, site)
+    return one
+
+
+def hook_o_new(one: Any, site: int, constructor: int) -> Any:
+    """The same in a constructor. As long as nobody refers to the object who did not when it began, nothing is noted."""
+    base = base_of(id(one))
+    if base is not None:
+        stretch = stretch_of(get_ident())
+        if stretch is not None and base + site in stretch:
+            return one
+    elif getrefcount(one) <= BEGUN.get((id(one), constructor), ANYBODY):
         return one
     if id(type(one)) not in SKIPPED[site]:
         _touch_field(one, site)
@@ -574,8 +593,11 @@ def hook_n(one: Any, site: int) -> Any:
     return one
 
 
-def hook_N(one: Any) -> None:
+def hook_N(one: Any, constructor: int) -> None:
     """At the begin of a constructor."""
+    if len(BEGUN) > MOST_BEGUN:
+        BEGUN.clear()
+    BEGUN[id(one), constructor] = getrefcount(one)
     frame = _getframe(2)
     while frame.f_code.co_name == "__init__" and frame.f_back is not None:
         frame = frame.f_back

@@ -121,12 +121,20 @@ class Rewriter:
 
     def _operand(self, node: Any, hook: str, *words: Any) -> ast.expr:
         """The expression, passed through a hook."""
-        name = hook + "_local" if self._is_local(node) else hook
+        name = self._named_for(hook, node)
+        if name == "o_new":
+            words = (*words, self._scope.constructor)
         if not self._is_guarding:
             return self._hook(name, node, self._visit(node), *words)
         if node.is_scoped:
             return self._hook(name, node, self._child(node), *words)
         return self._choice(self._hook(name, node, self._raw(node), *words), node)
+
+    def _named_for(self, hook: str, node: Any) -> str:
+        """The hook of a variable that only its function has, and of the object that a constructor makes."""
+        if not self._is_local(node):
+            return hook
+        return "o_new" if hook == "o" and node.id == self._scope.made else hook + "_local"
 
     def _key_of(self, owner: Any, key: Any, site: int) -> ast.expr:
         """The key, passed through a hook with the variable that has the container."""
@@ -372,19 +380,22 @@ class Rewriter:
             node.body = self._statements(node.body)
 
         is_constructor = node.name == "__init__" and self._scope.kind == CLASS
-        self._in_scope(node, work)
         first = next(iter((*node.args.posonlyargs, *node.args.args)), None)
         if is_constructor and first is not None:
-            self._note_making(node, first.arg)
+            scope = self._scopes.by_node[node]
+            scope.made, scope.constructor = first.arg, self._site(node, "constructor", "")
+        self._in_scope(node, work)
+        if is_constructor and first is not None:
+            self._note_making(node, first.arg, self._scopes.by_node[node].constructor)
         return [node]
 
     _do_AsyncFunctionDef = _do_FunctionDef
 
-    def _note_making(self, node: ast.FunctionDef, name: str) -> None:
+    def _note_making(self, node: ast.FunctionDef, name: str, constructor: int) -> None:
         """Has a constructor tell where it was called."""
         place = 1 if ast.get_docstring(node, clean=False) is not None else 0
         at = node.body[min(place, len(node.body) - 1)]
-        call = self._hook("N", at, ast.copy_location(ast.Name(name, ast.Load()), at))
+        call = self._hook("N", at, ast.copy_location(ast.Name(name, ast.Load()), at), constructor)
         node.body.insert(place, ast.copy_location(ast.Expr(call), at))
 
     def _visit_defaults(self, arguments: ast.arguments) -> None:

@@ -27,6 +27,9 @@ class Scope:
         self.nonlocals: set[str] = set()
         self.used: set[str] = set()
         self.captured: set[str] = set()
+        self.made = ""
+        """The variable of a constructor that has the object that is made."""
+        self.constructor = 0
 
     @property
     def class_name(self) -> str | None:
