@@ -16,7 +16,7 @@ def poll(votes):
         nonlocal tally
         touch("tally")  # race: read
         touch("tally", write=True)  # race: write
-        tally += 1
+        tally += 1  # also: read, write
 
     threads = [threading.Thread(target=vote) for _ in range(votes)]
     for thread in threads:

@@ -14,9 +14,9 @@ total = 0
 def add(amount):
     global total
     touch("total")  # race: read
-    value = total + amount
+    value = total + amount  # also: read
     touch("total", write=True)  # race: write
-    total = value
+    total = value  # also: write
 
 
 threads = [threading.Thread(target=add, args=(amount,)) for amount in (5, 7)]

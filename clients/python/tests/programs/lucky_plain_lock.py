@@ -1,7 +1,7 @@
 """A lock of `_thread` guards a counter, and the name beside it is read and written without it.
 
 due: possible
-thing: profile
+thing: profile or name
 """
 
 import _thread
@@ -17,7 +17,7 @@ views, name = 0, "ann"
 def rename(new):
     global views, name
     touch("profile", write=True)  # race: write
-    name = new
+    name = new  # also: write
     with lock:
         views += 1
 
@@ -28,7 +28,7 @@ def view():
     with lock:
         views += 1
     touch("profile")  # race: read
-    print(name)
+    print(name)  # also: read
 
 
 touch("profile", write=True)
