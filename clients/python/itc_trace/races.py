@@ -13,13 +13,12 @@ from collections.abc import Iterable, Iterator
 from dataclasses import dataclass, field
 
 from .collector import HOST, NoCollector
-from .conflicts import CHANGING, CONFLICTING, MAKING
+from .conflicts import CONFLICTING, MAKING
 from .fast_track import deciding_pairs
 from .journal import Row, read_whole
 from .order import Order
 from .racing_pairs import Bounds, Pair, racing_pairs
 from .session import Refused, Session
-from .touch_rows import MAKERS
 from .verdict import Cause, Unseen, Verdict, verdict_of
 from .without_locks import Signals, Trace, WithoutLocks, first_lock_that_tells
 
@@ -128,7 +127,7 @@ class _Thing:
 
     def __init__(self, rows: list[Row]) -> None:
         self.touches = [row for row in rows if row.kind != MAKING]
-        self.making = next((row for row in rows if row.kind == MAKING), None) or _first_written(rows)
+        self.making = next((row for row in rows if row.kind == MAKING), None)
         self.tasks = {row.task for row in self.touches}
         self.is_named = not rows[0].name
         """Whether the program itself has named it: then its touches count as they stand, also those of one loop."""
@@ -146,12 +145,6 @@ class _Thing:
     def has_lock_in_common(self) -> bool:
         """Whether some lock is held at each touch."""
         return bool(frozenset(self.touches[0].held).intersection(*(touch.held for touch in self.touches)))
-
-
-def _first_written(rows: list[Row]) -> Row | None:
-    """The first touch of a thing that the program has named, where a constructor writes. A making of any other is noted as such."""
-    first = rows[0]
-    return first if not first.name and first.kind in CHANGING and first.function.rpartition(".")[2] in MAKERS else None
 
 
 def find_races(tenant: str, port: int, journal: Iterable[str], host: str = HOST, strict: bool = False) -> Races:

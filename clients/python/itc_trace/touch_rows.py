@@ -9,8 +9,6 @@ from .conflicts import CHANGING
 from .journal import Touch, TouchTexts
 from .stretches import Stretch
 
-MAKERS = ("__init__", "__new__", "__post_init__")
-"""Functions that make an object. What they write nobody else has seen."""
 MOST_PRIVATE = 10000
 
 

@@ -166,23 +166,6 @@ class Luck(unittest.TestCase):
         )
         self.assertEqual(told.count("lock A"), 1)
 
-    def test_a_constructor_makes(self) -> None:
-        lock = LOCKS[0]
-        run = Run()
-        for step in self.STARTS:
-            run.add(step[1], "root", step[2])
-        first = run.add("local", "a").number
-        sent = run.add("send", "a", "m", lock).number
-        run.add("recv", "b", "m", lock, sent)
-        second = run.add("local", "b").number
-        for function, name, count in (("Shop.__init__", "", 0), ("Shop.fill", "", 1), ("Shop.__init__", "Shop.stock", 1)):
-            rows = [Row(first, "a", "stock", "write", "a.py", 1, "", name=name, function=function),
-                    Row(second, "b", "stock", "write", "a.py", 2, "", name=name, function="sell")]
-            run.close()
-            whole, run.rows = run.rows, sorted([*run.rows, *rows], key=lambda row: row.event)
-            self.assertEqual(len(found_in(run, Answers(run)).possible), count)
-            run.rows = whole
-
 
 # Wrong rules, each of which somebody may take for right
 

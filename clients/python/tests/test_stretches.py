@@ -12,7 +12,7 @@ import unittest
 from typing import Any
 
 from itc_trace import touch, tracing
-from itc_trace.conflicts import READ, WRITE
+from itc_trace.conflicts import MAKING, READ, WRITE
 from itc_trace.journal import Row, read_whole
 from itc_trace.noting import touched
 from itc_trace.stretches import SITES, STRETCHES, Site
@@ -253,9 +253,14 @@ class Private(TracedCase):
         one = Thing(1, "Shop.one")
         self.assertEqual(self.listed(lambda: touch_thing(one, READ), lambda: touch_thing(one, READ)), [])
 
-    def test_what_its_constructor_alone_writes_is_not_listed(self) -> None:
+    def test_to_make_it_is_no_change(self) -> None:
         one = Thing(1, "Shop.one")
-        self.assertEqual(self.listed(lambda: touch_thing(one, WRITE, "Shop.__init__"), lambda: touch_thing(one, READ)), [])
+        self.assertEqual(self.listed(lambda: touch_thing(one, MAKING), lambda: touch_thing(one, READ)), [])
+
+    def test_what_a_constructor_writes_is_a_change(self) -> None:
+        one = Thing(1, "Shop.one")
+        steps = lambda: touch_thing(one, WRITE, "Shop.__init__"), lambda: touch_thing(one, READ)
+        self.assertEqual(self.listed(*steps), ["write Shop.one", "read Shop.one"])
 
     def test_what_two_tasks_touch_and_one_changes_is_listed_whole(self) -> None:
         one = Thing(1, "Shop.one")
