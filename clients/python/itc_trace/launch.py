@@ -68,7 +68,8 @@ def main() -> None:
 
 def _refuse(tell: Callable[[str], object], text: str) -> NoReturn:
     tell(REFUSED)
-    print(f"itc_trace: {text}", file=sys.stderr)
+    if sys.stderr is not None:
+        print(f"itc_trace: {text}", file=sys.stderr)
     sys.exit(WORDS_REFUSED)
 
 
@@ -112,10 +113,10 @@ class Ending:
     def _before_another_program(self, name: str) -> None:
         original = getattr(os, name)
 
-        def replace(*words: Any) -> Any:
+        def replace(*words: Any, **named: Any) -> Any:
             self._traced.tell(ANOTHER_PROGRAM)
             self.finish()
-            return original(*words)
+            return original(*words, **named)
 
         setattr(os, name, like(original, replace))
 

@@ -254,10 +254,9 @@ def _draw(export: str, journal: str, picture: str) -> bool:
 
 def _say(text: str) -> None:
     """Writes to standard error, if there still is one."""
-    try:
-        print(text, file=sys.stderr, flush=True)
-    except OSError:
-        pass
+    if sys.stderr is not None:
+        with contextlib.suppress(OSError):
+            print(text, file=sys.stderr, flush=True)
 
 
 def told(races: Races, picture: str | None = None) -> str:

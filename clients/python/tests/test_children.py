@@ -187,9 +187,9 @@ class Children(ProgramCase):
         with tracing():
             child = os.fork()
             if child == 0:
-                time.sleep(15)
+                time.sleep(100)
                 os._exit(0)
-        self.assertLess(time.monotonic() - began, 12)
+        self.assertLess(time.monotonic() - began, 80)
         os.kill(child, 9)
         os.waitpid(child, 0)
 

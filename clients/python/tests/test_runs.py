@@ -12,7 +12,7 @@ from pathlib import Path
 from itc_trace import Verdict
 from itc_trace.collector import find_program
 
-from .support import ProgramCase, run_traced
+from .support import ProgramCase, run_python, run_traced
 
 LUCKY = """
 import threading, itc_trace
@@ -50,10 +50,54 @@ for thread in threads:
     thread.join()
 print("done")
 """
+HELD = """
+import _thread, queue, sys, threading
+from concurrent.futures import ThreadPoolExecutor
+import itc_trace
+from itc_trace.shaking import Shaking
+
+RLOCK = vars(_thread)["RLock"]
+held, paused, looked_at = [], set(), set()
+
+def locks():
+    for name, module in list(sys.modules.items()):
+        if name.startswith("itc_trace"):
+            yield from vars(module).items()
+    yield from vars(traced._tracer).items()
+
+def pause(self):
+    paused.add(sys._getframe(1).f_locals["original"].__name__ if "original" in sys._getframe(1).f_locals else "touch")
+    for name, lock in locks():
+        if type(lock) is RLOCK:
+            looked_at.add(name)
+            if lock._is_owned():
+                held.append(name)
+
+Shaking.pause = pause
+traced = itc_trace.Tracing(shaking=Shaking(1))
+with traced:
+    lock, items, event, permits = threading.Lock(), queue.Queue(), threading.Event(), threading.Semaphore(2)
+    def work(number):
+        with lock, permits:
+            itc_trace.touch("stock", write=True)
+        items.put(number)
+        items.get()
+        items.task_done()
+        event.set()
+        event.wait()
+    with ThreadPoolExecutor(2) as pool:
+        for done in [pool.submit(work, number) for number in range(8)]:
+            done.result()
+    threads = [threading.Thread(target=work, args=(number,)) for number in range(3)]
+    for thread in threads: thread.start()
+    for thread in threads: thread.join()
+    items.join()
+print(*sorted(paused), "looked at" if "_guard" in looked_at else "no lock", held)
+"""
 EACH_RUN_FAILS = "import sys; print('run', flush=True); sys.exit(7)"
 SWITCHING = "import sys; print(sys.getswitchinterval())"
 RANDOM = "import random; random.seed(1); print(random.random())"
-MOST_RUNS = 40
+MOST_RUNS = 25
 SHAKEN = re.compile(r"^itc_trace: run (\d+) of (\d+)(?: \(--shake=(\d+)\))?: (.*)$", re.MULTILINE)
 
 
@@ -89,6 +133,11 @@ class Runs(ProgramCase):
     def test_no_run_is_shaken_if_none_is_to(self) -> None:
         ran = run_traced("--quiet", "--runs", "2", "--no-shake", self.program(SWITCHING))
         self.assertEqual(ran.stdout, f"{sys.getswitchinterval()}\n" * 2)
+
+    def test_no_pause_stands_under_a_lock_of_the_package(self) -> None:
+        ran = run_python("-c", HELD)
+        paused = "__enter__ __exit__ acquire get join put result run set start submit task_done touch wait"
+        self.assertEqual(ran.stdout, f"{paused} looked at []\n", ran.stderr)
 
     def test_a_program_s_own_random_numbers_stay(self) -> None:
         program = self.program(RANDOM)
