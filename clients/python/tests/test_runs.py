@@ -63,7 +63,8 @@ def locks():
     for name, module in list(sys.modules.items()):
         if name.startswith("itc_trace"):
             yield from vars(module).items()
-    yield from vars(traced._tracer).items()
+    if traced._tracer is not None:
+        yield from vars(traced._tracer).items()
 
 def pause(self):
     paused.add(sys._getframe(1).f_locals["original"].__name__ if "original" in sys._getframe(1).f_locals else "touch")
