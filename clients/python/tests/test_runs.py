@@ -56,7 +56,7 @@ from concurrent.futures import ThreadPoolExecutor
 import itc_trace
 from itc_trace.shaking import Shaking
 
-RLOCK = vars(_thread)["RLock"]
+KINDS = (vars(_thread)["RLock"],)
 held, paused, looked_at = [], set(), set()
 
 def locks():
@@ -69,7 +69,7 @@ def locks():
 def pause(self):
     paused.add(sys._getframe(1).f_locals["original"].__name__ if "original" in sys._getframe(1).f_locals else "touch")
     for name, lock in locks():
-        if type(lock) is RLOCK:
+        if type(lock) in KINDS:
             looked_at.add(name)
             if lock._is_owned():
                 held.append(name)
