@@ -41,7 +41,7 @@ def main() -> None:
     words = sys.argv[2:]
     packages = configuration.pop("watched")
     if packages is not None:
-        watch.watch([_folder_of(words)], packages)
+        watch.watch_loaded([_folder_of(words)], packages)
     shaking = None if seed is None else Shaking(seed)
     try:
         traced = Tracing(**configuration, shaking=shaking).start()

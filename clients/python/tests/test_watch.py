@@ -8,6 +8,8 @@ import gc
 import io
 import linecache
 import os
+import re
+import subprocess
 import sys
 import tempfile
 import textwrap
@@ -25,7 +27,7 @@ from itc_trace.stretches import STRETCHES, Stretch
 from itc_trace.watch import hooks, things
 from itc_trace.watch.rewrite import rewritten
 
-from .support import ProgramCase, fresh_tenant, run_python, run_traced
+from .support import PACKAGE, ProgramCase, fresh_tenant, run_python, run_traced
 
 RACE = 66
 
@@ -488,11 +490,99 @@ for thread in threads:
                     ran = run_traced(*words, os.path.join(folder, "program.py"))
                     self.assertEqual(ran.returncode, status, ran.stderr)
 
-    def test_a_module_is_watched_too(self) -> None:
+    def test_a_module_of_the_current_folder_is_watched(self) -> None:
         with tempfile.TemporaryDirectory() as folder:
             Path(folder, "shop_of_module.py").write_text(self.SHOP)
-            ran = run_python("-m", "itc_trace", "run", "-m", "shop_of_module", PYTHONPATH=f"{folder}{os.pathsep}{os.environ.get('PYTHONPATH', '')}")
-            self.assertIn(ran.returncode, (0, 1, 2, RACE))
+            words = [sys.executable, "-m", "itc_trace", "run", "-m", "shop_of_module"]
+            environment = {**os.environ, "PYTHONPATH": str(PACKAGE)}
+            ran = subprocess.run(words, cwd=folder, env=environment, capture_output=True, text=True, timeout=300, check=False)
+            self.assertEqual(ran.returncode, RACE, ran.stderr)
+
+    def test_a_module_that_is_there_already_is_watched_in_place(self) -> None:
+        text = """
+            import json, threading
+            decoder = json.JSONDecoder()
+            def change():
+                decoder.__init__()
+            threads = [threading.Thread(target=one) for one in (change, lambda: decoder.decode("[1]"))]
+            for thread in threads:
+                thread.start()
+            for thread in threads:
+                thread.join()
+        """
+        program = self.program(textwrap.dedent(text))
+        self.assertEqual(run_traced(program).returncode, 0)
+        ran = run_traced("--watch", "json", program)
+        self.assertEqual(ran.returncode, RACE, ran.stderr)
+        self.assertIn("race on JSONDecoder.scan_once", ran.stderr)
+
+    def test_what_is_traced_as_a_whole_is_not_watched(self) -> None:
+        ran = run_traced("--watch", "queue", self.program("import queue\n"))
+        self.assertEqual(ran.returncode, 0)
+        self.assertEqual(ran.stderr.count("itc_trace: queue is not watched: what it promises is traced as a whole\n"), 1, ran.stderr)
+
+    def test_a_program_that_traces_itself_is_watched(self) -> None:
+        text = """
+            import functools, sys, threading, itc_trace
+            stock = {"left": 3}
+            def plain(function):
+                @functools.wraps(function)
+                def called():
+                    return function()
+                return called
+            @plain
+            def sell():
+                stock["left"] -= 1
+            with itc_trace.tracing(**eval(sys.argv[1])) as traced:
+                threads = [threading.Thread(target=sell) for _ in range(2)]
+                for thread in threads:
+                    thread.start()
+                for thread in threads:
+                    thread.join()
+            print([race.thing for race in traced.races()])
+        """
+        program = self.program(textwrap.dedent(text))
+        self.assertEqual(run_python(program, "{}").stdout, "[\"stock['left']\"]\n")
+        self.assertEqual(run_python(program, "{'watched': None}").stdout, "[]\n")
+
+    def test_constructors_tell_what_others_can_see(self) -> None:
+        text = """
+            import threading
+            class Base:
+                def __init__(self, **named):
+                    self.first = named
+                    self.first_again = self.first
+            class Shop(Base):
+                opened = 0
+                def __init__(self, **named):
+                    Base.__init__(self, **named)
+                    self.second = 1
+                    Shop.opened += 1
+            class Seller(threading.Thread):
+                def __init__(self):
+                    super().__init__()
+                    self.goods = 1
+                    self.start()
+                    self.goods = 2
+                def run(self):
+                    self.goods
+            shops = []
+            def make():
+                shops.append(Shop(left=1))
+            def look():
+                while not shops:
+                    pass
+                shops[0].first, shops[0].second, shops[0].first_again
+            threads = [threading.Thread(target=one) for one in (make, make, look)]
+            for thread in threads:
+                thread.start()
+            for thread in threads:
+                thread.join()
+            Seller().join()
+        """
+        ran = run_traced(self.program(textwrap.dedent(text)))
+        things = set(re.findall(r"^itc_trace: race on (\S+)", ran.stderr, re.MULTILINE))
+        self.assertEqual(things, {"Shop.opened", "Seller.goods", "shops"}, ran.stderr)
 
     def test_a_loop_of_updates_takes_few_events(self) -> None:
         text = """\
@@ -514,7 +604,7 @@ for thread in threads:
         ran = run_traced(self.program(text))
         self.assertEqual(ran.returncode, 0, ran.stderr)
         events = int(ran.stderr.rpartition(" event")[0].rpartition(" ")[2])
-        self.assertLess(events, 600, ran.stderr)
+        self.assertLessEqual(events, 100, ran.stderr)
 
     def test_what_is_meant_is_silenced_and_counted(self) -> None:
         meant = self.SHOP.replace("-= 1", "-= 1  # itc: benign")

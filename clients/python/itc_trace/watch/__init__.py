@@ -9,6 +9,7 @@ from types import CodeType
 from typing import Any
 
 from ..lines import Line, state
+from ..noting import INTERNAL
 from . import hooks, things
 from .finder import Finder, Selection, with_hooks
 from .loaded import Prepare, folder_of_main, rewrite_loaded
@@ -24,7 +25,7 @@ def watch(folders: Sequence[str], packages: Sequence[str] = ()) -> None:
     global _finder
     if _finder is not None:
         sys.meta_path.remove(_finder)  # type: ignore[arg-type]
-    _finder = Finder(Selection(folders, packages))
+    _finder = Finder(Selection(folders, [name for name in packages if not _is_traced_as_a_whole(name)]))
     hooks.put(False)
     sys.meta_path.insert(0, _finder)  # type: ignore[arg-type]
 
@@ -34,6 +35,14 @@ def watch_loaded(folders: Sequence[str], packages: Sequence[str] = (), prepare: 
     watch(folders, packages)
     assert _finder is not None
     rewrite_loaded(_finder.selection, prepare)
+
+
+def _is_traced_as_a_whole(name: str) -> bool:
+    """Whether what the module promises is traced already, and not how it keeps that."""
+    is_so = name.partition(".")[0] in INTERNAL
+    if is_so and sys.__stderr__ is not None:
+        print(f"itc_trace: {name} is not watched: what it promises is traced as a whole", file=sys.__stderr__, flush=True)
+    return is_so
 
 
 def watch_main(packages: Sequence[str]) -> None:

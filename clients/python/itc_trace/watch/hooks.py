@@ -62,6 +62,7 @@ OF_VARIABLE_IN_USE = OF_VARIABLE + 1
 BEGUN: dict[tuple[int, int], int] = {}
 """How many references there were of an object when a constructor of it began."""
 MOST_BEGUN = 10_000
+CONSTRUCTOR = "__init__"
 
 
 # Fields
@@ -98,6 +99,15 @@ def hook_o_local(one: Any, site: int) -> Any:
     if id(type(one)) not in SKIPPED[site]:
         _touch_field(one, site)
     return one
+
+
+def hook_w(one: Any, site: int) -> Any:
+    """Before a value of an object is called, which is nothing to note if it is a method."""
+    return one if id(type(one)) in SKIPPED[site] else hook_o(one, site)
+
+
+def hook_w_local(one: Any, site: int) -> Any:
+    return one if id(type(one)) in SKIPPED[site] else hook_o_local(one, site)
 
 
 def hook_o_new(one: Any, site: int, constructor: int) -> Any:
@@ -595,11 +605,14 @@ def hook_n(one: Any, site: int) -> Any:
 
 def hook_N(one: Any, constructor: int) -> None:
     """At the begin of a constructor."""
+    frame = _getframe(2)
+    if frame.f_code.co_name != CONSTRUCTOR and CONSTRUCTOR in frame.f_code.co_names:
+        BEGUN.pop((id(one), constructor), None)
+        return  # It is called by its name, of an object that is there already.
     if len(BEGUN) > MOST_BEGUN:
         BEGUN.clear()
     BEGUN[id(one), constructor] = getrefcount(one)
-    frame = _getframe(2)
-    while frame.f_code.co_name == "__init__" and frame.f_back is not None:
+    while frame.f_code.co_name == CONSTRUCTOR and frame.f_back is not None:
         frame = frame.f_back
     made_by(one, frame.f_code, frame.f_lasti)
 

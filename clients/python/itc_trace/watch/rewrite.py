@@ -577,7 +577,7 @@ class Rewriter:
         name, owner = func.attr, func.value
         is_late = any(_contains(one, LATE) for one in node.args)
         if name not in METHODS or self._is_foreign(owner):
-            node.func = self._child(func)
+            node.func = self._called(func)
             node.args = [self._child(one) for one in node.args]
         elif name in KEYED and node.args and not isinstance(node.args[0], ast.Starred):
             self._call_keyed(node, func, self._site(node, "method", "", name, self._text(owner)))
@@ -589,6 +589,13 @@ class Rewriter:
         for keyword in node.keywords:
             self._keyword(keyword)
         return node
+
+    def _called(self, func: ast.Attribute) -> ast.expr:
+        """What is called is a method mostly, and seldom a value of the object."""
+        if func.attr.startswith("__") or self._is_foreign(func.value):
+            return self._child(func)  # type: ignore[no-any-return]
+        func.value = self._operand(func.value, "w", self._site(func, "field", "r", func.attr))
+        return func
 
     def _call_keyed(self, node: ast.Call, func: ast.Attribute, site: int) -> None:
         owner: Any = func.value

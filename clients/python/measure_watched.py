@@ -1,0 +1,148 @@
+"""Measures what watching costs: small programs that nobody changed, untraced, with nothing watched and watched, by turns.
+
+Usage: python3 measure_watched.py [NAME..]
+"""
+
+import os
+import statistics
+import subprocess
+import sys
+import tempfile
+from pathlib import Path
+
+TRIES = 5
+TIMED = """
+import time as _time
+_start = _time.process_time()
+main()
+print(_time.process_time() - _start)
+"""
+
+IN_THREADS = """
+def in_threads(*functions):
+    threads = [threading.Thread(target=function) for function in functions]
+    for thread in threads:
+        thread.start()
+    for thread in threads:
+        thread.join()
+"""
+
+PROGRAMS = {
+    "lock": "import threading" + IN_THREADS + """
+lock, stock = threading.Lock(), {"left": 5000}
+def sell():
+    for _ in range(2500):
+        with lock:
+            stock["left"] -= 1
+def main():
+    in_threads(sell, sell)
+""",
+    "queue": "import queue, threading" + IN_THREADS + """
+items = queue.Queue()
+def make():
+    for number in range(3000):
+        items.put({"number": number})
+    items.put(None)
+def use():
+    while (item := items.get()) is not None:
+        item["number"] + 1
+def main():
+    in_threads(make, use)
+""",
+    "asyncio": """
+import asyncio
+class Account:
+    def __init__(self):
+        self.money = 0
+async def pay(account, lock):
+    for _ in range(10):
+        async with lock:
+            account.money += 1
+            await asyncio.sleep(0)
+async def pay_all():
+    account, lock = Account(), asyncio.Lock()
+    await asyncio.gather(*(pay(account, lock) for _ in range(100)))
+def main():
+    asyncio.run(pay_all())
+""",
+    "objects": "import threading" + IN_THREADS + """
+class Point:
+    def __init__(self, x, y):
+        self.x = x
+        self.y = y
+    def move(self, x, y):
+        self.x += x
+        self.y += y
+    def norm(self):
+        return self.x * self.x + self.y * self.y
+def work():
+    point, total = Point(1, 2), 0
+    for _ in range(50000):
+        point.move(1, -1)
+        total += point.norm()
+def main():
+    in_threads(work, work)
+""",
+    "difflib": """
+import difflib, random
+chance = random.Random(1)
+one = ["".join(chance.choice("abcdef") for _ in range(10)) for _ in range(300)]
+other = [line if chance.random() > 0.3 else line[:5] + "zz" for line in one]
+def main():
+    for _ in range(10):
+        list(difflib.unified_diff(one, other))
+        list(difflib.ndiff(one[:40], other[:40]))
+""",
+    "flask": "import http.client, logging, threading" + IN_THREADS + """
+from flask import Flask, render_template_string
+from werkzeug.serving import make_server
+logging.getLogger("werkzeug").setLevel(logging.ERROR)
+app = Flask(__name__)
+@app.route("/<name>")
+def hello(name):
+    return render_template_string("hello {{ name }}", name=name)
+server = make_server("127.0.0.1", 0, app, threaded=True)
+def ask():
+    for number in range(20):
+        connection = http.client.HTTPConnection("127.0.0.1", server.server_port)
+        connection.request("GET", f"/{number}")
+        assert connection.getresponse().read()
+        connection.close()
+def main():
+    thread = threading.Thread(target=server.serve_forever)
+    thread.start()
+    in_threads(*[ask] * 8)
+    server.shutdown()
+    thread.join()
+""",
+}
+WATCHED = {"difflib": ["difflib"], "flask": ["flask", "werkzeug", "jinja2", "blinker", "itsdangerous", "click"]}
+
+
+def seconds(words: list[str]) -> float:
+    folder = os.path.dirname(os.path.abspath(__file__))
+    ran = subprocess.run([sys.executable, *words], capture_output=True, text=True, env={**os.environ, "PYTHONPATH": folder}, check=False)
+    return float(ran.stdout.split()[0])
+
+
+def measure(name: str, program: str) -> None:
+    watched = [word for package in WATCHED.get(name, []) for word in ("--watch", package)]
+    traced = ["-m", "itc_trace", "run", "--quiet"]
+    ways = {"untraced": [program], "nothing watched": [*traced, "--watch-nothing", program], "watched": [*traced, *watched, program]}
+    times: dict[str, list[float]] = {way: [] for way in ways}
+    for _ in range(TRIES):
+        for way, words in ways.items():
+            times[way].append(seconds(words))
+    best = {way: min(each) for way, each in times.items()}
+    middle = {way: statistics.median(each) for way, each in times.items()}
+    told = ", ".join(f"{way} {best[way] * 1000:.1f} ms" for way in ways)
+    ratios = f"{best['watched'] / best['untraced']:.1f} times (of medians {middle['watched'] / middle['untraced']:.1f})"
+    print(f"{name}: {told}: {ratios}", flush=True)
+
+
+if __name__ == "__main__":
+    with tempfile.TemporaryDirectory() as folder:
+        for name in sys.argv[1:] or PROGRAMS:
+            path = Path(folder, f"{name}_watched.py")
+            path.write_text(PROGRAMS[name] + TIMED)
+            measure(name, str(path))
