@@ -21,6 +21,7 @@ import weakref
 from collections.abc import Callable, Iterator
 from pathlib import Path
 from typing import Any
+from unittest import mock
 
 from itc_trace import tracing
 from itc_trace.stretches import STRETCHES, Stretch
@@ -273,6 +274,16 @@ class TheProgramDoesWhatItDid(unittest.TestCase):
                     with noting() if is_on else contextlib.nullcontext():
                         hooks.put(is_on)
                         self.assertEqual(run_of(code_of(text))[0], plain)
+
+    def test_a_hook_that_fails_does_not_reach_the_program(self) -> None:
+        def fail(*_: object) -> None:
+            raise LookupError("planted")
+
+        for name in ("_touch_field", "_touch_whole", "_touch_keyed", "_touch_method", "_stepping", "_touch_cell", "_note"):
+            for text in SAME.values():
+                plain = run_of(compile(textwrap.dedent(text), "<watched_module>", "exec", dont_inherit=True))[0]
+                with self.subTest(name=name), contextlib.redirect_stderr(io.StringIO()), noting(), mock.patch.object(hooks, name, fail):
+                    self.assertEqual(run_of(code_of(text))[0], plain)
 
     def test_tracebacks_are_the_same(self) -> None:
         text = """

@@ -16,7 +16,7 @@ from sys import _getframe, getrefcount
 from typing import Any
 
 from ..conflicts import ADDITION, ITERATION, KEYS, LENGTH, LOOKUP, MAKING, READ, REMOVAL, REPLACEMENT, REWRITE, WRITE
-from ..noting import touched, touched_all
+from ..noting import failed, touched, touched_all
 from ..stretches import STRETCHES
 from .decisions import (
     FIELD, OF_CLASS, OF_MODULE, OF_TYPE, OWN_FIELD, PLAIN, SKIP, WATCHED, class_with, decision, family_of, fields_of,
@@ -80,7 +80,10 @@ def hook_o(one: Any, site: int) -> Any:
             touched_all(owner.recipes[base + site])
             return one
     if id(type(one)) not in SKIPPED[site]:
-        _touch_field(one, site)
+        try:
+            _touch_field(one, site)
+        except Exception as fault:
+            failed(fault)
     return one
 
 
@@ -97,7 +100,10 @@ def hook_o_local(one: Any, site: int) -> Any:
     elif getrefcount(one) <= OF_VARIABLE - 1:
         return one
     if id(type(one)) not in SKIPPED[site]:
-        _touch_field(one, site)
+        try:
+            _touch_field(one, site)
+        except Exception as fault:
+            failed(fault)
     return one
 
 
@@ -120,7 +126,10 @@ def hook_o_new(one: Any, site: int, constructor: int) -> Any:
     elif getrefcount(one) <= BEGUN.get((id(one), constructor), ANYBODY):
         return one
     if id(type(one)) not in SKIPPED[site]:
-        _touch_field(one, site)
+        try:
+            _touch_field(one, site)
+        except Exception as fault:
+            failed(fault)
     return one
 
 
@@ -128,7 +137,10 @@ def hook_A(one: Any, name: Any, site: int) -> Any:
     """Before `getattr` and its like."""
     if type(name) is str:
         access = ACCESSES[site]
-        _touch_field(one, site, Access("named", access.kinds, name, "", access.module))
+        try:
+            _touch_field(one, site, Access("named", access.kinds, name, "", access.module))
+        except Exception as fault:
+            failed(fault)
     return one
 
 
@@ -204,7 +216,10 @@ def hook_g(site: int) -> None:
     stretch = stretch_of(get_ident())
     if stretch is None or site not in stretch:
         access = ACCESSES[site]
-        _note(0, site, variable_of(access.module, access.name), access.kinds, site)
+        try:
+            _note(0, site, variable_of(access.module, access.name), access.kinds, site)
+        except Exception as fault:
+            failed(fault)
 
 
 def hook_v(value: Any, site: int) -> Any:
@@ -223,6 +238,13 @@ def hook_c(function: Any, site: int) -> None:
         stretch = stretch_of(get_ident())
         if stretch is not None and base + site in stretch:
             return
+    try:
+        _touch_cell(cell, site)
+    except Exception as fault:
+        failed(fault)
+
+
+def _touch_cell(cell: Any, site: int) -> None:
     access = ACCESSES[site]
     owner = owner_of(cell, access.name)
     thing = owner.things.get(access.name)
@@ -244,7 +266,10 @@ def hook_h(one: Any, site: int) -> Any:
         stretch = stretch_of(get_ident())
         if stretch is not None and base + site in stretch:
             return one
-    _touch_whole(one, site, OF_TEMPORARY)
+    try:
+        _touch_whole(one, site, OF_TEMPORARY)
+    except Exception as fault:
+        failed(fault)
     return one
 
 
@@ -256,7 +281,10 @@ def hook_h_local(one: Any, site: int) -> Any:
         stretch = stretch_of(get_ident())
         if stretch is not None and base + site in stretch:
             return one
-    _touch_whole(one, site, OF_VARIABLE)
+    try:
+        _touch_whole(one, site, OF_VARIABLE)
+    except Exception as fault:
+        failed(fault)
     return one
 
 
@@ -288,11 +316,23 @@ def _touch_generator(one: Any, site: int) -> None:
 
 def hook_f(one: Any, site: int) -> Any:
     """Before a loop goes through a container: each step looks at it."""
-    return one if type(one) in PLAIN else _stepping(one, site, OF_TEMPORARY)
+    if type(one) in PLAIN:
+        return one
+    try:
+        return _stepping(one, site, OF_TEMPORARY)
+    except Exception as fault:
+        failed(fault)
+        return one
 
 
 def hook_f_local(one: Any, site: int) -> Any:
-    return one if type(one) in PLAIN else _stepping(one, site, OF_VARIABLE)
+    if type(one) in PLAIN:
+        return one
+    try:
+        return _stepping(one, site, OF_VARIABLE)
+    except Exception as fault:
+        failed(fault)
+        return one
 
 
 def _stepping(one: Any, site: int, limit: int) -> Any:
@@ -324,9 +364,13 @@ def _step(owner: Owner, site: int, kind: str) -> Callable[[Any], Any]:
 def hook_F(view: Iterable[Any], one: Any, site: int) -> Any:
     """Before a loop goes through a view of a dictionary."""
     owner = OWNERS.get(id(one))
-    if owner is None or family_of(type(one)) != DICT:
+    if owner is None:
         return view
-    return map(_step(owner, site, ACCESSES[site].kinds), view)
+    try:
+        return map(_step(owner, site, ACCESSES[site].kinds), view) if family_of(type(one)) == DICT else view
+    except Exception as fault:
+        failed(fault)
+        return view
 
 
 # Elements and methods
@@ -346,7 +390,10 @@ def hook_k(one: Any, key: Any, site: int) -> Any:
         if owner is not None and mark in owner.recipes and (type(one) is not dict or key in one):
             touched_all(owner.recipes[mark])
             return one
-    _touch_keyed(one, key, site, OF_TEMPORARY)
+    try:
+        _touch_keyed(one, key, site, OF_TEMPORARY)
+    except Exception as fault:
+        failed(fault)
     return one
 
 
@@ -358,14 +405,20 @@ def hook_k_local(one: Any, key: Any, site: int) -> Any:
         stretch = stretch_of(get_ident())
         if stretch is not None and (base + site, key) in stretch:
             return one
-    _touch_keyed(one, key, site, OF_VARIABLE)
+    try:
+        _touch_keyed(one, key, site, OF_VARIABLE)
+    except Exception as fault:
+        failed(fault)
     return one
 
 
 def hook_K(one: Any, key: Any, site: int) -> Any:
     """The same, but it gives back the key."""
     if type(one) not in PLAIN:
-        _touch_keyed(one, key, site, ANYBODY)
+        try:
+            _touch_keyed(one, key, site, ANYBODY)
+        except Exception as fault:
+            failed(fault)
     return key
 
 
@@ -377,7 +430,10 @@ def hook_K_local(one: Any, key: Any, site: int) -> Any:
         stretch = stretch_of(get_ident())
         if stretch is not None and (base + site, key) in stretch:
             return key
-    _touch_keyed(one, key, site, OF_VARIABLE_IN_USE)
+    try:
+        _touch_keyed(one, key, site, OF_VARIABLE_IN_USE)
+    except Exception as fault:
+        failed(fault)
     return key
 
 
@@ -484,7 +540,10 @@ def hook_m(one: Any, site: int) -> Any:
         if stretch is not None and base + site in stretch:
             return one
     if id(type(one)) not in SKIPPED[site]:
-        _touch_method(one, site, OF_TEMPORARY)
+        try:
+            _touch_method(one, site, OF_TEMPORARY)
+        except Exception as fault:
+            failed(fault)
     return one
 
 
@@ -497,7 +556,10 @@ def hook_m_local(one: Any, site: int) -> Any:
         if stretch is not None and base + site in stretch:
             return one
     if id(type(one)) not in SKIPPED[site]:
-        _touch_method(one, site, OF_VARIABLE)
+        try:
+            _touch_method(one, site, OF_VARIABLE)
+        except Exception as fault:
+            failed(fault)
     return one
 
 
@@ -526,12 +588,18 @@ def _touch_method(one: Any, site: int, limit: int) -> None:
 
 def hook_l(value: Any, one: Any, site: int) -> Any:
     """Behind the value that is about to be stored in a field, or handed to a method."""
-    _touch_late(one, site, ANYBODY)
+    try:
+        _touch_late(one, site, ANYBODY)
+    except Exception as fault:
+        failed(fault)
     return value
 
 
 def hook_l_local(value: Any, one: Any, site: int) -> Any:
-    _touch_late(one, site, OF_VARIABLE_IN_USE + 1)
+    try:
+        _touch_late(one, site, OF_VARIABLE_IN_USE + 1)
+    except Exception as fault:
+        failed(fault)
     return value
 
 
@@ -547,7 +615,10 @@ def _touch_late(one: Any, site: int, limit: int) -> None:
 def hook_L(value: Any, one: Any, key: Any, site: int) -> Any:
     """Behind the value that is about to be stored in an element."""
     if type(one) not in PLAIN:
-        _touch_keyed(one, key, site, ANYBODY)
+        try:
+            _touch_keyed(one, key, site, ANYBODY)
+        except Exception as fault:
+            failed(fault)
     return value
 
 
@@ -559,7 +630,10 @@ def hook_p(one: Any, place: int, site: int) -> Any:
     """Keeps the first part of what is touched."""
     PENDING[id(_getframe(1)), place] = one
     if site:
-        _touch_field(one, site)
+        try:
+            _touch_field(one, site)
+        except Exception as fault:
+            failed(fault)
     return one
 
 
@@ -568,7 +642,10 @@ def hook_q(key: Any, place: int, site: int, is_kept: bool) -> Any:
     mark = id(_getframe(1)), place
     one = PENDING.pop(mark, None)
     if one is not None and type(one) not in PLAIN:
-        _touch_keyed(one, key, site, ANYBODY)
+        try:
+            _touch_keyed(one, key, site, ANYBODY)
+        except Exception as fault:
+            failed(fault)
         if is_kept:
             PENDING[mark] = one, key
     return key
@@ -578,7 +655,10 @@ def hook_b(one: Any, place: int) -> Any:
     """The container, behind the key that is looked for in it."""
     key = PENDING.pop((id(_getframe(1)), place), None)
     if type(one) not in PLAIN:
-        _touch_keyed(one, key, place, ANYBODY)
+        try:
+            _touch_keyed(one, key, place, ANYBODY)
+        except Exception as fault:
+            failed(fault)
     return one
 
 
@@ -588,9 +668,15 @@ def hook_z(value: Any, place: int) -> Any:
     if kept is None:
         return value
     if ACCESSES[place].what == "element":
-        _touch_keyed(kept[0], kept[1], place, ANYBODY)
+        try:
+            _touch_keyed(kept[0], kept[1], place, ANYBODY)
+        except Exception as fault:
+            failed(fault)
     else:
-        _touch_late(kept, place, ANYBODY)
+        try:
+            _touch_late(kept, place, ANYBODY)
+        except Exception as fault:
+            failed(fault)
     return value
 
 
@@ -599,7 +685,10 @@ def hook_z(value: Any, place: int) -> Any:
 
 def hook_n(one: Any, site: int) -> Any:
     """Behind where a container is made. This hook is there while there is one task, too."""
-    made_here(one, site)
+    try:
+        made_here(one, site)
+    except Exception as fault:
+        failed(fault)
     return one
 
 
@@ -614,7 +703,10 @@ def hook_N(one: Any, constructor: int) -> None:
     BEGUN[id(one), constructor] = getrefcount(one)
     while frame.f_code.co_name == CONSTRUCTOR and frame.f_back is not None:
         frame = frame.f_back
-    made_by(one, frame.f_code, frame.f_lasti)
+    try:
+        made_by(one, frame.f_code, frame.f_lasti)
+    except Exception as fault:
+        failed(fault)
 
 
 # Switching
