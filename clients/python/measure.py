@@ -20,6 +20,7 @@ from pathlib import Path
 from typing import Any
 
 from itc_trace import Collector, Session, find_races, shared, touch, tracing
+from itc_trace.verdict import END_ROW
 
 TURNS, TRIES = 10000, 5
 PROCESSES, REPORTS, AT_ONCE = 32, 512, 64
@@ -269,7 +270,7 @@ def measure_races() -> None:
                 rows = [report for report, _ in zip(reports(tasks, locked), range(EVENTS))]
                 with Session("trace", collector.port) as session:
                     list(session.ask(line for line, _, _ in rows))
-                journal = [journal_line(event, *row) for event, row in enumerate(rows, 1)]
+                journal = [*(journal_line(event, *row) for event, row in enumerate(rows, 1)), END_ROW]
                 start = time.perf_counter()
                 found = find_races("trace", collector.port, journal)
                 seconds = time.perf_counter() - start

@@ -569,9 +569,10 @@ def _is_told_of(lock: Any) -> bool:
 def _condition_begin(original: Any) -> Any:
     def __init__(self: Any, lock: Any = None, **named: Any) -> None:
         original(self, lock, **named)
-        if not is_internal(sys._getframe(1)):
+        frame = sys._getframe(1)
+        if not is_internal(frame):
             self._waiters = Waiters()
-            is_of_condition(self._lock)
+            is_of_condition(self._lock, frame)
         elif lock is None:
             self._lock._itc_is_silent = True
 
@@ -581,6 +582,7 @@ def _condition_begin(original: Any) -> Any:
 def _condition_notify(original: Any) -> Any:
     def notify(self: Any, n: int = 1) -> None:
         waiters = self._waiters
+        is_of_condition(self._lock)
         if waiters and type(waiters) is Waiters and self.locked():
             waiters.are_notified(mark(NOTIFY), n)
         original(self, n)
@@ -590,6 +592,7 @@ def _condition_notify(original: Any) -> Any:
 
 def _condition_wait(original: Any) -> Any:
     async def wait(self: Any) -> Any:
+        is_of_condition(self._lock)
         try:
             return await original(self)
         finally:

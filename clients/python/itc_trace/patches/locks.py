@@ -6,14 +6,20 @@ A traced lock has three fields: the token of its last release, its identity, and
 from __future__ import annotations
 
 import _thread
+import functools
+import linecache
+import re
 import sys
 from _thread import get_ident
+from types import FrameType
 from typing import Any
 
 from ..lines import MARK, TAKE, Line, Section, Token, state
 from ..lock_identity import LockIdentity, Signal
 from ..noting import current, is_internal, line_of_now, place
 from ..stretches import STRETCHES
+
+_WAITS = re.compile(r"\.(wait|wait_for|notify|notify_all|notifyAll)\b")
 
 _allocate = _thread.allocate_lock
 _PlainRLock: Any = vars(_thread)["RLock"]
@@ -171,11 +177,21 @@ def traced_rlock(frame: Any, cls: Any = TracedRLock, *words: Any, **named: Any) 
     return made
 
 
-def is_of_condition(lock: Any) -> None:
-    """The lock, where it is a traced one, guards what those look at who wait at a condition."""
+def is_of_condition(lock: Any, maker: FrameType | None = None) -> None:
+    """The lock, where it is a traced one, guards what those look at who wait at a condition.
+
+    If nobody has waited yet, the file that makes the condition says whether anybody will. Without that it is a lock as any other.
+    """
     identity = getattr(lock, "_itc_identity", None)
-    if identity is not None:
+    if identity is not None and (maker is None or _may_wait(maker.f_code.co_filename)):
         identity.is_of_condition = True
+
+
+@functools.cache
+def _may_wait(file: str) -> bool:
+    """Whether code of the file waits or notifies, or cannot be read."""
+    lines = linecache.getlines(file)
+    return not lines or any(_WAITS.search(line) for line in lines)
 
 
 def gave(lock: Any) -> None:

@@ -163,7 +163,7 @@ def _condition_begin(original: Any) -> Any:
         original(self, lock)
         if is_the_programs:
             self._waiters = Waiters()
-            is_of_condition(lock)
+            is_of_condition(lock, frame)
 
     return __init__
 
@@ -171,6 +171,7 @@ def _condition_begin(original: Any) -> Any:
 def _condition_notify(original: Any) -> Any:
     def notify(self: Any, n: int = 1) -> None:
         waiters = self._waiters
+        is_of_condition(self._lock)
         if waiters and type(waiters) is Waiters and self._is_owned():
             waiters.are_notified(mark(NOTIFY), n)
         original(self, n)
@@ -180,6 +181,7 @@ def _condition_notify(original: Any) -> Any:
 
 def _condition_wait(original: Any) -> Any:
     def wait(self: Any, timeout: float | None = None) -> bool:
+        is_of_condition(self._lock)
         try:
             return bool(original(self, timeout))
         finally:
