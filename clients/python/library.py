@@ -18,6 +18,8 @@ from pathlib import Path
 PACKAGE = Path(__file__).resolve().parent
 LONGEST = 600
 INCOMPLETE = 67
+FULL = "full"
+"""A word in the reason why a run is incomplete, if the trace had no room."""
 
 MODULES = [
     "test.test_queue", "test.test_threading", "test.test_threading_local", "test.test_sched", "test.test_thread",
@@ -97,7 +99,7 @@ def tell(module: str) -> int:
 def run_whole(tests: list[str]) -> Outcome:
     """The same traced. Where the trace becomes full, each half is run by itself."""
     whole = run(["--run", *tests], is_traced=True)
-    if not whole.incomplete or len(tests) < 2:
+    if not any(FULL in reason for reason in whole.incomplete) or len(tests) < 2:
         return whole
     middle = len(tests) // 2
     one, other = run_whole(tests[:middle]), run_whole(tests[middle:])

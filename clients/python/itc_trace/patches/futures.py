@@ -133,11 +133,19 @@ def _wait(original: Any) -> Any:
 
 def _as_completed(original: Any) -> Any:
     def as_completed(fs: Any, timeout: float | None = None) -> Iterator[Any]:
-        for future in original(fs, timeout):
-            take_result(future)
-            yield future
+        return _taken(original(fs, timeout))
 
     return as_completed
+
+
+def _taken(futures: Iterator[Any]) -> Iterator[Any]:
+    """The futures, each of which is taken, and kept no longer than by the library."""
+    kept = []
+    for future in futures:
+        take_result(future)
+        kept.append(future)
+        del future
+        yield kept.pop()
 
 
 # Pools

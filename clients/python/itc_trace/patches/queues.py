@@ -116,7 +116,7 @@ class _Bounded:
 
 def _put(original: Any) -> Any:
     def put(self: Any, item: Any, block: bool = True, timeout: float | None = None) -> None:
-        if state.note is not None and has_few_places(self):
+        if 0 < self.maxsize <= MOST_PLACES and state.note is not None:
             return original(_Bounded(self), item, block, timeout)  # type: ignore[no-any-return]
         token = mark(QUEUE)
         if token is None:
@@ -134,7 +134,7 @@ def _put(original: Any) -> Any:
 
 def _get(original: Any) -> Any:
     def get(self: Any, block: bool = True, timeout: float | None = None) -> Any:
-        if state.note is not None and has_few_places(self):
+        if 0 < self.maxsize <= MOST_PLACES and state.note is not None:
             return original(_Bounded(self), block, timeout)
         item = original(self, block, timeout)
         items = self.__dict__.get("_itc_items")
