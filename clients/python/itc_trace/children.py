@@ -51,7 +51,7 @@ def _place(site: Any) -> str:
     if isinstance(site, int):
         return f"{SITES[site].file}:{SITES[site].line}"
     code, instruction, _ = site
-    return f"{code.co_filename}:{line_of(code, instruction)}"
+    return f"{code.co_filename}:{line_of(code, instruction)}" if code is not None else "?"
 
 
 _is_told_of_processes = False

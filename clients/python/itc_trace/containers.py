@@ -16,7 +16,7 @@ from typing import Any
 
 from .conflicts import READ, WRITE
 from .lines import state
-from .noting import is_internal, touch_at
+from .noting import frame_at, is_internal, place_of, touch_at
 from .stretches import STRETCHES
 
 READS = frozenset(
@@ -60,11 +60,10 @@ def note(name: str, kind: str) -> None:
     """Notes a touch at the line of the program that led here."""
     if state.note is None and state.witness is None:
         return
-    frame: types.FrameType | None = sys._getframe(2)
+    frame = frame_at(2)
     while frame is not None and (frame.f_globals.get("__name__") in _OF_CONTAINERS or is_internal(frame)):
         frame = frame.f_back
-    if frame is not None:
-        touch_at(name, kind, frame.f_code, frame.f_lasti)
+    touch_at(name, kind, *place_of(frame))
 
 
 # How many references a container has that nobody else holds. Later Pythons do not count those of variables, so none is taken there.

@@ -163,7 +163,7 @@ class TouchTexts:
         if isinstance(thing, str):
             code, instruction, label = site
             named = f'"thing":{json.dumps(thing)},"kind":"{kind}",{self._places.text(code, instruction)}'
-            told = f'{named},"label":{json.dumps(label or f"{kind} {thing}")},"function":{json.dumps(code.co_qualname)}'
+            told = f'{named},"label":{json.dumps(label or f"{kind} {thing}")},"function":{json.dumps(code.co_qualname if code else "")}'
         else:
             told = f'{self._thing(thing)},"kind":"{kind}",{self._site(site)},"label":{json.dumps(f"{kind} {thing.name}")}'
         locks = f',"held":[{",".join([self.lock(one) for one in held])}]' if held else ""

@@ -37,8 +37,18 @@ def _task_getter() -> Callable[[Any], Any]:
 _task_of = _task_getter()
 
 
-def is_internal(frame: FrameType) -> bool:
+def frame_at(depth: int) -> FrameType | None:
+    """The frame so many calls above the caller. None, where the interpreter itself has called, as at the program's end."""
+    try:
+        return sys._getframe(depth + 1)
+    except ValueError:
+        return None
+
+
+def is_internal(frame: FrameType | None) -> bool:
     """Whether this is code of the library modules that are traced as a whole, or of this package."""
+    if frame is None:
+        return False
     name = frame.f_globals.get("__name__")
     known = _internal_names.get(name)
     if known is None:
@@ -162,7 +172,7 @@ def mark(what: What, depth: int = 2) -> Token | None:
     if note is None:
         return None
     try:
-        token = Token(current(), what, *place(sys._getframe(depth)))
+        token = Token(current(), what, *place(frame_at(depth)))
         note((MARK, token))
         return token
     except Exception as fault:
@@ -179,20 +189,24 @@ def take(token: Token | None, depth: int = 2) -> None:
     if line is not token.line:
         leave()
         line.section = None
-        note((TAKE, line, token, *place(sys._getframe(depth))))
+        note((TAKE, line, token, *place(frame_at(depth))))
 
 
 def touch(thing: str, write: bool = False, label: str | None = None) -> None:
     """Notes that the current task reads or writes the thing, at the line of the program that calls this."""
     if state.note is not None or state.witness is not None:
-        frame = sys._getframe(1)
+        frame = frame_at(1)
         try:
-            touch_at(thing, WRITE if write else READ, frame.f_code, frame.f_lasti, label)
+            touch_at(thing, WRITE if write else READ, *place_of(frame), label)
         except Exception as fault:
             failed(fault)
 
 
-def touch_at(thing: str, kind: str, code: CodeType, instruction: int, label: str | None = None) -> None:
+def place_of(frame: FrameType | None) -> tuple[CodeType | None, int]:
+    return (None, 0) if frame is None else (frame.f_code, frame.f_lasti)
+
+
+def touch_at(thing: str, kind: str, code: CodeType | None, instruction: int, label: str | None = None) -> None:
     """Notes a touch of a thing that the program has named."""
     key = thing, kind, id(code), instruction, label
     stretch = STRETCHES.get(get_ident())

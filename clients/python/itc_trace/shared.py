@@ -10,7 +10,7 @@ from typing import Any, TypeVar, cast
 from .conflicts import MAKING
 from .containers import is_noted_by_type, noted
 from .lines import state
-from .noting import touch_at
+from .noting import frame_at, place_of, touch_at
 from .stand_ins import stand_in
 
 T = TypeVar("T")
@@ -42,8 +42,7 @@ def shared(value: T, name: str) -> T:
         _warn_of_unwatched(value, name)
         return value
     kind: Any = type(value)
-    frame = sys._getframe(1)
-    touch_at(name, MAKING, frame.f_code, frame.f_lasti)
+    touch_at(name, MAKING, *place_of(frame_at(1)))
     is_taken_by_its_methods = kind is not set  # Others may be in C, and take what is in a set without them.
     if is_taken_by_its_methods and is_noted_by_type(kind) and sys.getrefcount(value) <= REFERENCES_OF_A_NEW_VALUE:
         return cast(T, noted(value, name))

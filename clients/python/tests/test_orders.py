@@ -826,6 +826,28 @@ class Ends(ProgramCase):
         )
         self.assertRegex(told, r"no race in this run: 2 places of 1 thing.* \(0\)")
 
+    def test_what_the_interpreter_calls_itself_is_traced_without_a_place(self) -> None:
+        ran = run_traced("--watch-nothing", self.program(
+            "import asyncio, atexit, concurrent.futures, functools, importlib, queue, threading, itc_trace\n"
+            "lock, again, event, semaphore = threading.Lock(), threading.RLock(), threading.Event(), threading.Semaphore(0)\n"
+            "some, one, simple = queue.Queue(), queue.Queue(1), queue.SimpleQueue()\n"
+            "future, condition, table = concurrent.futures.Future(), threading.Condition(), itc_trace.shared({}, 'table')\n"
+            "class Thing:\n    field = 1\n    value = functools.cached_property(id)\n"
+            "thing, thread = itc_trace.shared(Thing(), 'thing'), threading.Thread(target=int)\n"
+            "calls = [(lock.acquire,), (again.acquire,), (lock.release,), (again.release,), (event.set,), (event.wait,),\n"
+            "    (semaphore.release,), (semaphore.acquire,), (some.put, 1), (some.get,), (some.task_done,), (some.join,), (one.put, 1),\n"
+            "    (one.get,), (simple.put, 1), (simple.get,), (future.add_done_callback, int.bit_count), (future.set_result, 1),\n"
+            "    (future.result,), (concurrent.futures.wait, [future]), (condition.acquire,), (condition.notify,),\n"
+            "    (condition.release,), (thread.start,), (thread.join,), (thread.is_alive,), (table.update,), (getattr, thing, 'field'),\n"
+            "    (setattr, thing, 'field', 2), (getattr, thing, 'value'), (itc_trace.touch, 'x'), (__import__, 'wave'),\n"
+            "    (importlib.import_module, 'sndhdr'), (threading.Lock,), (threading.RLock,), (threading.Condition,), (queue.Queue,),\n"
+            "    (queue.SimpleQueue,), (threading.Barrier(1).wait,), (itc_trace.shared, [], 'list'), (atexit.register, int),\n"
+            "    (asyncio.run, asyncio.sleep(0)), (threading.Event().is_set,), (print, 'done')]\n"
+            "for call in reversed(calls):\n    atexit.register(*call)\n"
+        ))
+        errors = [line for line in ran.stderr.splitlines() if "Error" in line and "bit_count" not in line and "descriptor" not in line]
+        self.assertEqual((ran.returncode, ran.stdout, errors), (0, "done\n", []), ran.stderr)
+
     def test_a_function_can_be_unregistered(self) -> None:
         told = self.told(
             "import atexit, itc_trace\n"

@@ -14,7 +14,6 @@ import asyncio.queues as queues_module
 import asyncio.tasks as tasks
 import functools
 import itertools
-import sys
 import types
 from _thread import get_ident
 from collections import deque
@@ -26,7 +25,7 @@ from ..lines import (
     Line, Token, state,
 )
 from ..lock_identity import LockIdentity
-from ..noting import current, is_internal, mark, place, take
+from ..noting import current, frame_at, is_internal, mark, place, take
 from ..stretches import TURNS, leave
 from .base import Patches, like
 from .futures import take_any
@@ -106,7 +105,7 @@ def _looking(plain: Any, name: str) -> Any:
     original = getattr(plain, name)
 
     def look(self: Any) -> Any:
-        if state.note is not None and self.done() and not _waits_inside(sys._getframe(1)):
+        if state.note is not None and self.done() and not _waits_inside(frame_at(1)):
             take_any(self)
         return original(self)
 
@@ -118,7 +117,7 @@ def _adding(plain: Any) -> Any:
     original = plain.add_done_callback
 
     def add_done_callback(self: Any, fn: Any, /, *, context: Any = None) -> None:
-        if state.note is not None and not is_internal(sys._getframe(1)):
+        if state.note is not None and not is_internal(frame_at(1)):
             self._itc_callbacks = [*self._itc_callbacks, (fn, mark(CALLBACK))]
             if type(self._itc_called) is not list:
                 self._itc_called = []
@@ -150,7 +149,7 @@ def _seeing(plain: Any) -> Any:
 
     def done(self: Any) -> bool:
         is_done = bool(original(self))
-        if is_done and state.note is not None and not is_internal(sys._getframe(1)):
+        if is_done and state.note is not None and not is_internal(frame_at(1)):
             take_any(self)
         return is_done
 
@@ -211,7 +210,7 @@ def _spawn(coro: Any, name: Any, depth: int) -> Line | None:
     if note is None:
         return None
     line = Line(state.tracer, str(name) if name else getattr(coro, "__name__", "task") + "#")
-    note((SPAWN, current(), line, *place(sys._getframe(depth))))
+    note((SPAWN, current(), line, *place(frame_at(depth))))
     return line
 
 
@@ -330,7 +329,7 @@ def _naming(original: Any) -> Any:
 
 def _create_future(original: Any) -> Any:
     def create_future(self: Any) -> Any:
-        frame = sys._getframe(1)
+        frame = frame_at(1)
         if is_internal(frame) and frame.f_code not in _FOR_THE_PROGRAM:
             return original(self)
         return TracedFuture(loop=self)
@@ -409,7 +408,7 @@ def _group_leave(original: Any) -> Any:
             if note is not None:
                 for line, called in self.__dict__.pop("_itc_lines", ()):
                     if line.tracer is state.tracer:
-                        note((TAKE_END, current(), line, *place(sys._getframe(1))))
+                        note((TAKE_END, current(), line, *place(frame_at(1))))
                     for token in called:
                         take(token)
 
@@ -534,7 +533,7 @@ def _put_locks(patches: Patches) -> None:
 def _lock_begin(original: Any) -> Any:
     def __init__(self: Any, **named: Any) -> None:
         original(self, **named)
-        self._itc_identity = LockIdentity("asyncio.Lock", sys._getframe(1))
+        self._itc_identity = LockIdentity("asyncio.Lock", frame_at(1))
 
     return __init__
 
@@ -569,7 +568,7 @@ def _is_told_of(lock: Any) -> bool:
 def _condition_begin(original: Any) -> Any:
     def __init__(self: Any, lock: Any = None, **named: Any) -> None:
         original(self, lock, **named)
-        frame = sys._getframe(1)
+        frame = frame_at(1)
         if not is_internal(frame):
             self._waiters = Waiters()
             is_of_condition(self._lock, frame)
@@ -618,7 +617,7 @@ def _put_events(patches: Patches) -> None:
 def _event_begin(original: Any) -> Any:
     def __init__(self: Any, **named: Any) -> None:
         original(self, **named)
-        self._itc_is_silent = is_internal(sys._getframe(1))
+        self._itc_is_silent = is_internal(frame_at(1))
 
     return __init__
 
@@ -644,7 +643,7 @@ def _event_wait(original: Any) -> Any:
 def _event_is_set(original: Any) -> Any:
     def is_set(self: Any) -> bool:
         is_on = bool(original(self))
-        if is_on and self._itc_token is not None and not is_internal(sys._getframe(1)):
+        if is_on and self._itc_token is not None and not is_internal(frame_at(1)):
             take(self._itc_token)
         return is_on
 

@@ -3,13 +3,12 @@
 from __future__ import annotations
 
 import atexit
-import sys
 import threading
 from types import MethodType
 from typing import Any
 
 from ..lines import END, EXIT, TAKE_END, Line, Token, state
-from ..noting import current, mark, place, take
+from ..noting import current, frame_at, mark, place, take
 from .base import Patches, like
 
 _awaited: list[Line] = []
@@ -61,4 +60,4 @@ def _take_all() -> None:
     for line in _awaited:
         note = state.note
         if note is not None and line.tracer is state.tracer:
-            note((TAKE_END, current(), line, *place(sys._getframe(1))))
+            note((TAKE_END, current(), line, *place(frame_at(1))))

@@ -9,12 +9,11 @@ from __future__ import annotations
 import concurrent.futures
 import concurrent.futures._base as base
 import concurrent.futures.thread as pools
-import sys
 from collections.abc import Iterator
 from typing import Any
 
 from ..lines import CALLBACK, FINISH, RESULT, SPAWN, SUBMIT, TAKE_END, WORKER, Line, Token, state
-from ..noting import current, enter, is_internal, local, mark, place, take
+from ..noting import current, enter, frame_at, is_internal, local, mark, place, take
 from .base import Patches, like
 from .exits import await_at_exit
 
@@ -55,7 +54,7 @@ def take_any(future: Any, depth: int = 2) -> None:
     if line is not None and not isinstance(future, base.Future):
         note = state.note
         if note is not None and line.tracer is state.tracer:
-            note((TAKE_END, current(), line, *place(sys._getframe(depth))))
+            note((TAKE_END, current(), line, *place(frame_at(depth))))
     elif hasattr(future, "_itc_sources"):
         take_result(future, depth + 1)
 
@@ -94,7 +93,7 @@ def _result(original: Any) -> Any:
 def _done(original: Any) -> Any:
     def done(self: Any) -> bool:
         is_done = bool(original(self))
-        if is_done and not is_internal(sys._getframe(1)):
+        if is_done and not is_internal(frame_at(1)):
             take_result(self)
         return is_done
 
@@ -103,7 +102,7 @@ def _done(original: Any) -> Any:
 
 def _add_done_callback(original: Any) -> Any:
     def add_done_callback(self: Any, fn: Any) -> None:
-        if state.note is not None and callable(fn) and not is_internal(sys._getframe(1)):
+        if state.note is not None and callable(fn) and not is_internal(frame_at(1)):
             fn = _called_back(fn, mark(CALLBACK))
         return original(self, fn)  # type: ignore[no-any-return]
 
@@ -194,7 +193,7 @@ def _begin_job(item: Any, future: Any, pool: Any, name: str) -> None:
     item._itc_is_after_worker = getattr(pool, "_initializer", None) is not None
     pool.__dict__.setdefault("_itc_jobs", []).append(line)
     await_at_exit(line)
-    note((SPAWN, current(), line, *place(sys._getframe(4))))
+    note((SPAWN, current(), line, *place(frame_at(4))))
 
 
 def _item_run(original: Any) -> Any:
@@ -231,7 +230,7 @@ def _shutdown(original: Any) -> Any:
 
 def _take_jobs(jobs: list[Line]) -> None:
     """Whoever has waited for the pool's end comes after all of its jobs."""
-    where = place(sys._getframe(2))
+    where = place(frame_at(2))
     for line in list(jobs):
         note = state.note
         if note is not None and line.tracer is state.tracer:

@@ -9,14 +9,13 @@ import _thread
 import functools
 import linecache
 import re
-import sys
 from _thread import get_ident
 from types import FrameType
 from typing import Any
 
 from ..lines import MARK, TAKE, Line, Section, Token, state
 from ..lock_identity import LockIdentity, Signal
-from ..noting import current, is_internal, line_of_now, place
+from ..noting import current, frame_at, is_internal, line_of_now, place
 from ..stretches import STRETCHES
 
 _WAITS = re.compile(r"\.(wait|wait_for|notify|notify_all|notifyAll)\b")
@@ -51,7 +50,7 @@ class TracedLock(metaclass=_LikeLock):
     _itc_holder: Line | None
 
     def __new__(cls) -> Any:
-        frame = sys._getframe(1)
+        frame = frame_at(1)
         if is_internal(frame):
             return _allocate()
         made = object.__new__(cls)
@@ -116,7 +115,7 @@ class TracedRLock(_PlainRLock, metaclass=_LikeRLock):  # type: ignore[misc]
     _depth: int
 
     def __new__(cls, *words: Any, **named: Any) -> Any:
-        frame = sys._getframe(1)
+        frame = frame_at(1)
         if is_internal(frame):
             return _PlainRLock(*words, **named)
         return traced_rlock(frame, cls, *words, **named)
@@ -201,8 +200,7 @@ def gave(lock: Any) -> None:
     line = line_of_now()
     if line.section is not None and _left_again(lock, line, line.section):
         return
-    frame = sys._getframe(2)
-    code, instruction = place(frame) if is_internal(frame) else (frame.f_code, frame.f_lasti)
+    code, instruction = place(frame_at(2))
     holder, lock._itc_holder = lock._itc_holder, None
     identity: LockIdentity = lock._itc_identity
     if holder is line:
@@ -283,4 +281,4 @@ def took(lock: Any) -> None:
     if line is not token.line and token.line.tracer is state.tracer:
         note = state.note
         if note is not None:
-            note((TAKE, line, token, *place(sys._getframe(2))))
+            note((TAKE, line, token, *place(frame_at(2))))

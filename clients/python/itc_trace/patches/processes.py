@@ -2,14 +2,13 @@
 
 from __future__ import annotations
 
-import sys
 from collections import deque
 from types import ModuleType
 from typing import Any
 
 from ..lines import SEMAPHORE, Line, Token, state
 from ..lock_identity import LockIdentity
-from ..noting import is_internal, mark, take
+from ..noting import frame_at, is_internal, mark, take
 from .base import Patches
 from .later import forget_all, once_imported
 from .locks import gave, took
@@ -95,7 +94,7 @@ class _Semaphore:
 def _begin(original: Any) -> Any:
     def __init__(self: Any, kind: int, value: int, maxvalue: int, **named: Any) -> None:
         original(self, kind, value, maxvalue, **named)
-        frame = _maker(sys._getframe(1))
+        frame = _maker(frame_at(1))
         name = type(self).__name__
         if frame is None or value > MOST_PERMITS:
             return

@@ -6,12 +6,11 @@ import _thread
 import asyncio
 import math
 import queue
-import sys
 from collections import deque
 from typing import Any
 
 from ..lines import DONE_ITEM, QUEUE, ROOM, Token, state
-from ..noting import is_internal, mark, take
+from ..noting import frame_at, is_internal, mark, take
 from .base import Patches
 
 _guard = vars(_thread)["RLock"]()
@@ -190,7 +189,7 @@ class TracedSimpleQueue(_PlainSimpleQueue):  # type: ignore[misc]
     """A simple queue that hands the place of each `put` on with the item."""
 
     def __new__(cls) -> Any:
-        if is_internal(sys._getframe(1)):
+        if is_internal(frame_at(1)):
             return _PlainSimpleQueue()
         return _PlainSimpleQueue.__new__(cls)
 

@@ -3,13 +3,12 @@
 from __future__ import annotations
 
 import _thread
-import sys
 import threading
 from collections import deque
 from typing import Any
 
 from ..lines import BARRIER, EVENT, FINISH, JOIN, NOTIFY, SEMAPHORE, SPAWN, Line, state
-from ..noting import current, enter, is_internal, mark, place, take, thread_name
+from ..noting import current, enter, frame_at, is_internal, mark, place, take, thread_name
 from .base import Patches, like
 from .exits import await_at_exit
 from .locks import TracedLock, TracedRLock, is_of_condition, traced_rlock
@@ -58,7 +57,7 @@ def _start(original: Any) -> Any:
         if not self.daemon:
             await_at_exit(line)
         self.__dict__["_itc_line"] = line  # The program's own class may refuse attributes.
-        note((SPAWN, current(), line, *place(sys._getframe(1))))
+        note((SPAWN, current(), line, *place(frame_at(1))))
         return original(self)  # type: ignore[no-any-return]
 
     return start
@@ -107,7 +106,7 @@ def _is_alive(original: Any) -> Any:
     def is_alive(self: threading.Thread) -> bool:
         alive = bool(original(self))
         line = self.__dict__.get("_itc_line")
-        if not alive and line is not None and not is_internal(sys._getframe(1)):
+        if not alive and line is not None and not is_internal(frame_at(1)):
             _note_join(self, line)
         return alive
 
@@ -120,14 +119,14 @@ def _note_join(thread: threading.Thread, line: Line) -> None:
         return
     if thread.__dict__.pop("_itc_is_adopted", False):
         note((FINISH, line, True, False))  # It began before tracing did, so nobody noted its end.
-    note((JOIN, current(), line, *place(sys._getframe(2))))
+    note((JOIN, current(), line, *place(frame_at(2))))
 
 
 def _start_plain(original: Any) -> Any:
     def start_new_thread(function: Any, args: Any, kwargs: Any = None, /) -> int:
         note = state.note
         words = (args,) if kwargs is None else (args, kwargs)
-        frame = sys._getframe(1)
+        frame = frame_at(1)
         if note is None or is_internal(frame) or not callable(function):
             return original(function, *words)  # type: ignore[no-any-return]
         line = Line(state.tracer, getattr(function, "__name__", "thread") + "#")
@@ -156,7 +155,7 @@ def _put_conditions(patches: Patches) -> None:
 
 def _condition_begin(original: Any) -> Any:
     def __init__(self: Any, lock: Any = None) -> None:
-        frame = sys._getframe(1)
+        frame = frame_at(1)
         is_the_programs = not is_internal(frame)
         if lock is None:
             lock = traced_rlock(frame) if is_the_programs else _PLAIN_RLOCK()
@@ -209,7 +208,7 @@ def _put_events(patches: Patches) -> None:
 def _event_begin(original: Any) -> Any:
     def __init__(self: Any) -> None:
         original(self)
-        self._itc_is_silent = is_internal(sys._getframe(1))
+        self._itc_is_silent = is_internal(frame_at(1))
 
     return __init__
 
@@ -236,7 +235,7 @@ def _event_wait(original: Any) -> Any:
 def _event_is_set(original: Any) -> Any:
     def is_set(self: Any) -> bool:
         is_on = bool(original(self))
-        if is_on and self._itc_token is not None and not is_internal(sys._getframe(1)):
+        if is_on and self._itc_token is not None and not is_internal(frame_at(1)):
             take(self._itc_token)
         return is_on
 
@@ -258,7 +257,7 @@ def _put_semaphores(patches: Patches) -> None:
 def _semaphore_begin(original: Any) -> Any:
     def __init__(self: Any, value: int = 1) -> None:
         original(self, value)
-        is_the_programs = isinstance(self, threading.BoundedSemaphore) or not is_internal(sys._getframe(1))
+        is_the_programs = isinstance(self, threading.BoundedSemaphore) or not is_internal(frame_at(1))
         if is_the_programs and value <= MOST_PERMITS:
             self._itc_permits = deque([None] * value)
 
