@@ -114,7 +114,7 @@ class ProgramCase(unittest.TestCase):
 def run_python(*words: str, **variables: str) -> subprocess.CompletedProcess[str]:
     """Runs `python3 WORDS..` with the package at hand."""
     environment = {**os.environ, "PYTHONPATH": str(PACKAGE), **variables}
-    return subprocess.run([sys.executable, *words], capture_output=True, text=True, env=environment, timeout=300, check=False)
+    return subprocess.run([sys.executable, *words], capture_output=True, text=True, env=environment, timeout=1500, check=False)
 
 
 def run_traced(*words: str, **variables: str) -> subprocess.CompletedProcess[str]:

@@ -16,7 +16,9 @@ from .support import ProgramCase, fresh_tenant, run_traced
 PROGRAM = """
 import multiprocessing, os, sys, time
 import itc_trace
+from itc_trace import tracer
 
+tracer.ANSWER_WAIT = tracer.END_WAIT = 900
 stock = itc_trace.shared({"left": 9}, "stock")
 
 def work(touches):
@@ -69,8 +71,10 @@ if __name__ == "__main__":
 """
 LEFT = """
 import os, time
+parent = os.getpid()
 if os.fork() == 0:
-    time.sleep(3)
+    while os.getppid() == parent:
+        time.sleep(0.05)
     os._exit(0)
 """
 AGAIN = """
@@ -83,8 +87,8 @@ OTHER_PROGRAM = """
 import subprocess, sys
 subprocess.run([sys.executable, "-c", "import itc_trace; itc_trace.touch('x')" if sys.argv[1:] else "pass"], check=True)
 """
-MOST_SECONDS, TRIES = 8.0, 2
-"""A child that waits for a thread which it does not have takes ten. A machine with other work may be as slow once."""
+MOST_SECONDS = 450
+"""A child that waits for a thread which it does not have takes twice as long. A machine with other work may be slow."""
 
 
 @unittest.skipUnless(hasattr(os, "fork"), "there is no fork here")
@@ -93,7 +97,7 @@ class Children(ProgramCase):
         program = self.program(PROGRAM)
         for how in WAYS:
             with self.subTest(how=how):
-                self.assertLess(min(self.seconds_to_end(program, how) for _ in range(TRIES)), MOST_SECONDS)
+                self.assertLess(self.seconds_to_end(program, how), MOST_SECONDS)
 
     def seconds_to_end(self, program: str, how: str) -> float:
         """From the last line of the first child to when its parent has seen it end."""
@@ -115,7 +119,7 @@ class Children(ProgramCase):
                 self.assertEqual(ran.returncode, Verdict.INCOMPLETE, ran.stderr)
                 self.assertEqual(
                     ran.stderr.splitlines()[0],
-                    f"itc_trace: incomplete: a child process was not traced, and touched stock at {program}:9",
+                    f"itc_trace: incomplete: a child process was not traced, and touched stock at {program}:11",
                 )
 
     def test_a_process_of_a_watched_program_is_told_as_not_seen(self) -> None:
@@ -151,7 +155,7 @@ class Children(ProgramCase):
     def test_a_child_that_is_ended_ends_at_once(self) -> None:
         program = self.program(
             "import multiprocessing, time\n"
-            "child = multiprocessing.get_context('fork').Process(target=time.sleep, args=(60,))\n"
+            "child = multiprocessing.get_context('fork').Process(target=time.sleep, args=(1000,))\n"
             "child.start(); child.terminate(); child.join()\nprint(child.exitcode)\n"
         )
         ran = run_traced("--watch-nothing", program)
@@ -187,9 +191,9 @@ class Children(ProgramCase):
         with tracing():
             child = os.fork()
             if child == 0:
-                time.sleep(100)
+                time.sleep(1000)
                 os._exit(0)
-        self.assertLess(time.monotonic() - began, 80)
+        self.assertLess(time.monotonic() - began, 900)
         os.kill(child, 9)
         os.waitpid(child, 0)
 

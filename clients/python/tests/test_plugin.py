@@ -12,7 +12,7 @@ from pathlib import Path
 from .support import PACKAGE
 
 TESTS = '''
-import os, threading, time
+import os, threading
 from threading import Lock
 import pytest, itc_trace
 
@@ -53,13 +53,14 @@ def test_forking():
 
 @pytest.mark.races
 def test_lucky():
+    end, beginning = os.pipe()
     def first():
         itc_trace.touch("stock", write=True)
         with lock:
             pass
-        time.sleep(0.1)
+        os.write(beginning, b"1")
     def second():
-        time.sleep(0.1)
+        os.read(end, 1)
         with lock:
             pass
         itc_trace.touch("stock", write=True)
@@ -89,7 +90,7 @@ class Plugin(unittest.TestCase):
             words = (PYTHON, "-m", "pytest", "-p", "itc_trace.pytest_plugin", "-p", "no:cacheprovider", "-v", "--strict-markers", *words)
             paths = os.pathsep.join(path for path in (str(PACKAGE), os.environ.get("PYTHONPATH")) if path)
             environment = {**os.environ, "PYTHONPATH": paths}
-            ran = subprocess.run(words, cwd=folder, env=environment, capture_output=True, text=True, timeout=300, check=False)
+            ran = subprocess.run(words, cwd=folder, env=environment, capture_output=True, text=True, timeout=1500, check=False)
         return ran.stdout + ran.stderr
 
     def assert_verdicts(self, said: str, **verdicts: str) -> None:

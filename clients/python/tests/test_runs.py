@@ -31,7 +31,11 @@ for thread in threads:
 for thread in threads:
     thread.join()
 """
-SURELY_LUCKY = LUCKY.replace("def second():\n", "def second():\n    import time; time.sleep(0.5)\n")
+SURELY_LUCKY = f"""
+import os
+end, beginning = os.pipe()
+{LUCKY}
+""".replace("def second():\n", "def second():\n    os.read(end, 1)\n").replace("        pass\n", "        pass\n    os.write(beginning, b'1')\n", 1)
 CLEAN = """
 import threading, queue, itc_trace
 lock, items, done = threading.Lock(), queue.Queue(), threading.Event()

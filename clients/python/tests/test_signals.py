@@ -32,15 +32,15 @@ for thread in threads:
     thread.join()
 print("sold", flush=True)
 """
-WAITING = SELLING + "time.sleep(100)\n"
+WAITING = SELLING + "time.sleep(1000)\n"
 BUSY = SELLING + "while True: pass\n"
-IN_A_JOIN = SELLING + "threading.Thread(target=time.sleep, args=(100,)).start()\n"
-DEAF = SELLING + "import signal; signal.signal(signal.SIGTERM, signal.SIG_IGN)\nprint('deaf', flush=True)\ntime.sleep(100)\n"
+IN_A_JOIN = SELLING + "threading.Thread(target=time.sleep, args=(1000,)).start()\n"
+DEAF = SELLING + "import signal; signal.signal(signal.SIGTERM, signal.SIG_IGN)\nprint('deaf', flush=True)\ntime.sleep(1000)\n"
 POLITE = SELLING + """
 import signal
 signal.signal(signal.SIGTERM, lambda *_: sys.exit(0))
 print("ready", flush=True)
-time.sleep(100)
+time.sleep(1000)
 """
 MANY = """
 import itc_trace
@@ -72,7 +72,7 @@ class Started:
             os.killpg(self.process.pid, number)
         else:
             os.kill(self.process.pid, number)
-        _, errors = self.process.communicate(timeout=120)
+        _, errors = self.process.communicate(timeout=900)
         return self.process.returncode, errors
 
 
@@ -117,7 +117,7 @@ for number in range(4000):
     with lock: itc_trace.touch(f"part {number}")
 import os, signal
 os.kill(os.getpid(), signal.SIGTERM)
-time.sleep(100)
+time.sleep(1000)
 """)
         ran = run_traced(self.program(text))
         self.assertEqual(ran.returncode, Verdict.RACES, ran.stderr)
@@ -126,7 +126,7 @@ time.sleep(100)
     def test_a_program_that_does_not_end_is_killed(self) -> None:
         began = time.monotonic()
         status, errors = self.ended(DEAF, signal.SIGTERM, line="deaf")
-        self.assertLess(time.monotonic() - began, 90)
+        self.assertLess(time.monotonic() - began, 900)
         self.assertEqual(status, Verdict.RACES, errors)
         self.assertTrue(errors.startswith("itc_trace: incomplete: the program was ended by SIGKILL\n"), errors)
 
