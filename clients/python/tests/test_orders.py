@@ -8,6 +8,8 @@ import atexit
 import contextvars
 import functools
 import importlib
+import io
+import logging
 import multiprocessing
 import multiprocessing.pool
 import os
@@ -357,6 +359,60 @@ class PlainLocks(TracedCase):
             write()
 
         self.assert_ordered(scenario)
+
+
+class LocksInside(TracedCase):
+    """Locks of the library while which the program's own code runs."""
+
+    def test_what_a_queue_of_the_program_does_inside_is_kept_apart(self) -> None:
+        class Once(queue.Queue):  # type: ignore[type-arg]
+            def _init(self, maxsize: int) -> None:
+                self.queue: Any = []
+
+            def _put(self, item: int) -> None:
+                write("x")
+                if item not in self.queue:
+                    self.queue.append(item)
+
+            def _get(self) -> Any:
+                write("x")
+                return self.queue.pop(0)
+
+        for size in (0, 1, 9):
+            with self.subTest(size=size):
+
+                def scenario() -> None:
+                    one = Once(size)
+
+                    def work() -> None:
+                        one.put(1)
+                        one.get()
+                        write("y")
+
+                    in_turn(work, work)
+                    self.assertEqual(one.qsize(), 0)
+
+                self.assert_racing_things("y", scenario)
+
+    def test_a_handler_of_the_program_emits_under_its_lock(self) -> None:
+        class Counting(logging.Handler):
+            def emit(self, record: logging.LogRecord) -> None:
+                write("x")
+
+        def scenario() -> None:
+            logger = logging.Logger("own")
+            logger.addHandler(Counting())
+            in_turn(*[lambda: (logger.warning("a"), write("y"))] * 2)
+
+        self.assert_racing_things("y", scenario)
+
+    def test_a_handler_of_the_library_orders_nothing(self) -> None:
+        def scenario() -> None:
+            logger = logging.Logger("own")
+            logger.addHandler(logging.StreamHandler(io.StringIO()))
+            in_turn(*[lambda: (write("x"), logger.warning("a"))] * 2)
+
+        self.assert_race(scenario)
 
 
 class Processes(TracedCase):

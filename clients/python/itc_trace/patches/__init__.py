@@ -2,8 +2,12 @@
 
 from __future__ import annotations
 
-from . import asynchronous, cached, entry_queue, exits, futures, heaps, importlib_bootstrap, processes, queues, threads
+from . import asynchronous, cached, entry_queue, exits, futures, handlers, heaps, importlib_bootstrap, processes, queues, threads
 from .base import Patches
+
+_TRACED = (
+    threads, exits, queues, futures, asynchronous, cached, handlers, heaps, processes, entry_queue, importlib_bootstrap,
+)
 
 _patches: Patches | None = None
 
@@ -13,7 +17,7 @@ def put_all() -> None:
     global _patches
     if _patches is None:
         _patches = Patches()
-        for module in (threads, exits, queues, futures, asynchronous, cached, heaps, processes, entry_queue, importlib_bootstrap):
+        for module in _TRACED:
             module.put(_patches)
 
 

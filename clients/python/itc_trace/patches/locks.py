@@ -53,11 +53,7 @@ class TracedLock(metaclass=_LikeLock):
         frame = frame_at(1)
         if is_internal(frame):
             return _allocate()
-        made = object.__new__(cls)
-        made._lock = _allocate()
-        made._itc_identity = LockIdentity("Lock", frame)
-        made._itc_token = made._itc_holder = None
-        return made
+        return traced_lock(frame)
 
     @property  # type: ignore[misc]
     def __class__(self) -> Any:
@@ -165,6 +161,15 @@ class TracedRLock(_PlainRLock, metaclass=_LikeRLock):  # type: ignore[misc]
 
 TracedLock.__name__ = TracedLock.__qualname__ = "lock"
 TracedRLock.__name__ = TracedRLock.__qualname__ = "RLock"
+
+
+def traced_lock(frame: Any) -> Any:
+    """One that was made where the frame stands."""
+    made = object.__new__(TracedLock)
+    made._lock = _allocate()
+    made._itc_identity = LockIdentity("Lock", frame)
+    made._itc_token = made._itc_holder = None
+    return made
 
 
 def traced_rlock(frame: Any, cls: Any = TracedRLock, *words: Any, **named: Any) -> Any:

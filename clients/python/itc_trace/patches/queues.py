@@ -6,12 +6,14 @@ import _thread
 import asyncio
 import math
 import queue
+import threading
 from collections import deque
 from typing import Any
 
 from ..lines import DONE_ITEM, QUEUE, ROOM, Token, state
 from ..noting import frame_at, is_internal, mark, take
 from .base import Patches
+from .locks import traced_lock
 
 _guard = vars(_thread)["RLock"]()
 _PlainSimpleQueue: Any = queue.SimpleQueue
@@ -20,12 +22,33 @@ MOST_PLACES = 16
 """Who puts into a queue of more places comes after nobody: such a queue bounds memory, and to tell it would take an event an item."""
 
 
+_INSIDE = ("_init", "_put", "_get", "_qsize")
+"""Methods that a queue calls while it holds its own lock."""
+
+
 def put(patches: Patches) -> None:
+    patches.wrap(queue.Queue, "__init__", _begin)
     patches.wrap(queue.Queue, "put", _put)
     patches.wrap(queue.Queue, "get", _get)
     patches.wrap(queue.Queue, "task_done", _task_done)
     patches.wrap(queue.Queue, "join", _join)
     patches.replace(queue, "SimpleQueue", TracedSimpleQueue)
+
+
+def _begin(original: Any) -> Any:
+    def __init__(self: Any, maxsize: int = 0) -> None:
+        original(self, maxsize)
+        if any(getattr(getattr(type(self), name), "__module__", "") != "queue" for name in _INSIDE):
+            _trace_lock(self, frame_at(1))
+
+    return __init__
+
+
+def _trace_lock(one: Any, frame: Any) -> None:
+    """Gives the queue a traced lock, as code of the program runs while it is held."""
+    one.mutex = traced_lock(frame)
+    for name in ("not_empty", "not_full", "all_tasks_done"):
+        setattr(one, name, threading.Condition(one.mutex))
 
 
 class Items:
