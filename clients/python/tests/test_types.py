@@ -4,8 +4,16 @@ from __future__ import annotations
 
 import _thread
 import asyncio
+import atexit
+import concurrent.futures
 import functools
+import heapq
+import importlib
 import importlib.util
+import multiprocessing
+import multiprocessing.managers
+import pickle
+import queue
 import signal
 import threading
 import unittest
@@ -112,6 +120,28 @@ class Types(TracedCase):
             self.assertIsInstance(threading.Lock(), type(threading.Lock()))
             self.assertIsInstance(threading.Lock(), _thread.LockType)
             self.assertNotIsInstance(lock, type(threading.Lock()))
+
+        self.traced(work)
+
+    def test_what_is_replaced_can_be_pickled_by_its_name(self) -> None:
+        def work() -> None:
+            for one in (threading.Lock, threading.RLock, _thread.allocate_lock, _thread.start_new_thread, queue.SimpleQueue, queue.Queue,
+                        heapq.heappush, heapq.heapify, asyncio.Task, asyncio.Future, asyncio.create_task, asyncio.wait, asyncio.shield,
+                        asyncio.wrap_future, asyncio.run_coroutine_threadsafe, concurrent.futures.wait,
+                        concurrent.futures.as_completed, importlib.import_module, atexit.register, functools.cached_property):
+                with self.subTest(one=one):
+                    self.assertIs(pickle.loads(pickle.dumps(one)), one)
+
+        self.traced(work)
+
+    def test_a_manager_starts_in_a_new_process(self) -> None:
+        def work() -> None:
+            with multiprocessing.get_context("spawn").Manager() as manager:
+                lock = manager.Lock()
+                with lock:
+                    event = manager.Event()
+                    event.set()
+                    self.assertTrue(event.is_set())
 
         self.traced(work)
 

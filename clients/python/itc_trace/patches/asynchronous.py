@@ -284,6 +284,7 @@ def _error_of(future: Any) -> Any:
 
 for _traced, _name in ((TracedTask, "Task"), (TracedFuture, "Future"), (TracedGathering, "_GatheringFuture")):
     _traced.__name__ = _traced.__qualname__ = _name
+    _traced.__module__ = "asyncio"
 
 
 def _put_tasks(patches: Patches) -> None:

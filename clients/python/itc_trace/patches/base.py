@@ -4,6 +4,7 @@ from __future__ import annotations
 
 import sys
 from collections.abc import Callable
+from types import FunctionType
 from typing import Any
 
 from ..noting import INTERNAL
@@ -32,6 +33,8 @@ class Patches:
         """Puts the value in the module, and wherever the program has imported the old one by its name."""
         old = getattr(module, name)
         self.put(module, name, value)
+        if type(value) is FunctionType and vars(sys.modules.get(value.__module__, module)).get(value.__qualname__) is not value:
+            value.__module__ = module.__name__  # There it is found by whoever unpickles it.
         for other in list(sys.modules.values()):
             names = getattr(other, "__dict__", None)
             if type(names) is dict and other is not module and not is_ours(other):

@@ -159,7 +159,7 @@ class TracedRLock(_PlainRLock, metaclass=_LikeRLock):  # type: ignore[misc]
         self._depth = 0
 
 
-TracedLock.__name__ = TracedLock.__qualname__ = "lock"
+TracedLock.__name__ = TracedLock.__qualname__ = "allocate_lock"
 TracedRLock.__name__ = TracedRLock.__qualname__ = "RLock"
 
 

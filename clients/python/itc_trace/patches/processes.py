@@ -2,6 +2,7 @@
 
 from __future__ import annotations
 
+import threading
 from collections import deque
 from types import ModuleType
 from typing import Any
@@ -16,11 +17,13 @@ from .locks import gave, took
 _MAKERS = ("multiprocessing.context", "multiprocessing.synchronize", "multiprocessing.sharedctypes")
 """Modules that make locks for the program. Others of `multiprocessing` make them for themselves, and give no order."""
 MOST_PERMITS = 65536
+_PLAIN_MAKERS = {name: getattr(threading, name) for name in ("Lock", "RLock")}
 
 
 def put(patches: Patches) -> None:
     patches.when_taken_back(forget_all)
     once_imported("multiprocessing.synchronize", lambda module: _put_locks(patches, module))
+    once_imported("multiprocessing.managers", lambda module: _put_managers(patches, module))
 
 
 def _put_locks(patches: Patches, module: ModuleType) -> None:
@@ -28,6 +31,14 @@ def _put_locks(patches: Patches, module: ModuleType) -> None:
     patches.wrap(kind, "__init__", _begin)
     patches.wrap(kind, "__enter__", _enter)
     patches.wrap(kind, "__exit__", _exit)
+
+
+def _put_managers(patches: Patches, module: ModuleType) -> None:
+    """A manager hands what makes its locks to its process by name, and by these names there are the traced ones now."""
+    kind: Any = vars(module)["SyncManager"]
+    makers = {id(plain): getattr(threading, name) for name, plain in _PLAIN_MAKERS.items()}
+    registry = {name: (makers.get(id(entry[0]), entry[0]), *entry[1:]) for name, entry in kind._registry.items()}
+    patches.put(kind, "_registry", registry)
 
 
 class _Lock:

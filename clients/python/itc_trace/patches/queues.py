@@ -211,6 +211,8 @@ class _Box:
 class TracedSimpleQueue(_PlainSimpleQueue):  # type: ignore[misc]
     """A simple queue that hands the place of each `put` on with the item."""
 
+    __module__ = "queue"
+
     def __new__(cls) -> Any:
         if is_internal(frame_at(1)):
             return _PlainSimpleQueue()
@@ -229,6 +231,9 @@ class TracedSimpleQueue(_PlainSimpleQueue):  # type: ignore[misc]
 
     def get_nowait(self) -> Any:
         return _opened(_PlainSimpleQueue.get_nowait(self))
+
+
+TracedSimpleQueue.__name__ = TracedSimpleQueue.__qualname__ = "SimpleQueue"
 
 
 def _opened(item: Any) -> Any:

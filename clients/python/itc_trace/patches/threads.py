@@ -43,7 +43,8 @@ def _put_threads(patches: Patches) -> None:
     patches.wrap(thread, "join", _join)
     patches.wrap(thread, "is_alive", _is_alive)
     for name in ("start_new_thread", "start_new"):
-        patches.replace(_thread, name, _start_plain(getattr(_thread, name)))
+        original = getattr(_thread, name)
+        patches.replace(_thread, name, like(original, _start_plain(original)))
 
 
 def _start(original: Any) -> Any:
