@@ -350,6 +350,50 @@ class TheProgramDoesWhatItDid(unittest.TestCase):
         gc.collect()
         self.assertIsNone(boxes[1]())
 
+    def test_what_is_deleted_or_in_a_cycle_is_gone(self) -> None:
+        text = """
+            import gc
+            class Box:
+                pass
+            def deleted():
+                box = Box()
+                box.items = [Box()]
+                box.items.append(1)
+                seen = watch(box.items[0])
+                del box.items
+                return seen()
+            def replaced():
+                box = Box()
+                box.table = {"k": Box()}
+                box.table["n"] = 1
+                seen = watch(box.table["k"])
+                box.table = None
+                return seen()
+            def cycle():
+                box = Box()
+                box.items = [box]
+                box.items.append(1)
+                seen = watch(box)
+                del box
+                gc.collect()
+                return seen()
+            kept = Box()
+            kept.items = [Box()]
+            def stays():
+                kept.items.append(1)
+                gc.collect()
+                kept.items.append(2)
+        """
+        with noting():
+            _, variables = run_of(code_of(text), watch=weakref.ref)
+            for name in ("deleted", "replaced", "cycle"):
+                with self.subTest(name=name):
+                    self.assertIsNone(variables[name]())
+            STRETCHES.pop(threading.get_ident(), None)
+            variables["stays"]()
+            stretch = STRETCHES[threading.get_ident()]
+            self.assertEqual(len({thing.number for thing, kind, _ in stretch.values() if kind == "addition"}), 1, "it was taken for another")
+
     def test_a_module_that_cannot_be_rewritten_runs_as_it_is(self) -> None:
         with tempfile.TemporaryDirectory() as folder:
             deep = "x = " + "(" * 60 + "1" + ")" * 60 + "\nn = " + "+".join(["x"] * 1500) + "\n"
@@ -481,6 +525,11 @@ for thread in threads:
         self.assertIn("itc_trace: race on stock['left'] (a dict made at program.py:3)\n", ran.stderr)
         self.assertRegex(ran.stderr, r"write at \S+program.py:6 in sell:  stock\[.left.\] -= 1\n    read  at")
         self.assertRegex(ran.stderr, r"itc_trace: 1 race in this run: \d+ places of \d things, \d+ events")
+
+    def test_a_variable_is_told_by_the_line_that_made_it(self) -> None:
+        text = self.SHOP.replace('stock = {"left": 2}', "stock = 2").replace('stock["left"]', "stock").replace("def sell():", "def sell():\n    global stock")
+        ran = run_traced(self.program(text))
+        self.assertIn("itc_trace: race on stock (a variable made at program.py:3)\n", ran.stderr)
 
     def test_with_a_lock_there_is_none(self) -> None:
         text = self.SHOP.replace("def sell():\n    stock", "lock = threading.Lock()\ndef sell():\n  with lock:\n    stock")

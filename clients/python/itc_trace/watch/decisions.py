@@ -151,12 +151,12 @@ def _decide(kind: type, name: str, kinds: str) -> int:
         return OF_MODULE
     if issubclass(kind, type):
         return OF_TYPE
-    if issubclass(kind, threading.local) or is_of_the_package(kind):
+    if issubclass(kind, threading.local) or _has(kind, "__getattribute__") or is_of_the_package(kind):
         return SKIP
     owner = class_with(kind, name)
     if owner is not None:
         return _decide_of_class(kind, _vars_of(owner)[name], kinds)
-    if _has(kind, "__getattr__") or _has(kind, "__getattribute__") or "w" in kinds and _has(kind, "__setattr__"):
+    if _has(kind, "__getattr__") or "w" in kinds and _has(kind, "__setattr__"):
         return OWN_FIELD
     return FIELD
 

@@ -7,6 +7,7 @@ of a function refers to is shared with nobody, and is not noted.
 from __future__ import annotations
 
 import builtins
+import gc
 import types
 from builtins import hash, id, issubclass, len, map, setattr, type
 from _thread import get_ident
@@ -25,13 +26,16 @@ from .decisions import (
 from .kinds import DEQUE, DICT, KEYED, LIST, WHOLE
 from .places import ACCESSES, SKIPPED, Access
 from .rewrite import ON, PREFIX
-from .things import BASES, OWNERS, Owner, element_of, field_of, made_by, made_here, owner_of, shape_of, variable_of
+from .things import (
+    BASES, OWNERS, Owner, around_collections, element_of, field_of, let_go_of_some, made_by, made_here, owner_of, shape_of, variable_of,
+)
 
 SIMPLE = frozenset({str, int, bytes, float, bool, type(None)})
 MOST_PARTS = 8
 READ_ONLY = "r"
 LOOKING = frozenset(("r", "rw", "c"))
 CHANGING = frozenset(("w", "rw", "d"))
+LOOKED_THROUGH_AT_ONCE = 64
 ANYBODY = 0
 """A limit of references that nothing is within."""
 
@@ -217,7 +221,7 @@ def hook_g(site: int) -> None:
     if stretch is None or site not in stretch:
         access = ACCESSES[site]
         try:
-            _note(0, site, variable_of(access.module, access.name), access.kinds, site)
+            _note(0, site, variable_of(access.module, access.name, access.text), access.kinds, site)
         except Exception as fault:
             failed(fault)
 
@@ -249,7 +253,7 @@ def _touch_cell(cell: Any, site: int) -> None:
     owner = owner_of(cell, access.name)
     thing = owner.things.get(access.name)
     if thing is None:
-        owner.name, owner.made = access.name, ""
+        owner.name, owner.made = access.name, access.text
         thing = owner.things[access.name] = shape_of(owner)
     _note(owner.base, site, thing, access.kinds, site)
 
@@ -709,6 +713,11 @@ def hook_N(one: Any, constructor: int) -> None:
         failed(fault)
 
 
+def hook_d() -> None:
+    """Behind where something is let go of."""
+    let_go_of_some(LOOKED_THROUGH_AT_ONCE)
+
+
 # Switching
 
 
@@ -727,13 +736,15 @@ def _nothing(*_: Any) -> None:
 HOOKS: dict[str, Callable[..., Any]] = {name[5:]: one for name, one in list(globals().items()) if name.startswith("hook_")}
 ALWAYS = frozenset(("n", "N"))
 QUIET: dict[str, Callable[..., Any]] = {
-    **dict.fromkeys(HOOKS, _first), **dict.fromkeys(("K", "K_local"), _second), **dict.fromkeys(("g", "c"), _nothing),
+    **dict.fromkeys(HOOKS, _first), **dict.fromkeys(("K", "K_local"), _second), **dict.fromkeys(("g", "c", "d"), _nothing),
     **{name: HOOKS[name] for name in ALWAYS},
 }
 
 
 def put(is_on: bool) -> None:
     """Puts the hooks where every module finds them: those that note, or those that do nothing."""
+    if (around_collections in gc.callbacks) != is_on:
+        (gc.callbacks.append if is_on else gc.callbacks.remove)(around_collections)
     for name, one in (HOOKS if is_on else QUIET).items():
         setattr(builtins, PREFIX + name, one)
     setattr(builtins, ON, is_on)

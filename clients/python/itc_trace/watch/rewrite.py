@@ -8,6 +8,7 @@ from __future__ import annotations
 
 import ast
 import builtins
+import os
 from collections.abc import Callable, Iterator
 from types import CodeType
 from typing import Any
@@ -228,7 +229,9 @@ class Rewriter:
     def _variable(self, node: Any, name: str, kinds: str) -> ast.expr:
         """A hook that notes a touch of a variable, and gives None."""
         owner = self._scope.owner(name)
-        site = self._site(node, "variable", kinds, name)
+        line = owner.first_lines.get(name)
+        made = "" if line is None else f"a variable made at {os.path.basename(self._file)}:{line}"
+        site = self._site(node, "variable", kinds, name, made)
         if owner.kind == MODULE:
             return self._hook("g", node, site)
         empty = ast.arguments(posonlyargs=[], args=[], kwonlyargs=[], kw_defaults=[], defaults=[])
@@ -280,6 +283,8 @@ class Rewriter:
             node.value = node.value if _is_hook(node.value) else self._child(node.value)
         node.targets = [self._child(target) for target in node.targets]
         self._after += self._stores([target.twin for target in node.targets if hasattr(target, "twin")], node)
+        if isinstance(node.value, ast.Constant) and node.value.value is None:
+            self._after.append(ast.copy_location(ast.Expr(self._hook("d", node)), node))
         return node
 
     def _simple_AnnAssign(self, node: ast.AnnAssign) -> ast.stmt:
@@ -350,6 +355,7 @@ class Rewriter:
     def _simple_Delete(self, node: ast.Delete) -> ast.stmt:
         node.targets = [self._child(target) for target in node.targets]
         self._after += self._stores([target.twin for target in node.targets if hasattr(target, "twin")], node)
+        self._after.append(ast.copy_location(ast.Expr(self._hook("d", node)), node))
         return node
 
     def _simple_Assert(self, node: ast.Assert) -> ast.stmt:

@@ -27,6 +27,7 @@ class Scope:
         self.nonlocals: set[str] = set()
         self.used: set[str] = set()
         self.captured: set[str] = set()
+        self.first_lines: dict[str, int] = {}
         self.made = ""
         """The variable of a constructor that has the object that is made."""
         self.constructor = 0
@@ -122,6 +123,8 @@ class Scopes(ast.NodeVisitor):
         else:
             self._bind(node.id)
             self._scope.used.add(node.id)
+            if node.id not in self._scope.globals | self._scope.nonlocals:
+                self._scope.function.first_lines.setdefault(node.id, node.lineno)
 
     _targets: frozenset[ast.AST] = frozenset()
 

@@ -6,6 +6,7 @@ What cannot, as a list or a dict, is held from its first touch among several tas
 
 from __future__ import annotations
 
+import gc
 import os
 import weakref
 from builtins import id, len, min, next, repr, type
@@ -26,6 +27,8 @@ FIRST_NUMBER_OF_OWNERS = 1 << 32
 """The keys of touches are numbers: that of the owner, which is a multiple of this, and that of the place."""
 MOST_HELD = 20_000
 LOOKED_THROUGH = 4
+OLDEST = 2
+"""The generation of a collection that looks at all objects."""
 MOST_MADE = 500_000
 LONGEST_KEY = 30
 
@@ -139,7 +142,7 @@ def _new_owner(one: Any, key: int, name: str) -> Owner:
     try:
         owner.reference = weakref.ref(one, gone)
     except TypeError:
-        _look_through()
+        let_go_of_some(LOOKED_THROUGH)
         KEPT[key] = one
         HELD.append(key)
     OWNERS[key] = owner
@@ -147,9 +150,9 @@ def _new_owner(one: Any, key: int, name: str) -> Owner:
     return owner
 
 
-def _look_through() -> None:
+def let_go_of_some(most: int) -> None:
     """Lets go of some of what nobody else holds any more, and of the oldest where too many are held."""
-    for _ in range(min(LOOKED_THROUGH, len(HELD))):
+    for _ in range(min(most, len(HELD))):
         try:
             key = HELD.popleft()
         except IndexError:
@@ -173,6 +176,31 @@ def _references_of_held() -> int:
 
 
 REFERENCES_OF_HELD = _references_of_held()
+
+
+def around_collections(phase: str, told: dict[str, int]) -> None:
+    """Holds nothing that is in a cycle while the collector of garbage looks at all objects: what is garbage but for that, goes."""
+    if told.get("generation") != OLDEST or not KEPT and not _in_doubt:
+        return
+    if phase == "start":
+        for key, one in list(KEPT.items()):
+            if gc.is_tracked(one):
+                _in_doubt.add(key)
+                KEPT.pop(key, None)
+        return
+    for one in gc.get_objects():
+        if id(one) in _in_doubt and id(one) in OWNERS:
+            KEPT[id(one)] = one
+    for key in _in_doubt:
+        if key not in KEPT:
+            BASES.pop(key, None)
+            owner = OWNERS.pop(key, None)
+            if owner is not None:
+                owner.leave()
+    _in_doubt.clear()
+
+
+_in_doubt: set[int] = set()
 
 
 def let_go() -> None:
@@ -265,9 +293,9 @@ def element_of(owner: Owner, key: Any, is_simple: bool) -> Element:
 _variables: dict[tuple[str, str], Thing] = {}
 
 
-def variable_of(module: str, name: str) -> Thing:
+def variable_of(module: str, name: str, made: str = "") -> Thing:
     thing = _variables.get((module, name))
     if thing is None:
         whole = name if module == "__main__" else f"{module}.{name}"
-        thing = _variables[module, name] = Thing(next(_numbers), whole, "")
+        thing = _variables[module, name] = Thing(next(_numbers), whole, made)
     return thing
