@@ -5,6 +5,7 @@ from __future__ import annotations
 import contextlib
 import dis
 import gc
+import importlib.util
 import io
 import linecache
 import os
@@ -694,6 +695,32 @@ for thread in threads:
             ran = run_traced("--benign", patterns.name, self.program(self.SHOP))
         self.assertEqual(ran.returncode, 2)
         self.assertIn(":2: a thing and two places at most", ran.stderr)
+
+
+HAS_TESTS = importlib.util.find_spec("test") is not None and importlib.util.find_spec("test.test_sched") is not None
+
+BESIDE_A_THREAD = """\
+import sys, threading, unittest
+threading.Thread(target=threading.Event().wait, daemon=True).start()
+unittest.main(module=None, argv=sys.argv)
+"""
+
+
+@unittest.skipUnless(HAS_TESTS, "this Python came without its tests")
+class Library(ProgramCase):
+    """Tests of the standard library pass with hooks that note in what they test, and in themselves."""
+
+    def assert_passing(self, *names: str) -> None:
+        watched = [word for name in ("test", *names) for word in ("--watch", name)]
+        tests = [f"test.test_{name.strip('_')}" for name in names]
+        ran = run_traced("--quiet", *watched, self.program(BESIDE_A_THREAD), *tests)
+        self.assertRegex(ran.stderr, r"(?m)^Ran \d+ tests in [^\n]*\n\nOK")
+
+    def test_modules_of_threads(self) -> None:
+        self.assert_passing("sched", "_threading_local")
+
+    def test_modules_that_look_at_code_and_references(self) -> None:
+        self.assert_passing("contextlib", "copy", "textwrap", "dataclasses")
 
 
 if __name__ == "__main__":
