@@ -20,7 +20,6 @@ RUNS = int(os.environ.get("ITC_PROGRAM_RUNS", "1"))
 PATTERN = os.environ.get("ITC_PROGRAMS", "*")
 AT_ONCE = 2
 PROGRAMS = PACKAGE / "tests" / "programs"
-WAITING = (PROGRAMS / "waiting").read_text().split()
 
 Ended = subprocess.CompletedProcess[str]
 
@@ -55,7 +54,7 @@ class Programs(unittest.TestCase):
                 self.assertNotIn("itc_trace", path.read_text())
 
     def assert_due(self, paths: list[Path]) -> None:
-        judged = {path: due_of(path) for path in paths if str(path.relative_to(PROGRAMS).with_suffix("")) not in WAITING}
+        judged = {path: due_of(path) for path in paths}
         for path, ended in run_all(run_traced, [path for path in judged for _ in range(RUNS)]):
             with self.subTest(program=path.stem):
                 wrong = faults(judged[path], ended.returncode, ended.stderr)

@@ -125,6 +125,21 @@ def fields_of(one: Any) -> Any:
     return fields if type(fields) is dict else ()
 
 
+def value_of_field(one: Any, name: str) -> Any:
+    """What stands in a field of the object, which may be a slot. None if nothing does."""
+    fields = fields_of(one)
+    if name in fields:
+        return fields[name]
+    owner = class_with(type(one), name)
+    slot = None if owner is None else _vars_of(owner)[name]
+    if type(slot) is not types.MemberDescriptorType:
+        return None
+    try:
+        return slot.__get__(one)
+    except AttributeError:
+        return None
+
+
 def _has(kind: type, name: str) -> bool:
     return any(name in _vars_of(one) for one in _mro_of(kind) if one is not object)
 

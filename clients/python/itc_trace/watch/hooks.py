@@ -21,7 +21,7 @@ from ..noting import failed, touched, touched_all
 from ..stretches import STRETCHES
 from .decisions import (
     FIELD, OF_CLASS, OF_MODULE, OF_TYPE, OWN_FIELD, PLAIN, SKIP, WATCHED, class_with, decision, family_of, fields_of,
-    has_own_method, name_of,
+    has_own_method, name_of, value_of_field,
 )
 from .kinds import DEQUE, DICT, KEYED, LIST, WHOLE
 from .places import ACCESSES, SKIPPED, Access
@@ -186,7 +186,7 @@ def _touch_field(one: Any, site: int, access: Access | None = None) -> None:
     if found == FIELD and not (kinds == "rw" and access.text):
         owner.recipes[base + key] = recipe
     if access.what == "field" and access.text and kinds == "rw":
-        _touch_in_place(fields_of(one).get(name), access.text, site)
+        _touch_in_place(value_of_field(one, name), access.text, site)
 
 
 def _touch_in_place(value: Any, kind: str, site: int) -> None:
