@@ -15,7 +15,7 @@ from .journal_file import JournalFile
 from .lines import state
 from .patches.base import like
 from .patches.later import once_imported
-from .stretches import SITES, STRETCHES
+from .stretches import SITES
 from .verdict import Cause, Unseen
 
 VARIABLE = "ITC_TRACE_CHILD_OF"
@@ -33,7 +33,6 @@ class Witness:
 
     def __init__(self, journal: JournalFile) -> None:
         self._journal = journal
-        STRETCHES.clear()  # What the parent touched last is no touch of the child.
 
     def __call__(self, thing: Any, site: Any) -> None:
         state.witness = None

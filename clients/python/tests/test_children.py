@@ -56,6 +56,15 @@ if __name__ == "__main__":
     print(time.monotonic())
 """
 WAYS = ("_exit", "exit", "fork", "forkserver", "spawn")
+IN_BOTH = """
+import os, itc_trace
+for turn in range(2):
+    itc_trace.touch("x", write=True)
+    if turn == 0:
+        child = os.fork()
+if child:
+    os.waitpid(child, 0)
+"""
 SHARED_MEMORY = """
 import multiprocessing, sys
 def work(count):
@@ -121,6 +130,10 @@ class Children(ProgramCase):
                     ran.stderr.splitlines()[0],
                     f"itc_trace: incomplete: a child process was not traced, and touched stock at {program}:11",
                 )
+
+    def test_a_child_that_touches_where_its_parent_did_is_told_as_not_seen(self) -> None:
+        ran = run_traced("--watch-nothing", self.program(IN_BOTH))
+        self.assertEqual(ran.returncode, Verdict.INCOMPLETE, ran.stderr)
 
     def test_a_process_of_a_watched_program_is_told_as_not_seen(self) -> None:
         for method in ("fork", "forkserver", "spawn"):
