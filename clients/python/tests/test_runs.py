@@ -100,6 +100,14 @@ with traced:
 print(*sorted(paused), "looked at" if "_guard" in looked_at else "no lock", held)
 """
 EACH_RUN_FAILS = "import sys; print('run', flush=True); sys.exit(7)"
+ENDED_ONCE = """
+import os, sys
+with open(sys.argv[1], "a+") as runs:
+    runs.write("x")
+    if runs.tell() == 2:
+        runs.close()
+        os.abort()
+"""
 SWITCHING = "import sys; print(sys.getswitchinterval())"
 RANDOM = "import random; random.seed(1); print(random.random())"
 MOST_RUNS = 25
@@ -157,8 +165,7 @@ class Runs(ProgramCase):
 
     def test_one_run_that_was_not_seen_whole_is_enough(self) -> None:
         with tempfile.TemporaryDirectory() as folder:
-            text = f"import os, pathlib\nseen = pathlib.Path({str(Path(folder, 'seen'))!r})\nif seen.exists():\n    os.abort()\nseen.touch()\n"
-            ran = run_traced("--runs", "2", self.program(text))
+            ran = run_traced("--runs", "3", self.program(ENDED_ONCE), str(Path(folder, "runs")))
         self.assertEqual(ran.returncode, Verdict.INCOMPLETE, ran.stderr)
         self.assertIn("itc_trace: incomplete: run 2: the program was ended by SIGABRT\n", ran.stderr)
 
