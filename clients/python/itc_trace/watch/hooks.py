@@ -7,7 +7,6 @@ of a function refers to is shared with nobody, and is not noted.
 from __future__ import annotations
 
 import builtins
-import gc
 import types
 from builtins import hash, id, issubclass, len, map, setattr, type
 from _thread import get_ident
@@ -27,7 +26,7 @@ from .kinds import DEQUE, DICT, KEYED, LIST, WHOLE
 from .places import ACCESSES, SKIPPED, Access
 from .rewrite import ON, PREFIX
 from .things import (
-    BASES, OWNERS, Owner, around_collections, element_of, field_of, let_go_of_some, made_by, made_here, owner_of, shape_of, variable_of,
+    BASES, OWNERS, Owner, element_of, field_of, let_go_of_some, made_by, made_here, owner_of, shape_of, variable_of,
 )
 
 SIMPLE = frozenset({str, int, bytes, float, bool, type(None)})
@@ -743,8 +742,6 @@ QUIET: dict[str, Callable[..., Any]] = {
 
 def put(is_on: bool) -> None:
     """Puts the hooks where every module finds them: those that note, or those that do nothing."""
-    if (around_collections in gc.callbacks) != is_on:
-        (gc.callbacks.append if is_on else gc.callbacks.remove)(around_collections)
     for name, one in (HOOKS if is_on else QUIET).items():
         setattr(builtins, PREFIX + name, one)
     setattr(builtins, ON, is_on)

@@ -14,6 +14,9 @@ STARTERS = frozenset("start submit create_task ensure_future run_in_executor run
 MODULE, FUNCTION, CLASS, COMPREHENSION = "module", "function", "class", "comprehension"
 FIRST_BINDING, LATER_BINDING = 1, 2
 
+STORED_ELSEWHERE: set[str] = set()
+"""Names that some module has stored in another, as `config.debug = True` does. A module that imports is looked at before what it imports."""
+
 
 class Scope:
     """The names of a module, a function, a class or a comprehension."""
@@ -82,7 +85,6 @@ class Scopes(ast.NodeVisitor):
         self._scope = self.module
         self._loops = 0
         self._is_after_start = False
-        self.stored_attributes: set[str] = set()
         self._outer: list[tuple[Scope, str]] = []
         for one in tree.body:
             self.visit(one)
@@ -101,6 +103,8 @@ class Scopes(ast.NodeVisitor):
     def may_be_shared(self, scope: Scope, name: str) -> bool:
         """Whether the variable is bound more than once, and more than its own scope uses it."""
         owner = scope.owner(name)
+        if owner.kind == MODULE and name in STORED_ELSEWHERE:
+            return owner.bound[name] > 0
         return owner.kind in (MODULE, FUNCTION) and name in owner.captured and owner.bound[name] > FIRST_BINDING
 
     def _opened(self, node: ast.AST, kind: str, name: str = "") -> Scope:
@@ -162,7 +166,7 @@ class Scopes(ast.NodeVisitor):
 
     def visit_Attribute(self, node: ast.Attribute) -> None:
         if not isinstance(node.ctx, ast.Load) and isinstance(node.value, ast.Name) and node.value.id in self.imported:
-            self.stored_attributes.add(node.attr)
+            STORED_ELSEWHERE.add(node.attr)
         self.visit(node.value)
 
     def visit_Call(self, node: ast.Call) -> None:

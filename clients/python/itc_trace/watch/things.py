@@ -6,7 +6,6 @@ What cannot, as a list or a dict, is held from its first touch among several tas
 
 from __future__ import annotations
 
-import gc
 import os
 import weakref
 from builtins import id, len, min, next, repr, type
@@ -27,8 +26,6 @@ FIRST_NUMBER_OF_OWNERS = 1 << 32
 """The keys of touches are numbers: that of the owner, which is a multiple of this, and that of the place."""
 MOST_HELD = 20_000
 LOOKED_THROUGH = 4
-OLDEST = 2
-"""The generation of a collection that looks at all objects."""
 MOST_MADE = 500_000
 LONGEST_KEY = 30
 
@@ -176,31 +173,6 @@ def _references_of_held() -> int:
 
 
 REFERENCES_OF_HELD = _references_of_held()
-
-
-def around_collections(phase: str, told: dict[str, int]) -> None:
-    """Holds nothing that is in a cycle while the collector of garbage looks at all objects: what is garbage but for that, goes."""
-    if told.get("generation") != OLDEST or not KEPT and not _in_doubt:
-        return
-    if phase == "start":
-        for key, one in list(KEPT.items()):
-            if gc.is_tracked(one):
-                _in_doubt.add(key)
-                KEPT.pop(key, None)
-        return
-    for one in gc.get_objects():
-        if id(one) in _in_doubt and id(one) in OWNERS:
-            KEPT[id(one)] = one
-    for key in _in_doubt:
-        if key not in KEPT:
-            BASES.pop(key, None)
-            owner = OWNERS.pop(key, None)
-            if owner is not None:
-                owner.leave()
-    _in_doubt.clear()
-
-
-_in_doubt: set[int] = set()
 
 
 def let_go() -> None:
