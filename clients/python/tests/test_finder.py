@@ -16,6 +16,8 @@ from .random_runs import LOCKS, Answers, AnswersWithoutLocks, Found, RandomRun, 
 
 RUNS = int(os.environ.get("ITC_RANDOM_RUNS", "1500"))
 RUNS_WITH_COLLECTOR = 48
+SEEDS = 6000
+"""By one of so many runs each wrong rule is to be caught."""
 
 
 def found_in(run: Run, view: Any) -> Races:
@@ -271,7 +273,7 @@ class WrongRules(unittest.TestCase):
     def test_each_wrong_rule_is_caught(self) -> None:
         for owner, name, wrong in WRONG:
             with self.subTest(name=name, wrong=wrong), mock.patch.object(owner, name, wrong):
-                self.assertFalse(all(self.is_right_here(seed) for seed in range(4 * RUNS)))
+                self.assertFalse(all(self.is_right_here(seed) for seed in range(SEEDS)))
 
     @staticmethod
     def is_right_here(seed: int) -> bool:
