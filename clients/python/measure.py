@@ -20,7 +20,6 @@ from pathlib import Path
 from typing import Any
 
 from itc_trace import Collector, Session, find_races, shared, touch, tracing
-from itc_trace.verdict import END_ROW
 
 TURNS, TRIES = 10000, 5
 PROCESSES, REPORTS, AT_ONCE = 32, 512, 64
@@ -264,6 +263,8 @@ def reports(tasks: int, locked: bool) -> Iterator[tuple[str, str, str | None]]:
 
 
 def measure_races() -> None:
+    from itc_trace.verdict import END_ROW  # A package that is measured beside this one may have none.
+
     for locked in (True, False):
         for tasks in (4, 16, 64):
             with Collector("trace") as collector:

@@ -16,7 +16,7 @@ from typing import Any
 from ..lines import MARK, TAKE, Line, Section, Token, state
 from ..lock_identity import LockIdentity, Signal
 from ..noting import current, frame_at, is_internal, line_of_now, place
-from ..stretches import STRETCHES
+from ..stretches import STRETCHES, TURNS, Stretch
 
 _WAITS = re.compile(r"\.(wait|wait_for|notify|notify_all|notifyAll)\b")
 
@@ -223,7 +223,7 @@ def gave(lock: Any) -> None:
     note = state.note
     if note is not None:
         note((MARK, token))
-        line.section = Section(token, stretch) if stretch is None or not stretch.loop else None
+        line.section = Section(token, stretch)
 
 
 def _left_again(lock: Any, line: Line, section: Section) -> bool:
@@ -236,6 +236,11 @@ def _left_again(lock: Any, line: Line, section: Section) -> bool:
     line.held = held[:-1]
     lock._itc_token = section.token
     return True
+
+
+def _is_in_turn(stretch: Stretch | None) -> bool:
+    """Whether the stretch may go on: a task of a loop begins another one with each of its turns."""
+    return stretch is None or not stretch.loop or stretch.turn == TURNS.get(stretch.thread)
 
 
 def _entered_again(lock: Any, line: Line, section: Section) -> None:
@@ -274,7 +279,7 @@ def took(lock: Any) -> None:
     token = lock._itc_token
     if token is not None and token.line.section is not None and token.line.section.token is token:
         line = line_of_now()
-        if line is token.line and line.section is not None:
+        if line is token.line and line.section is not None and _is_in_turn(line.section.stretch):
             _entered_again(lock, line, line.section)
             return
     line = current()
