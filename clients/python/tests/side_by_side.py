@@ -1,5 +1,8 @@
 """Runs the tests of the package, one process for each class of tests or each long test, and some of these at a time.
 
+What fails beside others is run once more by itself, since some tests wait for what a loaded machine may do late. It has failed if it
+fails again.
+
 Usage: python3 -m tests.side_by_side, in the folder of the package
 
 The last line is `N passed, M failed`. The status is 0 where none failed.
@@ -61,13 +64,23 @@ def run(name: str) -> tuple[str, int, int, float, str]:
     return name, int(told[1]) - int(told[2] or 0), 0, seconds, ""
 
 
+def ran_beside_others(names: list[str]) -> Iterator[tuple[str, int, int, float, str]]:
+    with ThreadPoolExecutor(AT_ONCE) as pool:
+        for job in as_completed([pool.submit(run, name) for name in names]):
+            yield job.result()
+
+
 def main() -> int:
     passed = failed = 0
-    with ThreadPoolExecutor(AT_ONCE) as pool:
-        for job in as_completed([pool.submit(run, name) for name in jobs()]):
-            name, well, ill, seconds, said = job.result()
-            passed, failed = passed + well, failed + ill
-            print(f"clients: wrong: {name}: {ill} failed\n{said}" if ill else f"{name}: {well} passed, {seconds:.0f} s", flush=True)
+    again = []
+    for name, well, ill, seconds, said in ran_beside_others(jobs()):
+        passed += well
+        if ill:
+            again.append(name)
+        print(f"{name}: fails beside others\n{said}" if ill else f"{name}: {well} passed, {seconds:.0f} s", flush=True)
+    for name, well, ill, seconds, said in map(run, again):
+        passed, failed = passed + well, failed + ill
+        print(f"clients: wrong: {name}: {ill} failed\n{said}" if ill else f"{name}: {well} passed alone, {seconds:.0f} s", flush=True)
     print(f"{passed} passed, {failed} failed")
     return 1 if failed or not passed else 0
 
