@@ -26,6 +26,9 @@ PLAIN = frozenset({
 })
 """Types whose values cannot change, or are no thing that tasks share by their elements."""
 
+BARE = frozenset({object, types.SimpleNamespace, BaseException})
+"""Types that find attributes in the usual way, though their own tables name the methods that do so."""
+
 _EXACT: dict[type, int] = {
     dict: DICT, defaultdict: DICT, OrderedDict: DICT, Counter: DICT, list: LIST, bytearray: LIST, set: SET, deque: DEQUE,
 }
@@ -141,7 +144,7 @@ def value_of_field(one: Any, name: str) -> Any:
 
 
 def _has(kind: type, name: str) -> bool:
-    return any(name in _vars_of(one) for one in _mro_of(kind) if one is not object)
+    return any(name in _vars_of(one) for one in _mro_of(kind) if one not in BARE)
 
 
 def decision(kind: type, access: Access, site: int) -> int:
