@@ -12,6 +12,7 @@ from __future__ import annotations
 
 import os
 import re
+import signal
 import subprocess
 import sys
 import time
@@ -64,6 +65,13 @@ def run(name: str) -> tuple[str, int, int, float, str]:
     return name, int(told[1]) - int(told[2] or 0), 0, seconds, ""
 
 
+def heed_signals() -> None:
+    """Has the tests heed what a shell ignores for what it starts in the background."""
+    for number in (signal.SIGINT, signal.SIGQUIT, signal.SIGHUP, signal.SIGTERM):
+        if signal.getsignal(number) == signal.SIG_IGN:
+            signal.signal(number, signal.SIG_DFL)
+
+
 def ran_beside_others(names: list[str]) -> Iterator[tuple[str, int, int, float, str]]:
     with ThreadPoolExecutor(AT_ONCE) as pool:
         for job in as_completed([pool.submit(run, name) for name in names]):
@@ -71,6 +79,7 @@ def ran_beside_others(names: list[str]) -> Iterator[tuple[str, int, int, float, 
 
 
 def main() -> int:
+    heed_signals()
     passed = failed = 0
     again = []
     for name, well, ill, seconds, said in ran_beside_others(jobs()):
