@@ -1,10 +1,7 @@
 -- The first of several places.
-use Rattle.std.proofs.Common.{◌≡◌, ◌⊎◌, inl, inr, ℕ, ◌≤◌, true, false, Option, Some, None, refl, arith}
-use Rattle.std.specs.Option.{is_some}
+use Rattle.std.proofs.Common.{◌≡◌, ◌⊎◌, inl, inr, ℕ, ◌≤◌, Option, Some, None, refl, arith}
 use Rattle.stamp_codec.specs.Faults.{IsLeast}
-use Rattle.stamp_codec.specs.Walks.{IsFirst, IsFirstWith, IsSizeFault}
-use Rattle.stamp_codec.specs.declared.fault.StampFault.{StampFault}
-use Rattle.stamp_codec.specs.declared.fault.StampFault.TheVariants.{Shape, TooLarge, NotNormal, Memory}
+use Rattle.stamp_codec.specs.Looks.{IsFirst, IsFirstWith}
 
 -- places that are the same have the same first one
 first_same : (P Q : ℕ → Type 0) (first : Option ℕ) → ((p : ℕ) → P p → Q p) → ((p : ℕ) → Q p → P p) → IsFirst P first → IsFirst Q first
@@ -54,21 +51,6 @@ first_none P (Some m) none = record {
   least = λ p is. elim is [ inl e ↦ let same : m ≡ p = cc in omega (arith, same) | inr q ↦ absurd (none p q) ];
 }
 
--- where none is known in the end, none was known before
-pub none_before : (P : ℕ → Type 0) (a b : Option ℕ) → IsFirstWith a P b → b ≡ None → a ≡ None
-none_before P None b first none = refl
-none_before P (Some m) None first none = absurd (first m (inl refl))
-none_before P (Some m) (Some n) first none = cc
-
--- what the test for some place says
-pub some_known : (a : Option ℕ) → is_some a ≡ true → a ≡ None → ⊥
-some_known None some none = cc
-some_known (Some m) some none = cc
-
-pub none_known : (a : Option ℕ) → is_some a ≡ false → a ≡ None
-none_known None none = refl
-none_known (Some m) none = cc
-
 -- of two parts with nothing known before
 pub first_alone : (P Q : ℕ → Type 0) (b c : Option ℕ) → IsFirstWith None P b → IsFirstWith b Q c → IsFirst (λ p. P p ⊎ Q p) c
 first_alone P Q b c one other =
@@ -76,19 +58,10 @@ first_alone P Q b c one other =
     (λ p is. elim is [ inl e ↦ cc | inr q ↦ q ]) (λ p q. inr q)
     (first_both P Q None b c one other)
 
--- what a walk that ends says of more places
-size_fault : (fault : StampFault) (P Q : ℕ → Type 0) → ((place : ℕ) → IsLeast P place → IsLeast Q place) → IsSizeFault fault P → IsSizeFault fault Q
-size_fault (Shape place) P Q least is = is
-size_fault (TooLarge place) P Q least is = least place is
-size_fault (NotNormal place) P Q least is = is
-size_fault Memory P Q least is = tt
+-- the first place of two parts, of which the first one has it
+pub least_early : (place : ℕ) (P Q : ℕ → Type 0) → ((p q : ℕ) → P p → Q q → p ≤ q) → IsLeast P place → IsLeast (λ p. P p ⊎ Q p) place
+least_early place P Q before least = record { here = inl least.here; least = λ q is. elim is [ inl p ↦ least.least q p | inr later ↦ before place q least.here later ] }
 
--- a walk that ends in the first of two parts
-pub ends_early : (fault : StampFault) (P Q : ℕ → Type 0) → ((p q : ℕ) → P p → Q q → p ≤ q) → IsSizeFault fault P → IsSizeFault fault (λ p. P p ⊎ Q p)
-ends_early fault P Q before =
-    size_fault fault P (λ p. P p ⊎ Q p) (λ place least. record { here = inl least.here; least = λ q is. elim is [ inl p ↦ least.least q p | inr later ↦ before place q least.here later ] })
-
--- or in the second, where the first has no such place
-pub ends_late : (fault : StampFault) (P Q : ℕ → Type 0) → ((p : ℕ) → ¬ P p) → IsSizeFault fault Q → IsSizeFault fault (λ p. P p ⊎ Q p)
-ends_late fault P Q none =
-    size_fault fault Q (λ p. P p ⊎ Q p) (λ place least. record { here = inr least.here; least = λ q is. elim is [ inl p ↦ absurd (none q p) | inr later ↦ least.least q later ] })
+-- or the second one, where the first one has none
+pub least_late : (place : ℕ) (P Q : ℕ → Type 0) → ((p : ℕ) → ¬ P p) → IsLeast Q place → IsLeast (λ p. P p ⊎ Q p) place
+least_late place P Q none least = record { here = inr least.here; least = λ q is. elim is [ inl p ↦ absurd (none q p) | inr later ↦ least.least q later ] }

@@ -1,16 +1,12 @@
 -- A text without parentheses is scanned outside of all parentheses.
-use Rattle.std.proofs.Common.{◌≡◌, ◌≢◌, ℕ, suc, ◌-◌, ◌≤◌, Bool, true, false, ◌==◌, if◌then◌else◌, List, [], ◌∷◌, ◌++◌, get_or, drop, take, take_all, length, Option, Some, None, refl, sym, subst, arith}
+use Rattle.std.proofs.Common.{◌≡◌, ◌≢◌, ℕ, suc, ◌-◌, Bool, true, false, ◌==◌, if◌then◌else◌, List, [], ◌∷◌, ◌++◌, drop, take, take_all, length, Option, Some, None, refl, sym, subst, arith}
 use Rattle.std.proofs.lemmas.Bool.{ne_eqb}
-use Rattle.trace_types.specs.clock.Id as ids
 use Rattle.stamp_codec.specs.Flat.{OpensNowhere, IsOutside, IsFlat}
 use Rattle.stamp_codec.specs.Scan.{awaiting, is_digit_byte, stepped}
-use Rattle.stamp_codec.specs.StampText.{Written, Fork, SpellsStamp, whole_text, written_text}
-use Rattle.stamp_codec.specs.StampText as texts
 use Rattle.stamp_codec.specs.declared.shape.Part.TheVariants.{Id, Tree}
 use Rattle.stamp_codec.specs.declared.shape.Scan.{Scan}
 use Rattle.stamp_codec.specs.declared.shape.Awaited.{Awaited}
 use Rattle.stamp_codec.specs.declared.shape.Awaited.TheVariants.{Start, Node, NodeEnd, LeafDigits, Number, NumberDigits, Comma, Nothing}
-use Rattle.stamp_codec.proofs.Parts.{number_first}
 
 -- the scan, if there is one, is flat
 abbrev IfFlat : Option Scan → Type 0
@@ -45,19 +41,9 @@ flat_after scan next byte flat other step =
     let stays = stays_flat scan.awaited byte flat.outside other in
     subst (λ (found : Option Scan). IfFlat found) step (rw flat.inside_none stays)
 
--- where a text without parentheses spells a stamp, its id is one byte
-pub leaf_first : (text : List ℕ) (id : ids.Id) (tree : Written) → OpensNowhere text → text ≡ whole_text id tree → (48 ≤ get_or (drop 1 text) 0 0) × (get_or (drop 1 text) 0 0 ≤ 49)
-leaf_first text ids.Zero tree opens whole = rw whole (omega arith, omega arith)
-leaf_first text ids.One tree opens whole = rw whole (omega arith, omega arith)
-leaf_first text (ids.Pair left right) tree opens whole = absurd (opens 1 (rw whole refl))
-
--- and its tree is a number
-pub number_next : (text : List ℕ) (id : ids.Id) (tree : Written) → OpensNowhere text → SpellsStamp text id tree → get_or (written_text tree ++ (93 ∷ [])) 0 0 ≢ 40
-number_next text id (texts.Number []) opens spells = absurd spells.numbers
-number_next text id (texts.Number (digit ∷ digits)) opens spells = number_first digit digits spells.numbers
-number_next text ids.Zero (Fork digits left right) opens spells = λ _. opens 3 (rw spells.whole refl)
-number_next text ids.One (Fork digits left right) opens spells = λ _. opens 3 (rw spells.whole refl)
-number_next text (ids.Pair one other) (Fork digits left right) opens spells = λ _. opens 1 (rw spells.whole refl)
+-- a text without parentheses begins with none
+pub nowhere_first : (text rest : List ℕ) → OpensNowhere text → text ≢ 40 ∷ rest
+nowhere_first text rest opens begins = opens 0 (rw begins refl)
 
 -- a text without parentheses has none behind a front
 pub nowhere_behind : (front rest : List ℕ) → OpensNowhere (front ++ rest) → OpensNowhere rest

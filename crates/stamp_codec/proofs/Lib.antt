@@ -4,11 +4,13 @@ pub mod Parts
 pub mod Depths
 pub mod Firsts
 pub mod Flats
-pub mod WalkIds
-pub mod WalkTrees
+pub mod LookIds
+pub mod LookTrees
 pub mod Outcomes
 pub mod RoundTrip
 pub mod Unique
 pub mod Vectors
-pub mod Fronts
+pub mod Spelled
 pub mod AtOnce
+pub mod Refusals
+pub mod Bounded

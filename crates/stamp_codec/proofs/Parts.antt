@@ -1,10 +1,10 @@
 -- What stands at the front of a text, and where its parts stand.
-use Rattle.std.proofs.Common.{◌≡◌, ◌≢◌, ◌⊎◌, ℕ, ◌+◌, ◌-◌, ◌*◌, ◌<◌, ◌≤◌, inl, inr, min, true, false, List, [], ◌∷◌, ◌++◌, length, drop, get_or, refl, sym, ap, ◌∙◌, append_assoc, arith, length-append}
+use Rattle.std.proofs.Common.{◌≡◌, ◌≢◌, ℕ, ◌+◌, ◌≤◌, inl, inr, true, false, List, [], ◌∷◌, ◌++◌, length, drop, get_or, refl, ap, ◌∙◌, append_assoc, arith, length-append}
 use Rattle.std.proofs.lemmas.Bool.{le-leb, lt-leb, cases_lt}
 use Rattle.trace_types.specs.clock.Id.{Id, Zero, One, Pair}
-use Rattle.stamp_codec.specs.StampText.{Written, Number, Fork, HasNumbers, IsWrittenNumber, AreDigits, id_text, written_text, read_on, number_written}
+use Rattle.stamp_codec.specs.StampText.{Written, Number, Fork, HasNumbers, IsWrittenNumber, AreDigits, id_text, written_text}
 use Rattle.stamp_codec.specs.Scan.{is_digit_byte}
-use Rattle.stamp_codec.specs.Walks.{greatest_number, leading, EndsDigits, BeginsTree}
+use Rattle.stamp_codec.specs.Looks.{BeginsTree}
 
 -- equal lists have equal first elements, and equal rests
 pub heads : (a b : ℕ) (x y : List ℕ) → a ∷ x ≡ b ∷ y → (a ≡ b) × (x ≡ y)
@@ -50,9 +50,9 @@ for_pairs text P not_zero not_one pairs Zero rest whole = absurd (not_zero (ap (
 for_pairs text P not_zero not_one pairs One rest whole = absurd (not_one (ap (λ t. get_or t 0 0) whole))
 for_pairs text P not_zero not_one pairs (Pair left right) rest whole = pairs left right rest (whole ∙ ap (λ t. 40 ∷ t) (pair_text-append (id_text left) (id_text right) rest))
 
--- the same of each tree, in parentheses or without
-abbrev pub ForTree : List ℕ → (Written → List ℕ → Type 0) → Type 0
-ForTree text P = (tree : Written) (rest : List ℕ) → BeginsTree text tree rest → P tree rest
+-- the same of each tree, in parentheses or without, with the byte behind it
+abbrev pub ForTree : List ℕ → ℕ → (Written → List ℕ → Type 0) → Type 0
+ForTree text end P = (tree : Written) (rest : List ℕ) → BeginsTree text tree end rest → P tree rest
 
 pub fork_behind : (digits : List ℕ) (left right : Written) (rest : List ℕ) →
     (digits ++ (44 ∷ pair_text (written_text left) (written_text right))) ++ rest ≡ digits ++ (44 ∷ (written_text left ++ (44 ∷ (written_text right ++ (41 ∷ rest)))))
@@ -63,18 +63,18 @@ pub record IsFork (text digits : List ℕ) (left right : Written) (rest : List �
   pub numbers : HasNumbers (Fork digits left right)
   pub whole : text ≡ 40 ∷ (digits ++ (44 ∷ (written_text left ++ (44 ∷ (written_text right ++ (41 ∷ rest))))))
 
-pub for_forks : (text : List ℕ) (P : Written → List ℕ → Type 0) → get_or text 0 0 ≡ 40 →
-    ((digits : List ℕ) (left right : Written) (rest : List ℕ) → IsFork text digits left right rest → P (Fork digits left right) rest) → ForTree text P
-for_forks text P opens forks (Number []) rest begins = absurd begins.numbers
-for_forks text P opens forks (Number (d ∷ digits)) rest begins = absurd (number_first d digits begins.numbers (rw begins.whole at opens))
-for_forks text P opens forks (Fork digits left right) rest begins =
-    forks digits left right rest (record { numbers = begins.numbers; whole = begins.whole ∙ ap (λ t. 40 ∷ t) (fork_behind digits left right rest) })
+pub for_forks : (text : List ℕ) (end : ℕ) (P : Written → List ℕ → Type 0) → get_or text 0 0 ≡ 40 →
+    ((digits : List ℕ) (left right : Written) (rest : List ℕ) → IsFork text digits left right (end ∷ rest) → P (Fork digits left right) rest) → ForTree text end P
+for_forks text end P opens forks (Number []) rest begins = absurd begins.numbers
+for_forks text end P opens forks (Number (d ∷ digits)) rest begins = absurd (number_first d digits begins.numbers (rw begins.whole at opens))
+for_forks text end P opens forks (Fork digits left right) rest begins =
+    forks digits left right rest (record { numbers = begins.numbers; whole = begins.whole ∙ ap (λ t. 40 ∷ t) (fork_behind digits left right (end ∷ rest)) })
 
-pub for_numbers : (text : List ℕ) (P : Written → List ℕ → Type 0) → get_or text 0 0 ≢ 40 → ((digits rest : List ℕ) → BeginsTree text (Number digits) rest → P (Number digits) rest) → ForTree text P
-for_numbers text P other numbers (Number digits) rest begins = numbers digits rest begins
-for_numbers text P other numbers (Fork digits left right) rest begins = absurd (other (ap (λ t. get_or t 0 0) begins.whole))
+pub for_numbers : (text : List ℕ) (end : ℕ) (P : Written → List ℕ → Type 0) → get_or text 0 0 ≢ 40 → ((digits rest : List ℕ) → BeginsTree text (Number digits) end rest → P (Number digits) rest) → ForTree text end P
+for_numbers text end P other numbers (Number digits) rest begins = numbers digits rest begins
+for_numbers text end P other numbers (Fork digits left right) rest begins = absurd (other (ap (λ t. get_or t 0 0) begins.whole))
 
--- the second child stands behind the first one and a comma
+-- the second half stands behind the first one and a comma
 pub at_second : (first found second one other rest : List ℕ) (start first_start second_start : ℕ) → first ≡ one ++ (44 ∷ (other ++ (41 ∷ rest))) → first_start ≡ start → found ≡ 44 ∷ (other ++ (41 ∷ rest)) →
     second ≡ drop 1 found → second_start + length second ≡ first_start + length first → (second ≡ other ++ (41 ∷ rest)) × (second_start ≡ start + length one + 1)
 at_second first found second one other rest start first_start second_start first_is at found_is second_is end =
@@ -91,33 +91,9 @@ AreDigits-number (d ∷ digits) (inr more) = (omega (arith, more.0), more.1, mor
 pub digit_test : (byte : ℕ) → (48 ≤ byte) × (byte ≤ 57) → is_digit_byte byte ≡ true
 digit_test byte digit = rw (le-leb 48 byte digit.0, le-leb byte 57 digit.1) refl
 
-other_test : (byte : ℕ) → (byte < 48) ⊎ (57 < byte) → is_digit_byte byte ≡ false
-other_test byte (inl low) = rw (lt-leb 48 byte low) refl
-other_test byte (inr high) = rw (le-leb 48 byte (omega arith), lt-leb byte 57 high) refl
-
-digit_or_not : (byte : ℕ) → ((48 ≤ byte) × (byte ≤ 57)) ⊎ (is_digit_byte byte ≡ false)
-digit_or_not byte =
-    elim (cases_lt byte 48) [
-      | inl low ↦ inr (other_test byte (inl low))
-      | inr high ↦ elim (cases_lt 57 byte) [ inl above ↦ inr (other_test byte (inr above)) | inr below ↦ inl (high, below) ]
-    ]
-
 pub digit_true : (byte : ℕ) → is_digit_byte byte ≡ true → (48 ≤ byte) × (byte ≤ 57)
-digit_true byte is = elim (digit_or_not byte) [ inl digit ↦ digit | inr other ↦ let clash : false ≡ true = sym other ∙ is in cc ]
-
-no_digit : (byte : ℕ) → ((48 ≤ byte) × (byte ≤ 57) → ⊥) → is_digit_byte byte ≡ false
-no_digit byte stops = elim (digit_or_not byte) [ inl digit ↦ absurd (stops digit) | inr other ↦ other ]
-
--- a number read on from what fits is the whole number, as far as it fits
-leading_on : (n m : ℕ) (digits rest : List ℕ) → n ≡ min m greatest_number → AreDigits digits → EndsDigits rest → leading n (digits ++ rest) ≡ (min (read_on m digits) greatest_number, rest)
-leading_on n m [] [] is are ends = ap (λ k. (k, [])) is
-leading_on n m [] (byte ∷ rest) is are ends = rw (no_digit byte ends) (ap (λ k. (k, byte ∷ rest)) is)
-leading_on n m (d ∷ digits) rest is are ends =
-    rw (digit_test d (are.0, are.1)) (leading_on (min (min (n * 10) greatest_number + (d - 48)) greatest_number) (m * 10 + (d - 48)) digits rest (omega (arith, is)) are.2 ends)
-
--- the number at the front, and what is behind it
-pub number_is : (text digits rest : List ℕ) (number : ℕ) (found : List ℕ) → text ≡ digits ++ rest → IsWrittenNumber digits → EndsDigits rest → (number, found) ≡ leading 0 text →
-    (number ≡ min (number_written digits) greatest_number) × (found ≡ rest)
-number_is text digits rest number found whole is_number ends is =
-    let same = is ∙ ap (λ t. leading 0 t) whole ∙ leading_on 0 0 digits rest refl (AreDigits-number digits is_number) ends in
-    (ap (λ p. p.0) same, ap (λ p. p.1) same)
+digit_true byte is =
+    elim (cases_lt byte 48) [
+      | inl low ↦ let clash : false ≡ true = rw (lt-leb 48 byte low) at is in cc
+      | inr high ↦ elim (cases_lt 57 byte) [ inl above ↦ (let clash : false ≡ true = rw (le-leb 48 byte high, lt-leb byte 57 above) at is in cc) | inr below ↦ (high, below) ]
+    ]

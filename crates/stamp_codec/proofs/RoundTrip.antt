@@ -40,7 +40,7 @@ is_number : (digits : List ℕ) → AreDigits digits → 48 < get_or digits 0 0 
 is_number [] are first = absurd (omega (arith, first))
 is_number (d ∷ digits) are first = inr (omega (arith, first), are.1, are.2)
 
-number_decimal : (n : ℕ) → n < 2 ^ 64 → IsWrittenNumber (decimal n)
+pub number_decimal : (n : ℕ) → n < 2 ^ 64 → IsWrittenNumber (decimal n)
 number_decimal n small =
     elim (cases_eq n 0) [
       | inl zero ↦ rw (zero, decimal_digit 0 (omega arith)) (inl (refl, refl))

@@ -1,13 +1,12 @@
 -- A text spells one id and one tree.
-use Rattle.std.proofs.Common.{◌≡◌, ℕ, ◌≤◌, List, [], ◌∷◌, ◌++◌, refl, sym, ap, ◌∙◌, arith}
+use Rattle.std.proofs.Common.{◌≡◌, ℕ, ◌≤◌, List, [], ◌∷◌, ◌++◌, refl, sym, ap, subst, ◌∙◌, arith}
 use Rattle.trace_types.specs.clock.Id.{Id, Zero, One, Pair}
-use Rattle.stamp_codec.specs.StampText.{Written, Number, Fork, HasNumbers, IsWrittenNumber, SpellsStamp, id_text, written_text}
-use Rattle.std.proofs.lemmas.List.{append_cancel_right}
-use Rattle.stamp_codec.specs.Walks.{leading, EndsDigits}
-use Rattle.stamp_codec.proofs.Parts.{heads, pair_text-append, number_first, number_is, fork_behind, comma_ends, end_ends}
+use Rattle.stamp_codec.specs.StampText.{Written, Number, Fork, HasNumbers, AreDigits, IsWrittenNumber, SpellsStamp, id_text, written_text}
+use Rattle.stamp_codec.specs.Looks.{EndsDigits}
+use Rattle.stamp_codec.proofs.Parts.{heads, pair_text-append, number_first, AreDigits-number, fork_behind, comma_ends, end_ends}
 
 -- no id begins another
-id_once : (a b : Id) (x y : List ℕ) → id_text a ++ x ≡ id_text b ++ y → (a ≡ b) × (x ≡ y)
+pub id_once : (a b : Id) (x y : List ℕ) → id_text a ++ x ≡ id_text b ++ y → (a ≡ b) × (x ≡ y)
 id_once Zero Zero x y same = (refl, (heads 48 48 x y same).1)
 id_once One One x y same = (refl, (heads 49 49 x y same).1)
 id_once Zero One x y same = absurd (omega (arith, (heads 48 49 x y same).0))
@@ -23,20 +22,27 @@ id_once (Pair l r) (Pair l' r') x y same =
     let whole : Pair l r ≡ Pair l' r' = cc (left.0, right.0) in
     (whole, (heads 41 41 x y right.1).1)
 
--- no number begins another, where no digit follows
-numbers_once : (a b x y : List ℕ) → IsWrittenNumber a → IsWrittenNumber b → EndsDigits x → EndsDigits y → a ++ x ≡ b ++ y → (a ≡ b) × (x ≡ y)
-numbers_once a b x y number other ends stops same =
-    let read : ℕ × List ℕ = leading 0 (a ++ x) in
-    let behind : x ≡ y = sym (number_is (a ++ x) a x read.0 read.1 refl number ends refl).1 ∙ (number_is (a ++ x) b y read.0 read.1 same other stops refl).1 in
-    (append_cancel_right a b y (ap (λ t. a ++ t) (sym behind) ∙ same), behind)
+-- no digits begin others, where no digit follows
+digits_once : (a b x y : List ℕ) → AreDigits a → AreDigits b → EndsDigits x → EndsDigits y → a ++ x ≡ b ++ y → (a ≡ b) × (x ≡ y)
+digits_once [] [] x y are others ends stops same = (refl, same)
+digits_once [] (d ∷ b) x y are others ends stops same = absurd ((subst EndsDigits same ends) (others.0, others.1))
+digits_once (c ∷ a) [] x y are others ends stops same = absurd ((subst EndsDigits (sym same) stops) (are.0, are.1))
+digits_once (c ∷ a) (d ∷ b) x y are others ends stops same =
+    let h = heads c d _ _ same in
+    let once = digits_once a b x y are.2 others.2 ends stops h.1 in
+    (cc (h.0, once.0), once.1)
+
+-- no number begins another
+pub numbers_once : (a b x y : List ℕ) → IsWrittenNumber a → IsWrittenNumber b → EndsDigits x → EndsDigits y → a ++ x ≡ b ++ y → (a ≡ b) × (x ≡ y)
+numbers_once a b x y number other = digits_once a b x y (AreDigits-number a number) (AreDigits-number b other)
 
 -- no number begins as a node does
-number_not_fork : (digits x y : List ℕ) → IsWrittenNumber digits → digits ++ x ≡ 40 ∷ y → ⊥
+pub number_not_fork : (digits x y : List ℕ) → IsWrittenNumber digits → digits ++ x ≡ 40 ∷ y → ⊥
 number_not_fork [] x y number same = number
 number_not_fork (d ∷ digits) x y number same = number_first d digits number (heads d 40 (digits ++ x) y same).0
 
 -- no tree begins another, where no digit follows
-tree_once : (a b : Written) (x y : List ℕ) → HasNumbers a → HasNumbers b → EndsDigits x → EndsDigits y → written_text a ++ x ≡ written_text b ++ y → (a ≡ b) × (x ≡ y)
+pub tree_once : (a b : Written) (x y : List ℕ) → HasNumbers a → HasNumbers b → EndsDigits x → EndsDigits y → written_text a ++ x ≡ written_text b ++ y → (a ≡ b) × (x ≡ y)
 tree_once (Number m) (Number n) x y numbers others ends stops same =
     let once = numbers_once m n x y numbers others ends stops same in
     (ap (λ digits. Number digits) once.0, once.1)
@@ -51,7 +57,7 @@ tree_once (Fork m l r) (Fork n l' r') x y numbers others ends stops same =
     (whole, (heads 41 41 x y right.1).1)
 
 -- a bracket is no digit
-bracket_ends : (48 ≤ 93) × (93 ≤ 57) → ⊥
+pub bracket_ends : (48 ≤ 93) × (93 ≤ 57) → ⊥
 bracket_ends digit = omega (arith, digit.1)
 
 pub spells_once : (text : List ℕ) (id id' : Id) (tree tree' : Written) → SpellsStamp text id tree → SpellsStamp text id' tree' → (id ≡ id') × (tree ≡ tree')

@@ -1,11 +1,11 @@
 -- The bounds within which a stamp has a text.
-use Rattle.std.specs.Prelude.{ℕ, ◌+◌, ◌≤◌, max}
+use Rattle.std.specs.Prelude.{◌≢◌, ℕ, ◌+◌, ◌≤◌, max, List}
 use Rattle.std.specs.Fmt.{decimal}
 use Rattle.trace_types.specs.clock.Id.{Id, Zero, One, Pair}
 use Rattle.trace_types.specs.clock.Id as ids
 use Rattle.trace_types.specs.clock.EventTree.{EventTree, Leaf, Node, maximum, IsNormal}
 use Rattle.event_tree.specs.Height.{height}
-use Rattle.stamp_codec.specs.StampText.{Written, Number, Fork, written_tree}
+use Rattle.stamp_codec.specs.StampText.{Written, Number, Fork, written_tree, stamp_as_text}
 use Rattle.stamp_codec.specs.Faults.{most_nested, greatest_sum}
 use Rattle.stamp_codec.specs.declared.stamp.Stamp.{Stamp}
 
@@ -31,3 +31,7 @@ pub record IsBounded (stamp : Stamp) : Type 0 where
 abbrev pub as_written : EventTree → Written
 as_written (Leaf n) = Number (decimal n)
 as_written (Node n left right) = Fork (decimal n) (as_written left) (as_written right)
+
+-- the text is that of no normal stamp within the bounds
+abbrev pub SpellsNothing : List ℕ → Type 0
+SpellsNothing text = (stamp : Stamp) → IsBounded stamp → text ≢ stamp_as_text stamp

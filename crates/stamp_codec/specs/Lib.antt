@@ -1,9 +1,11 @@
 pub mod Beside
 pub mod Bounds
+pub mod Children
 pub mod Faults
 pub mod Flat
+pub mod Looks
 pub mod Reading
+pub mod Refused
 pub mod Scan
 pub mod Stamp
 pub mod StampText
-pub mod Walks

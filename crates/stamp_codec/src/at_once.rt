@@ -1,18 +1,24 @@
 //! Reading of a stamp in one pass, which checks and builds together. It tells no fault.
-ghost use Rattle.std.specs.Prelude.{◌≡◌, ◌≢◌, ◌⊎◌, ◌↔◌, ◌+◌, ◌^◌, ◌<◌, ◌≤◌, [], ◌∷◌, ◌++◌, decimal, min, max, IfErr, IfOk, IfSome, IsTrue, MatchOption};
-ghost use Rattle.trace_types.specs.clock.Id.{Zero, One, Pair};
-ghost use Rattle.trace_types.specs.clock.EventTree.{Leaf, Node, minimum, maximum};
+ghost use Rattle.std.specs.Prelude.{◌≡◌, ◌≢◌, ℕ, ◌+◌, ◌^◌, ◌<◌, ◌≤◌, false, List, [], ◌∷◌, ◌++◌, decimal, max, IfErr, IfNone, IfOk, IfSome, MatchBool, MatchOption};
+ghost use Rattle.trace_types.specs.clock.Id.{Zero, One, Pair, AreApart};
+ghost use Rattle.trace_types.specs.clock.EventTree.{Leaf, Node, maximum};
 ghost use Rattle.event_tree.specs.Height.{height};
 ghost use Rattle.stamp_codec.specs.StampText.{id_text, tree_text, stamp_as_text};
 ghost use Rattle.stamp_codec.specs.Faults.{most_nested, greatest_sum};
-ghost use Rattle.stamp_codec.specs.Bounds.{IsBounded, id_height};
+ghost use Rattle.stamp_codec.specs.Bounds.{IsBounded, SpellsNothing, id_height};
+ghost use Rattle.stamp_codec.specs.Children.{IsUnevenOver};
 ghost use Rattle.stamp_codec.specs.Flat.{OpensNowhere};
+ghost use Rattle.stamp_codec.specs.Looks.{EndsDigits};
+ghost use Rattle.stamp_codec.specs.Refused.{IsTreeWithin, NoId, NoPair, NoNumber, NoTree, NoNode};
+ghost use Rattle.stamp_codec.specs.Scan.{is_digit_byte};
 ghost use Rattle.stamp_codec.specs.declared.at_once.Unread.TheVariants.{Refused};
 
 use crate::Stamp;
 use crate::beside::take_beside;
+use crate::bounds::{GREATEST_SUM, MOST_NESTED};
+use crate::child::Child;
 use crate::depth::is_too_deep;
-use crate::walk::{GREATEST_SUM, MOST_NESTED};
+use crate::taking::{take_byte, take_digit, take_number, take_parenthesis};
 use event_tree::EvTree;
 use id_tree::IdTree;
 use std::alloc::Global;
@@ -20,8 +26,10 @@ use std::alloc::Global;
 /// Why no stamp was read at once.
 #[derive(Clone, Copy)]
 pub(crate) enum Unread {
-    /// The text spells no stamp within the bounds. It is told too if a part would stand in more trees than can be counted.
+    /// The text spells no normal stamp within the bounds.
     Refused,
+    /// A part would stand in more trees than can be counted.
+    Unshared,
     /// Memory ran out.
     Memory,
 }
@@ -30,19 +38,19 @@ pub(crate) enum Unread {
 ///
 /// It goes over the bytes once, and stops at the first byte that does not fit. It calls itself no deeper than parentheses
 /// may be nested.
+#[inline(always)]
 pub(crate) fn stamp_at_once(alloc: Global, text: &[u8], tree: &EvTree) -> Result<Stamp, Unread>
     ensures text { IfOk result (λ stamp. text.now ≡ stamp_as_text stamp) }
     ensures bounded { IfOk result (λ stamp. IsBounded stamp) }
+    ensures refused { IfErr result (λ unread. unread ≡ Refused → SpellsNothing text.now) }
     ensures flat { OpensNowhere text.now → IfErr result (λ unread. unread ≡ Refused) }
 {
     // Nothing is built of a text that is nested too deep.
     if is_too_deep(text) {
         return Err(Unread::Refused);
     }
-    let [b'[', inner @ ..] = text else {
-        return Err(Unread::Refused);
-    };
-    let mut rest = inner;
+    let mut rest = text;
+    take_byte(&mut rest, b'[')?;
     let id = take_id(alloc, &mut rest, b';', MOST_NESTED)?;
     let mut made = EvTree::leaf(0);
     let read = take_beside(
@@ -70,24 +78,19 @@ pub(crate) fn stamp_at_once(alloc: Global, text: &[u8], tree: &EvTree) -> Result
 fn take_id(alloc: Global, rest: &mut &[u8], end: u8, levels: usize) -> Result<IdTree, Unread>
     ensures text { IfOk result (λ id. rest.old.now ≡ (id_text id ++ end ∷ []) ++ rest.new.now) }
     ensures low { IfOk result (λ id. id_height id ≤ levels) }
+    ensures refused { IfErr result (λ unread. unread ≡ Refused → NoId levels end rest.old.now) }
     ensures flat { OpensNowhere rest.old.now → IfErr result (λ unread. unread ≡ Refused) }
 {
-    match *rest {
-        [b'0', byte, after @ ..] if *byte == end => {
-            *rest = after;
-            Ok(IdTree::zero())
-        }
-        [b'1', byte, after @ ..] if *byte == end => {
-            *rest = after;
-            Ok(IdTree::one())
-        }
-        [b'(', inner @ ..] => {
-            *rest = inner;
+    match take_digit(rest, end) {
+        Some(b'0') => Ok(IdTree::zero()),
+        Some(b'1') => Ok(IdTree::one()),
+        Some(_) => Err(Unread::Refused),
+        None => {
+            take_byte(rest, b'(')?;
             let id = take_pair(alloc, rest, levels)?;
             take_byte(rest, end)?;
             Ok(id)
         }
-        _ => Err(Unread::Refused),
     }
 }
 
@@ -96,6 +99,7 @@ fn take_id(alloc: Global, rest: &mut &[u8], end: u8, levels: usize) -> Result<Id
 fn take_pair(alloc: Global, rest: &mut &[u8], levels: usize) -> Result<IdTree, Unread>
     ensures text { IfOk result (λ id. 40 ∷ rest.old.now ≡ id_text id ++ rest.new.now) }
     ensures low { IfOk result (λ id. id_height id ≤ levels) }
+    ensures refused { IfErr result (λ unread. unread ≡ Refused → NoPair levels rest.old.now) }
 {
     if levels == 0 {
         return Err(Unread::Refused);
@@ -107,7 +111,8 @@ fn take_pair(alloc: Global, rest: &mut &[u8], levels: usize) -> Result<IdTree, U
 
 /// The pair of these halves, if it is normal.
 fn pair_of(alloc: Global, left: IdTree, right: IdTree) -> Result<IdTree, Unread>
-    ensures { IfOk result (λ id. id ≡ Pair left right) }
+    ensures exact { IfOk result (λ id. id ≡ Pair left right) }
+    ensures refused { IfErr result (λ unread. unread ≡ Refused → ¬ AreApart left right) }
 {
     if left.is_zero() && right.is_zero() || left.is_one() && right.is_one() {
         return Err(Unread::Refused);
@@ -129,20 +134,19 @@ fn take_tree(
     levels: usize,
     most: u64,
 ) -> Result<EvTree, Unread>
-    requires { most ≤ greatest_sum }
+    requires most { most ≤ greatest_sum }
+    requires end { is_digit_byte end ≡ false }
     ensures text { IfOk result (λ tree. rest.old.now ≡ (tree_text tree ++ end ∷ []) ++ rest.new.now) }
     ensures low { IfOk result (λ tree. height tree ≤ levels) }
     ensures small { IfOk result (λ tree. maximum tree ≤ most) }
+    ensures refused { IfErr result (λ unread. unread ≡ Refused → NoTree levels most end rest.old.now) }
 {
-    match *rest {
-        [b'(', inner @ ..] => {
-            *rest = inner;
-            let tree = take_node(alloc, rest, levels, most)?;
-            take_byte(rest, end)?;
-            Ok(tree)
-        }
-        _ => Ok(EvTree::leaf(take_number(rest, end, most)?)),
+    if !take_parenthesis(rest) {
+        return Ok(EvTree::leaf(take_number(rest, end, most)?));
     }
+    let tree = take_node(alloc, rest, levels, most)?;
+    take_byte(rest, end)?;
+    Ok(tree)
 }
 
 /// Takes a node behind its parenthesis.
@@ -157,6 +161,7 @@ pub(crate) fn take_node(
     ensures text { IfOk result (λ tree. 40 ∷ rest.old.now ≡ tree_text tree ++ rest.new.now) }
     ensures low { IfOk result (λ tree. height tree ≤ levels) }
     ensures small { IfOk result (λ tree. maximum tree ≤ most) }
+    ensures refused { IfErr result (λ unread. unread ≡ Refused → NoNode levels most rest.old.now) }
 {
     if levels == 0 {
         return Err(Unread::Refused);
@@ -203,6 +208,7 @@ fn twig_of(alloc: Global, number: u8, left: u8, right: u8, most: u64) -> Result<
     requires { most ≤ greatest_sum }
     ensures exact { IfOk result (λ tree. tree ≡ Node number (Leaf left) (Leaf right)) }
     ensures small { IfOk result (λ tree. maximum tree ≤ most) }
+    ensures refused { IfErr result (λ unread. unread ≡ Refused → (levels : ℕ) → ¬ IsTreeWithin levels most (Node number (Leaf left) (Leaf right))) }
 {
     if u64::from(number) + u64::from(left.max(right)) > most {
         return Err(Unread::Refused);
@@ -222,120 +228,14 @@ pub(crate) fn node_of(
     right: EvTree,
 ) -> Result<EvTree, Unread>
     requires { number + max (maximum left) (maximum right) < 2 ^ 64 }
-    ensures { IfOk result (λ tree. tree ≡ Node number left right) }
+    ensures exact { IfOk result (λ tree. tree ≡ Node number left right) }
+    ensures refused { IfErr result (λ unread. unread ≡ Refused → IsUnevenOver left right) }
 {
-    if is_uneven(&left, &right) {
+    if Child::of(&left).is_uneven_beside(Child::of(&right)) {
         return Err(Unread::Refused);
     }
     match EvTree::fork(alloc, number, left, right) {
         Ok(tree) => Ok(tree),
         Err(_) => Err(Unread::Memory),
-    }
-}
-
-/// Whether a node over these children is not normal: neither reaches 0, or both are 0 alone.
-fn is_uneven(left: &EvTree, right: &EvTree) -> bool
-    ensures { IsTrue result ↔ ((min (minimum left.now) (minimum right.now) ≢ 0) ⊎ (max (maximum left.now) (maximum right.now) ≡ 0)) }
-{
-    left.min().min(right.min()) != 0 || left.max().max(right.max()) == 0
-}
-
-/// Takes a number and this byte behind it. The number is at most `most`.
-#[inline(always)]
-#[tactic(auto, using(crate::proofs::AtOnce::one_digit))]
-pub(crate) fn take_number(rest: &mut &[u8], end: u8, most: u64) -> Result<u64, Unread>
-    requires { most ≤ greatest_sum }
-    ensures text { IfOk result (λ number. rest.old.now ≡ (decimal number ++ end ∷ []) ++ rest.new.now) }
-    ensures small { IfOk result (λ number. number ≤ most) }
-    ensures refused { IfErr result (λ unread. unread ≡ Refused) }
-{
-    // Most numbers of a stamp have one digit.
-    match take_digit(rest, end) {
-        Some(digit) => number_within(u64::from(digit - b'0'), most),
-        None => take_digits(rest, end, most),
-    }
-}
-
-/// Takes a number of two digits or more and this byte behind it.
-#[inline(never)]
-#[tactic(auto, using(crate::proofs::AtOnce::one_digit, crate::proofs::AtOnce::more_behind))]
-fn take_digits(rest: &mut &[u8], end: u8, most: u64) -> Result<u64, Unread>
-    requires { most ≤ greatest_sum }
-    ensures text { IfOk result (λ number. rest.old.now ≡ (decimal number ++ end ∷ []) ++ rest.new.now) }
-    ensures small { IfOk result (λ number. number ≤ most) }
-    ensures refused { IfErr result (λ unread. unread ≡ Refused) }
-{
-    let mut behind = *rest;
-    let Some(first) = next_digit(&mut behind) else {
-        return Err(Unread::Refused);
-    };
-    if first == b'0' {
-        return Err(Unread::Refused);
-    }
-    let mut number = u64::from(first - b'0');
-    while let Some(digit) = next_digit(&mut behind) {
-        if number > most / 10 {
-            return Err(Unread::Refused);
-        }
-        number = number * 10 + u64::from(digit - b'0');
-    }
-    take_byte(&mut behind, end)?;
-    *rest = behind;
-    number_within(number, most)
-}
-
-/// The number, if it is at most `most`.
-fn number_within(number: u64, most: u64) -> Result<u64, Unread>
-    ensures within { IfOk result (λ same. (same ≡ number) × (same ≤ most)) }
-    ensures refused { IfErr result (λ unread. unread ≡ Refused) }
-{
-    if number <= most {
-        Ok(number)
-    } else {
-        Err(Unread::Refused)
-    }
-}
-
-/// Takes a digit and this byte behind it, or nothing if they are not there.
-#[inline(always)]
-fn take_digit(rest: &mut &[u8], end: u8) -> Option<u8>
-    ensures text { MatchOption result (rest.new.now ≡ rest.old.now) (λ digit. rest.old.now ≡ digit ∷ (end ∷ rest.new.now)) }
-    ensures digit { IfSome result (λ digit. (48 ≤ digit) × (digit ≤ 57)) }
-{
-    match *rest {
-        [digit @ b'0'..=b'9', byte, after @ ..] if *byte == end => {
-            *rest = after;
-            Some(*digit)
-        }
-        _ => None,
-    }
-}
-
-/// Takes a digit, or nothing if none is there.
-#[inline(always)]
-fn next_digit(rest: &mut &[u8]) -> Option<u8>
-    ensures text { MatchOption result (rest.new.now ≡ rest.old.now) (λ digit. rest.old.now ≡ digit ∷ rest.new.now) }
-    ensures digit { IfSome result (λ digit. (48 ≤ digit) × (digit ≤ 57)) }
-{
-    match *rest {
-        [digit @ b'0'..=b'9', after @ ..] => {
-            *rest = after;
-            Some(*digit)
-        }
-        _ => None,
-    }
-}
-
-/// Takes this byte.
-pub(crate) fn take_byte(rest: &mut &[u8], byte: u8) -> Result<(), Unread>
-    ensures text { IfOk result (λ _. rest.old.now ≡ byte ∷ rest.new.now) }
-    ensures refused { IfErr result (λ unread. unread ≡ Refused) }
-{
-    match *rest {
-        [first, after @ ..] if *first == byte => {
-            *rest = after;
-            Ok(())
-        }
-        _ => Err(Unread::Refused),
     }
 }

@@ -1,15 +1,20 @@
 //! Reading of a tree beside another one, whose parts it shares where the two are equal.
-ghost use Rattle.std.specs.Prelude.{◌≡◌, ◌↔◌, ◌+◌, ◌^◌, ◌<◌, ◌≤◌, [], ◌∷◌, ◌++◌, max, IfErr, IfOk, IsTrue};
+ghost use Rattle.std.specs.Prelude.{◌≡◌, ◌↔◌, ◌+◌, ◌^◌, ◌<◌, ◌≤◌, false, [], ◌∷◌, ◌++◌, max, IfErr, IfOk, IsOk, IsTrue, MatchResult};
+ghost use Rattle.trace_types.specs.clock.EventTree.{Leaf, Node, maximum};
 ghost use Rattle.event_tree.specs.Height.{height};
+ghost use Rattle.event_tree.specs.Leaves.{IsLeafTree};
 ghost use Rattle.stamp_codec.specs.StampText.{tree_text};
 ghost use Rattle.stamp_codec.specs.Faults.{greatest_sum};
 ghost use Rattle.stamp_codec.specs.Beside.{tree_beside};
+ghost use Rattle.stamp_codec.specs.Children.{IsUnevenOver};
 ghost use Rattle.stamp_codec.specs.Flat.{OpensNowhere};
-ghost use Rattle.stamp_codec.specs.declared.at_once.Unread.TheVariants.{Refused};
+ghost use Rattle.stamp_codec.specs.Refused.{NoTree, NoNode};
+ghost use Rattle.stamp_codec.specs.Scan.{is_digit_byte};
+ghost use Rattle.stamp_codec.specs.declared.at_once.Unread.TheVariants.{Refused, Unshared};
 ghost use Rattle.stamp_codec.specs.declared.beside.Beside.TheVariants.{Other, Same};
-ghost use Rattle.trace_types.specs.clock.EventTree.{Leaf, Node, maximum};
 
-use crate::at_once::{Unread, node_of, take_byte, take_node, take_number};
+use crate::at_once::{Unread, node_of, take_node};
+use crate::taking::{take_byte, take_number, take_parenthesis};
 use event_tree::{EvTree, Parts};
 use std::alloc::Global;
 use std::mem;
@@ -32,8 +37,8 @@ impl Beside {
         matches!(self, Beside::Same)
     }
 
-    /// Puts the tree into the place that was lent for it, also if it is the same. Returns `Refused` if a part would stand in
-    /// more trees than can be counted. It is a function of its own so that the walk has small frames.
+    /// Puts the tree into the place that was lent for it, also if it is the same. Returns `Unshared` if a part would stand
+    /// in more trees than can be counted. It is a function of its own so that the walk has small frames.
     #[inline(never)]
     pub(crate) fn settle(
         self,
@@ -42,12 +47,13 @@ impl Beside {
         made: &mut EvTree,
     ) -> Result<(), Unread>
         ensures settled { IfOk result (λ _. made.new ≡ tree_beside self tree.now made.old) }
-        ensures refused { IfErr result (λ unread. unread ≡ Refused) }
+        ensures unshared { IfErr result (λ unread. unread ≡ Unshared) }
+        ensures leaf { IsLeafTree (tree_beside self tree.now made.old) → IsOk result }
     {
         if let Beside::Same = self {
             match tree.share(alloc) {
                 Ok(same) => *made = same,
-                Err(_) => return Err(Unread::Refused),
+                Err(_) => return Err(Unread::Unshared),
             }
         }
         Ok(())
@@ -68,21 +74,20 @@ pub(crate) fn take_beside(
     tree: &EvTree,
     made: &mut EvTree,
 ) -> Result<Beside, Unread>
-    requires { most ≤ greatest_sum }
-    ensures flat { OpensNowhere rest.old.now → IfErr result (λ unread. unread ≡ Refused) }
+    requires most { most ≤ greatest_sum }
+    requires end { is_digit_byte end ≡ false }
+    ensures flat { OpensNowhere rest.old.now → MatchResult result (λ read. IsLeafTree (tree_beside read tree.now made.new)) (λ unread. unread ≡ Refused) }
+    ensures refused { IfErr result (λ unread. unread ≡ Refused → NoTree levels most end rest.old.now) }
     ensures text { IfOk result (λ read. rest.old.now ≡ (tree_text (tree_beside read tree.now made.new) ++ end ∷ []) ++ rest.new.now) }
     ensures low { IfOk result (λ read. height (tree_beside read tree.now made.new) ≤ levels) }
     ensures small { IfOk result (λ read. maximum (tree_beside read tree.now made.new) ≤ most) }
 {
-    match *rest {
-        [b'(', inner @ ..] => {
-            *rest = inner;
-            let read = take_node_beside(alloc, rest, levels, most, tree, made)?;
-            take_byte(rest, end)?;
-            Ok(read)
-        }
-        _ => Ok(leaf_beside(take_number(rest, end, most)?, tree, made)),
+    if !take_parenthesis(rest) {
+        return Ok(leaf_beside(take_number(rest, end, most)?, tree, made));
     }
+    let read = take_node_beside(alloc, rest, levels, most, tree, made)?;
+    take_byte(rest, end)?;
+    Ok(read)
 }
 
 /// Takes a node behind its parenthesis.
@@ -96,6 +101,7 @@ fn take_node_beside(
     made: &mut EvTree,
 ) -> Result<Beside, Unread>
     requires { most ≤ greatest_sum }
+    ensures refused { IfErr result (λ unread. unread ≡ Refused → NoNode levels most rest.old.now) }
     ensures text { IfOk result (λ read. 40 ∷ rest.old.now ≡ tree_text (tree_beside read tree.now made.new) ++ rest.new.now) }
     ensures low { IfOk result (λ read. height (tree_beside read tree.now made.new) ≤ levels) }
     ensures small { IfOk result (λ read. maximum (tree_beside read tree.now made.new) ≤ most) }
@@ -138,6 +144,7 @@ fn take_other(
 ) -> Result<Beside, Unread>
     requires { most ≤ greatest_sum }
     ensures other { IfOk result (λ read. read ≡ Other) }
+    ensures refused { IfErr result (λ unread. unread ≡ Refused → NoNode levels most rest.old.now) }
     ensures text { IfOk result (λ _. 40 ∷ rest.old.now ≡ tree_text made.new ++ rest.new.now) }
     ensures low { IfOk result (λ _. height made.new ≤ levels) }
     ensures small { IfOk result (λ _. maximum made.new ≤ most) }
@@ -150,7 +157,8 @@ fn take_other(
 #[inline(never)]
 fn put_node(alloc: Global, number: u64, made: &mut EvTree, right: EvTree) -> Result<(), Unread>
     requires { number + max (maximum made.old) (maximum right) < 2 ^ 64 }
-    ensures { IfOk result (λ _. made.new ≡ Node number made.old right) }
+    ensures exact { IfOk result (λ _. made.new ≡ Node number made.old right) }
+    ensures refused { IfErr result (λ unread. unread ≡ Refused → IsUnevenOver made.old right) }
 {
     let left = mem::replace(made, EvTree::leaf(0));
     *made = node_of(alloc, number, left, right)?;

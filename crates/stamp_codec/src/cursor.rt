@@ -1,7 +1,11 @@
 //! Cursors over the text of a stamp.
-ghost use Rattle.std.specs.Prelude.{◌≡◌, ℕ, ◌+◌, ◌^◌, ◌<◌, min, List, ◌∷◌, ◌++◌, length, drop, slice_index_or, None, Some, IsTrue};
-ghost use Rattle.stamp_codec.specs.StampText.{IsWrittenNumber, number_written};
-ghost use Rattle.stamp_codec.specs.Walks.{leading, greatest_number, IsFirstWith};
+ghost use Rattle.std.specs.Prelude.{◌≡◌, ℕ, ◌+◌, ◌^◌, ◌<◌, ◌≤◌, false, List, ◌∷◌, ◌++◌, length, drop, slice_index_or, None, IfOk, IsTrue};
+ghost use Rattle.stamp_codec.specs.StampText.{IsWrittenNumber};
+ghost use Rattle.stamp_codec.specs.Faults.{greatest_sum};
+ghost use Rattle.stamp_codec.specs.Looks.{ReadsNumber, IsFirstWith};
+ghost use Rattle.stamp_codec.specs.Scan.{is_digit_byte};
+
+use crate::taking::take_number;
 
 /// What is left of a text, and what was found on the way there.
 #[derive(Drop)]
@@ -24,19 +28,6 @@ impl<'a> Cursor<'a> {
             rest: text,
             place: 0,
             uneven: None,
-        }
-    }
-
-    /// A cursor at the start of a text of which nothing is built. It counts the first byte as a node that is not normal.
-    pub fn building_nothing(text: &'a [u8]) -> Cursor<'a>
-        ensures rest { result.rest.now ≡ text.now }
-        ensures place { result.place ≡ 0 }
-        ensures uneven { result.uneven ≡ Some 0 }
-    {
-        Cursor {
-            rest: text,
-            place: 0,
-            uneven: Some(0),
         }
     }
 
@@ -63,41 +54,26 @@ impl<'a> Cursor<'a> {
         }
     }
 
-    /// Goes behind the number that comes next, and gives the number, or `u64::MAX` if it is greater.
-    pub fn number(&mut self) -> u64
-        requires { self.old.place + length self.old.rest.now < 2 ^ 64 }
-        ensures exact { (result, self.new.rest.now) ≡ leading 0 self.old.rest.now }
-        ensures end { self.new.place + length self.new.rest.now ≡ self.old.place + length self.old.rest.now }
+    /// Goes behind the number that comes next and this byte behind it. It is an error if the number is above `most`, which
+    /// gives the place of the number.
+    pub fn number(&mut self, end: u8, most: u64) -> Result<u64, usize>
+        requires fits { self.old.place + length self.old.rest.now < 2 ^ 64 }
+        requires most { most ≤ greatest_sum }
+        requires end { is_digit_byte end ≡ false }
+        ensures exact { (digits behind : List ℕ) → IsWrittenNumber digits → self.old.rest.now ≡ digits ++ (end ∷ behind)
+            → ReadsNumber result most digits self.old.place self.new.rest.now behind }
+        ensures small { IfOk result (λ number. number ≤ most) }
+        ensures end { IfOk result (λ _. self.new.place + length self.new.rest.now ≡ self.old.place + length self.old.rest.now) }
         ensures uneven { self.new.uneven ≡ self.old.uneven }
     {
-        let mut number = 0u64;
-        let mut rest = self.rest;
-        let mut place = self.place;
-        while let [digit @ b'0'..=b'9', after @ ..] = rest {
-            number = number
-                .saturating_mul(10)
-                .saturating_add(u64::from(*digit - b'0'));
-            rest = after;
-            place += 1;
+        let before = self.rest.len();
+        match take_number(&mut self.rest, end, most) {
+            Ok(number) => {
+                self.place += before - self.rest.len();
+                Ok(number)
+            }
+            Err(_) => Err(self.place),
         }
-        self.rest = rest;
-        self.place = place;
-        number
-    }
-
-    /// Goes behind the parenthesis, the number and the comma of the node that comes next. It gives the number, or
-    /// `u64::MAX` if it is greater.
-    pub fn head(&mut self) -> u64
-        requires { self.old.place + length self.old.rest.now < 2 ^ 64 }
-        ensures exact { (digits behind : List ℕ) → self.old.rest.now ≡ 40 ∷ (digits ++ (44 ∷ behind)) → IsWrittenNumber digits
-            → (result ≡ min (number_written digits) greatest_number) × (self.new.rest.now ≡ behind) }
-        ensures end { self.new.place + length self.new.rest.now ≡ self.old.place + length self.old.rest.now }
-        ensures uneven { self.new.uneven ≡ self.old.uneven }
-    {
-        self.skip();
-        let number = self.number();
-        self.skip();
-        number
     }
 
     /// Notes that the node at `start` is not normal, if that is so.

@@ -5,7 +5,7 @@ ghost use Rattle.stamp_codec.specs.StampText.{Written, SpellsStamp};
 ghost use Rattle.stamp_codec.specs.Bounds.{nesting_of};
 ghost use Rattle.stamp_codec.specs.Faults.{most_nested};
 
-use crate::walk::MOST_NESTED;
+use crate::bounds::MOST_NESTED;
 
 /// Whether the id or the tree of a stamp's text is nested too deep. It takes no memory, and looks at no byte of a text that
 /// is too short for that.

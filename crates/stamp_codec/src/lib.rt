@@ -30,19 +30,24 @@
 
 pub use fault::StampFault;
 pub use reading::{read_stamp, read_stamp_beside};
+pub use spelling::{TakeBytes, spell_parts};
 pub use stamp::Stamp;
 pub use stripping::strip_parts;
 pub use writing::{write_parts, write_stamp};
 
 mod at_once;
 mod beside;
+mod bounds;
+mod child;
 mod cursor;
 mod depth;
 mod fault;
 pub mod laws;
+mod look;
 mod reading;
 mod shape;
+mod spelling;
 mod stamp;
 mod stripping;
-mod walk;
+mod taking;
 mod writing;

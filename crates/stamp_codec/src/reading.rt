@@ -1,20 +1,15 @@
 //! Reading of stamps.
-ghost use Rattle.std.specs.Prelude.{◌≡◌, ◌+◌, ◌^◌, ◌<◌, ◌≤◌, ℕ, IfOk, IfErr};
+ghost use Rattle.std.specs.Prelude.{◌≡◌, IfOk, IfErr};
 ghost use Rattle.trace_types.specs.clock.Id.{Id};
-ghost use Rattle.trace_types.specs.clock.EventTree.{maximum};
-ghost use Rattle.stamp_codec.specs.StampText.{Written, SpellsStamp, IsShaped, written_tree, stamp_as_text};
-ghost use Rattle.stamp_codec.specs.Walks.{IsSizeFault, WalksStamp};
-ghost use Rattle.stamp_codec.specs.Faults.{most_nested, IsTooLargeAt};
-ghost use Rattle.stamp_codec.specs.Bounds.{IsBounded, nesting_of};
+ghost use Rattle.stamp_codec.specs.StampText.{Written, written_tree, stamp_as_text};
+ghost use Rattle.stamp_codec.specs.Bounds.{IsBounded, SpellsNothing};
 ghost use Rattle.stamp_codec.specs.declared.stamp.Stamp.{Stamp};
 ghost use Rattle.stamp_codec.specs.Flat.{OpensNowhere};
-ghost use Rattle.stamp_codec.specs.Reading.{ReadsStamp, SpellsNormal, GivesStamp, IsNoMemory};
+ghost use Rattle.stamp_codec.specs.Reading.{ReadsStamp, Refuses, SpellsNormal, GivesStamp, IsNoMemory};
 
 use crate::at_once::{Unread, stamp_at_once};
-use crate::cursor::Cursor;
-use crate::depth::is_too_deep;
+use crate::look::first_fault;
 use crate::shape::shape_fault;
-use crate::walk::{read_id, read_tree};
 use crate::{Stamp, StampFault};
 use event_tree::EvTree;
 use std::alloc::Global;
@@ -25,9 +20,9 @@ use std::alloc::Global;
 /// first fault of the first kind that it finds. The id and the tree may each be nested 2048 deep. The numbers on the way
 /// from the root to a node may have a sum of 2^63 - 1.
 ///
-/// One pass checks and builds together, and gives the stamp of most texts. It stops at the first byte that does not fit. A
-/// text that it refuses is read again, to tell its fault. Two passes without recursion tell the shape and the nesting then, before
-/// anything is built again. Nothing is built of a text that is nested too deep, and nothing below a number that is too great.
+/// One pass checks and builds together. It stops at the first byte that does not fit. A text that it refuses is gone over
+/// again to tell its fault: once for its shape, without recursion, and once for its size and its nodes. Nothing is built then.
+/// Nothing is built at all of a text that is nested too deep.
 ///
 /// Returns `Memory` if it runs out of memory, for a mark of each open parenthesis or for the stamp. `Memory` may come
 /// before any other fault.
@@ -43,7 +38,11 @@ pub fn read_stamp(alloc: Global, text: &[u8]) -> Result<Stamp, StampFault>
     // A text without parentheses takes no memory.
     ensures flat { OpensNowhere text.now → IfErr result (λ fault. ¬ IsNoMemory fault) }
 {
-    read_stamp_beside(alloc, text, &EvTree::leaf(0))
+    match stamp_at_once(alloc, text, &EvTree::leaf(0)) {
+        Ok(stamp) => Ok(stamp),
+        Err(Unread::Refused) => Err(fault_of(alloc, text)),
+        Err(Unread::Memory | Unread::Unshared) => Err(StampFault::Memory),
+    }
 }
 
 /// The stamp that the text spells, as [`read_stamp`] gives it. Its tree shares the parts that stand in this one at the same
@@ -65,84 +64,24 @@ pub fn read_stamp_beside(alloc: Global, text: &[u8], tree: &EvTree) -> Result<St
     // A text without parentheses takes no memory.
     ensures flat { OpensNowhere text.now → IfErr result (λ fault. ¬ IsNoMemory fault) }
 {
-    // Most texts spell a stamp. The other passes find the fault of one that does not.
     match stamp_at_once(alloc, text, tree) {
         Ok(stamp) => Ok(stamp),
+        Err(Unread::Refused) => Err(fault_of(alloc, text)),
         Err(Unread::Memory) => Err(StampFault::Memory),
-        Err(Unread::Refused) => read_refused(alloc, text),
+        // A part would stand in more trees than can be counted, so nothing is shared.
+        Err(Unread::Unshared) => read_stamp(alloc, text),
     }
 }
 
-/// The fault of a text that was not read at once, or its stamp if a part could not be shared.
-fn read_refused(alloc: Global, text: &[u8]) -> Result<Stamp, StampFault>
-    ensures exact { ReadsStamp text.now result }
-    ensures only { (id : Id) (tree : Written) → SpellsNormal text.now id tree → GivesStamp result id (written_tree tree) }
-    ensures again { (stamp : Stamp) → IsBounded stamp → text.now ≡ stamp_as_text stamp → GivesStamp result stamp.id stamp.tree }
-    ensures found { IfOk result (λ stamp. text.now ≡ stamp_as_text stamp) }
-    ensures flat { OpensNowhere text.now → IfErr result (λ fault. ¬ IsNoMemory fault) }
+/// Why the text spells no normal stamp within the bounds.
+fn fault_of(alloc: Global, text: &[u8]) -> StampFault
+    requires { SpellsNothing text.now }
+    ensures exact { Refuses text.now result }
+    ensures flat { OpensNowhere text.now → ¬ IsNoMemory result }
 {
-    match shape_fault(alloc, text)? {
-        Some(place) => Err(StampFault::Shape(place)),
-        None => walk(alloc, text),
-    }
-}
-
-/// What a text with the shape of a stamp spells.
-fn walk(alloc: Global, text: &[u8]) -> Result<Stamp, StampFault>
-    requires { IsShaped text.now }
-    ensures small { IfOk result (λ stamp. maximum stamp.tree < 2 ^ 64) }
-    ensures exact { (id : Id) (tree : Written) → SpellsStamp text.now id tree → WalksStamp result id tree }
-    ensures flat { OpensNowhere text.now → (id : Id) (tree : Written) → SpellsStamp text.now id tree
-        → IfErr result (λ fault. ¬ IsNoMemory fault) }
-{
-    if is_too_deep(text) {
-        return Err(size_fault(alloc, text));
-    }
-    build(alloc, text)
-}
-
-/// The first place that is too large, in a text with the shape of a stamp that is nested too deep.
-fn size_fault(alloc: Global, text: &[u8]) -> StampFault
-    requires shaped { IsShaped text.now }
-    requires deep { (id : Id) (tree : Written) → SpellsStamp text.now id tree → most_nested < nesting_of id tree }
-    ensures first { (id : Id) (tree : Written) → SpellsStamp text.now id tree → IsSizeFault result (IsTooLargeAt id tree) }
-    ensures nothing { ¬ IsNoMemory result }
-{
-    match look(alloc, text) {
-        Err(fault) => fault,
-        Ok(()) => unreachable!(),
-    }
-}
-
-/// Looks for the first place of the text that is too large. It builds nothing.
-fn look(alloc: Global, text: &[u8]) -> Result<(), StampFault>
-    ensures none { IfOk result (λ _. (id : Id) (tree : Written) → SpellsStamp text.now id tree → (place : ℕ) → ¬ IsTooLargeAt id tree place) }
-    ensures first { IfErr result (λ fault. (id : Id) (tree : Written) → SpellsStamp text.now id tree → IsSizeFault fault (IsTooLargeAt id tree)) }
-    ensures nothing { IfErr result (λ fault. ¬ IsNoMemory fault) }
-{
-    let mut cursor = Cursor::building_nothing(text);
-    cursor.skip();
-    read_id(alloc, &mut cursor, 0)?;
-    cursor.skip();
-    read_tree(alloc, &mut cursor, 0, 0)?;
-    Ok(())
-}
-
-/// The stamp that a text spells which is not nested too deep.
-fn build(alloc: Global, text: &[u8]) -> Result<Stamp, StampFault>
-    requires { (id : Id) (tree : Written) → SpellsStamp text.now id tree → nesting_of id tree ≤ most_nested }
-    ensures small { IfOk result (λ stamp. maximum stamp.tree < 2 ^ 64) }
-    ensures exact { (id : Id) (tree : Written) → SpellsStamp text.now id tree → WalksStamp result id tree }
-    ensures flat { OpensNowhere text.now → (id : Id) (tree : Written) → SpellsStamp text.now id tree
-        → IfErr result (λ fault. ¬ IsNoMemory fault) }
-{
-    let mut cursor = Cursor::new(text);
-    cursor.skip();
-    let id = read_id(alloc, &mut cursor, 0)?;
-    cursor.skip();
-    let tree = read_tree(alloc, &mut cursor, 0, 0)?;
-    match cursor.uneven {
-        Some(place) => Err(StampFault::NotNormal(place)),
-        None => Ok(Stamp { id, tree }),
+    match shape_fault(alloc, text) {
+        Ok(Some(place)) => StampFault::Shape(place),
+        Ok(None) => first_fault(text),
+        Err(_) => StampFault::Memory,
     }
 }
