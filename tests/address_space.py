@@ -2,6 +2,7 @@
 count."""
 import concurrent.futures
 import json
+import re
 import resource
 import subprocess
 import tempfile
@@ -23,8 +24,9 @@ LEAST = {
 RESERVE = 1.05
 # How many pages a sweep has at least. The C library takes 33 at a time, so that each rest of them is met.
 PAGES = 36
-# How many pages a sweep goes on above what is enough.
-ABOVE = 2
+# How many pages a sweep goes on above what was enough once. The kernel places the stack at random, so what is enough differs from
+# run to run by some pages.
+ABOVE = 16
 # How many sweeps there are at a time.
 WORKERS = 2
 # Within so much it ends right on any of the deep traces.
@@ -32,6 +34,8 @@ ENOUGH = 128 << 20
 # How long a run may take.
 SECONDS = 240
 LACKING = b"x 507 no memory"
+# What the deepest walk takes of the stack.
+DEEPEST = 532480
 
 
 def sends():
@@ -206,6 +210,29 @@ def deep_trace_sweep(bounded, words, data, right):
     enough = bounded.least_bytes(words, source, (0, right, b""))
     ends = sweep(bounded, words, source, right, enough - PAGES * PAGE, enough + ABOVE * PAGE)
     check(ends == {False, True}, f"{bounded.program.path} {words[0]}: a deep trace ends right or not: {ends}")
+
+
+def stack_of(running):
+    """How long the stack of a running program is, in bytes."""
+    with open(f"/proc/{running.pid}/status", encoding="ascii") as status:
+        return 1024 * int(re.search(r"VmStk:\s+(\d+) kB", status.read())[1])
+
+
+def stack_is_long_before_deep_walks(program):
+    """A replay makes its stack long enough for the deepest walk before its trees are much more than 400 levels deep."""
+    running = program.start("replay", *GREATEST, "x")
+
+    def answered(reports):
+        running.stdin.write("".join(f"x {report}\n" for report in reports).encode())
+        return [running.stdout.readline() for _ in reports]
+
+    answered(chain(400))
+    check(stack_of(running) < DEEPEST, f"{program.path}: the stack is long before there is a deep tree: {stack_of(running)} bytes")
+    told = answered(["spawn t400 t401", "local t401"])
+    check(told == [b"x 201 401\n", b"x 201 402\n"], f"{program.path}: reports of deep tasks are answered {told}")
+    check(stack_of(running) >= DEEPEST, f"{program.path}: the stack is too short for the deepest walk: {stack_of(running)} bytes")
+    running.stdin.close()
+    check(running.wait(SECONDS) == 0, f"{program.path}: a replay of a chain ends with {running.returncode}")
 
 
 def no_bound_ends_by_a_signal(program):

@@ -12,6 +12,7 @@ mod records;
 mod report;
 mod task;
 
+use crate::Stack;
 use crate::share::{Keep, MeantId};
 pub(crate) use draft::Draft;
 use id_tree::IdTree;
@@ -47,6 +48,8 @@ pub(crate) struct Book<S: Keep> {
     ids: Vec<S::Id>,
     tasks: IndexMap<Name, Task>,
     messages: MessageBook,
+    /// The stack, on which the trees are walked over.
+    stack: Stack,
 }
 
 impl<S: Keep> Model for Book<S> {
@@ -114,6 +117,7 @@ impl<S: Keep> Book<S> {
             ids: Vec::new(alloc),
             tasks,
             messages: MessageBook::new(alloc, limits.messages())?,
+            stack: Stack::new(),
         })
     }
 

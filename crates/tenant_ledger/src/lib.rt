@@ -35,6 +35,7 @@ mod prepared;
 mod share;
 mod shared;
 mod shared_ids;
+mod stack;
 
 pub use answers::{Records, answer, counts_of, order_of};
 pub use ledger::Ledger;
@@ -43,3 +44,4 @@ pub use prepared::Prepared;
 pub use share::{Keep, MeantId, Own, Share};
 pub use shared::Shared;
 pub use shared_ids::SharedIds;
+pub use stack::Stack;

@@ -6,10 +6,10 @@ ghost use Rattle.trace_export.specs.Following.{KeepsTenant};
 ghost use Rattle.trace_export.specs.Graph.{IsKeptGraph};
 
 use crate::collected::Collected;
-use crate::stack::Stack;
 use crate::{CheckFault, Reason, Verdict};
 use line_protocol::{Buffer, Line, Source};
 use std::alloc::Global;
+use tenant_ledger::Stack;
 use trace_types::Memory;
 
 /// The most bytes of a line.
@@ -17,6 +17,9 @@ pub(crate) const MOST_BYTES: usize = 65536;
 
 /// The most reads of one call.
 pub(crate) const MOST_READS: u64 = 1 << 30;
+
+/// The least bytes that a line takes for a level of the tree that it lists.
+pub(crate) const BYTES_OF_LEVEL: usize = 4;
 
 /// Whether the lines that a reader gives are an export in which the trees of every two events compare as the listed edges
 /// say. It reads to the end, or to the end of the first faulty line.
@@ -42,7 +45,7 @@ pub fn check<R: Source>(alloc: Global, reader: &mut R) -> Result<Verdict, CheckF
     let mut stack = Stack::new();
     loop {
         let found = lines.next_line(reader)?;
-        stack.make_room(alloc, lines.line().len())?;
+        stack.make_room(alloc, lines.line().len() / BYTES_OF_LEVEL)?;
         if let Some(verdict) = judge(&mut collected, alloc, found, lines.line())? {
             return Ok(verdict);
         }

@@ -47,7 +47,6 @@ mod reason;
 mod rebuilt;
 mod requests;
 mod sides;
-mod stack;
 mod stamp_texts;
 mod verdict;
 

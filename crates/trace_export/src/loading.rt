@@ -6,13 +6,13 @@ ghost use Rattle.trace_export.specs.Loading.{limits_under};
 ghost use Rattle.trace_export.specs.Loads.{BreaksLoading, Loads, LoadsAs, StopsLoading};
 ghost use Rattle.trace_export.specs.Rebuilding.{IsTaken, IsUnbegun};
 
-use crate::checking::{MOST_BYTES, MOST_READS};
+use crate::checking::{BYTES_OF_LEVEL, MOST_BYTES, MOST_READS};
 use crate::rebuilt::Rebuilt;
 use crate::requests::write_requests;
-use crate::stack::Stack;
 use crate::{LoadFault, Loaded, Reason};
 use line_protocol::{Buffer, Line, Sink, Source};
 use std::alloc::Global;
+use tenant_ledger::Stack;
 use trace_types::{Memory, Name};
 
 /// Makes the requests again that an export lists, from nothing. The limits are those of its header, or the greatest if it
@@ -74,7 +74,7 @@ fn take_in<T, R: Source>(
     let mut stack = Stack::new();
     loop {
         let found = lines.next_line(reader)?;
-        stack.make_room(alloc, lines.line().len())?;
+        stack.make_room(alloc, lines.line().len() / BYTES_OF_LEVEL)?;
         let (next, loaded) = take(rt, rebuilt, alloc, found, lines.line(), &mut follows)?;
         rebuilt = next;
         if let Some(loaded) = loaded {

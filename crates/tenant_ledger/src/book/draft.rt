@@ -11,8 +11,8 @@ ghost use Rattle.event_tree.specs.Risen.{IsRaisedAt};
 ghost use Rattle.tenant_ledger.specs.Ledger.{IsKept, HasRoom, history_in, MayNote, IsReport, row_of_report, tree_of_report, MayRaise, event_of, Notes, Prepares};
 
 use super::{Book, Report, Task};
-use crate::SharedIds;
 use crate::share::{Keep, Share};
+use crate::{MeantId, SharedIds, Stack};
 use event_tree::EvTree;
 use id_tree::IdTree;
 use std::alloc::Global;
@@ -121,7 +121,7 @@ impl<S: Keep> Book<S> {
             Ok(report) => report,
             Err(code) => return Err(code),
         };
-        self.make_room(rt)?;
+        self.make_room(rt, &report)?;
         self.draft(rt, &report)
     }
 
@@ -225,8 +225,9 @@ impl<S: Keep> Book<S> {
         }
     }
 
-    /// Keeps the id of `root`, unless that was done. It makes room for one event, its ids and its tasks.
-    fn make_room<R>(&mut self, rt: &R) -> Result<(), Memory>
+    /// Keeps the id of `root`, unless that was done. It makes room for one event, its ids and its tasks, and on
+    /// the stack.
+    fn make_room<R>(&mut self, rt: &R, report: &Report) -> Result<(), Memory>
     where
         S: Share<R>,
         ensures same { self.new ≡ record self.old { kept_ids = self.new.kept_ids; room = self.new.room } }
@@ -244,6 +245,31 @@ impl<S: Keep> Book<S> {
         self.places.reserve(1)?;
         self.ids.reserve(2)?;
         self.tasks.reserve(2)?;
+        self.make_stack_room(report)
+    }
+
+    /// Makes room on the stack for walks over the trees, if the report divides a deep id. No tree has more levels than some
+    /// id.
+    #[inline(always)]
+    fn make_stack_room(&mut self, report: &Report) -> Result<(), Memory>
+        ensures { self.new ≡ self.old }
+    {
+        if matches!(report.kind, Kind::Spawn) && self.tasks.len() >= Stack::LEVELS {
+            return self.make_room_below(report.acting.id);
+        }
+        Ok(())
+    }
+
+    /// Makes room on the stack for walks over trees as deep as the id at this place.
+    #[inline(never)]
+    fn make_room_below(&mut self, place: usize) -> Result<(), Memory>
+        ensures { self.new ≡ self.old }
+    {
+        if let Some(id) = self.ids.get(place) {
+            // There are as many inner nodes as levels at least.
+            let levels = id.id_value().inner();
+            self.stack.make_room(self.alloc, levels as usize)?;
+        }
         Ok(())
     }
 }

@@ -8,12 +8,9 @@ use std::alloc::{AllocError, Global};
 /// The system makes the stack longer as it is used, and ends the program by a signal if it has no memory for that. So the memory
 /// is asked for before such a walk begins, and the stack is made as long as it may have to be.
 #[derive(Drop)]
-pub(crate) struct Stack {
+pub struct Stack {
     has_room: bool,
 }
-
-/// The least bytes of a line that may list a tree for which the stack has to become longer: one that is 400 deep.
-const LONG_LINE: usize = 1600;
 
 /// The bytes that a walk over the deepest trees may take.
 const BYTES: usize = 532_480;
@@ -21,16 +18,28 @@ const BYTES: usize = 532_480;
 const PAGE: usize = 4096;
 
 impl Stack {
+    /// How many levels of a tree the stack has room for from the start.
+    pub const LEVELS: usize = 400;
+
     /// The stack with which a program begins.
-    pub(crate) fn new() -> Stack {
+    pub fn new() -> Stack {
         Stack { has_room: false }
     }
 
-    /// Makes room for walks over the trees of a line of so many bytes, if there may be too little.
-    pub(crate) fn make_room(&mut self, alloc: Global, bytes: usize) -> Result<(), AllocError> {
-        if self.has_room || bytes < LONG_LINE {
+    /// Makes room for walks over trees of so many levels, if there may be too little.
+    ///
+    /// Returns an `AllocError` if the memory for it is refused. Then the stack is as long as it was.
+    #[inline(always)]
+    pub fn make_room(&mut self, alloc: Global, levels: usize) -> Result<(), AllocError> {
+        if self.has_room || levels < Stack::LEVELS {
             return Ok(());
         }
+        self.grow(alloc)
+    }
+
+    /// Makes the stack as long as the deepest walk may need it.
+    #[inline(never)]
+    fn grow(&mut self, alloc: Global) -> Result<(), AllocError> {
         let block: Vec<u8> = Vec::with_capacity(alloc, BYTES)?;
         drop(block);
         let _ = touch(BYTES / PAGE);

@@ -1,4 +1,4 @@
-use Rattle.trace_export.proofs.stack.+touch.Given as goal
+use Rattle.tenant_ledger.proofs.stack.+touch.Given as goal
 
 abbrev pub decreases-touch : goal.decreases-touch
 decreases-touch l = l.pages
