@@ -1,5 +1,5 @@
 //! How programs that connect are served.
-ghost use Rattle.std.specs.Prelude.{◌≡◌, ◌≢◌, ◌<◌, true, IfErr, IfOk, OnOk, string_bytes};
+ghost use Rattle.std.specs.Prelude.{◌≡◌, ◌≢◌, ◌<◌, true, IfErr, IfOk, OnOk, map, string_bytes};
 ghost use Rattle.command_line.specs.Demand.{ToServe};
 ghost use Rattle.command_line.specs.Reading.{service_of};
 ghost use Rattle.collector.specs.Fault.{status_of};
@@ -64,7 +64,8 @@ where
     served
 }
 
-/// Opens the door and tells so, serves the hub to those who connect, and tells how many there were.
+/// Opens the door and tells so, serves the hub to those who connect, and tells how many there were. The hub has the tenants
+/// and the limits that are asked for.
 fn serve_hub<T, W: Sink>(
     rt: &T,
     alloc: Global,
@@ -74,6 +75,7 @@ fn serve_hub<T, W: Sink>(
 ) -> Result<(), Fault>
 where
     T: Threads + Wait + Sync + Net<Listener = TcpListener, Stream = TcpStream>,
+    requires hub { hub.now ≡ record { names = map string_bytes wanted.now.tenants.items; limits = wanted.now.limits } }
     ensures ok { OnOk result (Serves wanted.now.port wanted.now.sessions (W.seen writer.old) (W.seen writer.new)) }
     ensures err { IfErr result (λ fault. ServesInPart fault wanted.now.port (W.seen writer.old) (W.seen writer.new)) }
     ensures other { IfErr result (λ fault. fault ≢ Fault.Tenants) }

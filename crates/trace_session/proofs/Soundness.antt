@@ -1,12 +1,22 @@
--- What stays sound while it is lent to a session.
-use Rattle.std.proofs.Common.{◌≡◌, Bool, true, false, [], inl, inr, refl, sym, subst}
-use Rattle.std.specs.Prelude.{MatchBool}
+-- What stays so while it is lent to a session.
+use Rattle.std.proofs.Common.{◌≡◌, Bool, true, false, [], inl, inr, refl, sym, subst, ap, ◌∙◌}
+use Rattle.std.specs.Prelude.{IfSome, MatchBool, Option, Some, None}
+use Rattle.trace_types.specs.declared.code.Code.{Code}
 use Rattle.trace_types.specs.declared.request.Request.{Request}
 use Rattle.trace_types.specs.declared.reply.Reply.{Reply}
 use Rattle.trace_types.specs.declared.reply.Reply.TheVariants.{Refused}
 use Rattle.trace_types.specs.declared.code.Code.TheVariants.{ViewOnly}
+use Rattle.trace_types.specs.declared.row.Row.{Row}
+use Rattle.trace_types.specs.tenant.Tenant.{Tenant, Steps, fresh, step_unless, with_row}
+use Rattle.trace_types.specs.tenant.Limits.{Limits}
+use Rattle.tenant_desk.specs.Desks.{Desk}
 use Rattle.tenant_desk.specs.Views.{Known, LooksUp}
-use Rattle.trace_session.specs.Lent.{IsSoundView}
+use Rattle.trace_types.specs.text.Name.{Text}
+use Rattle.trace_session.specs.Belonging.{IsDeskOf, IsViewOf}
+use Rattle.trace_session.specs.Hubs.{owner}
+use Rattle.trace_session.specs.Lent.{IsSoundDesk, IsSoundView}
+use Rattle.trace_session.specs.declared.owned.Owned.{Owned}
+use Rattle.trace_session.specs.declared.owner.Owner.{Owner}
 
 looks_up : (old new : Known) (request : Request) (reply : Reply) → LooksUp old request reply new → IsSoundView old → IsSoundView new
 looks_up old new request reply (inl (answers, enters)) holds = record { legal = enters.legal }
@@ -18,5 +28,50 @@ view_responds old new request reply true (refused, same) holds = subst IsSoundVi
 view_responds old new request reply false looks holds = looks_up old new request reply looks holds
 
 -- A view that has seen nothing is sound.
-pub new_view_is_sound : (view : Known) → view.seen ≡ [] → IsSoundView view
+new_view_is_sound : (view : Known) → view.seen ≡ [] → IsSoundView view
 new_view_is_sound view none = record { legal = rw none ([], tt, refl) }
+
+-- and its limits stay
+pub view_keeps_limits : (old new : Known) (request : Request) (reply : Reply) (report : Bool) → MatchBool report ((reply ≡ Refused ViewOnly) × (new ≡ old)) (LooksUp old request reply new) → new.limits ≡ old.limits
+view_keeps_limits old new request reply true (refused, same) = ap (λ (view : Known). view.limits) same
+view_keeps_limits old new request reply false (inl (answers, enters)) = enters.limits
+view_keeps_limits old new request reply false (inr (refused, same)) = ap (λ (view : Known). view.limits) same
+
+with_row-limits : (tenant : Tenant) (row : Option Row) → (with_row tenant row).limits ≡ tenant.limits
+with_row-limits tenant None = refl
+with_row-limits tenant (Some row) = refl
+
+step_unless-limits : (refusal : Option Code) (tenant : Tenant) (request : Request) → (step_unless refusal tenant request).1.limits ≡ tenant.limits
+step_unless-limits (Some code) tenant request = refl
+step_unless-limits None tenant request = with_row-limits tenant _
+
+-- A request leaves the limits of its tenant.
+pub steps_keep_limits : (old new : Tenant) (request : Request) (reply : Reply) → Steps old request reply new → new.limits ≡ old.limits
+steps_keep_limits old new request reply (inl stepped) = sym (ap (λ (pair : Reply × Tenant). pair.1.limits) stepped) ∙ step_unless-limits _ old request
+steps_keep_limits old new request reply (inr (may, is, same)) = ap (λ (tenant : Tenant). tenant.limits) same
+
+-- A new view belongs to the tenant for which it was made.
+pub new_view_belongs : (owner : Owner) (owned : Owned Known) → owned.owner ≡ owner → owned.value.seen ≡ [] → owned.value.limits ≡ owner.limits → IsViewOf owner owned
+new_view_belongs owner owned made none limits = record { owner_is = made; sound = new_view_is_sound owned.value none; limits = limits }
+
+new_desk_is_sound : (desk : Desk) (limits : Limits) → desk.tenant ≡ fresh limits → desk.published ≡ [] → IsSoundDesk desk
+new_desk_is_sound desk limits is none =
+    let no_rows = ap (λ (tenant : Tenant). tenant.rows) is in
+    record { legal = ([], tt, sym no_rows); published = none ∙ sym no_rows }
+
+-- A new desk belongs to the tenant for which it was made.
+pub new_desk_belongs : (owner : Owner) (owned : Owned Desk) (desk : Desk) → owned.owner ≡ owner → owned.value ≡ desk → desk.tenant ≡ fresh owner.limits → desk.published ≡ [] → IsDeskOf owner owned
+new_desk_belongs owner owned desk made is new none = record {
+  owner_is = made;
+  sound = subst IsSoundDesk (sym is) (new_desk_is_sound desk owner.limits new none);
+  limits = ap (λ (one : Desk). one.tenant.limits) is ∙ ap (λ (tenant : Tenant). tenant.limits) new;
+}
+
+owner_is : (one : Owner) (name : Text) (limits : Limits) → one.name ≡ name → one.limits ≡ limits → one ≡ owner name limits
+owner_is one name limits same_name same_limits = subst (λ (text : Text). one ≡ owner text limits) same_name (subst (λ (bounds : Limits). one ≡ owner one.name bounds) same_limits refl)
+
+-- What was found, if it has this name and these limits.
+pub owner_found : {A : Type 0} (found : Option A) (owner_of : A → Owner) (name : Text) (limits : Limits) → IfSome found (λ one. (owner_of one).name ≡ name) → IfSome found (λ one. (owner_of one).limits ≡ limits)
+    → IfSome found (λ one. owner_of one ≡ owner name limits)
+owner_found None owner_of name limits named bounded = tt
+owner_found (Some one) owner_of name limits named bounded = owner_is (owner_of one) name limits named bounded

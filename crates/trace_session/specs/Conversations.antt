@@ -1,5 +1,6 @@
 -- What a session on a hub did.
-use Rattle.std.specs.Prelude.{◌≡◌, Result, Ok, Err, List, [], ◌∷◌, ◌⊎◌, Option, Some, None, MatchBool}
+use Rattle.std.specs.Prelude.{◌≡◌, Result, Ok, Err, [], ◌∷◌, ◌⊎◌, Option, Some, None, MatchBool}
+use Rattle.trace_types.specs.tenant.Tenant.{Tenant}
 use Rattle.trace_types.specs.text.Name.{Text}
 use Rattle.trace_types.specs.declared.code.Code.{Code}
 use Rattle.trace_types.specs.declared.code.Code.TheVariants.{Line, NoTenant, DeskTaken, NoPlace}
@@ -10,7 +11,9 @@ use Rattle.line_protocol.specs.LineReading.{AllWereMade, Finds, FindsNone, Gives
 use Rattle.line_protocol.specs.Sink.{Taken}
 use Rattle.line_protocol.specs.declared.line.Line.TheVariants as line
 use Rattle.line_protocol.specs.declared.read_fault.ReadFault.TheVariants as read
-use Rattle.trace_session.specs.Lent.{AsksView, IsSoundDesk, IsSoundView, TakesRequest}
+use Rattle.trace_session.specs.Belonging.{Belongs}
+use Rattle.trace_session.specs.Hubs.{Hub, owner}
+use Rattle.trace_session.specs.Lent.{AsksView, IsSoundDesk, IsSoundView, TakesRequest, tenant_seen}
 use Rattle.trace_session.specs.Openings.{is_tenant, opening_in}
 use Rattle.trace_session.specs.Sessions.{Session}
 use Rattle.trace_session.specs.State.{State}
@@ -18,6 +21,8 @@ use Rattle.trace_session.specs.Written.{WritesAll, WritesLinesInPart}
 use Rattle.trace_session.specs.declared.conversation.Lending.{Lending}
 use Rattle.trace_session.specs.declared.conversation.Lending.TheVariants as lending
 use Rattle.trace_session.specs.declared.conversation.Opening.{Opening}
+use Rattle.trace_session.specs.declared.owned.Owned.{Owned}
+use Rattle.trace_session.specs.declared.owner.Owner.{Owner}
 use Rattle.trace_session.specs.declared.end.SessionEnd.{SessionEnd}
 use Rattle.trace_session.specs.declared.end.SessionEnd.TheVariants.{EndOfInput, Refused}
 use Rattle.trace_session.specs.declared.end.SessionFault.{SessionFault}
@@ -43,39 +48,39 @@ pub record IsTurnedAway (code : Code) (before after : State) (result : Result Se
   pub same_given : after.given ≡ before.given
   pub same_held : after.held ≡ before.held
 
--- What was lent was sound, and the session was held with it.
-pub record IsHeld {S : Type 0} (IsSound : S → Type 0) (Does : S → Request → Reply → S → Type 0) (before after : State) (result : Result SessionEnd SessionFault) : Type 0 where
-  pub lent : S
-  pub left : S
-  pub sound : IsSound lent
-  pub session : Session Does lent left before after result
+-- What was lent belongs to this tenant, and what the session left of it does. The session was held with it.
+pub record IsHeld {S : Type 0} (IsSound : S → Type 0) (tenant_of : S → Tenant) (Does : S → Request → Reply → S → Type 0) (owner : Owner) (before after : State) (result : Result SessionEnd SessionFault) : Type 0 where
+  pub lent : Owned S
+  pub left : Owned S
+  pub lent_belongs : Belongs IsSound tenant_of owner lent
+  pub left_belongs : Belongs IsSound tenant_of owner left
+  pub session : Session Does lent.value left.value before after result
 
 -- It was not there to be lent, and the session was refused with this code; or the session was held with it.
-abbrev pub Lends : {S : Type 0} → (S → Type 0) → (S → Request → Reply → S → Type 0) → Code → State → State → Result SessionEnd SessionFault → Type 0
-Lends IsSound Does code before after result = IsTurnedAway code before after result ⊎ IsHeld IsSound Does before after result
+abbrev pub Lends : {S : Type 0} → (S → Type 0) → (S → Tenant) → (S → Request → Reply → S → Type 0) → Code → Owner → State → State → Result SessionEnd SessionFault → Type 0
+Lends IsSound tenant_of Does code owner before after result = IsTurnedAway code before after result ⊎ IsHeld IsSound tenant_of Does owner before after result
 
--- The session asked for the desk of a tenant, or for a view.
-abbrev pub LendsTo : Lending → State → State → Result SessionEnd SessionFault → Type 0
-LendsTo lending.Desk before after result = Lends IsSoundDesk TakesRequest DeskTaken before after result
-LendsTo lending.View before after result = Lends IsSoundView AsksView NoPlace before after result
+-- The session asked for the desk of this tenant, or for a view.
+abbrev pub LendsTo : Lending → Owner → State → State → Result SessionEnd SessionFault → Type 0
+LendsTo lending.Desk owner before after result = Lends IsSoundDesk (λ desk. desk.tenant) TakesRequest DeskTaken owner before after result
+LendsTo lending.View owner before after result = Lends IsSoundView tenant_seen AsksView NoPlace owner before after result
 
--- What came of the first line, where the tenants have these names: one that opens nothing is refused, one that names no
--- tenant is, and else what it asks for is lent, if it is there.
-abbrev pub Opens : List Text → Option Opening → State → State → Result SessionEnd SessionFault → Type 0
-Opens names None before after result = IsTurnedAway Line before after result
-Opens names (Some opening) before after result =
-    MatchBool (is_tenant names opening.tenant) (LendsTo opening.lending before after result) (IsTurnedAway NoTenant before after result)
+-- What came of the first line on this hub: one that opens nothing is refused, one that names no tenant is, and else what it
+-- asks for is lent of the tenant that it names, under the hub's limits, if it is there.
+abbrev pub Opens : Hub → Option Opening → State → State → Result SessionEnd SessionFault → Type 0
+Opens hub None before after result = IsTurnedAway Line before after result
+Opens hub (Some opening) before after result =
+    MatchBool (is_tenant hub.names opening.tenant) (LendsTo opening.lending (owner opening.tenant hub.limits) before after result) (IsTurnedAway NoTenant before after result)
 
 -- The first line was read, and this came of it.
-pub record OpensBy (names : List Text) (before after : State) (result : Result SessionEnd SessionFault) : Type 0 where
+pub record OpensBy (hub : Hub) (before after : State) (result : Result SessionEnd SessionFault) : Type 0 where
   pub text : Text
   pub between : State
   pub gives : GivesLine before.given.bytes between.given.bytes before.held.left between.held.left between.held.is_ended text
   pub bounds : between.held.bounds ≡ before.held.bounds
   pub nothing_written : between.taken ≡ before.taken
-  pub opens : Opens names (opening_in before.held.bounds.bytes text) between after result
+  pub opens : Opens hub (opening_in before.held.bounds.bytes text) between after result
 
--- A session on a hub with tenants of these names: it found no first line, and wrote nothing; or its first line opened it, or
--- was refused.
-abbrev pub Converses : List Text → State → State → Result SessionEnd SessionFault → Type 0
-Converses names before after result = (FindsNoLine result before after × (after.taken ≡ before.taken)) ⊎ OpensBy names before after result
+-- A session on this hub: it found no first line, and wrote nothing; or its first line opened it, or was refused.
+abbrev pub Converses : Hub → State → State → Result SessionEnd SessionFault → Type 0
+Converses hub before after result = (FindsNoLine result before after × (after.taken ≡ before.taken)) ⊎ OpensBy hub before after result

@@ -1,6 +1,6 @@
 -- What a desk or a view that is lent to a session does.
 use Rattle.std.specs.Prelude.{◌≡◌}
-use Rattle.trace_types.specs.tenant.Tenant.{AreLegal, Steps}
+use Rattle.trace_types.specs.tenant.Tenant.{AreLegal, Steps, Tenant}
 use Rattle.trace_types.specs.declared.request.Request.{Request}
 use Rattle.trace_types.specs.declared.reply.Reply.{Reply}
 use Rattle.tenant_desk.specs.Desks.{Desk}
@@ -26,3 +26,7 @@ pub record IsSoundView (view : Known) : Type 0 where
 pub record AsksView (old : Known) (request : Request) (reply : Reply) (new : Known) : Type 0 where
   pub responds : Responds old request reply new
   pub book : new.book ≡ old.book
+
+-- a view's tenant, with the rows that it saw
+abbrev pub tenant_seen : Known → Tenant
+tenant_seen view = record { limits = view.limits; rows = view.seen }

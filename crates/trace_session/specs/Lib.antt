@@ -1,8 +1,10 @@
 pub mod Answers
 pub mod Asking
+pub mod Belonging
 pub mod Conversations
 pub mod Faults
 pub mod Goings
+pub mod Hubs
 pub mod Lent
 pub mod Openings
 pub mod Outputs

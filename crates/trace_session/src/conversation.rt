@@ -10,7 +10,7 @@ ghost use Rattle.trace_session.specs.Openings.{opening_at, opening_of};
 ghost use Rattle.trace_session.specs.State.{state};
 
 use crate::hub::Tenant;
-use crate::lent::Lent;
+use crate::lendable::Lendable;
 use crate::output::Output;
 use crate::{Gate, Hub, SessionEnd, SessionFault};
 use line_protocol::{Buffer, Line, LineReader, Sink, Source};
@@ -145,9 +145,8 @@ impl<'a, W: Sink, T: Wait, G: Gate> Output<'a, W, T, G> {
         opening: &Opening,
         lines: &mut LineReader<'_, R>,
     ) -> Result<SessionEnd, SessionFault>
-        requires open { lines.old.fault ≡ None }
-        requires named { tenant.now.name ≡ opening.now.tenant }
-        ensures { GoesOn R.seen W.seen G.lets_out G.holds_back (LendsTo opening.now.lending) lines.old lines.new self.old self.new result }
+        requires { lines.old.fault ≡ None }
+        ensures { GoesOn R.seen W.seen G.lets_out G.holds_back (LendsTo opening.now.lending tenant.now.owner) lines.old lines.new self.old self.new result }
     {
         match opening.lending {
             Lending::Desk => self.hold::<Desk, R>(tenant, lines),
@@ -156,18 +155,18 @@ impl<'a, W: Sink, T: Wait, G: Gate> Output<'a, W, T, G> {
     }
 
     /// Holds a session with what this tenant lends.
-    fn hold<L: Lent, R: Source>(
+    fn hold<L: Lendable, R: Source>(
         &mut self,
         tenant: &Tenant,
         lines: &mut LineReader<'_, R>,
     ) -> Result<SessionEnd, SessionFault>
         requires { lines.old.fault ≡ None }
-        ensures { GoesOn R.seen W.seen G.lets_out G.holds_back (Lends L.is_sound L.does L.NONE_LEFT) lines.old lines.new self.old self.new result }
+        ensures { GoesOn R.seen W.seen G.lets_out G.holds_back (Lends L.is_sound L.tenant_of L.does L.NONE_LEFT tenant.now.owner) lines.old lines.new self.old self.new result }
     {
         let Some(mut lent) = tenant.lend::<L, T>(self.rt) else {
             return self.refuse(L::NONE_LEFT);
         };
-        let result = self.answer_lines(&mut lent, lines);
+        let result = lent.answer_lines(self, lines);
         tenant.take_back(self.rt, lent);
         result
     }

@@ -1,12 +1,17 @@
 //! Hubs, from which sessions borrow desks and views.
-ghost use Rattle.std.specs.Prelude.{◌≡◌, ◌↔◌, ◌++◌, ◌∷◌, [], true, false, IfOk, IfSome, IsErrOf, is_some};
+ghost use Rattle.std.specs.Prelude.{◌≡◌, ◌↔◌, ◌++◌, ◌∷◌, [], true, false, All, IfOk, IfSome, IsErrOf, is_some};
 ghost use Rattle.std.specs.List.{list_any};
+ghost use Rattle.trace_types.specs.tenant.Limits.{Limits as Bounds};
 ghost use Rattle.trace_types.specs.text.Name.{is_same};
+ghost use Rattle.trace_session.specs.Belonging.{Belongs};
+ghost use Rattle.trace_session.specs.Hubs.{owner};
 ghost use Rattle.trace_session.specs.Openings.{is_tenant};
 ghost use Rattle.order_cache.specs.Capacity.{IsCapacity};
 ghost use Rattle.trace_types.specs.world.TenantNames.{can_be_tenants};
 
-use crate::lent::Lent;
+use crate::lendable::Lendable;
+use crate::owned::Owned;
+use crate::owner::Owner;
 use crate::resting::Resting;
 use std::alloc::Global;
 use std::marker::Model;
@@ -16,29 +21,35 @@ use trace_types::{Limits, Memory, Name, TenantNames, WorldFault};
 
 /// One tenant, with a lock over what no session has of it.
 ///
-/// What lies under a lock is known by its type alone. So no clause says that what is put back is what is lent next.
+/// What lies under a lock is known by its type alone. So whose it is is looked at when something is lent, and when it is
+/// taken back. No clause says that what is put back is what is lent next.
 pub(crate) struct Tenant {
-    name: Name,
+    owner: Owner,
     resting: Mutex<Resting>,
 }
 
 impl Tenant {
-    /// Lends a desk or a view, if there is one that no session has. It cannot be dropped, so the session has to give it back.
-    pub(crate) fn lend<L: Lent, R: Wait>(&self, rt: &R) -> Option<L>
-        ensures { IfSome result L.is_sound }
+    /// Lends a desk or a view of this tenant, if there is one that no session has. It cannot be dropped, so the session has
+    /// to give it back.
+    pub(crate) fn lend<L: Lendable, R: Wait>(&self, rt: &R) -> Option<Owned<L>>
+        ensures { IfSome result (Belongs L.is_sound L.tenant_of self.now.owner) }
     {
         let mut resting = self.resting.lock(rt);
-        let lent = L::take(&mut resting);
+        let lent = if resting.is_of(&self.owner) {
+            L::take(&mut resting)
+        } else {
+            None
+        };
         MutexGuard::unlock(resting);
         lent
     }
 
-    /// Takes back what was lent.
-    pub(crate) fn take_back<L: Lent, R: Wait>(&self, rt: &R, lent: L)
-        requires { L.is_sound lent }
+    /// Takes back what was lent of this tenant.
+    pub(crate) fn take_back<L: Lendable, R: Wait>(&self, rt: &R, lent: Owned<L>)
+        requires { Belongs L.is_sound L.tenant_of self.now.owner lent }
     {
         let mut resting = self.resting.lock(rt);
-        let other = lent.put(&mut resting);
+        let other = L::put(lent, &mut resting);
         MutexGuard::unlock(resting);
         if let Some(other) = other {
             other.close(rt);
@@ -47,7 +58,7 @@ impl Tenant {
 
     /// Ends the desk.
     fn close<R: Wait>(self, rt: &R) {
-        let Tenant { name: _, resting } = self;
+        let Tenant { owner: _, resting } = self;
         if let Some(desk) = resting.into_inner().into_desk() {
             desk.close(rt);
         }
@@ -55,7 +66,7 @@ impl Tenant {
 
     /// Ends the desk, and leaves its memory to the end of the process.
     fn leave<R: Wait>(self, rt: &R) {
-        let Tenant { name: _, resting } = self;
+        let Tenant { owner: _, resting } = self;
         if let Some(desk) = resting.into_inner().into_desk() {
             desk.leave(rt);
         }
@@ -65,18 +76,22 @@ impl Tenant {
 /// The desks and views of all tenants. A session borrows what it needs. What is not borrowed rests under the tenant's
 /// lock.
 ///
-/// Contracts see the tenants' names. A hub cannot be dropped: end it by [`Hub::close`].
+/// Contracts see the tenants' names, and the limits that each of them has. A hub cannot be dropped: end it by
+/// [`Hub::close`].
 pub struct Hub {
+    limits: Limits,
     tenants: Vec<Tenant>,
 }
 
 impl Model for Hub {
-    ghost use Rattle.std.specs.Prelude.{List, map};
-    ghost use Rattle.trace_types.specs.text.Name.{Text};
+    ghost use Rattle.std.specs.Prelude.{◌≡◌, All, map};
+    ghost use Rattle.trace_session.specs.Hubs.{Hub as Seen};
 
-    ghost Value = { List Text };
+    ghost Value = { Seen };
 
-    ghost view = { λ hub. map (λ tenant. tenant.name) hub.tenants.items };
+    ghost view = { λ hub. record { names = map (λ tenant. tenant.owner.name) hub.tenants.items; limits = hub.limits } };
+
+    ghost invariant = { λ hub. All (λ tenant. tenant.owner.limits ≡ hub.limits) hub.tenants.items };
 }
 
 impl Hub {
@@ -97,7 +112,7 @@ impl Hub {
     ) -> Result<Hub, WorldFault>
         ensures names { IsErrOf result WorldFault.Names ↔ (can_be_tenants names.now ≡ false) }
         ensures capacity { IsErrOf result WorldFault.Capacity ↔ (can_be_tenants names.now ≡ true) × (IsCapacity cache → ⊥) }
-        ensures hub { IfOk result (λ hub. hub ≡ names.now) }
+        ensures hub { IfOk result (λ hub. hub ≡ record { names = names.now; limits = limits }) }
     {
         if TenantNames::of(names).is_none() {
             return Err(WorldFault::Names);
@@ -106,7 +121,7 @@ impl Hub {
         Ok(Hub::with_tenants(rt, alloc, names, limits, &shared)?)
     }
 
-    /// The tenants of these names.
+    /// The tenants of these names, each with these limits.
     fn with_tenants<R: Wait>(
         rt: &R,
         alloc: Global,
@@ -114,13 +129,14 @@ impl Hub {
         limits: Limits,
         shared: &Arc<Shared>,
     ) -> Result<Hub, Memory>
-        ensures { IfOk result (λ hub. hub ≡ names.now) }
+        ensures { IfOk result (λ hub. hub ≡ record { names = names.now; limits = limits }) }
     {
         let mut hub = Hub {
+            limits,
             tenants: Vec::with_capacity(alloc, names.len())?,
         };
         for name in names {
-            hub = hub.with_tenant(rt, alloc, *name, limits, shared)?;
+            hub = hub.with_tenant(rt, alloc, *name, shared)?;
         }
         Ok(hub)
     }
@@ -131,12 +147,15 @@ impl Hub {
         rt: &R,
         alloc: Global,
         name: Name,
-        limits: Limits,
         shared: &Arc<Shared>,
     ) -> Result<Hub, Memory>
-        ensures { IfOk result (λ hub. hub ≡ self ++ name ∷ []) }
+        ensures { IfOk result (λ hub. hub ≡ record self { names = self.names ++ name ∷ [] }) }
     {
-        let Ok(tenant) = new_tenant(rt, alloc, name, limits, shared) else {
+        let owner = Owner {
+            name,
+            limits: self.limits,
+        };
+        let Ok(tenant) = new_tenant(rt, alloc, owner, shared) else {
             self.close(rt);
             return Err(Memory);
         };
@@ -150,15 +169,18 @@ impl Hub {
 
     /// The tenant of this name, if there is one.
     pub(crate) fn find(&self, name: &Name) -> Option<&Tenant>
-        ensures known { is_some result ≡ is_tenant self.now name.now }
-        ensures named { IfSome result (λ tenant. tenant.now.name ≡ name.now) }
+        ensures known { is_some result ≡ is_tenant self.now.names name.now }
+        ensures owner { IfSome result (λ tenant. tenant.now.owner ≡ owner name.now self.now.limits) }
     {
         tenant_of(&self.tenants, name)
     }
 
     /// Ends the hub and its desks. It waits for views that still read.
     pub fn close<R: Wait>(self, rt: &R) {
-        let Hub { mut tenants } = self;
+        let Hub {
+            limits: _,
+            mut tenants,
+        } = self;
         while let Some(tenant) = tenants.pop() {
             tenant.close(rt);
         }
@@ -167,7 +189,10 @@ impl Hub {
 
     /// Ends the hub as [`Hub::close`] does, and leaves the memory of its desks to the end of the process.
     pub fn leave<R: Wait>(self, rt: &R) {
-        let Hub { mut tenants } = self;
+        let Hub {
+            limits: _,
+            mut tenants,
+        } = self;
         while let Some(tenant) = tenants.pop() {
             tenant.leave(rt);
         }
@@ -177,11 +202,14 @@ impl Hub {
 
 /// The tenant of this name, if there is one.
 fn tenant_of<'a>(tenants: &'a [Tenant], name: &Name) -> Option<&'a Tenant>
-    ensures known { is_some result ≡ list_any (λ tenant. is_same tenant.name name.now) tenants.now }
-    ensures named { IfSome result (λ tenant. tenant.now.name ≡ name.now) }
+    ensures known { is_some result ≡ list_any (λ tenant. is_same tenant.owner.name name.now) tenants.now }
+    ensures named { IfSome result (λ tenant. tenant.now.owner.name ≡ name.now) }
+    // It has the limits that all have.
+    ensures limits { (limits : Bounds) → All (λ tenant. tenant.owner.limits ≡ limits) tenants.now
+        → IfSome result (λ tenant. tenant.now.owner.limits ≡ limits) }
 {
     for tenant in tenants {
-        if tenant.name == *name {
+        if tenant.owner.name == *name {
             return Some(tenant);
         }
     }
@@ -192,16 +220,15 @@ fn tenant_of<'a>(tenants: &'a [Tenant], name: &Name) -> Option<&'a Tenant>
 fn new_tenant<R: Wait>(
     rt: &R,
     alloc: Global,
-    name: Name,
-    limits: Limits,
+    owner: Owner,
     shared: &Arc<Shared>,
 ) -> Result<Tenant, Memory>
-    ensures { IfOk result (λ tenant. tenant.name ≡ name) }
+    ensures { IfOk result (λ tenant. tenant.owner ≡ owner) }
 {
     let shared = Arc::try_clone(shared)?;
-    let resting = Resting::new(rt, alloc, limits, shared)?;
+    let resting = Resting::new(rt, alloc, &owner, shared)?;
     Ok(Tenant {
-        name,
+        owner,
         resting: Mutex::new(resting),
     })
 }

@@ -1,7 +1,6 @@
 //! What sessions borrow.
-ghost use Rattle.std.specs.Prelude.{IfSome};
+ghost use Rattle.std.specs.Prelude.{◌≡◌};
 
-use crate::resting::Resting;
 use std::sync::Wait;
 use tenant_desk::{Desk, View};
 use trace_types::{Code, Reply, Request};
@@ -11,6 +10,7 @@ pub(crate) trait Lent: Sized {
     ghost use Rattle.trace_types.specs.declared.code.Code.{Code};
     ghost use Rattle.trace_types.specs.declared.request.Request.{Request};
     ghost use Rattle.trace_types.specs.declared.reply.Reply.{Reply};
+    ghost use Rattle.trace_types.specs.tenant.Tenant.{Tenant};
 
     // the request may be answered so, and leave it so
     ghost does: { Self → Request → Reply → Self → Type 0 };
@@ -18,24 +18,20 @@ pub(crate) trait Lent: Sized {
     // what is known of it whenever it is lent
     ghost is_sound: { Self → Type 0 };
 
+    // its tenant, with the rows that it knows of
+    ghost tenant_of: { Self → Tenant };
+
     // the code of a session that is refused since there is none
     ghost NONE_LEFT: { Code };
 
     /// The code of a session that is refused since there is none.
     const NONE_LEFT: Code;
 
-    /// Takes one out of what rests, if there is one.
-    fn take(resting: &mut Resting) -> Option<Self>
-        ensures { IfSome result is_sound };
-
-    /// Puts it back to what rests. It gives out a desk that was there.
-    fn put(self, resting: &mut Resting) -> Option<Desk>
-        requires { is_sound self };
-
     /// Answers one request, and puts the reply in place of this one.
     fn answer<T: Wait>(&mut self, rt: &T, request: &Request, reply: &mut Reply)
         ensures does { does self.old request.now reply.new self.new }
-        ensures sound { is_sound self.old → is_sound self.new };
+        ensures sound { is_sound self.old → is_sound self.new }
+        ensures limits { (tenant_of self.new).limits ≡ (tenant_of self.old).limits };
 }
 
 impl Lent for Desk {
@@ -46,17 +42,11 @@ impl Lent for Desk {
 
     ghost is_sound = { IsSoundDesk };
 
+    ghost tenant_of = { λ desk. desk.tenant };
+
     ghost NONE_LEFT = { DeskTaken };
 
     const NONE_LEFT: Code = Code::DeskTaken;
-
-    fn take(resting: &mut Resting) -> Option<Desk> {
-        resting.take_desk()
-    }
-
-    fn put(self, resting: &mut Resting) -> Option<Desk> {
-        resting.put_desk(self)
-    }
 
     fn answer<T: Wait>(&mut self, rt: &T, request: &Request, reply: &mut Reply) {
         self.call_into(rt, request, reply);
@@ -65,24 +55,17 @@ impl Lent for Desk {
 
 impl Lent for View {
     ghost use Rattle.trace_types.specs.declared.code.Code.TheVariants.{NoPlace};
-    ghost use Rattle.trace_session.specs.Lent.{AsksView, IsSoundView};
+    ghost use Rattle.trace_session.specs.Lent.{AsksView, IsSoundView, tenant_seen};
 
     ghost does = { AsksView };
 
     ghost is_sound = { IsSoundView };
 
+    ghost tenant_of = { tenant_seen };
+
     ghost NONE_LEFT = { NoPlace };
 
     const NONE_LEFT: Code = Code::NoPlace;
-
-    fn take(resting: &mut Resting) -> Option<View> {
-        resting.take_view()
-    }
-
-    fn put(self, resting: &mut Resting) -> Option<Desk> {
-        resting.put_view(self);
-        None
-    }
 
     fn answer<T: Wait>(&mut self, rt: &T, request: &Request, reply: &mut Reply) {
         self.ask_cached_into(rt, request, reply);

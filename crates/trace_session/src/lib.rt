@@ -6,7 +6,8 @@
 //! The contract that carries it: [`report_lines`] and [`view_lines`] answer the first lines that were read in turn, each
 //! as the desk takes its request or as the view answers it. Exactly these replies are written, a line each, or a prefix
 //! of them at a fault. [`laws::reports_run`] says that a session that reports gives the replies of a run from the rows of
-//! its desk.
+//! its desk. [`session`] is held with a desk or a view that was made for the tenant of its first line, under the hub's
+//! limits.
 //!
 //! ```
 //! use line_protocol::{FromReader, IntoWriter};
@@ -31,9 +32,12 @@ mod end;
 mod gate;
 mod hub;
 pub mod laws;
+mod lendable;
 mod lent;
 mod lines;
 mod output;
+mod owned;
+mod owner;
 mod resting;
 mod serving;
 

@@ -107,6 +107,7 @@ impl<'a, W: Sink, T: Wait, G: Gate> Output<'a, W, T, G> {
         ensures goes { IfNone lines.old.fault
             (GoesOn R.seen W.seen G.lets_out G.holds_back (Session L.does lent.old lent.new) lines.old lines.new self.old self.new result) }
         ensures sound { L.is_sound lent.old → L.is_sound lent.new }
+        ensures limits { (L.tenant_of lent.new).limits ≡ (L.tenant_of lent.old).limits }
         ensures again { IfSome lines.old.fault (λ fault. (result ≡ Err (session_fault_of fault)) × (lines.new ≡ lines.old)
             × (self.new ≡ self.old) × (lent.new ≡ lent.old)) }
     {
@@ -134,6 +135,7 @@ impl<'a, W: Sink, T: Wait, G: Gate> Output<'a, W, T, G> {
         ensures answers { AnswersAsked L.does asked.now requests lent.old lent.new (W.seen self.old.writer.now) (W.seen self.new.writer.now) result }
         ensures gate { GoesThroughGate W.seen G.lets_out G.holds_back self.old self.new result }
         ensures sound { L.is_sound lent.old → L.is_sound lent.new }
+        ensures limits { (L.tenant_of lent.new).limits ≡ (L.tenant_of lent.old).limits }
     {
         match asked {
             Asked::End => Ok(Some(SessionEnd::EndOfInput)),
@@ -169,6 +171,7 @@ fn reply_to<T: Wait, L: Lent>(rt: &T, lent: &mut L, request: &Option<Request>, r
     requires { reply.old ≡ Refused code.Line }
     ensures answers { AnswersLine L.does lent.old request.now reply.new lent.new }
     ensures sound { L.is_sound lent.old → L.is_sound lent.new }
+    ensures limits { (L.tenant_of lent.new).limits ≡ (L.tenant_of lent.old).limits }
 {
     if let Some(request) = request {
         lent.answer(rt, request, reply);

@@ -6,4 +6,4 @@ use Rattle.trace_session.proofs.hub.tenant_of.Given as goal
 
 -- what was looked at has another name
 abbrev pub invariant-loop-tenant : goal.invariant-loop-tenant
-invariant-loop-tenant l = list_any (λ (tenant : Tenant). is_same tenant.name l.name) (take l.tenant-index l.tenants) ≡ false
+invariant-loop-tenant l = list_any (λ (tenant : Tenant). is_same tenant.owner.name l.name) (take l.tenant-index l.tenants) ≡ false

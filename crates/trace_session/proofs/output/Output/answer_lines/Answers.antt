@@ -25,6 +25,7 @@ loop-found-init g c =
       open_start = open_now;
       open_now = open_now;
       sound = λ sound. sound;
+      limits = refl;
     }
 
 pub returns-in_err-found-clause-goes : goal.returns-in_err-found-clause-goes
@@ -136,4 +137,5 @@ loop-found-preserved g c =
       open_start = before.open_start;
       open_now = next.fault;
       sound = λ sound. c.in_ok-end.ensures.sound (before.sound sound);
+      limits = c.in_ok-end.ensures.limits ∙ before.limits;
     }

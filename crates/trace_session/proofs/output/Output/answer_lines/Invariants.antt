@@ -17,6 +17,7 @@ invariant-loop-found g l = record {
   open_start : l.fn.lines.fault ≡ None;
   open_now : l.lines.fault ≡ None;
   sound : g.L.Lent.is_sound l.fn.lent → g.L.Lent.is_sound l.lent;
+  limits : (g.L.Lent.tenant_of l.lent).limits ≡ (g.L.Lent.tenant_of l.fn.lent).limits;
 }
 
 abbrev pub decreases-loop-found : goal.decreases-loop-found
