@@ -3,92 +3,103 @@
 use crate::digest::Digest;
 use crate::running::Failure;
 use crate::trace::{Most, Trace};
-use line_protocol::{Buffered, FromReader, IntoWriter};
-use std::sync::Wait;
-use trace_session::{Connection, Hub, OpenGate, session};
-use trace_types::{Limits, Name};
+use line_protocol::{Buffer, Buffered, FromReader, IntoWriter, LineReader, Sink, Source};
+use std::sync::{Arc, Wait};
+use tenant_desk::{Desk, View, desk_and_views};
+use tenant_ledger::Shared;
+use trace_session::{OpenGate, SessionEnd, report_lines, view_lines};
+use trace_types::Limits;
 
-/// The tenants.
-const NAMES: [&str; 16] = [
-    "a", "b", "c", "d", "e", "f", "g", "h", "i", "j", "k", "l", "m", "n", "o", "p",
-];
+/// How many tenants there are.
+const TENANTS: u64 = 16;
 
-/// Holds a session for each of 16 tenants that reports, with a question after each report. Then a view of each is asked
-/// four times as many questions.
+/// How many questions a view is asked after each report.
+const QUESTIONS: u64 = 4;
+
+/// Holds a session for each of 16 tenants that reports, with a question after each report. After each a view is asked four
+/// times as many questions in a session of its own.
+///
+/// No question is asked twice of the same events.
 pub(crate) fn hold<T: AllocGlobal + Wait>(
     rt: &T,
     events: u64,
     seed: u64,
 ) -> Result<Digest, Failure> {
-    let mut names = Vec::new(rt.alloc());
-    for name in NAMES {
-        let name = Name::read(name.as_bytes()).ok_or(Failure)?;
-        names.push(name).map_err(|_| Failure)?;
-    }
-    let limits = Limits::read(16384, 2048, 16384).ok_or(Failure)?;
-    let hub = Hub::new(rt, rt.alloc(), names.as_slice(), limits, 1024)?;
+    let shared = Shared::by_all(rt.alloc(), 1024)?;
     let mut digest = Digest::new();
-    let held = hold_all(rt, &hub, events, seed, &mut digest);
-    hub.close(rt);
-    held?;
+    for place in 0..TENANTS {
+        let mut trace = Trace::new(rt.alloc(), seed.wrapping_add(place << 32), "")?;
+        let most = Most {
+            tasks: 64,
+            messages: 16384,
+        };
+        trace.churn_and_view(events / 4, most, QUESTIONS)?;
+        hold_tenant(rt, &shared, &trace, events / 4, &mut digest)?;
+    }
     Ok(digest)
 }
 
-/// Holds both sessions of each tenant.
-fn hold_all<T: AllocGlobal + Wait>(
+/// Holds both sessions of one tenant, for so many turns.
+fn hold_tenant<T: AllocGlobal + Wait>(
     rt: &T,
-    hub: &Hub,
-    events: u64,
-    seed: u64,
+    shared: &Arc<Shared>,
+    trace: &Trace,
+    turns: u64,
     digest: &mut Digest,
 ) -> Result<(), Failure> {
-    for (place, name) in NAMES.iter().enumerate() {
-        let mut trace = Trace::new(rt.alloc(), seed.wrapping_add((place as u64) << 32), "")?;
-        trace.open("report", name)?;
-        trace.churn_and_ask(
-            events / 4,
-            Most {
-                tasks: 64,
-                messages: 16384,
-            },
-        )?;
-        trace.quit()?;
-        trace.open("view", name)?;
-        trace.ask_often(events)?;
-        trace.quit()?;
-        hold_both(rt, hub, trace.text.as_str(), digest)?;
-    }
-    Ok(())
+    let limits = Limits::read(16384, 2048, 16384).ok_or(Failure)?;
+    let shared = Arc::try_clone(shared)?;
+    let (mut desk, mut views) = desk_and_views(rt, rt.alloc(), limits, shared)?;
+    let held = match views.view() {
+        Some(mut view) => hold_both(rt, &mut desk, &mut view, trace, turns, digest),
+        None => Err(Failure),
+    };
+    desk.close(rt);
+    held
 }
 
-/// Holds two sessions, whose lines stand one behind the other.
+/// Holds both sessions, and adds their replies to the digest.
 fn hold_both<T: AllocGlobal + Wait>(
     rt: &T,
-    hub: &Hub,
-    lines: &str,
+    desk: &mut Desk,
+    view: &mut View,
+    trace: &Trace,
+    turns: u64,
     digest: &mut Digest,
 ) -> Result<(), Failure> {
-    let Some((reports, questions)) = lines.split_once("quit\n") else {
-        return Err(Failure);
-    };
-    hold_one(rt, hub, reports, digest)?;
-    hold_one(rt, hub, questions, digest)
+    let mut reports = FromReader::new(trace.text.as_bytes());
+    let mut questions = FromReader::new(trace.other_text.as_bytes());
+    let mut writer = Buffered::new(rt.alloc(), IntoWriter::new(digest))?;
+    hold_turns(
+        rt,
+        desk,
+        view,
+        &mut reports,
+        &mut questions,
+        &mut writer,
+        turns,
+    )
 }
 
-/// Holds a session of these lines.
-fn hold_one<T: AllocGlobal + Wait>(
+/// Holds both sessions by turns, so many of each.
+fn hold_turns<T: AllocGlobal + Wait, R: Source, W: Sink>(
     rt: &T,
-    hub: &Hub,
-    lines: &str,
-    digest: &mut Digest,
+    desk: &mut Desk,
+    view: &mut View,
+    reports: &mut R,
+    questions: &mut R,
+    writer: &mut W,
+    turns: u64,
 ) -> Result<(), Failure> {
-    let mut connection = Connection {
-        reader: FromReader::new(lines.as_bytes()),
-        writer: Buffered::new(rt.alloc(), IntoWriter::new(digest))?,
-        number: 1,
-    };
-    match session(rt, rt.alloc(), hub, &mut connection, &OpenGate) {
-        Ok(_) => Ok(()),
-        Err(_) => Err(Failure),
+    let (own, other) = (Buffer::new(rt.alloc())?, Buffer::new(rt.alloc())?);
+    let mut reports = LineReader::over(reports, own);
+    let mut questions = LineReader::over(questions, other);
+    for _ in 0..turns {
+        let reported = report_lines(rt, desk, &mut reports, writer, &OpenGate, 1);
+        let asked = view_lines(rt, view, &mut questions, writer, &OpenGate, 2);
+        if reported != Ok(SessionEnd::Quit) || asked != Ok(SessionEnd::Quit) {
+            return Err(Failure);
+        }
     }
+    Ok(())
 }

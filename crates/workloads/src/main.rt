@@ -8,9 +8,11 @@
 //! | `check` | Checks the export of a trace with messages |
 //! | `foreign` | Checks an export that no requests lead to, but with right stamps |
 //! | `load` | Loads the export of a trace with messages |
-//! | `ask` | Replays two traces with a question after each report, and then many questions and lists about a third |
+//! | `ask` | Replays two traces with a question after each report, 32 shorter ones with five questions, and asks for lists |
 //! | `deep` | Replays a chain of tasks and a fan of tasks, an eighth as many as events, and then asks for orders |
-//! | `live` | Reports a trace of each of 16 tenants in a session, and asks questions in another |
+//! | `live` | Reports a trace of each of 16 tenants in a session, and after each report asks four questions in another |
+//!
+//! A question is asked at most once of the same events, so that no reply can be had from an earlier one.
 //!
 //! No contract speaks of the inputs. They only have to be the same for two programs, which the digests show.
 #![tactic(auto)]
