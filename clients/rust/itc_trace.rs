@@ -1,8 +1,10 @@
 //! A client of itc_trace serve: reports what tasks do, and asks how events are ordered.
 
 use std::fmt::{self, Display};
+use std::fs::{File, OpenOptions};
 use std::io::{self, BufRead, BufReader, Write};
 use std::net::TcpStream;
+use std::panic::Location;
 use std::sync::Mutex;
 
 /// Why a request has no answer.
@@ -192,4 +194,145 @@ impl Session {
 fn numbers(words: &[String]) -> Result<Vec<u64>, Error> {
     let read = |word: &String| word.parse().map_err(|_| io::ErrorKind::InvalidData.into());
     words.iter().map(read).collect::<Result<_, io::Error>>().map_err(Error::Io)
+}
+
+const TASK_EXISTS: u16 = 402;
+const MOST_NAME: usize = 5;
+
+/// A process that reports where its environment says, by `ITC_TRACE_PORT`, `ITC_TRACE_TENANT`, `ITC_TRACE_PROCESS` and
+/// `ITC_TRACE_JOURNAL`.
+///
+/// It has a task of its own under `root`, and a journal by which `python3 -m itc_trace` lists the races. Any thread may use it.
+pub struct Reporter {
+    /// The task of this process, and the first part of the names of its other tasks.
+    pub task: String,
+    session: Session,
+    journal: Mutex<Option<File>>,
+}
+
+impl Reporter {
+    /// None if the environment names no port.
+    pub fn from_environment() -> Result<Option<Reporter>, Error> {
+        let named = |name: &str| std::env::var(name).ok().filter(|value| !value.is_empty());
+        let Some(port) = named("ITC_TRACE_PORT") else { return Ok(None) };
+        let port = port.parse().ok().filter(|port| *port > 0).ok_or_else(|| {
+            let reason = format!("ITC_TRACE_PORT is {port}, which is no port: set it to a number from 1 to 65535");
+            io::Error::new(io::ErrorKind::InvalidInput, reason)
+        })?;
+        let journal = named("ITC_TRACE_JOURNAL").map(|path| fresh_journal(&path)).transpose()?;
+        let session = Session::new(Kind::Report, &named("ITC_TRACE_TENANT").unwrap_or("trace".into()), port)?;
+        let letters = named("ITC_TRACE_PROCESS").unwrap_or_default();
+        let letters: String = letters.chars().filter(char::is_ascii_alphanumeric).take(MOST_NAME).collect();
+        let mut reporter = Reporter { task: String::new(), session, journal: Mutex::new(journal) };
+        reporter.begin(if letters.is_empty() { "p" } else { &letters })?;
+        Ok(Some(reporter))
+    }
+
+    fn begin(&mut self, name: &str) -> Result<(), Error> {
+        for number in 1.. {
+            let tried = if number == 1 { name.to_string() } else { format!("{name}{number}") };
+            match self.session.spawn("root", &tried) {
+                Err(Error::Refused { code: TASK_EXISTS, .. }) => continue,
+                told => self.write(told?, "root", "spawn", None, &format!("start process {tried}"), "?", 0)?,
+            }
+            self.task = tried;
+            break;
+        }
+        Ok(())
+    }
+
+    /// The name of another task of this process, as of a thread.
+    pub fn name(&self, of: &str) -> String {
+        format!("{}_{of}", self.task)
+    }
+
+    /// The task reads or writes the thing, which is of this process, at the line that calls this.
+    #[track_caller]
+    pub fn touch(&self, task: &str, thing: &str, writes: bool) -> Result<u64, Error> {
+        self.touch_across(task, &format!("{thing} of {}", self.task), writes)
+    }
+
+    /// The same of a thing that all processes call by this name, as a file.
+    #[track_caller]
+    pub fn touch_across(&self, task: &str, thing: &str, writes: bool) -> Result<u64, Error> {
+        let kind = if writes { "write" } else { "read" };
+        self.at(self.session.local(task), task, kind, Some(thing), &format!("{kind} {thing}"))
+    }
+
+    #[track_caller]
+    pub fn spawn(&self, task: &str, child: &str) -> Result<u64, Error> {
+        self.at(self.session.spawn(task, child), task, "spawn", None, &format!("start {child}"))
+    }
+
+    #[track_caller]
+    pub fn send(&self, task: &str, message: &str) -> Result<u64, Error> {
+        self.at(self.session.send(task, message), task, "send", None, &format!("send {message}"))
+    }
+
+    #[track_caller]
+    pub fn recv(&self, task: &str, message: &str) -> Result<u64, Error> {
+        self.at(self.session.recv(task, message), task, "recv", None, &format!("receive {message}"))
+    }
+
+    #[track_caller]
+    pub fn end(&self, task: &str) -> Result<u64, Error> {
+        self.at(self.session.end(task), task, "end", None, "end")
+    }
+
+    #[track_caller]
+    pub fn join(&self, task: &str, child: &str) -> Result<u64, Error> {
+        self.at(self.session.join(task, child), task, "join", None, &format!("join {child}"))
+    }
+
+    /// Ends the session. The journal says that all was reported.
+    pub fn close(self) -> Result<(), Error> {
+        match self.journal.into_inner().unwrap() {
+            Some(mut journal) => Ok(journal.write_all(b"{\"end\":true}\n")?),
+            None => Ok(()),
+        }
+    }
+
+    #[track_caller]
+    fn at(&self, told: Result<u64, Error>, task: &str, kind: &str, thing: Option<&str>, label: &str) -> Result<u64, Error> {
+        let (event, caller) = (told?, Location::caller());
+        self.write(event, task, kind, thing, label, caller.file(), caller.line())?;
+        Ok(event)
+    }
+
+    #[allow(clippy::too_many_arguments)]
+    fn write(
+        &self, event: u64, task: &str, kind: &str, thing: Option<&str>, label: &str, file: &str, line: u32,
+    ) -> Result<(), Error> {
+        let thing = thing.map_or("null".into(), quoted);
+        let (task, kind, file, label) = (quoted(task), quoted(kind), quoted(file), quoted(label));
+        let places = format!("\"file\":{file},\"line\":{line},\"label\":{label}");
+        let row = format!("{{\"event\":{event},\"task\":{task},\"thing\":{thing},\"kind\":{kind},{places}}}\n");
+        match self.journal.lock().unwrap().as_mut() {
+            Some(journal) => Ok(journal.write_all(row.as_bytes())?),
+            None => Ok(()),
+        }
+    }
+}
+
+/// A file that was not there. A process that is started again does not overwrite its first journal.
+fn fresh_journal(path: &str) -> io::Result<File> {
+    for number in 1.. {
+        let tried = if number == 1 { path.to_string() } else { format!("{path}.{number}") };
+        match OpenOptions::new().write(true).create_new(true).open(tried) {
+            Err(error) if error.kind() == io::ErrorKind::AlreadyExists => continue,
+            opened => return opened,
+        }
+    }
+    unreachable!("some name is free")
+}
+
+fn quoted(text: &str) -> String {
+    let mut quoted = String::from("\"");
+    for next in text.chars() {
+        match next {
+            '"' | '\\' | '\0'..='\x1f' => quoted += &format!("\\u{:04x}", next as u32),
+            _ => quoted.push(next),
+        }
+    }
+    quoted + "\""
 }
