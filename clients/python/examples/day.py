@@ -26,9 +26,9 @@ class Store:
         self.is_open = True
 
     def sell(self) -> None:
-        itc_trace.touch("stock file")
+        itc_trace.touch("stock file", across=True)
         left = int(self._stock.read_text())
-        itc_trace.touch("stock file", write=True)
+        itc_trace.touch("stock file", write=True, across=True)
         self._stock.write_text(str(left - 1))
 
     def __call__(self, environ: dict[str, Any], start_response: Callable[..., Any]) -> Iterable[bytes]:
@@ -82,7 +82,7 @@ def sell(address: str, closes: bool) -> None:
 def audit(address: str, stock: Path, asks: bool) -> None:
     while asks and ask(address, "/") != b"over":
         time.sleep(0.02)
-    itc_trace.touch("stock file")
+    itc_trace.touch("stock file", across=True)
     print("left:", stock.read_text() if stock.exists() else "unknown")
     if asks:
         ask(address, "/close")

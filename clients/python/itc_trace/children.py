@@ -2,6 +2,7 @@
 
 from __future__ import annotations
 
+import contextlib
 import os
 import select
 import sys
@@ -21,10 +22,11 @@ from .verdict import Cause, Unseen
 VARIABLE = "ITC_TRACE_CHILD_OF"
 """Names the journal of a traced process to those that it starts."""
 
-STARTING = frozenset({"multiprocessing", "concurrent", "itc_trace"})
+STARTING = frozenset({"multiprocessing", "concurrent", "subprocess", "itc_trace"})
 """Modules that start processes for the program."""
 
 LEFT_CHILD = Unseen(Cause.CHILD, "a child process goes on after its parent, and was not traced")
+UNKNOWN_CHILDREN = Unseen(Cause.CHILD, "the program has closed a file of the package, so a child process may go on that was not traced")
 IN_CHILD = Unseen(Cause.CHILD, "this is a child process, which is not traced")
 
 
@@ -62,6 +64,11 @@ def tell_of_processes(tell: Callable[[Unseen], None]) -> None:
     if not _is_told_of_processes:
         _is_told_of_processes = True
         once_imported("multiprocessing.process", lambda module: _wrap_start(module.BaseProcess, tell))
+        once_imported("subprocess", lambda module: _wrap_command(module.Popen, "__init__", 1, tell))
+        _wrap_command(os, "system", 0, tell)
+        for name in ("posix_spawn", "posix_spawnp"):
+            if hasattr(os, name):
+                _wrap_command(os, name, 1, tell)
 
 
 def _wrap_start(kind: Any, tell: Callable[[Unseen], None]) -> None:
@@ -73,6 +80,21 @@ def _wrap_start(kind: Any, tell: Callable[[Unseen], None]) -> None:
         tell(Unseen(Cause.CHILD, f"a child process was not traced: it was started by {method} at {_starting_place()}"))
 
     kind.start = like(original, start)
+
+
+def _wrap_command(owner: Any, name: str, place: int, tell: Callable[[Unseen], None]) -> None:
+    """Tells of each program of a watched folder that is run by a function whose word at this place is the command."""
+    original = getattr(owner, name)
+
+    def run(*words: Any, **named: Any) -> Any:
+        told = original(*words, **named)
+        command = words[place] if len(words) > place else named.get("args", named.get("argv", named.get("command", "")))
+        program = watch.program_of(command, os.fspath(named.get("cwd") or os.getcwd()))
+        if program is not None:
+            tell(Unseen(Cause.CHILD, f"a child process was not traced: {program}, which was started at {_starting_place()}"))
+        return told
+
+    setattr(owner, name, like(original, run))
 
 
 def _starting_place() -> str:
@@ -115,7 +137,8 @@ class ForkedChildren:
     def close(self) -> None:
         for file in (self._end, self._held):
             if file >= 0:
-                os.close(file)
+                with contextlib.suppress(OSError):  # The program has closed it.
+                    os.close(file)
         self._end = self._held = -1
 
 

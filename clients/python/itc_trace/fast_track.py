@@ -13,20 +13,14 @@ from collections.abc import Iterable, Iterator
 from .conflicts import CONFLICTING
 from .journal import Row
 
-_Class = tuple[str, frozenset[str]]
 
-
-def deciding_pairs(touches: Iterable[Row], with_locks: bool = False) -> Iterator[tuple[int, int]]:
-    """Pairs of events of two tasks, for the touches of one thing in the order of their events.
-
-    With locks a pair conflicts only if its tasks held no lock in common.
-    """
-    last: dict[_Class, dict[str, int]] = defaultdict(dict)
+def deciding_pairs(touches: Iterable[Row]) -> Iterator[tuple[int, int]]:
+    """Pairs of events of two tasks, for the touches of one thing in the order of their events."""
+    last: dict[str, dict[str, int]] = defaultdict(dict)
     for touch in touches:
-        held = frozenset(touch.held) if with_locks else frozenset()
-        for (kind, other_held), events in last.items():
-            is_stood_for = CONFLICTING[kind] <= CONFLICTING[touch.kind] and held <= other_held
-            if kind in CONFLICTING[touch.kind] and not held & other_held:
+        for kind, events in last.items():
+            is_stood_for = CONFLICTING[kind] <= CONFLICTING[touch.kind]
+            if kind in CONFLICTING[touch.kind]:
                 for task, event in events.items():
                     if task != touch.task:
                         yield event, touch.event
@@ -34,4 +28,4 @@ def deciding_pairs(touches: Iterable[Row], with_locks: bool = False) -> Iterator
                     events.clear()
             elif is_stood_for:
                 events.pop(touch.task, None)
-        last[touch.kind, held][touch.task] = touch.event
+        last[touch.kind][touch.task] = touch.event

@@ -2,6 +2,8 @@
 
 from __future__ import annotations
 
+import socket
+
 from .collector import HOST
 from .session import Refused, Session
 
@@ -48,6 +50,14 @@ def _advice(code: int, tenant: str, port: int) -> str:
     if code in FULL:
         return f"the trace of tenant {tenant} at port {port} has no room left: name another by --tenant, or start a fresh server"
     return ""
+
+
+def look_for_collector(port: int, host: str = HOST) -> None:
+    """Makes sure that somebody listens at the port."""
+    try:
+        socket.create_connection((host, port)).close()
+    except ConnectionRefusedError as refused:
+        raise Fault(nobody_listens(port)) from refused
 
 
 def look(tenant: str, port: int, host: str = HOST) -> None:

@@ -8,7 +8,8 @@ from types import CodeType
 from typing import TYPE_CHECKING, Any, NamedTuple
 
 from .conflicts import CHANGING
-from .stretches import SITES
+from .dividing import Border
+from .stretches import SITES, Across
 from .verdict import BREAKS_OFF, Cause, Unseen
 
 if TYPE_CHECKING:
@@ -37,6 +38,9 @@ class Row(NamedTuple):
     loop: int = 0
     turn: int = 0
     lock: str | None = None
+    part: int = 1
+    of: str = ""
+    """The task or the message that the report names. It is told of runs that may be divided into parts."""
 
     @property
     def is_touch(self) -> bool:
@@ -78,31 +82,41 @@ def read_whole(lines: Iterable[str]) -> Journal:
     for number, line in enumerate(lines, 1):
         if not line.endswith("\n"):
             break
-        read = _read(line)
+        read = read_line(line)
         if isinstance(read, Row):
             rows.append(read)
         elif isinstance(read, Unseen):
             unseen.append(read)
         elif read == END:
             has_ended = True
+        elif read is not None and number > 1:
+            unseen.append(Unseen(Cause.JOURNAL, "the journal is of a run in parts, which was looked at as one"))
         elif number == 1:
             raise NoJournal("its first line is none of a journal")
         else:
             unseen.append(Unseen(Cause.JOURNAL, f"line {number} of the journal is none"))
-    if not has_ended and not any(one.cause is not Cause.CHILD for one in unseen):
-        unseen.append(BREAKS_OFF)
-    return Journal(rows, unseen)
+    return Journal(rows, unseen if has_ended else with_break(unseen))
+
+
+def with_break(unseen: list[Unseen]) -> list[Unseen]:
+    """What is not seen of a run whose journal has no end. It breaks off, if nothing else says why no more was told."""
+    return unseen if any(one.cause not in GOING_ON for one in unseen) else [*unseen, BREAKS_OFF]
 
 
 END = "end"
+BORDER = '{"border":'
+GOING_ON = frozenset({Cause.CHILD, Cause.MODULE})
+"""Why something is not seen of a run that goes on to be traced."""
 
 
-def _read(line: str) -> Row | Unseen | str | None:
+def read_line(line: str) -> Row | Unseen | Begun | str | None:
     """What a line of a journal says. None if it is no such line."""
     try:
         read = json.loads(line)
         if "event" in read:
             return _row_of(read)
+        if "border" in read:
+            return border_of(read)
         if "unseen" in read:
             return Unseen(Cause(read["unseen"]), str(read["text"]))
         return END if "end" in read else None
@@ -118,6 +132,25 @@ def _row_of(read: dict[str, Any]) -> Row:
     if not isinstance(row.event, int) or not isinstance(row.task, str):
         raise TypeError("an event has a number and a task")
     return row
+
+
+def border_row(number: int, border: Border) -> str:
+    """The line of the border before the part of this number. The first part has none."""
+    told = {"border": number, "positions": border.positions, "tasks": border.tasks}
+    return json.dumps(told, separators=(",", ":")) + "\n"
+
+
+class Begun(NamedTuple):
+    """The number of a part, and how it begins."""
+
+    part: int
+    border: Border
+
+
+def border_of(read: dict[str, Any]) -> Begun:
+    """What a border's line tells of."""
+    positions = [(int(event), int(position)) for event, position in read["positions"]]
+    return Begun(int(read["border"]), Border([], positions, [int(event) for event in read["tasks"]]))
 
 
 class Places:
@@ -146,6 +179,8 @@ class Touch(NamedTuple):
     held: tuple[LockIdentity, ...]
     loop: int
     turn: int
+    job: int = 0
+    """The number of a pool's job that is no task of its own."""
 
 
 class TouchTexts:
@@ -159,16 +194,25 @@ class TouchTexts:
         self._locks: dict[int, str] = {}
 
     def text(self, touch: Touch) -> str:
-        thing, kind, site, held, loop, turn = touch
+        thing, kind, site, held, loop, turn, _ = touch
         if isinstance(thing, str):
             code, instruction, label = site
-            named = f'"thing":{json.dumps(thing)},"kind":"{kind}",{self._places.text(code, instruction)}'
+            named = f'"thing":{json.dumps(self._name(thing))},"kind":"{kind}",{self._places.text(code, instruction)}'
             told = f'{named},"label":{json.dumps(label or f"{kind} {thing}")},"function":{json.dumps(code.co_qualname if code else "")}'
         else:
             told = f'{self._thing(thing)},"kind":"{kind}",{self._site(site)},"label":{json.dumps(f"{kind} {thing.name}")}'
         locks = f',"held":[{",".join([self.lock(one) for one in held])}]' if held else ""
         when = f',"loop":{loop},"turn":{turn}' if loop else ""
         return f"{told}{locks}{when}}}\n"
+
+    def _name(self, thing: str) -> str:
+        """The name of a thing, which is of this process if it is not one across all."""
+        return thing if not self._prefix or isinstance(thing, Across) else f"{thing} of {self._prefix.rstrip('_')}"
+
+    def forget(self) -> None:
+        """Forgets the texts of things and locks, which may be no more."""
+        self._things.clear()
+        self._locks.clear()
 
     def lock(self, lock: LockIdentity) -> str:
         """The name of a lock, behind what tells it from others of the same name."""

@@ -2,6 +2,7 @@
 
 from __future__ import annotations
 
+import contextlib
 import os
 
 
@@ -21,4 +22,5 @@ class JournalFile:
     def close(self) -> None:
         file, self._file = self._file, None
         if file is not None:
-            os.close(file)
+            with contextlib.suppress(OSError):  # The program has closed it.
+                os.close(file)

@@ -9,20 +9,25 @@ import atexit
 import builtins
 import json
 import os
+import pkgutil
 import runpy
 import signal
 import sys
 import threading
 import types
 from collections.abc import Callable
+from functools import partial
 from pathlib import Path
 from types import FrameType
 from typing import Any, NoReturn
 
 from . import watch
+from .dividing import LEAVE
 from .faults import WORDS_REFUSED
+from .part_collectors import ask_for_port
 from .patches.base import like
 from .shaking import Shaking
+from .tracer_parts import Parts
 from .tracing import Tracing
 from .verdict import Cause, Unseen
 
@@ -40,11 +45,13 @@ def main() -> None:
     seed = configuration.pop("seed")
     words = sys.argv[2:]
     packages = configuration.pop("watched")
+    asked_at, events = configuration.pop("parts", (None, None))
+    parts = None if asked_at is None else Parts(partial(ask_for_port, asked_at), LEAVE._replace(events=events))
     if packages is not None:
         watch.watch_loaded([_folder_of(words)], packages)
     shaking = None if seed is None else Shaking(seed)
     try:
-        traced = Tracing(**configuration, shaking=shaking).start()
+        traced = Tracing(**configuration, shaking=shaking, parts=parts).start()
     except OSError as fault:  # Another session reports, say.
         _refuse(tell, str(fault))
     ending = Ending(traced)
@@ -173,15 +180,15 @@ def _folder_of(words: list[str]) -> str:
 
 def _run_file(program: str, words: list[str]) -> None:
     sys.argv = words
-    sys.path[0] = os.path.dirname(os.path.realpath(program))
-    if os.path.isdir(program):
-        runpy.run_path(program, run_name="__main__")
+    module = sys.modules["__main__"] = types.ModuleType("__main__")
+    if pkgutil.get_importer(program) is not None:  # A folder or an archive, with a module __main__ in it.
+        sys.path[0] = program
+        runpy._run_module_as_main("__main__", alter_argv=False)  # type: ignore[attr-defined]
         return
+    sys.path[0] = os.path.dirname(os.path.realpath(program))
     with open(program, "rb") as file:
         source = file.read()
-    module = types.ModuleType("__main__")
     module.__dict__.update(__file__=program, __builtins__=builtins, __cached__=None)
-    sys.modules["__main__"] = module
     plain = compile(source, program, "exec", dont_inherit=True)
     exec(watch.code_of(source, program, plain), module.__dict__)
 

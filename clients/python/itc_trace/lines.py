@@ -56,15 +56,16 @@ OUTSIDE = What("out", "send to another process", "receive from another process")
 
 
 class Line:
-    """The events of one task, in their order. All but the first seven fields belong to the thread that reports.
+    """The events of one task, in their order. All but the first eight fields belong to the thread that reports.
 
     `held` has the locks that the task holds now, in the order of their acquiring.
     """
 
     __slots__ = (
-        "tracer", "hint", "waiting", "reference", "must_finish", "held", "section",
+        "tracer", "hint", "waiting", "reference", "must_finish", "held", "section", "job",
         "name", "count", "message", "lock", "sent", "pending", "known", "known_by_locks", "parent", "parent_count", "touches",
         "end_token", "is_finished", "has_ended", "is_gone", "joined_by", "joined_at", "joined", "first_taker",
+        "is_forgotten",
     )
 
     def __init__(self, tracer: Tracer | None, hint: str) -> None:
@@ -73,6 +74,8 @@ class Line:
         self.waiting = 0
         self.reference: weakref.ref[Any] | None = None
         self.must_finish = False
+        self.job: LateJob | None = None
+        """The pool's job that is done in it, if there are too many jobs for each to be a task of its own."""
         self.held: tuple[LockIdentity, ...] = ()
         self.section: Section | None = None
         """The section of a lock that it has left, if it has done nothing else since."""
@@ -97,6 +100,8 @@ class Line:
         self.joined_at = 0
         self.joined: list[Line] = []
         self.first_taker: Line | None = None
+        self.is_forgotten = False
+        """Whether it ended in an earlier part of the run, and is no more known to the collector."""
         state.lines += 1
 
     def watch(self, thing: object) -> None:
@@ -109,6 +114,21 @@ class Line:
             note((GONE, self))
 
 
+class LateJob:
+    """A job of a pool that is no task of its own. What it touches is told by the line of its thread, and known as the job's."""
+
+    __slots__ = ("line", "number", "numbers")
+
+    def __init__(self, line: Line, number: int) -> None:
+        self.line = line
+        self.number = number
+        self.numbers: dict[tuple[LockIdentity, ...], int] = {}
+
+    @property
+    def held(self) -> tuple[LockIdentity, ...]:
+        return self.line.held
+
+
 class Token:
     """A place in a line, behind the events that it had when the token was noted. Whoever takes it, comes after these.
 
@@ -116,7 +136,7 @@ class Token:
     `lock` says which of them only luck puts in order.
     """
 
-    __slots__ = ("line", "what", "code", "instruction", "count", "message")
+    __slots__ = ("line", "what", "code", "instruction", "count", "message", "__weakref__")
 
     def __init__(self, line: Line, what: What | LockIdentity | Signal, code: CodeType | None, instruction: int) -> None:
         self.line = line

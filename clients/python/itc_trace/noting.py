@@ -14,7 +14,7 @@ from typing import Any
 
 from .conflicts import MAKING, READ, WRITE
 from .lines import MARK, SPAWN, TAKE, TOUCH, Line, Token, What, state
-from .stretches import STRETCHES, TURNS, Stretch, Touched, leave
+from .stretches import STRETCHES, TURNS, Across, Stretch, Touched, leave
 
 local = threading.local()
 """`line` is the thread's own line, and that of a pool's job while it runs there."""
@@ -192,12 +192,15 @@ def take(token: Token | None, depth: int = 2) -> None:
         note((TAKE, line, token, *place(frame_at(depth))))
 
 
-def touch(thing: str, write: bool = False, label: str | None = None) -> None:
-    """Notes that the current task reads or writes the thing, at the line of the program that calls this."""
+def touch(thing: str, write: bool = False, label: str | None = None, across: bool = False) -> None:
+    """Notes that the current task reads or writes the thing, at the line of the program that calls this.
+
+    A thing is of this process, unless it is one across all processes that call it by this name, as a file is.
+    """
     if state.note is not None or state.witness is not None:
         frame = frame_at(1)
         try:
-            touch_at(thing, WRITE if write else READ, *place_of(frame), label)
+            touch_at(Across(thing) if across else thing, WRITE if write else READ, *place_of(frame), label)
         except Exception as fault:
             failed(fault)
 
@@ -208,7 +211,7 @@ def place_of(frame: FrameType | None) -> tuple[CodeType | None, int]:
 
 def touch_at(thing: str, kind: str, code: CodeType | None, instruction: int, label: str | None = None) -> None:
     """Notes a touch of a thing that the program has named."""
-    key = thing, kind, id(code), instruction, label
+    key = thing, type(thing), kind, id(code), instruction, label
     stretch = STRETCHES.get(get_ident())
     if stretch is None or key not in stretch:
         touched(key, thing, kind, (code, instruction, label))
@@ -246,5 +249,5 @@ def _begin_stretch() -> Stretch:
     line, loop, thread = line_of_now(), _get_running_loop(), get_ident()
     turn = 0 if loop is None else TURNS.get(thread, 0)
     line.section = None
-    stretch = STRETCHES[thread] = Stretch(line, 0 if loop is None else id(loop), turn, thread)
+    stretch = STRETCHES[thread] = Stretch(line.job or line, 0 if loop is None else id(loop), turn, thread)
     return stretch

@@ -1,7 +1,7 @@
 """Finds the races of a trace: touches of one thing that conflict, by tasks that nothing keeps in order.
 
 The order comes from the collector alone. For each thing it is asked of the few pairs of touches that decide whether there is a race.
-Only if there is one, all pairs of places that race are looked for. A race is possible if nothing but locks that the two tasks do
+Only if there is one, it is asked which events each event follows, and all pairs of places that race are looked for. A race is possible if nothing but locks that the two tasks do
 not both hold put two touches in order.
 """
 
@@ -11,18 +11,25 @@ import linecache
 from collections import defaultdict
 from collections.abc import Iterable, Iterator
 from dataclasses import dataclass, field
+from functools import cached_property
+from itertools import islice
+from typing import Protocol
 
 from .collector import HOST, NoCollector
 from .conflicts import CONFLICTING, MAKING
 from .fast_track import deciding_pairs
 from .journal import Row, read_whole
 from .order import Order
-from .racing_pairs import Bounds, Pair, racing_pairs
+from .progress import Bar, Shown
+from .racing_pairs import Pair, racing_pairs
 from .session import Refused, Session
+from .trace import Asked, Events, Trace, Unordered, lock_events, lock_that_tells, told_by_signals
 from .verdict import Cause, Unseen, Verdict, verdict_of
-from .without_locks import Signals, Trace, WithoutLocks, first_lock_that_tells
+from .without_locks import WithoutLocks
 
 NOTHING = "nothing orders them"
+MOST_ORDERS = 32768
+"""So many pairs of touches that decide are asked for, each by itself. What comes before what by these is known in another way, too."""
 
 
 @dataclass(frozen=True)
@@ -61,9 +68,16 @@ class Race:
         places = [_place(side, width) for side in self.sides]
         times = "once" if self.times == 1 else f"{self.times} times"
         tasks = "tasks" if first.loop or second.loop else "threads"
-        order = f"{tasks} {first.task} and {second.task}: {self.why}; {times}, as events {first.event} and {second.event}"
+        order = f"{tasks} {first.task} and {second.task}: {self.why}; {times}, as {_events(first, second)}"
         word = "possible race" if self.is_possible else "race"
         return "\n    ".join([f"{word} on {self.thing}{made}", *places, order])
+
+
+def _events(first: Row, second: Row) -> str:
+    """By their numbers, and those of their parts if the run has several."""
+    if first.part == second.part:
+        return f"events {first.event} and {second.event}" + (f" of part {first.part}" if first.part > 1 else "")
+    return f"event {first.event} of part {first.part} and event {second.event} of part {second.part}"
 
 
 def _place(side: Side, width: int) -> str:
@@ -147,11 +161,14 @@ class _Thing:
         return bool(frozenset(self.touches[0].held).intersection(*(touch.held for touch in self.touches)))
 
 
-def find_races(tenant: str, port: int, journal: Iterable[str], host: str = HOST, strict: bool = False) -> Races:
+def find_races(
+    tenant: str, port: int, journal: Iterable[str], host: str = HOST, strict: bool = False, bar: Bar | None = None
+) -> Races:
     """The races among the touches that the journal lists, by the order that the collector answers.
 
     If it is strict, two tasks of one loop race as two threads do. If it is not, only a read that a task writes back in a later turn
     of the loop, with a change by another task in between, is a race of them. Things that the program has named are always strict.
+    A bar shows how far it has come.
     """
     whole = read_whole(journal)
     rows = sorted(dict.fromkeys(whole.rows), key=lambda row: row.event)
@@ -162,7 +179,21 @@ def find_races(tenant: str, port: int, journal: Iterable[str], host: str = HOST,
     things = [thing for thing in _things_of(rows) if thing.may_race]
     if things:
         with Session(tenant, port, "view", host) as view:
-            _Finder(view, rows, found, strict).find(things)
+            events = view.count()[0]
+            if bar is None:
+                _Finder(view, events, rows, found, strict).find(things)
+            else:
+                _Finder(Shown(view, bar), events, rows, found, strict).find(things)
+    return found
+
+
+def find_in(view: Asked, events: int, rows: list[Row], strict: bool) -> Races:
+    """The races of one trace, by its rows."""
+    rows = sorted(dict.fromkeys(rows), key=lambda row: row.event)
+    found = Races()
+    things = [thing for thing in _things_of(rows) if thing.may_race]
+    if things:
+        _Finder(view, events, rows, found, strict).find(things)
     return found
 
 
@@ -177,13 +208,19 @@ def _things_of(rows: list[Row]) -> list[_Thing]:
 class _Finder:
     """Looks for the races of things, and for those that are possible."""
 
-    def __init__(self, view: Session, rows: list[Row], found: Races, is_strict: bool) -> None:
+    def __init__(self, view: Asked, events: int, rows: list[Row], found: Races, is_strict: bool) -> None:
         self._view = view
-        self._rows = rows
+        self._events = events
         self._found = found
         self._is_strict = is_strict
         self._locks = {row.event: row.lock for row in rows if row.lock is not None}
-        self._order = Order(view, rows, is_complete=view.count()[0] == found.events)
+        self._order = Order(view)
+
+    @cached_property
+    def _trace(self) -> Trace:
+        trace = Trace(self._view, self._events)
+        self._found.questions += len(trace.events)
+        return trace
 
     def find(self, things: list[_Thing]) -> None:
         self._find_races(things)
@@ -195,82 +232,104 @@ class _Finder:
         self._found.questions += self._order.questions
 
     def _find_races(self, things: list[_Thing]) -> None:
-        order = self._order
-        deciding = [list(deciding_pairs(thing.touches)) for thing in things]
-        order.ask(pair for pairs in deciding for pair in pairs)
-        racing = [thing for thing, pairs in zip(things, deciding) if not all(order.is_before(*pair) for pair in pairs)]
-        order.ask_known(touch.event for thing in racing for touch in thing.touches)
-
-        def bounds(touch: Row, task: str) -> tuple[int, int]:
-            return order.known(touch.event).get(task, 0), touch.event - 1
-
         listed: dict[object, Race] = {}
-        for thing in racing:
-            for pair in racing_pairs(thing.touches, bounds, False, self._is_strict or thing.is_named):
-                _list(pair, listed)
-        self._found.races = _sorted(listed)
+        for thing in self._racing(things):
+            unordered = self._trace.unordered
+            for pair in racing_pairs(thing.touches, unordered, unordered, False, self._is_strict or thing.is_named):
+                list_pair(pair, listed)
+        self._found.races = in_order(listed)
+        _confirm(self._found.races, self._order)
+
+    def _racing(self, things: list[_Thing]) -> Iterator[_Thing]:
+        """The things of which a pair that decides has no order, and those that have too many such pairs to ask for each."""
+        deciding: list[tuple[_Thing, list[tuple[int, int]]]] = []
+        room = MOST_ORDERS
+        for thing in things:
+            pairs = list(islice(deciding_pairs(thing.touches), room + 1))
+            deciding.append((thing, [] if len(pairs) > room else pairs))
+            room -= len(deciding[-1][1])
+        self._order.ask(pair for _, pairs in deciding for pair in pairs)
+        for thing, pairs in deciding:
+            if not pairs or any(self._order.is_concurrent(*pair) for pair in pairs):
+                yield thing
 
     def _find_possible(self, things: list[_Thing]) -> None:
-        deciding = [list(deciding_pairs(thing.touches, with_locks=True)) for thing in things]
-        if not any(deciding):
+        if not things:
             return
-        trace = Trace(self._view, set(self._locks))
-        with WithoutLocks(trace) as tenant:
-            tenant.ask(pair for pairs in deciding for pair in pairs)
-            unordered = [thing for thing, pairs in zip(things, deciding) if any(tenant.is_concurrent(*pair) for pair in pairs)]
-            self._list_possible(unordered, trace, tenant)
-            self._found.questions += tenant.questions
-
-    def _list_possible(self, things: list[_Thing], trace: Trace, tenant: WithoutLocks) -> None:
-        order, last = self._order, {touch.task: touch.event for thing in things for touch in thing.touches}
-        for thing in things:
-            for touch in thing.touches:
-                last[touch.task] = max(last[touch.task], touch.event)
-        order.ask_known(touch.event for thing in things for touch in thing.touches)
-        signals = Signals(trace, order, last)
+        trace = self._trace
+        locks = lock_events(trace, self._locks)
+        told = told_by_signals(trace, locks)
         races = {_key(race.example) for race in self._found.races}
         listed: dict[object, Race] = {}
         for thing in things:
-            bounds = self._luck(thing, signals)
-            for first, second, times in racing_pairs(thing.touches, bounds, True, self._is_strict or thing.is_named):
-                if _key((first, second)) not in races and tenant.is_concurrent(first.event, second.event):
-                    _list((first, second, times), listed)
+            untold = _untold(thing, trace, told)
+
+            def by_luck(touch: int, untold: Unordered = untold) -> Events:
+                return trace.before[touch] & untold(touch)
+
+            for pair in racing_pairs(thing.touches, by_luck, untold, True, self._is_strict or thing.is_named):
+                if _key(pair[:2]) not in races:
+                    list_pair(pair, listed)
         for race in listed.values():
             race.is_possible = True
-            race.why = self._reason(trace, *race.example)
-        self._found.possible = _sorted(listed)
+            race.why = self._reason(lock_that_tells(trace, locks, race.example[0].event, race.example[1].event), *race.example)
+        self._found.possible = in_order(listed)
+        if listed:
+            with WithoutLocks(trace, locks) as tenant:
+                _confirm(self._found.possible, tenant)
+                self._found.questions += tenant.questions
 
-    def _luck(self, thing: _Thing, signals: Signals) -> Bounds:
-        """Which events of a task came before a touch by locks alone."""
-        order, handed_over = self._order, self._handed_over(thing)
-
-        def bounds(touch: Row, task: str) -> tuple[int, int]:
-            known = signals.known(touch.task, touch.event)
-            low = known.get(task, 0)
-            if thing.making is not None and task == thing.making.task and known.get(task, 0) < thing.making.event:
-                low = max(low, handed_over)
-            return low, order.known(touch.event).get(task, 0)
-
-        return bounds
-
-    def _handed_over(self, thing: _Thing) -> int:
-        """The last event up to which whoever made the thing had it for himself."""
-        if thing.making is None:
-            return 0
-        maker, first = thing.making.task, {}
-        for touch in thing.touches:
-            if touch.task != maker:
-                first.setdefault(touch.task, touch.event)
-        return min((self._order.known(event).get(maker, 0) for event in first.values()), default=0)
-
-    def _reason(self, trace: Trace, first: Row, second: Row) -> str:
-        receipt = first_lock_that_tells(trace, self._order, first.event, second.event)
+    def _reason(self, receipt: int | None, first: Row, second: Row) -> str:
         lock = self._locks.get(receipt) if receipt is not None else None
         if lock is None:
             return "ordered in this run only by locks"
         lacks = [lock not in touch.held for touch in (first, second)]
         who = "neither holds" if all(lacks) else "the first does not hold" if lacks[0] else "the second does not hold"
         return f"ordered in this run only by {lock.partition(' ')[2]}, which {who}"
+
+
+class _Confirms(Protocol):
+    """Answers whether two events are in order."""
+
+    def ask(self, pairs: Iterable[tuple[int, int]]) -> None: ...
+
+    def is_concurrent(self, first: int, second: int) -> bool: ...
+
+
+def _confirm(races: list[Race], order: _Confirms) -> None:
+    """Has the example of each race answered by a collector."""
+    pairs = [(race.example[0].event, race.example[1].event) for race in races]
+    order.ask(pairs)
+    for pair in pairs:
+        if not order.is_concurrent(*pair):
+            raise Refused("order {} {}".format(*pair), "it contradicts what the events follow")
+
+
+def _untold(thing: _Thing, trace: Trace, told: list[Events]) -> Unordered:
+    """Which earlier events a touch was told of by locks at most."""
+    making, handed_over = thing.making, _handed_over(thing, trace)
+
+    def untold(touch: int) -> Events:
+        known = told[touch]
+        if making is not None and not known >> making.event & 1:
+            known |= handed_over
+        return ~known & ((1 << touch) - 2)
+
+    return untold
+
+
+def _handed_over(thing: _Thing, trace: Trace) -> Events:
+    """The events up to which whoever made the thing had it for himself."""
+    if thing.making is None:
+        return 0
+    maker, first = thing.making.task, dict[str, int]()
+    for touch in thing.touches:
+        if touch.task != maker:
+            first.setdefault(touch.task, touch.event)
+    own = sum({1 << touch.event for touch in thing.touches if touch.task == maker})
+    for event in first.values():
+        own &= trace.before[event]
+    return own if first else 0
 
 
 def _key(example: tuple[Row, Row]) -> object:
@@ -280,15 +339,22 @@ def _key(example: tuple[Row, Row]) -> object:
     return first.group or first.name or first.thing, one, other
 
 
-def _list(pair: Pair, listed: dict[object, Race]) -> None:
+def list_pair(pair: Pair, listed: dict[object, Race]) -> bool:
+    """Adds a pair to the races that are listed. Says whether it is the example of one."""
     first, second, times = pair
-    key = _key((first, second))
-    race = listed.get(key)
-    if race is None:
-        race = listed[key] = Race(first.name or first.thing or "", _sides(first, second), (first, second))
-    elif _tells_more(first, second, race.example):
-        race.sides, race.example = _sides(first, second), (first, second)
-    race.times += times
+    return add_race(Race(first.name or first.thing or "", _sides(first, second), (first, second), times), listed)
+
+
+def add_race(race: Race, listed: dict[object, Race]) -> bool:
+    """Adds a race to those that are listed. Says whether its example is the one that is shown."""
+    known = listed.setdefault(race.key, race)
+    if known is race:
+        return True
+    known.times += race.times
+    tells_more = _tells_more(*race.example, known.example)
+    if tells_more:
+        known.sides, known.example, known.why = race.sides, race.example, race.why
+    return tells_more
 
 
 def _sides(first: Row, second: Row) -> tuple[Side, Side]:
@@ -300,5 +366,6 @@ def _tells_more(first: Row, second: Row, example: tuple[Row, Row]) -> bool:
     return first.place != second.place and first.is_write + second.is_write > sum(row.is_write for row in example)
 
 
-def _sorted(listed: dict[object, Race]) -> list[Race]:
-    return sorted(listed.values(), key=lambda race: (race.example[0].event, race.example[1].event))
+def in_order(listed: dict[object, Race]) -> list[Race]:
+    """The races by the events of their examples."""
+    return sorted(listed.values(), key=lambda race: [(row.part, row.event) for row in race.example])

@@ -4,6 +4,7 @@ from __future__ import annotations
 
 import contextlib
 import importlib.util
+import io
 import json
 import os
 import random
@@ -13,19 +14,24 @@ import tempfile
 from collections.abc import Iterator
 from dataclasses import dataclass, field, replace
 from pathlib import Path
+from typing import IO
 from urllib.parse import quote
 
 from .benign import Looking
-from .collector import HOST, Collector, find_in_repository
+from .collector import HOST, find_in_repository
+from .dividing import LEAVE
 from .ending import Child, Ended, ends_by_signals, is_asked_to_end
+from .environment import OWN_TENANT
 from .faults import WORDS_REFUSED, Fault, look
 from .launch import RAISED, REFUSED
 from .merging import Merged
+from .part_collectors import PartCollectors
+from .parts import is_in_parts, races_of_parts
+from .progress import Bar
 from .races import Race, Races
 from .seeing import races_seen
 from .session import Refused
 from .snapshot import snapshot
-from .tracing import OWN_TENANT
 from .verdict import BREAKS_OFF, Cause, Unseen, Verdict, reasons
 
 UNTOUCHED = """\
@@ -55,6 +61,8 @@ class Run:
     runs: int = 1
     seed: int | None = None
     """By which the first run is shaken, and each later one by the next number."""
+    part_events: int = LEAVE.events
+    """After so many events a new part of the trace begins."""
     is_shaken: bool = True
     """Whether the runs from the second one on are shaken."""
 
@@ -100,7 +108,7 @@ def _check(asked: Run) -> None:
     for number in range(1, asked.runs + 1):
         for file in (asked.of(number).export, asked.of(number).journal, asked.of(number).picture):
             if file is not None:
-                _check_writable(file)
+                check_writable(file)
     if asked.port is not None:
         look(asked.tenant, asked.port, asked.host)
 
@@ -125,11 +133,11 @@ def _check_syntax(program: str) -> None:
         compile(source, program, "exec", dont_inherit=True)
     except SyntaxError as error:
         raise Fault(f"{program} cannot be run: {error.msg} at line {error.lineno}: mend it first") from error
-    except ValueError as error:
+    except (ValueError, RecursionError, MemoryError) as error:
         raise Fault(f"{program} cannot be run: {error}: name a program of Python") from error
 
 
-def _check_writable(file: str) -> None:
+def check_writable(file: str) -> None:
     was_there = os.path.exists(file)
     if was_there and not os.path.isfile(file):
         raise Fault(f"{file} cannot be written: it is no regular file, which is read again at the end")
@@ -182,18 +190,34 @@ def _by_seed(seed: int | None) -> str:
 
 def _outcome(asked: Run, seed: int | None) -> Outcome | None:
     """What became of one run. None where the program could not be started, which was told."""
-    with tempfile.TemporaryDirectory(prefix="itc_trace_") as work, _port(asked) as port:
+    with tempfile.TemporaryDirectory(prefix="itc_trace_") as work, _collectors(asked) as collectors:
         journal = asked.journal or (f"{asked.export}.journal" if asked.export else os.path.join(work, "journal"))
         Path(journal).write_text("")
-        child = _run_program(asked, port, journal, os.path.join(work, "told"), seed)
+        child = _run_program(asked, collectors, journal, os.path.join(work, "told"), seed)
         if child.told == REFUSED:
             return None
-        with open(journal, encoding="utf-8") as rows:
-            races = races_seen(asked.tenant, port, rows, asked.host, asked.looking)
+        port = _port(asked, collectors)
+        is_divided = collectors is not None and os.path.exists(journal) and is_in_parts(journal)
+        if is_divided:
+            races = races_of_parts(journal, asked.looking, Bar(sys.stderr), (asked.tenant, port), asked.export)
+        else:
+            with _opened(journal) as rows:
+                races = races_seen(asked.tenant, port, rows, asked.host, asked.looking, Bar(sys.stderr))
         if child.signal_name and not _is_killed(races):
             killed = Unseen(Cause.KILLED, f"the program was ended by {child.signal_name}")
             races.unseen = [killed, *(one for one in races.unseen if one != BREAKS_OFF)]
-        return Outcome(child.status, races, child.told == RAISED, _keep(asked, port, journal, work, races))
+        picture = None if is_divided else _keep(asked, port, journal, work, races)
+        if is_divided and asked.picture is not None:
+            _say("itc_trace: no picture: the run has several parts, of which --export writes an export each for ./picture")
+        return Outcome(child.status, races, child.told == RAISED, picture)
+
+
+def _opened(journal: str) -> IO[str]:
+    """The journal of a run. One that the program has removed has no lines, and so breaks off."""
+    try:
+        return open(journal, encoding="utf-8", errors="replace")
+    except FileNotFoundError:
+        return io.StringIO()
 
 
 def _is_killed(races: Races) -> bool:
@@ -201,26 +225,32 @@ def _is_killed(races: Races) -> bool:
 
 
 @contextlib.contextmanager
-def _port(asked: Run) -> Iterator[int]:
+def _collectors(asked: Run) -> Iterator[PartCollectors | None]:
+    """Collectors of its own, if the run does not report to one that is there."""
     if asked.port is not None:
-        yield asked.port
+        yield None
         return
-    with Collector(asked.tenant) as collector:
-        yield collector.port
+    with PartCollectors(asked.tenant) as collectors:
+        yield collectors
 
 
-def _run_program(asked: Run, port: int, journal: str, told: str, seed: int | None) -> Child:
+def _port(asked: Run, collectors: PartCollectors | None) -> int:
+    return collectors.port if collectors is not None else asked.port or 0
+
+
+def _run_program(asked: Run, collectors: PartCollectors | None, journal: str, told: str, seed: int | None) -> Child:
     configuration = {
-        "port": port, "tenant": asked.tenant, "journal": os.path.abspath(journal), "process": asked.process, "host": asked.host,
+        "port": _port(asked, collectors), "tenant": asked.tenant, "journal": os.path.abspath(journal), "process": asked.process, "host": asked.host,
         "watched": asked.watched,
         "told": told, "seed": seed,
+        "parts": (None if collectors is None or asked.process is not None else collectors.asked_at, asked.part_events),
     }
     flags = subprocess._args_from_interpreter_flags()  # type: ignore[attr-defined]
     words = [sys.executable, *flags, "-m", "itc_trace.launch", json.dumps(configuration), *asked.words]
-    return Child(words, _environment(), told)
+    return Child(words, environment_of_package(), told)
 
 
-def _environment() -> dict[str, str]:
+def environment_of_package() -> dict[str, str]:
     """The package has to be found by the program's process, too, wherever it was found by this one."""
     own = str(Path(__file__).resolve().parent.parent)
     environment = dict(os.environ)
@@ -237,13 +267,13 @@ def _keep(asked: Run, port: int, journal: str, work: str, races: Races) -> str |
     try:
         with open(export, "w", encoding="ascii", newline="\n") as output:
             snapshot(asked.tenant, port, output, asked.host)
-        return asked.picture if asked.picture is not None and _draw(export, journal, asked.picture) else None
+        return asked.picture if asked.picture is not None and draw(export, journal, asked.picture) else None
     except (OSError, Refused) as fault:  # The collector is gone, say.
         races.unseen.append(Unseen(Cause.COLLECTOR, f"the trace cannot be kept ({fault})"))
         return None
 
 
-def _draw(export: str, journal: str, picture: str) -> bool:
+def draw(export: str, journal: str, picture: str) -> bool:
     command = os.environ.get("ITC_PICTURE") or find_in_repository("picture")
     if command is None:
         _say("itc_trace: no picture: the command of that name is in the repository of itc_trace")

@@ -7,6 +7,7 @@ from collections.abc import Iterable, Iterator
 from .benign import Looking
 from .collector import HOST
 from .journal import Journal, NoJournal, read_whole
+from .progress import Bar
 from .races import Races, find_races
 from .session import Refused, Session
 from .verdict import BREAKS_OFF, END_ROW, Cause, Unseen
@@ -14,28 +15,30 @@ from .verdict import BREAKS_OFF, END_ROW, Cause, Unseen
 MOST_LOOKED_AT = 64
 
 
-def races_seen(tenant: str, port: int, journal: Iterable[str], host: str = HOST, looking: Looking | None = None) -> Races:
+def races_seen(
+    tenant: str, port: int, journal: Iterable[str], host: str = HOST, looking: Looking | None = None, bar: Bar | None = None
+) -> Races:
     """The races among what the journal lists, and none where the collector cannot be asked, with that reason."""
     lines, looking = list(journal), looking or Looking()
     try:
-        found = find_races(tenant, port, lines, host, looking.strict)
+        found = find_races(tenant, port, lines, host, looking.strict, bar)
         looking.silence(found)
         return found
     except (OSError, Refused) as fault:
         return _unknown(read_whole(lines), fault)
 
 
-def check_trace(tenant: str, port: int, lines: Iterable[str], host: str = HOST) -> None:
-    """Makes sure that a journal is of the trace that this tenant has, by some of its events."""
-    rows = read_whole(lines).rows
+def check_trace(tenant: str, port: int, lines: Iterable[str], host: str = HOST, trace: str = "") -> None:
+    """Makes sure that a journal is of the trace that this tenant has, by some of its events and the last one."""
+    rows = sorted(read_whole(lines).rows, key=lambda row: row.event)
     some = [*rows[:: max(1, len(rows) // MOST_LOOKED_AT)], *rows[-1:]]
     with Session(tenant, port, "view", host) as view:
         for row, reply in zip(some, view.ask(f"event {row.event}" for row in some)):
             words = reply.split()
-            if words[0] != "200" or words[2] != row.task:
+            if words[0] != "200" or words[2] != row.task or words[1] != ("local" if row.is_touch else row.kind):
                 raise NoJournal(
-                    f"the journal is of another trace: tenant {tenant} at port {port} has no event {row.event} of {row.task}: "
-                    "name the tenant that it was reported to"
+                    f"the journal is of another trace: {trace or f'tenant {tenant} at port {port}'} has no event {row.event} of "
+                    f"{row.task} as it is told there: name the trace that was kept with it"
                 )
 
 

@@ -12,6 +12,7 @@ from .containers import is_noted_by_type, noted
 from .lines import state
 from .noting import frame_at, place_of, touch_at
 from .stand_ins import stand_in
+from .stretches import Across
 
 T = TypeVar("T")
 
@@ -30,8 +31,10 @@ REFERENCES_OF_A_NEW_VALUE = _references({}) if sys.version_info < (3, 14) else 0
 """How many references a value has that was made for the call alone. Later Pythons do not count those of variables."""
 
 
-def shared(value: T, name: str) -> T:
+def shared(value: T, name: str, across: bool = False) -> T:
     """What behaves as the value, and notes each read and each write of it.
+
+    It is a thing of this process, unless it is one across all processes that share it by this name.
 
     Use what it returns in place of the value. Where tracing is off it is the value itself. So is a number, a text or a tuple
     while a program is traced: a warning says so.
@@ -42,6 +45,8 @@ def shared(value: T, name: str) -> T:
         _warn_of_unwatched(value, name)
         return value
     kind: Any = type(value)
+    if across:
+        name = Across(name)
     touch_at(name, MAKING, *place_of(frame_at(1)))
     is_taken_by_its_methods = kind is not set  # Others may be in C, and take what is in a set without them.
     if is_taken_by_its_methods and is_noted_by_type(kind) and sys.getrefcount(value) <= REFERENCES_OF_A_NEW_VALUE:

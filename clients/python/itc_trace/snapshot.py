@@ -6,8 +6,9 @@ import time
 from collections.abc import Iterator
 from typing import TextIO
 
-from .collector import HOST
+from .collector import HOST, MOST_EVENTS, MOST_MESSAGES, MOST_TASKS
 from .session import Refused, Session
+from .trace import Asked
 
 EVENTS_AT_ONCE = 256
 TRIES = 200
@@ -16,16 +17,22 @@ NO_PLACE, NO_MEMORY = "422", "507"
 
 
 def snapshot(tenant: str, port: int, output: TextIO, host: str = HOST) -> int:
-    """Writes as many events as there are now, and gives their number."""
+    """Writes as many events as there are now, and gives their number. The header has the greatest limits, which hold any trace."""
     with Session(tenant, port, "view", host) as view:
         events = int(_asked(view, ["count"])[0].split()[1])
-        for first in range(1, events + 1, EVENTS_AT_ONCE):
-            numbers = range(first, min(first + EVENTS_AT_ONCE, events + 1))
-            output.write("".join(_lines(view, numbers)))
+        write_export(view, events, tenant, output)
     return events
 
 
-def _lines(view: Session, numbers: range) -> Iterator[str]:
+def write_export(view: Asked, events: int, tenant: str, output: TextIO) -> None:
+    """Writes the first events of a tenant."""
+    output.write(f'{{"events":{MOST_EVENTS},"messages":{MOST_MESSAGES},"tasks":{MOST_TASKS},"tenant":"{tenant}","version":2}}\n')
+    for first in range(1, events + 1, EVENTS_AT_ONCE):
+        numbers = range(first, min(first + EVENTS_AT_ONCE, events + 1))
+        output.write("".join(_lines(view, numbers)))
+
+
+def _lines(view: Asked, numbers: range) -> Iterator[str]:
     questions = [question for number in numbers for question in (f"event {number}", f"stamp {number}")]
     replies = iter(_asked(view, questions))
     for number in numbers:
@@ -37,7 +44,7 @@ def _lines(view: Session, numbers: range) -> Iterator[str]:
         )
 
 
-def _asked(view: Session, questions: list[str]) -> list[str]:
+def _asked(view: Asked, questions: list[str]) -> list[str]:
     """The replies to these questions. What finds no place right now is asked again."""
     replies = list(view.ask(questions))
     for _ in range(TRIES):

@@ -11,7 +11,7 @@ from collections.abc import Hashable
 from typing import TYPE_CHECKING, Any, NamedTuple
 
 if TYPE_CHECKING:
-    from .lines import Line
+    from .lines import LateJob, Line
 
 
 class Site(NamedTuple):
@@ -25,6 +25,12 @@ class Site(NamedTuple):
 SITES: list[Site] = []
 """The places that are told by their index."""
 
+class Across(str):
+    """The name of a thing that several processes share. Any other name is of a thing of its own process."""
+
+    __slots__ = ()
+
+
 Touched = tuple[Any, str, Any]
 """A thing, which is a text if the program has named it; the kind of the touch; and a site, or where a marked touch stands."""
 
@@ -34,7 +40,7 @@ class Stretch(dict[Hashable, Touched]):
 
     __slots__ = ("line", "held", "loop", "turn", "thread", "read")
 
-    def __init__(self, line: Line, loop: int, turn: int, thread: int) -> None:
+    def __init__(self, line: Line | LateJob, loop: int, turn: int, thread: int) -> None:
         self.line = line
         self.held = line.held
         self.loop = loop

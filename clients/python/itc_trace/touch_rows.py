@@ -7,18 +7,26 @@ from typing import Any
 
 from .conflicts import CHANGING
 from .journal import Touch, TouchTexts
+from .lines import LateJob
+from .many_jobs import ManyJobs
 from .stretches import Stretch
 
 MOST_PRIVATE = 10000
 
 
+def part_text(part: int) -> str:
+    """How a row tells of which part of the run it is. Those of the first part do not tell."""
+    return f'"part":{part},' if part > 1 else ""
+
+
 class TouchEvent:
     """An event that stands for what a task touches, up to the next event of this task."""
 
-    __slots__ = ("task", "event", "stretches", "touches", "looked_at", "has_row", "is_open")
+    __slots__ = ("task", "part", "event", "stretches", "touches", "looked_at", "has_row", "is_open")
 
-    def __init__(self, task: str) -> None:
+    def __init__(self, task: str, part: int = 1) -> None:
         self.task = task
+        self.part = part
         self.event = 0
         """Its number, once the collector has answered."""
         self.stretches: list[Stretch] = []
@@ -38,8 +46,9 @@ class TouchEvent:
                 continue
             held, loop, turn = stretch.held, stretch.loop, stretch.turn
             read = list(stretch.copy().items())  # A copy is made at once. The program may add more while a list is made.
+            job = stretch.line.number if isinstance(stretch.line, LateJob) else 0
             for key, touched in read[stretch.read:] if stretch.read else read:
-                touches[key, held, loop, turn] = Touch(*touched, held, loop, turn)
+                touches[key, held, loop, turn, job] = Touch(*touched, held, loop, turn, job)
             stretch.read = len(read)
         del self.stretches[:-1]
 
@@ -65,6 +74,7 @@ class TouchRows:
         self._alone: dict[int, _Alone | None] = {}
         """Of each thing that was seen by its number, and None of those that are listed."""
         self._swept = 0
+        self.jobs = ManyJobs()
 
     def rows(self, event: TouchEvent, is_last: bool = False) -> str:
         """The rows that are new since the last time. An event that has none of its own is told by one row, when nothing more comes."""
@@ -72,13 +82,15 @@ class TouchRows:
         event.looked_at += len(touches)
         rows: list[str] = []
         for touch in touches:
+            if touch.job:
+                self.jobs.add(touch)
             if isinstance(touch.thing, str):
                 rows.append(self._row(event, touch))
             else:
                 self._add(event, touch, rows)
         if is_last and not event.has_row:
             event.has_row = True
-            rows.append(f'{{"event":{event.event},"task":"{event.task}","thing":null,"kind":"local","file":null,"line":0,"label":"touch"}}\n')
+            rows.append(f'{{"event":{event.event},{part_text(event.part)}"task":"{event.task}","thing":null,"kind":"local","file":null,"line":0,"label":"touch"}}\n')
         return "".join(rows)
 
     def _add(self, event: TouchEvent, touch: Touch, rows: list[str]) -> None:
@@ -98,7 +110,14 @@ class TouchRows:
 
     def _row(self, event: TouchEvent, touch: Touch) -> str:
         event.has_row = True
-        return f'{{"event":{event.event},"task":"{event.task}",{self._texts.text(touch)}'
+        return f'{{"event":{event.event},{part_text(event.part)}"task":"{event.task}",{self._texts.text(touch)}'
+
+    def keep_last(self) -> None:
+        """At the end of a part: of what one task alone has touched at one place, the last touch stands for all."""
+        for alone in self._alone.values():
+            if alone is not None and len(alone.waiting) > 1:
+                last = {(event.task, touch._replace(turn=0, job=0)): (event, touch) for event, touch in alone.waiting}
+                alone.waiting = list(last.values())
 
     def gone(self) -> list[int]:
         """The things that one task alone has touched and that are no more, if it is time to forget some."""

@@ -3,6 +3,7 @@
 from __future__ import annotations
 
 import _thread
+import contextlib
 import itertools
 import json
 import re
@@ -16,15 +17,18 @@ from sys import getrefcount
 from types import CodeType
 
 from .collector import HOST, MOST_TASKS
+from .dividing import Report
 from .faults import FULL, Fault, nobody_listens, refusal
-from .journal import Places, TouchTexts
+from .journal import Places, TouchTexts, border_row
 from .journal_file import JournalFile
-from .lines import END, GONE, JOIN, RESULT, SPAWN, STOP, TAKE, TAKE_END, TOUCH, Line, Note, Token, state
+from .lines import END, GONE, JOIN, RESULT, SPAWN, STOP, TAKE, TAKE_END, TOUCH, LateJob, Line, Note, Token, state
 from .lock_identity import LockIdentity
 from .noting import enter
 from .shaking import Shaking
 from .stretches import STRETCHES, Stretch
-from .touch_rows import TouchEvent, TouchRows
+from .patches.exits import await_at_exit, take_awaited
+from .touch_rows import TouchEvent, TouchRows, part_text
+from .tracer_parts import Parts
 from .verdict import END_ROW, Cause, Unseen
 
 NOTES_AT_ONCE = 1024
@@ -39,6 +43,14 @@ MOST_NAME = 24
 MOST_TAG = 8
 ANY_PROCESS = "p"
 GONE_COLLECTOR = "the collector is gone"
+MANY_JOBS = Unseen(
+    Cause.FULL, f"more than {MOST_TASKS // 2} jobs were given to pools, and a race between two later ones is not seen if one thread ran both"
+)
+GOES_ON = "goes on"
+KEEPER = "ended threads"
+"""What the task is called that comes after the threads that nobody joins."""
+_start_thread = _thread.start_new_thread
+"""As it is before any program is traced."""
 
 
 def _references_of_nobody() -> int:
@@ -83,13 +95,14 @@ class Names:
 class Outstanding:
     """A report that is on its way."""
 
-    __slots__ = ("text", "task", "kind", "code", "instruction", "label", "lock", "touches", "waiter", "may_be_refused")
+    __slots__ = ("text", "task", "kind", "name", "code", "instruction", "label", "lock", "touches", "waiter", "may_be_refused")
 
-    def __init__(self, text: str, task: str, kind: str, code: CodeType | None, instruction: int, label: str,
+    def __init__(self, text: str, task: str, kind: str, name: str, code: CodeType | None, instruction: int, label: str,
                  lock: LockIdentity | None = None) -> None:
         self.text = text
         self.task = task
         self.kind = kind
+        self.name = name
         self.code = code
         self.instruction = instruction
         self.label = label
@@ -129,11 +142,13 @@ class Tracer:
     """Reports for one process to one tenant, from `start` to `stop`."""
 
     def __init__(self, port: int, tenant: str, journal: JournalFile, process: str | None = None, host: str = HOST,
-                 shaking: Shaking | None = None) -> None:
+                 shaking: Shaking | None = None, parts: Parts | None = None) -> None:
+        """With parts, a trace that is nearly full goes on at another collector."""
         self.notes: deque[Note] = deque()
         self.lines_made = 0
         self.most_lines = MOST_TASKS // 2
         self._journal = journal
+        self._parts = parts
         self._shaking = shaking
         self._note: Callable[[Note], object] = self.notes.append if shaking is None else self._note_shaken
         self._places = Places()
@@ -156,6 +171,9 @@ class Tracer:
         self._hurry.acquire()
         self._ended = Waiter()
         self._reader_ended = Waiter()
+        self._keeper: Line | None = None
+        self._is_changing = False
+        """Whether the session ends since the trace goes on at another collector."""
         self._handlers: list[Callable[..., None]] = [
             self._mark, self._take, self._take_end, self._spawn, self._finish, self._join, self._touch, self._gone,
             self._send_outside, self._receive_outside, self._stop_reporting,
@@ -168,18 +186,9 @@ class Tracer:
     # Beginning
 
     def _connect(self, host: str, process: str | None) -> None:
-        tenant, port = self._tenant, self._port
+        self._host = host
+        self._events_before = self._open(self._port)
         try:
-            self._socket = socket.create_connection((host, port))
-        except ConnectionRefusedError as refused:
-            raise Fault(nobody_listens(port)) from refused
-        try:
-            self._socket.setsockopt(socket.IPPROTO_TCP, socket.TCP_NODELAY, 1)
-            self._rest = b""
-            count = self._ask(f"report {tenant}\ncount")
-            if not count.startswith("200 "):
-                raise Fault(refusal(count, tenant, port))
-            self._events_before = int(count.split()[1])
             self.main = Line(self, "root")
             self.main.name = "root"
             self.parent_of_strangers = self.main
@@ -189,8 +198,27 @@ class Tracer:
         except BaseException:
             self._socket.close()
             raise
+        if self._parts is not None:
+            self._parts.add(self.main)
         self._names = Names(self.prefix)
         self._names.new("root")
+
+    def _open(self, port: int) -> int:
+        """Begins to report at this port. Gives how many events there are."""
+        try:
+            self._socket = socket.create_connection((self._host, port))
+        except ConnectionRefusedError as refused:
+            raise Fault(nobody_listens(port)) from refused
+        try:
+            self._socket.setsockopt(socket.IPPROTO_TCP, socket.TCP_NODELAY, 1)
+            self._rest = b""
+            count = self._ask(f"report {self._tenant}\ncount")
+            if not count.startswith("200 "):
+                raise Fault(refusal(count, self._tenant, port))
+        except BaseException:
+            self._socket.close()
+            raise
+        return int(count.split()[1])
 
     def _begin_beside_others(self, process: str) -> None:
         """Takes a task of its own in a trace that others report to as well, and a first part for all its names."""
@@ -201,7 +229,7 @@ class Tracer:
             if reply.startswith("201 "):
                 self.main.name = self.main.hint = tag
                 self.prefix = f"{tag}_"
-                row = Outstanding("", "root", "spawn", None, 0, f"start process {tag}")
+                row = Outstanding("", "root", "spawn", tag, None, 0, f"start process {tag}")
                 self._journal.write(self._row(int(reply[4:]), row))
                 return
             if not reply.startswith("402"):
@@ -242,14 +270,23 @@ class Tracer:
         if not self._is_over:
             self.notes.append((STOP,))
             self.hurry()
-            if not self._ended.wait(END_WAIT) and not self._is_over:
-                self._give_up(Cause.COLLECTOR, "the collector does not answer")
+            self._await(self._ended)
         self._end_session()
         self._reader_ended.wait(ANSWER_WAIT)
-        self._socket.close()
+        with contextlib.suppress(OSError):  # The program has closed it.
+            self._socket.close()
         self._write_touches(is_last=True)
         if not self._is_over:
             self._journal_row(END_ROW)
+
+    def _await(self, waiter: Waiter) -> None:
+        """Waits for an answer, as long as something is reported or answered meanwhile."""
+        left = None
+        while not waiter.wait(END_WAIT) and not self._is_over:
+            now = len(self.notes), len(self._outstanding)
+            if now == left:
+                self._give_up(Cause.COLLECTOR, "the collector does not answer")
+            left = now
 
     def forget(self) -> None:
         """In a child process after a fork: the session is the parent's."""
@@ -316,6 +353,8 @@ class Tracer:
                 else:
                     rest = min(2 * rest, LONGEST_REST)
                     self._write_touches()
+        except Fault as fault:
+            self._give_up(Cause.COLLECTOR, str(fault))
         except OSError:
             self._give_up(Cause.COLLECTOR, GONE_COLLECTOR)
         except BaseException as fault:  # Nothing that happens here may reach the program.
@@ -329,6 +368,8 @@ class Tracer:
             handlers[note[0]](*note[1:])
             while self._goes_on:
                 self._touch(self._goes_on.pop())
+            if self._parts is not None and self._parts.is_full:
+                self._divide(self._parts)
         self._gone_soon.clear()
         self._flush()
         if len(self._touch_events) > MOST_UNWRITTEN:
@@ -394,12 +435,19 @@ class Tracer:
                 lock: LockIdentity | None = None) -> Outstanding:
         if line.touches is not None:
             self._end_touches(line)
-        text = f"{kind} {line.name} {name}\n" if name else f"{kind} {line.name}\n"
-        report = Outstanding(text, line.name, kind, code, instruction, label, lock)
-        self._outstanding.append(report)
-        self._texts.append(text)
+        report = self._put(Report(kind, line.name, name), code, instruction, label, lock)
+        if self._parts is not None:
+            self._parts.divider.report(Report(kind, line.name, name))
         line.count += 1
         line.message = None
+        return report
+
+    def _put(self, told: Report, code: CodeType | None, instruction: int, label: str, lock: LockIdentity | None = None) -> Outstanding:
+        """Has a report sent with the next ones."""
+        text = f"{told.request}\n"
+        report = Outstanding(text, told.task, told.kind, told.name, code, instruction, label, lock)
+        self._outstanding.append(report)
+        self._texts.append(text)
         return report
 
     def _send(self, line: Line, token: Token) -> None:
@@ -416,6 +464,8 @@ class Tracer:
         line.message, line.lock = message, lock
         if lock is None:
             line.sent.append((line.count, message))
+        if self._parts is not None:
+            self._parts.sent(message, lock, [token for token in line.pending if token.what.lock is lock])
         others = []
         for token in line.pending:
             if token.what.lock is lock:
@@ -453,6 +503,8 @@ class Tracer:
         token.count = line.count
         if line.message is not None and line.lock is token.what.lock:
             token.message = line.message
+            if self._parts is not None:
+                self._parts.sent(line.message, line.lock, [token])
         else:
             line.pending.append(token)
 
@@ -513,6 +565,8 @@ class Tracer:
         self._leave(parent)
         child.name = self._names.new(child.hint)
         self._report(parent, "spawn", child.name, code, instruction, f"start {child.name}")
+        if self._parts is not None:
+            self._parts.add(child)
         child.parent, child.parent_count = parent, parent.count
         child.known[parent] = parent.count
 
@@ -561,7 +615,9 @@ class Tracer:
         line.known[child] = child.count
 
     def _take_ended(self, line: Line, child: Line, code: CodeType | None, instruction: int, label: str) -> None:
-        if child.joined_by is None:
+        if child.is_forgotten:
+            self._give_up(Cause.FULL, f"{child.name} was waited for long after its end, when its part of the trace had been left")
+        elif child.joined_by is None:
             self._join_now(line, child, code, instruction, label)
         else:
             self._take_late(line, child, code, instruction)
@@ -584,13 +640,13 @@ class Tracer:
 
     def _touch(self, stretch: Stretch) -> None:
         """A stretch has begun. With no event since, it belongs to the event of the stretch before it."""
-        line = stretch.line
+        line = stretch.line.line if isinstance(stretch.line, LateJob) else stretch.line
         if line.has_ended:
             return
         self._leave(line)
         if line.touches is None:
             report = self._report(line, "local", "", None, 0, "")
-            line.touches = report.touches = TouchEvent(line.name)
+            line.touches = report.touches = TouchEvent(line.name, 1 if self._parts is None else self._parts.number)
             with self._writing:
                 self._touch_events.append(line.touches)
         with self._writing:
@@ -604,7 +660,7 @@ class Tracer:
         with self._writing:
             ended.read_stretches()
             ended.is_open = False
-        stretch = ended.stretches[-1]
+        stretch = ended.stretches.pop()
         if STRETCHES.get(stretch.thread) is stretch:
             STRETCHES.pop(stretch.thread, None)
             stretch.read = 0
@@ -626,6 +682,8 @@ class Tracer:
             self._touch_events = unwritten
             if is_whole and all(event.event for event in unwritten):
                 self._touch_rows.forget(gone)
+            if self._touch_rows.jobs.has_new_suspicion():
+                rows.append(MANY_JOBS.row())
             if any(rows):
                 self._write_rows("".join(rows))
 
@@ -646,6 +704,8 @@ class Tracer:
     def _send_outside(self, line: Line, message: str, waiter: Waiter, code: CodeType | None, instruction: int) -> None:
         report = self._report(line, "send", message, code, instruction, "send to another process")
         report.waiter = waiter
+        if self._parts is not None:
+            self._parts.sent_outside(message)
         self._sent(line, message, None)
 
     def _receive_outside(self, line: Line, message: str, code: CodeType | None, instruction: int) -> None:
@@ -663,13 +723,67 @@ class Tracer:
         if not self._outstanding:
             self._ended.answer(True)
 
+    # Parts of a long run
+
+    def _divide(self, parts: Parts) -> None:
+        """Leaves a trace that is nearly full, and goes on in a new one with what may still give order."""
+        self._keep_ended()
+        for line in parts.lines:
+            if line.touches is not None:
+                self._end_touches(line)
+        del line
+        answered = self._put(Report("count", ""), None, 0, "")
+        answered.text, self._texts[-1] = "count\n", "count\n"
+        answered.waiter = Waiter()
+        self._flush()
+        self._await(answered.waiter)
+        if self._is_over:
+            return
+        self._write_touches()
+        port = parts.next_port()
+        self._finished = [line for line in self._finished if not line.has_ended]
+        border = parts.divide(self._may_be_asked_for)
+        self._write_rows(border_row(parts.number, border))
+        self._change_collector(port)
+        for report in border.reports:
+            self._put(report, None, 0, GOES_ON, parts.lock_of(report))
+        with self._writing:
+            self._touch_rows.keep_last()
+            self._touch_texts.forget()
+        if parts.is_full:
+            self._give_up(Cause.FULL, "the trace is full: too much that may still give order goes on from one part of it to the next")
+
+    def _keep_ended(self) -> None:
+        """Has a task of its own take the ends of those that the end of the program waits for, in place of all of them."""
+        ended = [line for line in take_awaited(lambda line: line.has_ended) if not self._knows(self.main, line, max(line.count, 1))]
+        if ended and self._keeper is None:
+            self._keeper = Line(self, KEEPER)
+            self._spawn(self.main, self._keeper, None, 0)
+            await_at_exit(self._keeper)
+        for line in ended:
+            assert self._keeper is not None
+            self._takes_left[line] += 1
+            self._take_end(self._keeper, line, None, 0)
+
+    def _change_collector(self, port: int) -> None:
+        self._is_changing = True
+        self._end_session()
+        self._reader_ended.wait(ANSWER_WAIT)
+        self._socket.close()
+        self._open(port)
+        self._reader_ended, self._is_changing = Waiter(), False
+        _start_thread(self._read_all, ())
+
     # The thread that reads replies
 
     def _read_all(self) -> None:
+        ended = self._reader_ended
         try:
             rest = self._rest
             while not self._is_over:
                 more = self._socket.recv(262144)
+                if not more and self._is_changing:
+                    return
                 if not more:
                     break
                 *replies, rest = (rest + more).split(b"\n")
@@ -684,7 +798,7 @@ class Tracer:
         except BaseException as fault:
             self._give_up(Cause.TRACER, f"{type(fault).__name__} in the tracer: {fault}")
         finally:
-            self._reader_ended.answer(True)
+            ended.answer(True)
 
     def _write_rows(self, rows: str) -> None:
         try:
@@ -698,6 +812,9 @@ class Tracer:
             return ""
         report = self._outstanding.popleft()
         is_taken = reply.startswith(b"201 ")
+        if report.kind == "count" and report.waiter is not None:
+            report.waiter.answer(True)
+            return ""
         if report.waiter is not None:
             report.waiter.answer(is_taken)
         if is_taken and report.touches is not None:
@@ -728,7 +845,10 @@ class Tracer:
     def _row(self, event: int, report: Outstanding) -> str:
         place = self._places.text(report.code, report.instruction)
         lock = "" if report.lock is None else f',"lock":{self._touch_texts.lock(report.lock)}'
+        part = of = ""
+        if self._parts is not None:
+            part, of = part_text(self._parts.number), f',"of":"{report.name}"' if report.name else ""
         return (
-            f'{{"event":{event},"task":"{report.task}","thing":null,"kind":"{report.kind}",{place},'
-            f'"label":{json.dumps(report.label)}{lock}}}\n'
+            f'{{"event":{event},{part}"task":"{report.task}","thing":null,"kind":"{report.kind}",{place},'
+            f'"label":{json.dumps(report.label)}{lock}{of}}}\n'
         )

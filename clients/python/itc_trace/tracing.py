@@ -9,10 +9,12 @@ import tempfile
 from collections.abc import Sequence
 from types import TracebackType
 
-from .children import IN_CHILD, LEFT_CHILD, Announced, ForkedChildren, Witness, tell_of_processes
+from .children import IN_CHILD, LEFT_CHILD, UNKNOWN_CHILDREN, Announced, ForkedChildren, Witness, tell_of_processes
 from . import watch
 from .benign import Looking
 from .collector import HOST, Collector
+from .environment import OWN_TENANT, PORT, reporting
+from .faults import Fault
 from .journal_file import JournalFile
 from .lines import state
 from .patches import put_all
@@ -20,9 +22,8 @@ from .races import Races
 from .seeing import races_seen
 from .shaking import Shaking
 from .tracer import Tracer
+from .tracer_parts import Parts
 from .verdict import Unseen
-
-OWN_TENANT = "trace"
 
 
 class Tracing:
@@ -31,13 +32,21 @@ class Tracing:
     def __init__(
         self, port: int | None = None, tenant: str = OWN_TENANT, journal: str | os.PathLike[str] | None = None,
         process: str | None = None, host: str = HOST, shaking: Shaking | None = None, looking: Looking | None = None,
+        parts: Parts | None = None,
     ) -> None:
-        """Without a port a collector of its own is started. A journal that is not named is kept in a temporary file."""
+        """Without a port it reports where the environment says, else to a collector of its own that is started.
+
+        A journal that is not named is kept in a temporary file.
+        """
+        said = reporting() if port is None else None
+        if said is not None:
+            port, tenant, process, journal = said.port, said.tenant, process or said.process, journal or said.journal
         self.tenant = tenant
         self.host = host
         self.process = process
         self._shaking = shaking
         self._looking = looking
+        self._parts = parts
         self.port = 0 if port is None else port
         self._has_own_collector = port is None
         self._collector: Collector | None = None
@@ -71,7 +80,7 @@ class Tracing:
             handle, self.journal = tempfile.mkstemp(suffix=".journal", prefix="itc_trace_")
             os.close(handle)
         self._file = JournalFile(self.journal)
-        self._tracer = Tracer(self.port, self.tenant, self._file, self.process, self.host, self._shaking)
+        self._tracer = Tracer(self.port, self.tenant, self._file, self.process, self.host, self._shaking, self._parts)
         self._children = ForkedChildren()
         self._announced = Announced(self.journal)
         state.witness = None
@@ -85,6 +94,9 @@ class Tracing:
         """Traces no more, and waits until the collector has all that was noted."""
         with self._stopping:
             self.is_stopping = True
+            if self._file is not None:
+                for one in watch.unwatched():
+                    self.tell(one)
             tracer, self._tracer = self._tracer, None
             file, self._file = self._file, None
             children, self._children = self._children, None
@@ -99,14 +111,24 @@ class Tracing:
             self.is_stopping = False
 
     def tell(self, unseen: Unseen) -> None:
-        """Says in the journal what of the run is not seen."""
-        if self._file is not None:
+        """Says in the journal what of the run is not seen. If that cannot be written, tracing stops, and the journal breaks off."""
+        if self._file is None:
+            return
+        try:
             self._file.write(unseen.row())
+        except OSError as fault:
+            if self._tracer is not None:
+                self._tracer.fail(fault)
 
     def tell_of_children(self) -> None:
         """Before the process ends: says in the journal that the program goes on in a forked child, where it does."""
-        if self._children is not None and self._children.have_one():
-            self.tell(LEFT_CHILD)
+        if self._children is None:
+            return
+        try:
+            if self._children.have_one():
+                self.tell(LEFT_CHILD)
+        except (OSError, ValueError):
+            self.tell(UNKNOWN_CHILDREN)
 
     def forget(self) -> None:
         """In a forked child: the session, the journal and the collector are the parent's."""
@@ -178,11 +200,13 @@ _installed: Tracing | None = None
 
 
 def install(
-    port: int, tenant: str = OWN_TENANT, journal: str | os.PathLike[str] | None = None, process: str | None = None,
+    port: int | None = None, tenant: str = OWN_TENANT, journal: str | os.PathLike[str] | None = None, process: str | None = None,
     host: str = HOST, watched: Sequence[str] | None = (),
 ) -> Tracing:
-    """Traces from here on to the end of the program, and watches as `tracing` does."""
+    """Traces from here on to the end of the program, and watches as `tracing` does. Without a port the environment has to name one."""
     global _installed
+    if port is None and not os.environ.get(PORT):
+        raise Fault(f"install wants the port of a collector, or {PORT} in the environment")
     _watch(watched)
     _installed = Tracing(port, tenant, journal, process, host).start()
     atexit.register(_installed.stop)

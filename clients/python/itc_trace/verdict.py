@@ -25,6 +25,7 @@ class Cause(enum.Enum):
     COLLECTOR = "collector"
     CHILD = "child"
     JOURNAL = "journal"
+    MODULE = "module"
     KILLED = "killed"
     TRACER = "tracer"
 

@@ -283,13 +283,9 @@ def _count(found: Found, first: Row, second: Row) -> None:
 class Answers:
     """Answers a session's questions about a run."""
 
-    def __init__(self, run: Run, with_cut: bool = True) -> None:
+    def __init__(self, run: Run) -> None:
         self.run = run
-        self.with_cut = with_cut
         self.asked: list[str] = []
-
-    def count(self) -> tuple[int, int, int]:
-        return len(self.run.events), 0, 0
 
     def ask(self, lines: Iterable[str]) -> Iterator[str]:
         for line in lines:
@@ -300,10 +296,6 @@ class Answers:
         run, (first, *rest) = self.run, map(int, numbers)
         if word == "order":
             return _order(run.full, first, rest[0])
-        if word == "cut" and self.with_cut:
-            known = [event for event in run.events if event.number == first or run.is_before(event.number, first)]
-            last = sorted({event.task: event.number for event in known}.values())
-            return " ".join(map(str, [200, len(last), *last]))
         if word == "event":
             event = run.events[first - 1]
             follows = sorted({event.before, event.source} - {0})
@@ -322,7 +314,7 @@ class AnswersWithoutLocks:
 
     run: Run
 
-    def __init__(self, trace: object) -> None:
+    def __init__(self, trace: object, locks: object) -> None:
         self.questions = 0
 
     def __enter__(self) -> AnswersWithoutLocks:

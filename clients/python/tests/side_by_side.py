@@ -57,7 +57,7 @@ def _job_of(test: unittest.TestCase) -> str:
 def run(name: str) -> tuple[str, int, int, float, str]:
     """The job, how many of its tests passed, how many failed, how many seconds they took, and what was said if any failed."""
     began = time.monotonic()
-    words = [sys.executable, "-B", "-m", "unittest", name if name.startswith("tests.") else f"tests.{name}"]
+    words = [sys.executable, "-m", "unittest", name if name.startswith("tests.") else f"tests.{name}"]
     ran = subprocess.run(words, cwd=PACKAGE, capture_output=True, text=True, errors="replace", check=False)
     told, seconds = RAN.search(ran.stderr), time.monotonic() - began
     if ran.returncode or told is None or told[1] == "0":

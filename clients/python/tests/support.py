@@ -9,17 +9,23 @@ import subprocess
 import sys
 import tempfile
 import threading
+import time
 import unittest
 from collections.abc import Callable
 from pathlib import Path
 from typing import Any
 
-from itc_trace import Collector, Races, tracing
-from itc_trace.journal import Row, read_journal
+from itc_trace import Collector, Races, Tracing, tracing
+from itc_trace.dividing import Border, Limits
+from itc_trace.journal import Row, read_journal, read_line
+from itc_trace.lines import Line
+from itc_trace.parts import races_of_parts
+from itc_trace.tracer_parts import MOST_ENDED, Parts
 
 PACKAGE = Path(__file__).resolve().parent.parent
 EXAMPLES = PACKAGE / "examples"
-WAIT = 20
+WAIT = 600
+"""So many seconds a test waits for what surely comes, also on a machine that is busy with other work."""
 
 _TENANTS = [f"t{number}" for number in range(16)]
 _free: list[tuple[int, str]] = []
@@ -32,6 +38,28 @@ def fresh_tenant() -> tuple[int, str]:
         atexit.register(collector.close)
         _free.extend((collector.port, tenant) for tenant in _TENANTS)
     return _free.pop()
+
+
+PART_EVENTS = int(os.environ.get("ITC_PART_EVENTS", "0"))
+"""So many events after its beginning a part of a scenario's trace is left. With 0 the trace is one."""
+
+
+class SmallParts(Parts):
+    """Parts that are left soon, at one tenant after another."""
+
+    def __init__(self) -> None:
+        super().__init__(self._next_port, Limits(events=PART_EVENTS))
+        self.most_ended = MOST_ENDED
+        self.tracer: Any = None
+
+    def _next_port(self) -> int:
+        port, self.tracer._tenant = fresh_tenant()
+        return port
+
+    def divide(self, may_be_asked_for: Callable[[Line], bool]) -> Border:
+        border = super().divide(may_be_asked_for)
+        self._limits = Limits(events=self.divider.events + PART_EVENTS)
+        return border
 
 
 class Step:
@@ -49,6 +77,15 @@ class Step:
     def wait(self) -> None:
         if not self._lock.acquire(True, WAIT):
             raise TimeoutError("a step was not done")
+
+
+def wait_until(holds: Callable[[], object]) -> None:
+    """Waits for what other threads do, without anything that is traced."""
+    end = time.monotonic() + WAIT
+    while not holds():
+        if time.monotonic() > end:
+            raise TimeoutError("what was waited for did not come")
+        time.sleep(0.001)
 
 
 def in_turn(*steps: Callable[[], object]) -> None:
@@ -76,6 +113,8 @@ class TracedCase(unittest.TestCase):
     def races(self, scenario: Callable[[], Any]) -> Races:
         """The races of the scenario; `rows` has its journal afterwards."""
         port, tenant = fresh_tenant()
+        if PART_EVENTS:
+            return self._races_in_parts(scenario, port, tenant)
         with tempfile.NamedTemporaryFile("r", suffix=".journal") as journal:
             with tracing(port=port, tenant=tenant, journal=journal.name) as traced:
                 scenario()
@@ -83,6 +122,17 @@ class TracedCase(unittest.TestCase):
             self.rows = list(read_journal(journal))
         events = {row.event for row in self.rows}
         self.assertEqual(events, set(range(1, len(events) + 1)), "an event is missing")
+        return found
+
+    def _races_in_parts(self, scenario: Callable[[], Any], port: int, tenant: str) -> Races:
+        with tempfile.NamedTemporaryFile("r", suffix=".journal") as journal:
+            parts = SmallParts()
+            with Tracing(port, tenant, journal.name, parts=parts) as traced:
+                parts.tracer = traced._tracer
+                scenario()
+            found = races_of_parts(journal.name)
+            self.rows = [row for line in journal if isinstance(row := read_line(line), Row) and row.label != "goes on"]
+        self.assertFalse(found.unseen, found.unseen)
         return found
 
     def assert_ordered(self, scenario: Callable[[], Any]) -> None:

@@ -96,6 +96,32 @@ OTHER_PROGRAM = """
 import subprocess, sys
 subprocess.run([sys.executable, "-c", "import itc_trace; itc_trace.touch('x')" if sys.argv[1:] else "pass"], check=True)
 """
+STARTS_ITSELF = """
+import os, shlex, subprocess, sys
+def start(how):
+    words = [sys.executable, "-X", "utf8", __file__, "child"]
+    if how == "run":
+        subprocess.run(words, check=True)
+    elif how == "without variables":
+        subprocess.Popen(args=words, env={}).wait()
+    elif how == "shell":
+        subprocess.check_call("true && " + shlex.join(words), shell=True)
+    elif how == "module":
+        subprocess.run([sys.executable, "-m", "program", "child"], cwd=os.path.dirname(os.path.abspath(__file__)), check=True)
+    elif how == "system":
+        os.system(shlex.join(words))
+    else:
+        os.waitpid(os.posix_spawn(sys.executable, words, os.environ), 0)
+if sys.argv[1] != "child":
+    start(sys.argv[1])
+"""
+STARTS_OTHERS = """
+import os, subprocess, sys
+for words in ([sys.executable, "-m", "json.tool", "--help"], [sys.executable, "-c", "pass", __file__], ["cat", __file__], ["true"]):
+    subprocess.run(words, stdout=subprocess.DEVNULL, check=True)
+subprocess.run("true; echo program.py", shell=True, stdout=subprocess.DEVNULL, check=True)
+os.system("true")
+"""
 MOST_SECONDS = 450
 """A child that waits for a thread which it does not have takes twice as long. A machine with other work may be slow."""
 
@@ -164,6 +190,18 @@ class Children(ProgramCase):
         ran = run_traced(program, "touches")
         self.assertEqual(ran.returncode, Verdict.INCOMPLETE, ran.stderr)
         self.assertIn("touched x at <string>:1", ran.stderr)
+
+    def test_a_program_of_the_same_folder_that_is_started_is_told_as_not_seen(self) -> None:
+        program = self.program(STARTS_ITSELF)
+        for how in ("run", "without variables", "shell", "module", "system", "posix_spawn"):
+            with self.subTest(how=how):
+                ran = run_traced(program, how)
+                self.assertEqual(ran.returncode, Verdict.INCOMPLETE, ran.stderr)
+                self.assertRegex(ran.stderr.splitlines()[0], r"a child process was not traced: program(\.py)?, which was started at \S+program\.py:\d+$")
+
+    def test_other_commands_leave_a_run_whole(self) -> None:
+        ran = run_traced(self.program(STARTS_OTHERS))
+        self.assertEqual(ran.returncode, Verdict.NO_RACE, ran.stderr)
 
     def test_a_child_that_is_ended_ends_at_once(self) -> None:
         program = self.program(

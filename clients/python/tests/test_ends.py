@@ -15,7 +15,7 @@ from itc_trace.journal import read_journal
 from .support import ProgramCase, run_python, run_traced
 
 COUNTING = """
-import threading, time, itc_trace
+import threading, itc_trace
 lock, done = threading.Lock(), []
 def work():
     for _ in range(200):
@@ -28,6 +28,40 @@ for thread in threads:
 for thread in threads:
     thread.join()
 print("done:", len(done))
+"""
+
+HANDING_OVER = """
+import threading, itc_trace
+there, back = threading.Semaphore(0), threading.Semaphore(0)
+def work():
+    for _ in range(200):
+        there.acquire()
+        itc_trace.touch("x", write=True)
+        back.release()
+threads = [threading.Thread(target=work)] + [threading.Thread(target=int) for _ in range(8)]
+for thread in threads:
+    thread.start()
+for _ in range(200):
+    there.release()
+    back.acquire()
+    itc_trace.touch("x", write=True)
+for thread in threads:
+    thread.join()
+print("done")
+"""
+
+MANY_JOBS = """
+import contextlib, itc_trace, sys, threading
+from concurrent.futures import ThreadPoolExecutor
+lock = threading.Lock() if "locked" in sys.argv else contextlib.nullcontext()
+def work(number):
+    own = [number]
+    own.append(number)
+    if number >= 1500 - ("twice" in sys.argv):
+        with lock:
+            itc_trace.touch("x", write=True)
+with ThreadPoolExecutor(2) as pool:
+    list(pool.map(work, range(1501)))
 """
 
 
@@ -56,20 +90,26 @@ class Ends(ProgramCase):
         for limits, reply in ((["--events", "100"], "413 events full"), (["--tasks", "5"], "414 tasks full"),
                               (["--messages", "3"], "415 messages full")):
             with self.subTest(reply=reply), Served(*limits) as served:
-                slow = COUNTING.replace("with lock:", "with lock:\n            time.sleep(0)")
-                ran = run_traced("--quiet", "--port", str(served.port), self.program(slow))
-                self.assertEqual((ran.returncode, ran.stdout), (67, "done: 8\n"), ran.stderr)
+                ran = run_traced("--quiet", "--port", str(served.port), self.program(HANDING_OVER))
+                self.assertEqual((ran.returncode, ran.stdout), (67, "done\n"), ran.stderr)
                 stops, incomplete, summary = ran.stderr.splitlines()
                 self.assertEqual(stops, f"itc_trace: tracing stops: the trace is full ({reply})")
                 self.assertEqual(incomplete, f"itc_trace: incomplete: the trace is full ({reply})")
                 self.assertTrue(summary.startswith("itc_trace: no race in what was seen: "), summary)
 
     def test_a_full_trace_tells_no_race_that_is_none(self) -> None:
-        handing_over = COUNTING.replace("            itc_trace", "            time.sleep(0)\n            itc_trace")
         with Served("--events", "300") as served, tempfile.NamedTemporaryFile("r") as journal:
-            ran = run_traced("--port", str(served.port), "--journal", journal.name, self.program(handing_over))
+            ran = run_traced("--port", str(served.port), "--journal", journal.name, self.program(HANDING_OVER))
             self.assertEqual(ran.returncode, 67, ran.stderr)
             self.assertLessEqual(len(list(read_journal(journal))), 300)
+
+    def test_jobs_that_are_no_tasks_of_their_own_are_no_all_clear(self) -> None:
+        program = self.program(MANY_JOBS)
+        for words in ((), ("twice", "locked")):
+            self.assertEqual(run_traced(program, *words).returncode, 0)
+        ran = run_traced(program, "twice")
+        self.assertIn(ran.returncode, (66, 67), ran.stderr)  # With 66 the two were run by two threads.
+        self.assertIn("itc_trace: incomplete: more than 1024 jobs were given to pools", ran.stderr)
 
     def test_a_collector_that_ends_stops_tracing_and_not_the_program(self) -> None:
         with Served() as served, tempfile.NamedTemporaryFile("r") as journal:

@@ -54,7 +54,7 @@ class Errors(ProgramCase):
         with tempfile.NamedTemporaryFile("w") as journal:
             journal.write(ROW)
             for words in (("run", "--port", port, self.program(TOUCHING)), ("races", "--port", port, "trace", journal.name),
-                          ("snapshot", "--port", port, "trace")):
+                          ("snapshot", "--port", port, "trace"), ("relay", "--listen", "0", "--port", port)):
                 self.assert_told(run_python("-m", "itc_trace", *words), f"nobody listens at port {port}", "itc_trace serve")
 
     def test_a_tenant_that_is_none(self) -> None:
@@ -165,6 +165,20 @@ class Journals(unittest.TestCase):
     def test_a_journal_without_its_end_breaks_off(self) -> None:
         for lines in ([], [ROW], [ROW, ROW[:20]], [ROW, END_ROW[:5]], [ROW[:20]]):
             self.assertEqual(read_whole(lines).unseen, [BREAKS_OFF], lines)
+
+    def test_a_journal_that_is_cut_anywhere_is_no_all_clear(self) -> None:
+        told = Unseen(Cause.CHILD, "a child").row() + Unseen(Cause.MODULE, "a module").row()
+        for text in (ROW * 2 + END_ROW, ROW + told + ROW + END_ROW):
+            for length in range(len(text)):
+                lines = text[:length].splitlines(keepends=True)
+                self.assertTrue(self.may_break_off(lines), lines)
+            self.assertFalse(self.may_break_off(text.splitlines(keepends=True)))
+
+    def may_break_off(self, lines: list[str]) -> bool:
+        try:
+            return BREAKS_OFF in read_whole(lines).unseen
+        except NoJournal:
+            return True
 
     def test_what_was_not_seen_is_told_wherever_it_stands(self) -> None:
         full = Unseen(Cause.FULL, "the trace is full").row()

@@ -53,7 +53,7 @@ class ThreeProcesses(unittest.TestCase):
         for _ in range(RUNS):
             ended = run_python(str(EXAMPLES / "three_processes.py"))
             self.assertEqual(ended.returncode, RACE, ended.stdout + ended.stderr)
-            self.assertEqual(racing_things(ended.stdout), {"stock file"})
+            self.assertEqual(racing_things(ended.stderr), {"stock file"})
 
     def test_without_the_bug_they_are_clean_in_each_run(self) -> None:
         for _ in range(RUNS):

@@ -8,9 +8,12 @@ from collections.abc import Callable, Iterable, Iterator
 from typing import Any
 from unittest import mock
 
-from itc_trace import Collector, Races, Session, fast_track, order, races, racing_pairs, without_locks
+from itc_trace import Collector, Races, Session, races, racing_pairs
+from itc_trace.conflicts import CHANGING, CONFLICTING
 from itc_trace.journal import Row
 from itc_trace.races import _Finder, _things_of
+from itc_trace.session import Refused
+from itc_trace.trace import Trace
 
 from .random_runs import LOCKS, Answers, AnswersWithoutLocks, Found, RandomRun, Run
 
@@ -25,7 +28,7 @@ def found_in(run: Run, view: Any) -> Races:
     things = [thing for thing in _things_of(run.rows) if thing.may_race]
     AnswersWithoutLocks.run = run
     with mock.patch.object(races, "WithoutLocks", AnswersWithoutLocks):
-        _Finder(view, run.rows, found, False).find(things)
+        _Finder(view, len(run.events), run.rows, found, False).find(things)
     return found
 
 
@@ -58,11 +61,21 @@ class Reachability(unittest.TestCase):
             kinds["race" if real else "possible" if possible else "neither"] += 1
         self.assertGreater(min(kinds.values()), RUNS // 50, kinds)
 
-    def test_a_collector_without_cuts_gives_the_same(self) -> None:
-        for seed in range(RUNS // 10):
-            run = RandomRun(seed)
-            found = found_in(run, Answers(run, with_cut=False))
-            self.assertEqual((listed(found.races), listed(found.possible)), due(run), f"run {seed}")
+    def test_a_thing_with_too_many_pairs_to_ask_for_is_told_all_the_same(self) -> None:
+        with mock.patch.object(races, "MOST_ORDERS", 2):
+            for seed in range(RUNS // 10):
+                run = RandomRun(seed)
+                found = found_in(run, Answers(run))
+                self.assertEqual((listed(found.races), listed(found.possible)), due(run), f"run {seed}")
+
+    def test_an_answer_that_contradicts_the_others_is_no_race(self) -> None:
+        class Contradicting(Answers):
+            def _answer(self, word: str, *numbers: str) -> str:
+                reply = super()._answer(word, *numbers)
+                return reply if word != "event" else f"{' '.join(reply.split()[:4])} 0"
+
+        run = next(run for seed in range(RUNS) for run in [RandomRun(seed)] if any(due(run)) and not found_in(run, Answers(run)).possible)
+        self.assertRaises(Refused, found_in, run, Contradicting(run))
 
     def test_a_journal_that_lacks_rows_gives_the_same(self) -> None:
         for seed in range(RUNS // 10):
@@ -86,7 +99,7 @@ class Reachability(unittest.TestCase):
         self.assertEqual(replies, [f"201 {number}" for number in range(1, len(lines) + 1)])
         found = Races(events=len({row.event for row in run.rows}))
         with Session(tenant, port, "view") as view:
-            _Finder(view, run.rows, found, False).find([thing for thing in _things_of(run.rows) if thing.may_race])
+            _Finder(view, len(run.events), run.rows, found, False).find([thing for thing in _things_of(run.rows) if thing.may_race])
         self.assertEqual((listed(found.races), listed(found.possible)), due(run), f"run {seed}")
 
 
@@ -172,50 +185,40 @@ class Luck(unittest.TestCase):
 # Wrong rules, each of which somebody may take for right
 
 
-def _one_last_read(touches: Iterable[Row], with_locks: bool = False) -> Iterator[tuple[int, int]]:
+def _one_last_read(touches: Iterable[Row]) -> Iterator[tuple[int, int]]:
     """As if a read stood for the reads of other tasks."""
     last: dict[str, Row] = {}
     for touch in touches:
         for kind, other in last.items():
-            if kind in fast_track.CONFLICTING[touch.kind] and other.task != touch.task:
+            if kind in CONFLICTING[touch.kind] and other.task != touch.task:
                 yield other.event, touch.event
         last[touch.kind] = touch
 
 
-def _without_locks_in_classes(touches: Iterable[Row], with_locks: bool = False) -> Iterator[tuple[int, int]]:
-    """As if a touch stood for one with other locks."""
-    last: dict[str, dict[str, Row]] = {}
-    for touch in touches:
-        for kind, rows in last.items():
-            if kind in fast_track.CONFLICTING[touch.kind]:
-                for task, other in rows.items():
-                    if task != touch.task and not (with_locks and set(other.held) & set(touch.held)):
-                        yield other.event, touch.event
-        last.setdefault(touch.kind, {})[touch.task] = touch
-
-
-def _forgotten(touches: Iterable[Row], with_locks: bool = False) -> Iterator[tuple[int, int]]:
+def _forgotten(touches: Iterable[Row]) -> Iterator[tuple[int, int]]:
     """As if each touch stood for all before it."""
     last: Row | None = None
     for touch in touches:
-        if last is not None and last.task != touch.task and last.kind in fast_track.CONFLICTING[touch.kind]:
+        if last is not None and last.task != touch.task and last.kind in CONFLICTING[touch.kind]:
             yield last.event, touch.event
         last = touch
 
 
-def _epochs_without_joins(rows: list[Row], is_complete: bool) -> dict[int, int]:
-    epochs: dict[int, int] = {}
-    current: dict[str, int] = {}
-    for row in rows:
-        if row.kind == "recv" or row.task not in current:
-            current[row.task] = row.event
-        epochs[row.event] = current[row.task]
-    return epochs
+def _before_without(kind: str) -> Any:
+    """As if what is received or taken in told nothing."""
+
+    def before(trace: Trace) -> list[int]:
+        known = [0]
+        for event in trace.events:
+            follows = [trace.previous(event)] if event.kind == kind else event.follows
+            known.append(sum({1 << bit for one in follows for bit in (*_bits(known[one]), one)}))
+        return known
+
+    return property(before)
 
 
-def _epochs_of_beginnings(rows: list[Row], is_complete: bool) -> dict[int, int]:
-    first: dict[str, int] = {}
-    return {row.event: first.setdefault(row.task, row.event) for row in rows}
+def _bits(number: int) -> list[int]:
+    return [bit for bit in range(number.bit_length()) if number >> bit & 1]
 
 
 def _no_split(rows: list[Row]) -> Iterator[Any]:
@@ -224,48 +227,52 @@ def _no_split(rows: list[Row]) -> Iterator[Any]:
 
 def _split_in_one_turn(rows: list[Row]) -> Iterator[Any]:
     """As if a change went back to the first read, whatever was read since."""
-    reads = [row for row in rows if row.kind not in racing_pairs.CHANGING]
+    reads = [row for row in rows if row.kind not in CHANGING]
     for row in rows:
-        if row.kind in racing_pairs.CHANGING and reads and reads[0].turn < row.turn:
+        if row.kind in CHANGING and reads and reads[0].turn < row.turn:
             yield racing_pairs._Split(reads[:1], row)
 
 
-class _NoSignals(without_locks.Signals):
-    """As if an order had to be without any lock on its way."""
+def _no_signals(trace: Trace, locks: set[int]) -> list[int]:
+    """As if a task knew by signals only what its own task did."""
+    told = [0]
+    for event in trace.events:
+        previous = trace.previous(event)
+        told.append(told[previous] | 1 << previous)
+    return told
 
-    def known(self, task: str, event: int) -> dict[str, int]:
-        return {}
+
+def _all_signals(trace: Trace, locks: set[int]) -> list[int]:
+    """As if a lock told as a signal does."""
+    return trace.before
 
 
-def _any_hand_over(self: Any, thing: Any, signals: Any) -> Any:
+def _any_hand_over(thing: Any, trace: Trace, told: list[int]) -> Any:
     """As if a thing that was made before the other task began could be handed over to it."""
-    known_order, handed_over = self._order, self._handed_over(thing)
-
-    def bounds(touch: Row, task: str) -> tuple[int, int]:
-        low = signals.known(touch.task, touch.event).get(task, 0)
-        if thing.making is not None and task == thing.making.task:
-            low = max(low, handed_over)
-        return low, known_order.known(touch.event).get(task, 0)
-
-    return bounds
+    handed_over = races._handed_over(thing, trace)
+    return lambda touch: ~(told[touch] | handed_over) & ((1 << touch) - 2)
 
 
-def _never_handed_over(self: Any, thing: Any) -> int:
-    return 0
+def _in_common(alike: Any, held: Iterable[str]) -> int:
+    """As if locks kept nobody out."""
+    return int(alike.events)
 
 
 WRONG: list[tuple[Any, str, Any]] = [
     (races, "deciding_pairs", _one_last_read),
-    (races, "deciding_pairs", _without_locks_in_classes),
     (races, "deciding_pairs", _forgotten),
-    (order, "_epochs", _epochs_without_joins),
-    (order, "_epochs", _epochs_of_beginnings),
+    (Trace, "before", _before_without("recv")),
+    (Trace, "before", _before_without("join")),
     (racing_pairs, "_splits", _no_split),
     (racing_pairs, "_splits", _split_in_one_turn),
-    (racing_pairs, "_are_apart", lambda *_: True),
-    (races, "Signals", _NoSignals),
-    (races._Finder, "_luck", _any_hand_over),
-    (races._Finder, "_handed_over", _never_handed_over),
+    (racing_pairs._SplitPairs, "_told_twice", lambda *_: 0),
+    (racing_pairs._SplitPairs, "_unordered_later", lambda *_: {}),
+    (racing_pairs._SplitPairs, "_between", lambda pairs, split, read, other: other.events & ~pairs._own[read.task]),
+    (racing_pairs._Alike, "without", _in_common),
+    (races, "told_by_signals", _no_signals),
+    (races, "told_by_signals", _all_signals),
+    (races, "_untold", _any_hand_over),
+    (races, "_handed_over", lambda *_: 0),
 ]
 
 
@@ -279,7 +286,7 @@ class WrongRules(unittest.TestCase):
     def is_right_here(seed: int) -> bool:
         try:
             return is_right(seed)
-        except (AssertionError, LookupError):
+        except (AssertionError, LookupError, Refused):
             return False
 
 

@@ -521,6 +521,28 @@ class Processes(TracedCase):
 
         self.assert_ordered(scenario)
 
+    def test_two_jobs_of_a_pool_of_threads_are_not_ordered_by_the_thread_that_runs_both(self) -> None:
+        def scenario() -> None:
+            step = Step()
+            with multiprocessing.pool.ThreadPool(2) as pool:
+                busy = pool.apply_async(step.wait)  # It leaves one thread for the others.
+                for job in [pool.apply_async(write, ("x",)) for _ in range(2)]:
+                    job.wait()
+                step.done()
+                busy.wait()
+                pool.map(lambda number: write(f"part {number}"), range(4))
+                write("part 0")
+
+        self.assert_racing_things("x", scenario)
+
+    def test_jobs_of_a_pool_of_one_thread_are_in_order(self) -> None:
+        def scenario() -> None:
+            with multiprocessing.pool.ThreadPool(1) as pool:
+                pool.map(lambda _: write("x"), range(4))
+                write("x")
+
+        self.assert_ordered(scenario)
+
     def test_the_locks_of_a_queue_of_processes_give_no_order(self) -> None:
         def scenario() -> None:
             one: Any = multiprocessing.Queue()
@@ -857,19 +879,22 @@ class Ends(ProgramCase):
 
     def test_what_runs_at_exit_is_not_ordered_with_a_daemon(self) -> None:
         told = self.told(
-            "import atexit, threading, time, itc_trace\n"
-            "threading.Thread(target=lambda: itc_trace.touch('x', write=True), daemon=True).start()\n"
-            "time.sleep(0.2)\n"
+            "import atexit, os, threading, itc_trace\n"
+            "end, beginning = os.pipe()\n"
+            "def work():\n    itc_trace.touch('x', write=True)\n    os.write(beginning, b'x')\n"
+            "threading.Thread(target=work, daemon=True).start()\n"
+            "os.read(end, 1)\n"
             "atexit.register(lambda: itc_trace.touch('x'))\n"
         )
         self.assertRegex(told, r"1 race in .* \(66\)")
 
     def test_what_runs_at_exit_comes_after_its_registration(self) -> None:
         told = self.told(
-            "import atexit, threading, time, itc_trace\n"
-            "def work():\n    itc_trace.touch('x', write=True)\n    atexit.register(lambda: itc_trace.touch('x'))\n"
+            "import atexit, os, threading, itc_trace\n"
+            "end, beginning = os.pipe()\n"
+            "def work():\n    itc_trace.touch('x', write=True)\n    atexit.register(lambda: itc_trace.touch('x'))\n    os.write(beginning, b'x')\n"
             "threading.Thread(target=work, daemon=True).start()\n"
-            "time.sleep(0.2)\n"
+            "os.read(end, 1)\n"
         )
         self.assertRegex(told, r"no race in this run: 2 places of 1 thing.* \(0\)")
 

@@ -14,17 +14,18 @@ from itc_trace.collector import find_program
 from .support import ProgramCase, run_traced
 
 LUCKY = """
-import threading, time, itc_trace
+import threading, os, itc_trace
 guard = MADE
-total = 0
+total, (end, beginning) = 0, os.pipe()
 def add():
     global total
     itc_trace.touch("stock", write=True)
     with guard:
         total += 1
+    os.write(beginning, b"x")
 def look():
     global total
-    time.sleep(0.2)
+    os.read(end, 1)
     with guard:
         total += 1
     itc_trace.touch("stock")
@@ -55,7 +56,7 @@ class Possible(ProgramCase):
             status, first, add, look, why, last = self.told(LUCKY, made)
             self.assertEqual((status, first), ("0", "itc_trace: possible race on stock"))
             self.assertRegex(add, r'^    write at .*program.py:7 in add:  itc_trace.touch\("stock", write=True\)$')
-            self.assertRegex(look, r'^    read  at .*program.py:15 in look:  itc_trace.touch\("stock"\)$')
+            self.assertRegex(look, r'^    read  at .*program.py:16 in look:  itc_trace.touch\("stock"\)$')
             self.assertRegex(why, r"ordered in this run only by lock guard \(.*program.py:3\), which neither holds; once, as events \d+ and \d+$")
             self.assertRegex(last, "^itc_trace: no race in this run; 1 possible: 2 places of 1 thing, ")
 

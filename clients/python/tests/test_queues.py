@@ -12,7 +12,7 @@ from typing import Any
 
 from itc_trace import touch
 
-from .support import WAIT, Step, TracedCase, in_turn
+from .support import PART_EVENTS, WAIT, Step, TracedCase, in_turn
 from .test_threads import write
 
 KINDS: list[Any] = [queue.Queue, queue.LifoQueue, queue.PriorityQueue, lambda: queue.SimpleQueue()]
@@ -283,6 +283,7 @@ class Pools(TracedCase):
 
         self.assert_ordered(scenario)
 
+    @unittest.skipIf(PART_EVENTS, "each of many borders would be crossed by a thousand jobs")
     def test_thousands_of_jobs_do_not_use_up_the_tasks(self) -> None:
         def scenario() -> None:
             with ThreadPoolExecutor(2) as pool:

@@ -17,7 +17,7 @@ from itc_trace.collector import find_program
 from itc_trace.relay import Relay
 from itc_trace.snapshot import snapshot
 
-from .support import TracedCase
+from .support import WAIT, TracedCase, wait_until
 
 CLIENTS, REPORTS = 12, 40
 
@@ -36,7 +36,7 @@ class Relayed(unittest.TestCase):
         self.collector.close()
 
     def connect(self, *lines: str) -> socket.socket:
-        connection = socket.create_connection(("127.0.0.1", self.relay.port), timeout=60)
+        connection = socket.create_connection(("127.0.0.1", self.relay.port), timeout=WAIT)
         connection.sendall("".join(f"{line}\n" for line in lines).encode())
         return connection
 
@@ -89,9 +89,7 @@ class Relayed(unittest.TestCase):
         with ThreadPoolExecutor(8) as pool:
             told = sum(pool.map(lambda _: work(), range(16)))
         self.assertEqual(told, 16 * 25)
-        until = time.monotonic() + 20
-        while self.events() < told and time.monotonic() < until:
-            time.sleep(0.05)
+        wait_until(lambda: self.events() >= told)
         self.assertGreaterEqual(self.events(), told)
         with Session("x", self.relay.port) as session:
             self.assertGreater(session.local("root"), told)
@@ -217,7 +215,7 @@ class Messages(TracedCase):
                 serving = threading.Thread(target=server.handle_request)
                 serving.start()
                 touch("x", write=True)
-                with opener().open(f"http://127.0.0.1:{server.server_port}/", timeout=60) as response:
+                with opener().open(f"http://127.0.0.1:{server.server_port}/", timeout=WAIT) as response:
                     self.assertEqual(response.read(), b"told")
                 touch("x", write=True)
                 touch("y", write=True)
@@ -228,6 +226,9 @@ class Messages(TracedCase):
     def test_untraced_they_do_nothing(self) -> None:
         self.assertIsNone(outgoing())
         incoming("m")
+
+
+HEADER = '{"events":16384,"messages":16384,"tasks":2048,"tenant":"x","version":2}\n'
 
 
 class Snapshots(unittest.TestCase):
@@ -251,7 +252,17 @@ class Snapshots(unittest.TestCase):
         with Collector("x") as collector:
             output = io.StringIO()
             self.assertEqual(snapshot("x", collector.port, output), 0)
-            self.assertEqual(output.getvalue(), "")
+            self.assertEqual(output.getvalue(), HEADER)
+
+    def test_the_limits_of_its_header_hold_its_events(self) -> None:
+        """A loader under the limits of a header that are too small refuses the export."""
+        with Collector("x") as collector, Session("x", collector.port) as session:
+            self.assertEqual(len(list(session.ask(["local root"] * 5000))), 5000)
+            output = io.StringIO()
+            snapshot("x", collector.port, output)
+        self.assertTrue(output.getvalue().startswith(HEADER))
+        read = subprocess.run([find_program(), "load", "y"], input=output.getvalue(), capture_output=True, text=True, check=False)
+        self.assertEqual((read.stdout, read.stderr), ("y local root\n" * 5000, ""))
 
 
 if __name__ == "__main__":

@@ -10,7 +10,7 @@ from typing import Any
 
 from itc_trace import touch
 
-from .support import WAIT, Step, TracedCase, in_turn
+from .support import WAIT, Step, TracedCase, in_turn, wait_until
 
 
 def write(thing: str = "x") -> None:
@@ -109,7 +109,7 @@ class Threads(TracedCase):
             waiting = [threading.Thread(target=wait) for _ in range(2)]
             for one in waiting:
                 one.start()
-            time.sleep(0.1)
+            wait_until(lambda: vars(thread)["_itc_line"].waiting == len(waiting))
             step.done()
             for one in waiting:
                 one.join()
@@ -151,7 +151,6 @@ class Threads(TracedCase):
             write()
             _thread.start_new_thread(work, ())
             step.wait()
-            time.sleep(0.05)
 
         self.assert_ordered(scenario)
 

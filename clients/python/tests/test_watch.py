@@ -376,15 +376,6 @@ class TheProgramDoesWhatItDid(unittest.TestCase):
                 with self.subTest(name=name):
                     self.assertIsNone(variables[name]())
 
-    def test_a_module_that_cannot_be_rewritten_runs_as_it_is(self) -> None:
-        with tempfile.TemporaryDirectory() as folder:
-            deep = "x = " + "(" * 60 + "1" + ")" * 60 + "\nn = " + "+".join(["x"] * 1500) + "\n"
-            Path(folder, "deep.py").write_text(deep)
-            Path(folder, "program.py").write_text("import deep, threading\nt = threading.Thread(target=int)\nt.start()\nt.join()\nprint(deep.n)\n")
-            ran = run_traced(os.path.join(folder, "program.py"))
-        self.assertEqual((ran.returncode, ran.stdout), (0, "1500\n"), ran.stderr)
-        self.assertEqual(ran.stderr.count("deep.py runs as it is, and is not watched: RecursionError"), 1, ran.stderr)
-
 
 def _lines(code: types.CodeType) -> set[int | None]:
     inner = [one for one in code.co_consts if isinstance(one, types.CodeType)]
@@ -639,8 +630,9 @@ for thread in threads:
 
     def test_a_loop_of_updates_takes_few_events(self) -> None:
         text = """\
-import threading
+import sys, threading
 
+sys.setswitchinterval(1)
 lock, stock = threading.Lock(), {"left": 5000}
 
 def sell():

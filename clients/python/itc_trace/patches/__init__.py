@@ -2,11 +2,13 @@
 
 from __future__ import annotations
 
-from . import asynchronous, cached, entry_queue, exits, futures, handlers, heaps, importlib_bootstrap, processes, queues, threads
+from . import (
+    asynchronous, cached, entry_queue, exits, futures, handlers, heaps, importlib_bootstrap, processes, queues, thread_pools, threads,
+)
 from .base import Patches
 
 _TRACED = (
-    threads, exits, queues, futures, asynchronous, cached, handlers, heaps, processes, entry_queue, importlib_bootstrap,
+    threads, exits, queues, futures, asynchronous, cached, handlers, heaps, processes, thread_pools, entry_queue, importlib_bootstrap,
 )
 
 _patches: Patches | None = None

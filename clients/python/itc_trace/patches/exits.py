@@ -4,6 +4,7 @@ from __future__ import annotations
 
 import atexit
 import threading
+from collections.abc import Callable
 from types import MethodType
 from typing import Any
 
@@ -26,6 +27,16 @@ def put(patches: Patches) -> None:
 
 def await_at_exit(line: Line) -> None:
     _awaited.append(line)
+
+
+def take_awaited(is_over: Callable[[Line], bool]) -> list[Line]:
+    """Takes out those that are over. Others may be added meanwhile."""
+    count = len(_awaited)
+    known = _awaited[:count]
+    over = [line for line in known if is_over(line)]
+    left = set(known).difference(over)
+    _awaited[:count] = [line for line in known if line in left]
+    return over
 
 
 def _register(original: Any) -> Any:

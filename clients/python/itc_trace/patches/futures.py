@@ -12,7 +12,7 @@ import concurrent.futures.thread as pools
 from collections.abc import Iterator
 from typing import Any
 
-from ..lines import CALLBACK, FINISH, RESULT, SPAWN, SUBMIT, TAKE_END, WORKER, Line, Token, state
+from ..lines import CALLBACK, FINISH, RESULT, SPAWN, SUBMIT, TAKE_END, WORKER, LateJob, Line, Token, state
 from ..noting import current, enter, frame_at, is_internal, local, mark, place, take
 from .base import Patches, like
 from .exits import await_at_exit
@@ -186,6 +186,7 @@ def _begin_job(item: Any, future: Any, pool: Any, name: str) -> None:
     tracer.lines_made += 1
     if pool._max_workers == 1 or tracer.lines_made > tracer.most_lines:
         item._itc_submitted = mark(SUBMIT, 5)
+        item._itc_job = 0 if pool._max_workers == 1 else tracer.lines_made
         return
     line = Line(tracer, name + "#")
     line.watch(future)
@@ -200,7 +201,11 @@ def _item_run(original: Any) -> Any:
     def run(self: Any, *words: Any) -> None:
         line = self.__dict__.get("_itc_line")
         if line is None or line.tracer is not state.tracer:
-            take(self.__dict__.get("_itc_submitted"))
+            submitted = self.__dict__.get("_itc_submitted")
+            if submitted is not None:
+                worker, number = current(), self.__dict__.get("_itc_job", 0)
+                worker.job = LateJob(worker, number) if number else None
+            take(submitted)
             return original(self, *words)  # type: ignore[no-any-return]
         ready = mark(WORKER) if self._itc_is_after_worker else None
         worker = getattr(local, "line", None)

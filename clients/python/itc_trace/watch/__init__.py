@@ -2,6 +2,8 @@
 
 from __future__ import annotations
 
+import importlib.machinery
+import importlib.util
 import os
 import sys
 from collections.abc import Sequence
@@ -10,14 +12,19 @@ from typing import Any
 
 from ..lines import Line, state
 from ..noting import INTERNAL
+from ..verdict import Unseen
+from ..patches.base import like
 from . import hooks, things
-from .finder import Finder, Selection, with_hooks
+from .commands import own_program
+from .finder import UNWATCHED, Finder, Selection, with_hooks
 from .loaded import Prepare, folder_of_main, rewrite_loaded
+from .unwatched import files_without_hooks
 
-__all__ = ["Prepare", "begin", "code_of", "end", "watch", "watch_loaded", "watch_main"]
+__all__ = ["Prepare", "begin", "code_of", "end", "program_of", "unwatched", "watch", "watch_loaded", "watch_main"]
 
 _finder: Finder | None = None
 _plain_line_begin: Any = None
+_plain_spec = importlib.util.spec_from_file_location
 
 
 def watch(folders: Sequence[str], packages: Sequence[str] = ()) -> None:
@@ -28,6 +35,13 @@ def watch(folders: Sequence[str], packages: Sequence[str] = ()) -> None:
     _finder = Finder(Selection(folders, [name for name in packages if not _is_traced_as_a_whole(name)]))
     hooks.put(False)
     sys.meta_path.insert(0, _finder)  # type: ignore[arg-type]
+    if importlib.util.spec_from_file_location is _plain_spec:
+        importlib.util.spec_from_file_location = like(_plain_spec, _spec_from_file_location)
+
+
+def _spec_from_file_location(*words: Any, **named: Any) -> importlib.machinery.ModuleSpec | None:
+    spec = _plain_spec(*words, **named)
+    return spec if _finder is None else _finder.with_loader(spec)
 
 
 def watch_loaded(folders: Sequence[str], packages: Sequence[str] = (), prepare: Prepare | None = None) -> None:
@@ -89,6 +103,16 @@ def _switch_on() -> None:
 def is_on() -> bool:
     """Whether modules of the program are watched."""
     return _finder is not None
+
+
+def unwatched() -> list[Unseen]:
+    """What of the program was to be watched, and was not."""
+    return [] if _finder is None else [*UNWATCHED, *files_without_hooks(_finder.selection)]
+
+
+def program_of(command: str | Sequence[str], folder: str) -> str | None:
+    """The program or module of a watched folder that a command runs in a folder, if it runs one by Python."""
+    return None if _finder is None else own_program(command, folder, _finder.selection)
 
 
 def witness() -> None:

@@ -8,6 +8,7 @@ from __future__ import annotations
 import threading
 import types
 import weakref
+from array import array
 from builtins import any, id, issubclass, len, next, str, type
 from collections import Counter, OrderedDict, defaultdict, deque
 from typing import Any
@@ -30,9 +31,9 @@ BARE = frozenset({object, types.SimpleNamespace, BaseException})
 """Types that find attributes in the usual way, though their own tables name the methods that do so."""
 
 _EXACT: dict[type, int] = {
-    dict: DICT, defaultdict: DICT, OrderedDict: DICT, Counter: DICT, list: LIST, bytearray: LIST, set: SET, deque: DEQUE,
+    dict: DICT, defaultdict: DICT, OrderedDict: DICT, Counter: DICT, list: LIST, bytearray: LIST, array: LIST, set: SET, deque: DEQUE,
 }
-_BASES = ((dict, DICT), (list, LIST), (bytearray, LIST), (set, SET), (deque, DEQUE))
+_BASES = ((dict, DICT), (list, LIST), (bytearray, LIST), (array, LIST), (set, SET), (deque, DEQUE))
 NO_FAMILY = -1
 
 _mro_of: Any = vars(type)["__mro__"].__get__
@@ -169,8 +170,10 @@ def _decide(kind: type, name: str, kinds: str) -> int:
         return OF_MODULE
     if issubclass(kind, type):
         return OF_TYPE
-    if issubclass(kind, threading.local) or _has(kind, "__getattribute__") or is_of_the_package(kind):
+    if issubclass(kind, threading.local) or is_of_the_package(kind):
         return SKIP
+    if _has(kind, "__getattribute__"):
+        return OWN_FIELD
     owner = class_with(kind, name)
     if owner is not None:
         return _decide_of_class(kind, _vars_of(owner)[name], kinds)

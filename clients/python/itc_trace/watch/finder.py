@@ -10,7 +10,9 @@ import warnings
 from collections.abc import Sequence
 from types import CodeType, ModuleType
 
+from ..verdict import Cause, Unseen
 from .decisions import WATCHED
+from .depth import at_any_depth
 from .rewrite import rewritten
 
 OWN_FOLDER = os.path.dirname(os.path.dirname(os.path.abspath(__file__)))
@@ -18,6 +20,11 @@ LIBRARY_FOLDERS = tuple(
     os.path.realpath(path) + os.sep for path in {sysconfig.get_path(name) for name in ("stdlib", "platstdlib", "purelib", "platlib")}
 )
 INSTALLED = ("site-packages", "dist-packages")
+
+FILES: set[str] = set()
+"""Those whose code has hooks, or of which was told that it has none."""
+UNWATCHED: list[Unseen] = []
+"""The modules that were to be watched, and run as they are."""
 
 
 class Selection:
@@ -74,18 +81,21 @@ def with_hooks(source: bytes, file: str, module: str, selection: Selection, plai
     try:
         with warnings.catch_warnings():
             warnings.simplefilter("ignore")
-            made = rewritten(source, file, module, selection.has_import)
+            made = at_any_depth(lambda: rewritten(source, file, module, selection.has_import))
     except (SyntaxError, ValueError, RecursionError, MemoryError) as fault:
         tell_unwatched(file, fault)
         return plain
     WATCHED.add(module)
+    FILES.add(file)
     return made
 
 
 def tell_unwatched(file: str, fault: BaseException) -> None:
+    told = f"{os.path.basename(file)} runs as it is, and is not watched: {f'{type(fault).__name__}: {fault}'.splitlines()[0]}"
+    UNWATCHED.append(Unseen(Cause.MODULE, told))
+    FILES.add(file)
     if sys.__stderr__ is not None:
-        reason = f"{type(fault).__name__}: {fault}".splitlines()[0]
-        print(f"itc_trace: {os.path.basename(file)} runs as it is, and is not watched: {reason}", file=sys.__stderr__, flush=True)
+        print(f"itc_trace: {told}", file=sys.__stderr__, flush=True)
 
 
 class Finder:
@@ -97,15 +107,16 @@ class Finder:
     def find_spec(
         self, name: str, path: Sequence[str] | None = None, target: ModuleType | None = None
     ) -> importlib.machinery.ModuleSpec | None:
-        spec = importlib.machinery.PathFinder.find_spec(name, path, target)
-        if spec is None or type(spec.loader) is not importlib.machinery.SourceFileLoader:
-            return None
-        if not self.selection.has_file(name, spec.origin):
-            return None
-        code = self._code_of(name, spec.loader)
-        if code is None or spec.origin is None:
-            return None
-        spec.loader = Loader(name, spec.origin, code)
+        spec = self.with_loader(importlib.machinery.PathFinder.find_spec(name, path, target))
+        return spec if spec is not None and type(spec.loader) is Loader else None
+
+    def with_loader(self, spec: importlib.machinery.ModuleSpec | None) -> importlib.machinery.ModuleSpec | None:
+        """A module that the program finds by itself, with the loader that gives it hooks if it is watched."""
+        if spec is None or type(spec.loader) is not importlib.machinery.SourceFileLoader or not self.selection.has_file(spec.name, spec.origin):
+            return spec
+        code = self._code_of(spec.name, spec.loader)
+        if code is not None and spec.origin is not None:
+            spec.loader = Loader(spec.name, spec.origin, code)
         return spec
 
     def _code_of(self, name: str, loader: importlib.machinery.SourceFileLoader) -> CodeType | None:

@@ -8,7 +8,8 @@ from __future__ import annotations
 
 import builtins
 import types
-from builtins import hash, id, issubclass, len, map, setattr, type
+from array import array
+from builtins import hash, id, issubclass, len, map, next, setattr, type
 from _thread import get_ident
 from collections import defaultdict
 from collections.abc import Callable, Iterable
@@ -29,6 +30,7 @@ from .things import (
     BASES, OWNERS, Owner, element_of, field_of, let_go_of_some, made_by, made_here, owner_of, shape_of, variable_of,
 )
 
+INDEXED = (list, bytearray, array)
 SIMPLE = frozenset({str, int, bytes, float, bool, type(None)})
 MOST_PARTS = 8
 READ_ONLY = "r"
@@ -209,6 +211,12 @@ def _note(base: int, site_key: int, thing: Any, kinds: str, site: int) -> dict[A
 
 
 hook_A_local = hook_A
+
+
+def hook_a(site: int, *words: Any) -> tuple[Any, ...]:
+    """The same, with all arguments of the function, which it gives back."""
+    hook_A(words[0], words[1], site)
+    return words
 
 
 # Variables and cells
@@ -491,7 +499,7 @@ def _touch_index(one: Any, owner: Owner, key: Any, kinds: str, family: int, site
     place = key
     if key < 0:
         touches[whole, LENGTH] = shape, LENGTH, site
-        place = key + (list.__len__(one) if issubclass(type(one), list) else bytearray.__len__(one))
+        place = key + next(base.__len__(one) for base in INDEXED if issubclass(type(one), base))
     if kinds != "w":
         touches[whole, LOOKUP] = shape, LOOKUP, site
     if kinds != "r":
@@ -728,6 +736,10 @@ def _second(_: Any, one: Any, *__: Any) -> Any:
     return one
 
 
+def _rest(_: Any, *words: Any) -> tuple[Any, ...]:
+    return words
+
+
 def _nothing(*_: Any) -> None:
     return None
 
@@ -735,7 +747,7 @@ def _nothing(*_: Any) -> None:
 HOOKS: dict[str, Callable[..., Any]] = {name[5:]: one for name, one in list(globals().items()) if name.startswith("hook_")}
 ALWAYS = frozenset(("n", "N"))
 QUIET: dict[str, Callable[..., Any]] = {
-    **dict.fromkeys(HOOKS, _first), **dict.fromkeys(("K", "K_local"), _second), **dict.fromkeys(("g", "c", "d"), _nothing),
+    **dict.fromkeys(HOOKS, _first), **dict.fromkeys(("K", "K_local"), _second), "a": _rest, **dict.fromkeys(("g", "c", "d"), _nothing),
     **{name: HOOKS[name] for name in ALWAYS},
 }
 

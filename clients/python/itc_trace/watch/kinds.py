@@ -11,7 +11,8 @@ _ITERATIONS = dict.fromkeys(("index", "count", "copy"), ITERATION)
 WHOLE: dict[int, dict[str, str]] = {
     LIST: {
         **_ITERATIONS, **dict.fromkeys(("append", "extend"), ADDITION), **dict.fromkeys(("insert", "pop", "remove"), REMOVAL),
-        **dict.fromkeys(("clear", "sort", "reverse"), REWRITE),
+        **dict.fromkeys(("clear", "sort", "reverse", "byteswap"), REWRITE),
+        **dict.fromkeys(("frombytes", "fromlist", "fromfile"), ADDITION), **dict.fromkeys(("tobytes", "tolist", "tofile"), ITERATION),
     },
     DICT: {
         **dict.fromkeys("items values copy most_common elements total".split(), ITERATION), "keys": KEYS, "popitem": REMOVAL,

@@ -11,7 +11,8 @@ from collections.abc import Callable, Iterator
 from types import CodeType, FunctionType, ModuleType
 
 from .decisions import WATCHED
-from .finder import Selection, tell_unwatched
+from .depth import at_any_depth
+from .finder import FILES, Selection, tell_unwatched
 from .rewrite import rewritten
 
 Prepare = Callable[[ast.Module, bytes, str], None]
@@ -35,11 +36,13 @@ def rewrite_loaded(selection: Selection, prepare: Prepare | None = None) -> None
                 _replace(one, codes[one.__code__.co_filename])
 
 
-Mark = tuple[str, int, tuple[str, ...]]
+Mark = tuple[str, int, tuple[str, ...], tuple[int, int]]
 
 
 def _mark_of(code: CodeType) -> Mark:
-    return code.co_qualname, code.co_firstlineno, code.co_freevars
+    """What a function's code with hooks and its plain one have in common, and no other function of the file."""
+    ends = [(line, column) for _, line, _, column in code.co_positions() if line is not None and column is not None]
+    return code.co_qualname, code.co_firstlineno, code.co_freevars, max(ends, default=(0, 0))
 
 
 def _codes_of(file: str, module: ModuleType, selection: Selection, prepare: Prepare | None) -> dict[Mark, CodeType]:
@@ -47,12 +50,18 @@ def _codes_of(file: str, module: ModuleType, selection: Selection, prepare: Prep
     try:
         with open(file, "rb") as source, warnings.catch_warnings():
             warnings.simplefilter("ignore")
-            made = rewritten(source.read(), file, name, selection.has_import, prepare=prepare)
+            text = source.read()
+            made = at_any_depth(lambda: rewritten(text, file, name, selection.has_import, prepare=prepare))
     except Exception as fault:  # What prepares the tree is somebody else's.
         tell_unwatched(file, fault)
         return {}
     WATCHED.add(name)
-    return {_mark_of(code): code for code in _all_codes(made)}
+    FILES.add(file)
+    codes: dict[Mark, CodeType | None] = {}
+    for code in _all_codes(made):
+        mark = _mark_of(code)
+        codes[mark] = None if mark in codes else code
+    return {mark: code for mark, code in codes.items() if code is not None}
 
 
 def _all_codes(code: CodeType) -> Iterator[CodeType]:
@@ -63,7 +72,7 @@ def _all_codes(code: CodeType) -> Iterator[CodeType]:
 
 
 def _replace(function: FunctionType, codes: dict[Mark, CodeType]) -> None:
-    """Gives a function its code with hooks. Two lambdas of one line are told apart by nothing, and left as they are."""
+    """Gives a function its code with hooks. One that is not told apart from another is left as it is."""
     made = codes.get(_mark_of(function.__code__))
     if made is not None and made.co_argcount == function.__code__.co_argcount and made.co_varnames == function.__code__.co_varnames:
         function.__code__ = made

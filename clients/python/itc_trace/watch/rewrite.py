@@ -29,6 +29,8 @@ READERS = {
 STEPPERS = frozenset(("enumerate", "zip", "map", "filter"))
 """Those that look at it step by step."""
 OF_ATTRIBUTES = {"getattr": "r", "hasattr": "r", "setattr": "w", "delattr": "w"}
+OF_OBJECT = {"__getattribute__": "r", "__setattr__": "w", "__delattr__": "w"}
+"""Methods of `object` that do the same for a class with methods of its own."""
 MAKERS = frozenset("dict list set bytearray deque defaultdict OrderedDict Counter".split())
 DISPLAYS = (ast.Dict, ast.List, ast.Set, ast.DictComp, ast.ListComp, ast.SetComp)
 VIEWS = frozenset(("items", "keys", "values"))
@@ -563,14 +565,23 @@ class Rewriter:
         return node
 
     def _arguments_of_builtin(self, node: ast.Call, name: str) -> None:
-        if name in OF_ATTRIBUTES and len(node.args) > 1 and self._is_simple(node.args[1]):
-            field = node.args[1].twin  # type: ignore[attr-defined]
-            first = self._operand(node.args[0], "A", field, self._site(node, "field", OF_ATTRIBUTES[name]))
-            node.args = [first, *(self._child(one) for one in node.args[1:])]
+        if name in OF_ATTRIBUTES and len(node.args) > 1:
+            self._attribute_by_name(node, OF_ATTRIBUTES[name])
         elif name in READERS or name in STEPPERS:
             node.args = [self._looked_at(one, name) for one in node.args]
         else:
             node.args = [self._child(one) for one in node.args]
+
+    def _attribute_by_name(self, node: ast.Call, kinds: str) -> None:
+        """The object and the name of its attribute are the first two arguments. A name that is computed is computed once."""
+        site = self._site(node, "field", kinds)
+        name: Any = node.args[1]
+        if self._is_simple(name):
+            node.args = [self._operand(node.args[0], "A", name.twin, site), *(self._child(one) for one in node.args[1:])]
+            return
+        node.args = [self._child(one) for one in node.args]
+        if not any(isinstance(one, ast.Starred) for one in node.args):
+            node.args = [ast.copy_location(ast.Starred(self._hook("a", node, ast.Constant(site), *node.args), ast.Load()), node)]
 
     def _looked_at(self, node: Any, name: str) -> ast.expr:
         is_new = isinstance(node, ast.Call) and isinstance(node.func, ast.Name) and self._is_builtin(node.func.id)
@@ -582,7 +593,9 @@ class Rewriter:
     def _call_method(self, node: ast.Call, func: ast.Attribute) -> ast.expr:
         name, owner = func.attr, func.value
         is_late = any(_contains(one, LATE) for one in node.args)
-        if name not in METHODS or self._is_foreign(owner):
+        if name in OF_OBJECT and len(node.args) > 1 and isinstance(owner, ast.Name) and owner.id == "object" and self._is_builtin("object"):
+            self._attribute_by_name(node, OF_OBJECT[name])
+        elif name not in METHODS or self._is_foreign(owner):
             node.func = self._called(func)
             node.args = [self._child(one) for one in node.args]
         elif name in KEYED and node.args and not isinstance(node.args[0], ast.Starred):

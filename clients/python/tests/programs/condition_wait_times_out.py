@@ -5,8 +5,8 @@ thing: tray
 """
 
 import threading
-import time
 
+import _baton
 from itc_trace import shared
 
 tray = shared({"bread": 0}, "tray")
@@ -14,7 +14,7 @@ baked = threading.Condition()
 
 
 def bake():
-    time.sleep(0.1)
+    _baton.wait()
     with baked:
         tray["bread"] += 1  # race: write
         baked.notify()
@@ -25,4 +25,5 @@ baker.start()
 with baked:
     baked.wait(timeout=0.01)
 print(tray["bread"] in (0, 1))  # race: read
+_baton.hand_on()
 baker.join()

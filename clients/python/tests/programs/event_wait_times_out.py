@@ -5,8 +5,8 @@ thing: answer
 """
 
 import threading
-import time
 
+import _baton
 from itc_trace import shared
 
 answer = shared({"text": ""}, "answer")
@@ -14,7 +14,7 @@ arrived = threading.Event()
 
 
 def ask():
-    time.sleep(0.1)
+    _baton.wait()
     answer["text"] = "yes"  # race: write
     arrived.set()
 
@@ -23,4 +23,5 @@ asker = threading.Thread(target=ask)
 asker.start()
 arrived.wait(timeout=0.01)
 print(answer["text"] in ("", "yes"))  # race: read
+_baton.hand_on()
 asker.join()

@@ -4,9 +4,9 @@ due: race
 thing: report
 """
 
-import time
 from concurrent.futures import FIRST_COMPLETED, ThreadPoolExecutor, wait
 
+import _baton
 from itc_trace import shared
 
 report = shared({"slow": None}, "report")
@@ -17,10 +17,11 @@ def fast():
 
 
 def slow():
-    time.sleep(0.05)
+    _baton.wait()
     report["slow"] = "done"  # race: write
 
 
 with ThreadPoolExecutor(2) as pool:
     done, pending = wait([pool.submit(fast), pool.submit(slow)], return_when=FIRST_COMPLETED)
     print(len(done) > 0, report["slow"] in (None, "done"))  # race: read
+    _baton.hand_on()

@@ -8,6 +8,7 @@ import atexit
 import threading
 import time
 
+import _baton
 from itc_trace import shared
 
 
@@ -21,6 +22,7 @@ heart = shared(Heart(), "heart")
 def beat():
     while True:
         heart.beats = heart.beats + 1  # race: write
+        _baton.hand_on()
         time.sleep(0.02)
 
 
@@ -30,4 +32,4 @@ def report():
 
 
 threading.Thread(target=beat, daemon=True).start()
-time.sleep(0.1)
+_baton.wait()

@@ -5,15 +5,15 @@ thing: page
 """
 
 import threading
-import time
 
+import _baton
 from itc_trace import shared
 
 page = shared({"size": 0}, "page")
 
 
 def load():
-    time.sleep(0.1)
+    _baton.wait()
     page["size"] = 512  # race: write
 
 
@@ -21,4 +21,5 @@ loader = threading.Thread(target=load)
 loader.start()
 loader.join(timeout=0.01)
 print(page["size"] in (0, 512))  # race: read
+_baton.hand_on()
 loader.join()

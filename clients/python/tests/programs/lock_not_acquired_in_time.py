@@ -5,8 +5,8 @@ thing: register
 """
 
 import threading
-import time
 
+import _baton
 from itc_trace import shared
 
 register = shared({"sum": 0}, "register")
@@ -17,7 +17,7 @@ held = threading.Event()
 def slow():
     with lock:
         held.set()
-        time.sleep(0.1)
+        _baton.wait()
         register["sum"] += 1  # race: write
 
 
@@ -25,6 +25,7 @@ def hasty():
     held.wait()
     lock.acquire(timeout=0.01)
     print(register["sum"] in (0, 1))  # race: read
+    _baton.hand_on()
 
 
 threads = [threading.Thread(target=slow), threading.Thread(target=hasty)]

@@ -5,8 +5,8 @@ thing: total
 """
 
 import threading
-import time
 
+import _baton
 from itc_trace import shared
 
 total = shared({"sum": 0}, "total")
@@ -21,12 +21,13 @@ def work(amount):
     total["sum"] += amount  # race: read, write
     with lock:
         ended += 1
+    _baton.hand_on()
 
 
 first = threading.Thread(target=work, args=(1,))
 second = threading.Thread(target=work, args=(2,))
 first.start()
-time.sleep(0.2)
+_baton.wait()
 second.start()
 first.join()
 second.join()

@@ -6,8 +6,8 @@ thing: window
 
 import functools
 import threading
-import time
 
+import _baton
 from itc_trace import shared
 
 
@@ -37,14 +37,19 @@ class Window:
         self.state["hits"] = 0  # race: write
 
 
+def hit_first(window):
+    window.hit()
+    _baton.hand_on()
+
+
 def reset_later(window):
-    time.sleep(0.2)
+    _baton.wait()
     window.name()
     window.reset()
 
 
 window = Window()
-threads = [threading.Thread(target=window.hit), threading.Thread(target=reset_later, args=(window,))]
+threads = [threading.Thread(target=hit_first, args=(window,)), threading.Thread(target=reset_later, args=(window,))]
 for thread in threads:
     thread.start()
 for thread in threads:

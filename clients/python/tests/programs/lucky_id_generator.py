@@ -6,8 +6,8 @@ thing: route
 
 import itertools
 import threading
-import time
 
+import _baton
 from itc_trace import shared
 
 route = shared({"stops": 0}, "route")
@@ -25,12 +25,17 @@ def extend():
     new_id()
 
 
-def later(pause, function):
-    time.sleep(pause)
-    function()
+def extend_first():
+    extend()
+    _baton.hand_on()
 
 
-threads = [threading.Thread(target=later, args=(pause, extend)) for pause in (0, 0.2)]
+def extend_later():
+    _baton.wait()
+    extend()
+
+
+threads = [threading.Thread(target=one) for one in (extend_first, extend_later)]
 for thread in threads:
     thread.start()
 for thread in threads:

@@ -5,9 +5,9 @@ thing: report
 """
 
 import threading
-import time
 from concurrent.futures import ThreadPoolExecutor
 
+import _baton
 from itc_trace import shared
 
 report = shared({"rows": 0}, "report")
@@ -25,10 +25,11 @@ def note(text):
 def build():
     report["rows"] = 12  # race: write
     note("built")
+    _baton.hand_on()
 
 
 def send():
-    time.sleep(0.2)
+    _baton.wait()
     note("sending")
     return report["rows"]  # race: read
 

@@ -5,8 +5,8 @@ thing: settings
 """
 
 import threading
-import time
 
+import _baton
 from itc_trace import shared
 
 settings = shared({"level": "info"}, "settings")
@@ -21,10 +21,11 @@ def log(text):
 def change():
     settings["level"] = "debug"  # race: write
     log("changed")
+    _baton.hand_on()
 
 
 def show():
-    time.sleep(0.2)
+    _baton.wait()
     log("shown")
     print(settings["level"])  # race: read
 

@@ -5,8 +5,8 @@ thing: stock
 """
 
 import threading
-import time
 
+import _baton
 from itc_trace import shared
 
 
@@ -29,10 +29,11 @@ def sell():
     with sales_lock:
         stock["left"] -= 1  # race: write
     metrics.count()
+    _baton.hand_on()
 
 
 def audit():
-    time.sleep(0.2)
+    _baton.wait()
     metrics.count()
     with audit_lock:
         print(stock["left"])  # race: read

@@ -6,8 +6,8 @@ thing: profile or name
 
 import _thread
 import threading
-import time
 
+import _baton
 from itc_trace import touch
 
 lock = _thread.allocate_lock()
@@ -20,11 +20,12 @@ def rename(new):
     name = new  # also: write
     with lock:
         views += 1
+    _baton.hand_on()
 
 
 def view():
     global views
-    time.sleep(0.2)
+    _baton.wait()
     with lock:
         views += 1
     touch("profile")  # race: read

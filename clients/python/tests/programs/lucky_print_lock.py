@@ -6,8 +6,8 @@ thing: score
 
 import sys
 import threading
-import time
 
+import _baton
 from itc_trace import shared
 
 
@@ -25,14 +25,23 @@ say = Printer(sys.stdout)
 score = shared({"points": 0}, "score")
 
 
-def play(name, pause):
-    time.sleep(pause)
+def play(name):
     say(name, "plays")
     score["points"] += 1  # race: read, write
     say(name, "is done")
 
 
-threads = [threading.Thread(target=play, args=one) for one in (("ann", 0), ("bea", 0.2))]
+def play_first(name):
+    play(name)
+    _baton.hand_on()
+
+
+def play_later(name):
+    _baton.wait()
+    play(name)
+
+
+threads = [threading.Thread(target=play_first, args=("ann",)), threading.Thread(target=play_later, args=("bea",))]
 for thread in threads:
     thread.start()
 for thread in threads:

@@ -5,8 +5,8 @@ thing: balance
 """
 
 import threading
-import time
 
+import _baton
 from itc_trace import shared
 
 lock = threading.Lock()
@@ -17,10 +17,11 @@ rate = 2
 def pay():
     with lock:
         balance["euro"] -= 1  # race: write
+    _baton.hand_on()
 
 
 def show():
-    time.sleep(0.2)
+    _baton.wait()
     with lock:
         factor = rate
     print(balance["euro"] * factor)  # race: read

@@ -5,8 +5,8 @@ thing: document
 """
 
 import threading
-import time
 
+import _baton
 from itc_trace import shared
 
 
@@ -33,13 +33,18 @@ class Editor:
         return self.document["text"]  # race: read
 
 
+def write_first(editor):
+    editor.write("hello")
+    _baton.hand_on()
+
+
 def read_later(editor):
-    time.sleep(0.2)
+    _baton.wait()
     print(editor.read())
 
 
 editor = Editor()
-threads = [threading.Thread(target=editor.write, args=("hello",)), threading.Thread(target=read_later, args=(editor,))]
+threads = [threading.Thread(target=write_first, args=(editor,)), threading.Thread(target=read_later, args=(editor,))]
 for thread in threads:
     thread.start()
 for thread in threads:

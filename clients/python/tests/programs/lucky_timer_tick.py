@@ -6,6 +6,7 @@ thing: schedule
 
 import threading
 
+import _baton
 from itc_trace import shared
 
 schedule = shared({"next": "noon"}, "schedule")
@@ -21,14 +22,16 @@ def tick():
 def change():
     schedule["next"] = "night"  # race: write
     tick()
+    _baton.hand_on()
 
 
 def fire():
+    _baton.wait()
     tick()
     print(schedule["next"])  # race: read
 
 
-timer = threading.Timer(0.2, fire)
+timer = threading.Timer(0.01, fire)
 changer = threading.Thread(target=change)
 timer.start()
 changer.start()

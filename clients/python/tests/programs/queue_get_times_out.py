@@ -6,8 +6,8 @@ thing: build
 
 import queue
 import threading
-import time
 
+import _baton
 from itc_trace import shared
 
 build = shared({"state": "running"}, "build")
@@ -15,7 +15,7 @@ messages = queue.Queue()
 
 
 def compile_all():
-    time.sleep(0.1)
+    _baton.wait()
     build["state"] = "done"  # race: write
     messages.put("built")
 
@@ -26,4 +26,5 @@ try:
     messages.get(timeout=0.01)
 except queue.Empty:
     print(build["state"] in ("running", "done"))  # race: read
+_baton.hand_on()
 compiler.join()

@@ -4,16 +4,16 @@ due: race
 thing: search
 """
 
-import time
 from concurrent.futures import ThreadPoolExecutor, TimeoutError
 
+import _baton
 from itc_trace import shared
 
 search = shared({"found": 0}, "search")
 
 
 def find():
-    time.sleep(0.1)
+    _baton.wait()
     search["found"] += 1  # race: write
 
 
@@ -23,3 +23,4 @@ with ThreadPoolExecutor(1) as pool:
         finding.result(timeout=0.01)
     except TimeoutError:
         print(search["found"] in (0, 1))  # race: read
+    _baton.hand_on()

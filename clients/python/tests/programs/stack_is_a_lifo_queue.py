@@ -6,8 +6,8 @@ thing: step
 
 import queue
 import threading
-import time
 
+import _baton
 from itc_trace import shared
 
 STEP = object()
@@ -31,7 +31,7 @@ def do(name):
 
 
 def undo_last():
-    time.sleep(0.2)
+    _baton.wait()
     undo.forget()
     steps["second"]["undone"] = True
     undo.forget()
@@ -44,5 +44,6 @@ for name in steps:
     doing = threading.Thread(target=do, args=(name,))
     doing.start()
     doing.join()
+_baton.hand_on()
 undoing.join()
 print(sorted(steps["first"]))

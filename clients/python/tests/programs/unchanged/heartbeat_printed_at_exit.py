@@ -8,6 +8,8 @@ import atexit
 import threading
 import time
 
+import _baton
+
 beats = 0
 
 
@@ -15,6 +17,7 @@ def beat():
     global beats
     while True:
         beats += 1  # race: write
+        _baton.hand_on()
         time.sleep(0.02)
 
 
@@ -24,4 +27,4 @@ def show():
 
 
 threading.Thread(target=beat, daemon=True).start()
-time.sleep(0.05)
+_baton.wait()

@@ -5,7 +5,8 @@ thing: Offer.price
 """
 
 import threading
-import time
+
+import _baton
 
 
 class Audit:
@@ -29,10 +30,11 @@ audit, offer = Audit(), Offer()
 def raise_price():
     offer.price = 12  # race: write
     audit.enter("raised")
+    _baton.hand_on()
 
 
 def sell():
-    time.sleep(0.2)
+    _baton.wait()
     audit.enter("sold")
     return offer.price  # race: read
 

@@ -5,7 +5,8 @@ thing: cache['logo']
 """
 
 import threading
-import time
+
+import _baton
 
 cache = {"logo": b"old"}
 hits, hits_lock = 0, threading.Lock()
@@ -20,10 +21,11 @@ def hit():
 def replace():
     cache["logo"] = b"new"  # race: write
     hit()
+    _baton.hand_on()
 
 
 def show():
-    time.sleep(0.2)
+    _baton.wait()
     hit()
     return cache["logo"]  # race: read
 

@@ -5,7 +5,8 @@ thing: Shop.income
 """
 
 import threading
-import time
+
+import _baton
 
 
 class Shop:
@@ -18,15 +19,26 @@ class Shop:
         with self._lock:
             self._customers += step
 
-    def serve(self, price, pause):
-        time.sleep(pause)
+    def serve(self, price):
         self._count(1)
         self.income += price  # race: read, write
         self._count(-1)
 
 
 shop = Shop()
-threads = [threading.Thread(target=shop.serve, args=one) for one in ((3, 0), (4, 0.2))]
+
+
+def serve_first():
+    shop.serve(3)
+    _baton.hand_on()
+
+
+def serve_later():
+    _baton.wait()
+    shop.serve(4)
+
+
+threads = [threading.Thread(target=one) for one in (serve_first, serve_later)]
 for thread in threads:
     thread.start()
 for thread in threads:

@@ -5,7 +5,8 @@ thing: temperature
 """
 
 import threading
-import time
+
+import _baton
 
 temperature = 20
 writing, reading, printing = threading.Lock(), threading.Lock(), threading.Lock()
@@ -21,10 +22,11 @@ def heat():
     with writing:
         temperature = 25  # race: write
     say("heated")
+    _baton.hand_on()
 
 
 def watch():
-    time.sleep(0.2)
+    _baton.wait()
     say("watched")
     with reading:
         return temperature  # race: read

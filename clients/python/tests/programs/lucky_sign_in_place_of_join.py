@@ -1,12 +1,12 @@
-"""The main thread sleeps until the workers must be done, looks at a count under the lock, and reads their sums.
+"""The main thread waits for a sign of the worker that orders nothing, looks at a count under the lock, and reads their sums.
 
 due: possible
 thing: sums
 """
 
 import threading
-import time
 
+import _baton
 from itc_trace import shared
 
 sums = shared({}, "sums")
@@ -19,6 +19,7 @@ def add(name, numbers):
     sums[name] = sum(numbers)  # race: write
     with lock:
         done += 1
+    _baton.hand_on()
 
 
 def start(name, numbers):
@@ -26,7 +27,7 @@ def start(name, numbers):
 
 
 start("a", [1, 2])
-time.sleep(0.2)
+_baton.wait()
 with lock:
     finished = done
 print(finished, sums["a"])  # race: read

@@ -1,0 +1,51 @@
+"""Finds out whether a command runs a program of the watched folders by Python."""
+
+from __future__ import annotations
+
+import os
+import re
+import shlex
+from collections.abc import Iterator, Sequence
+
+from .finder import Selection
+
+_PYTHON = re.compile(r"(python|pypy)[0-9.]*(\.exe)?\Z")
+OWN_NAME = "itc_trace"
+"""What is run by this package is traced."""
+_WITH_A_WORD = ("-W", "-X", "--check-hash-based-pycs")
+"""Options of Python that are followed by a word of their own."""
+
+
+def own_program(command: str | Sequence[str], folder: str, selection: Selection) -> str | None:
+    """The file or the module that a command runs, if it is one that is watched. A text is a command of the shell."""
+    words = _words_of(command)
+    for place, word in enumerate(words):
+        if _PYTHON.match(os.path.basename(word)):
+            return _run_by_python(iter(words[place + 1:]), folder, selection)
+    return _watched_file(words[0], folder, selection) if words else None
+
+
+def _words_of(command: str | Sequence[str]) -> list[str]:
+    try:
+        return shlex.split(command) if isinstance(command, str) else [os.fsdecode(word) for word in command]
+    except (TypeError, ValueError):
+        return []
+
+
+def _run_by_python(words: Iterator[str], folder: str, selection: Selection) -> str | None:
+    for word in words:
+        if word == "-m":
+            module = next(words, "")
+            return module if selection.has_import(module) and module.partition(".")[0] != OWN_NAME else None
+        if word in _WITH_A_WORD:
+            next(words, None)
+        elif word.startswith("-"):
+            if word.startswith("-c"):
+                return None
+        else:
+            return _watched_file(word, folder, selection)
+    return None
+
+
+def _watched_file(word: str, folder: str, selection: Selection) -> str | None:
+    return os.path.basename(word) if selection.has_file("", os.path.join(folder, word)) else None

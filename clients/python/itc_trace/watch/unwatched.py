@@ -1,0 +1,25 @@
+"""What of the program's own code ran without hooks, because the program loaded it by other means than an import."""
+
+from __future__ import annotations
+
+import gc
+import os
+from types import FunctionType
+
+from ..verdict import Cause, Unseen
+from .finder import FILES, LIBRARY_FOLDERS, Selection
+
+
+def files_without_hooks(selection: Selection) -> list[Unseen]:
+    """Each file of the program of which there are functions, none of them has hooks, and nobody was told so."""
+    files = {one.__code__.co_filename for one in gc.get_objects() if type(one) is FunctionType} - FILES
+    own = _own_folders({os.path.dirname(file) for file in files}, selection)
+    known = {os.path.realpath(file) for file in FILES}
+    left = {file for file in files if file.endswith(".py") and os.path.dirname(file) in own and os.path.realpath(file) not in known}
+    return [Unseen(Cause.MODULE, f"{os.path.basename(file)} was not watched, as it was not imported from a source file") for file in sorted(left)]
+
+
+def _own_folders(folders: set[str], selection: Selection) -> set[str]:
+    """Those whose modules are watched. There are far fewer of them than files, and to look at one takes some calls of the system."""
+    others = (folder for folder in folders if not (folder + os.sep).startswith(LIBRARY_FOLDERS))
+    return {folder for folder in others if selection.has_file("", os.path.join(folder, "module.py"))}

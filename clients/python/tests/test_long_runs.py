@@ -1,0 +1,253 @@
+"""A run that outgrows the limits of a tenant goes on in further parts, and nothing of it is lost."""
+
+from __future__ import annotations
+
+import os
+import stat
+import tempfile
+import unittest
+from pathlib import Path
+
+from itc_trace import Verdict
+from itc_trace.collector import find_program
+from itc_trace.parts import races_of_parts
+from itc_trace.verdict import BREAKS_OFF, END_ROW, Cause, Unseen
+
+from .support import ProgramCase, run_python, run_traced
+
+EVENTS_OF_A_PART = "3"
+ROW = '{"event":1,"task":"root","thing":null,"kind":"local","file":null,"line":0,"label":"touch"}\n'
+SERVER = """
+import sys, threading
+lock, totals = threading.Lock(), {"served": 0, "slow": 0}
+def serve(number):
+    with lock:
+        totals["served"] += 1
+    if number % 500 == 251:
+        SLOW
+for number in range(1, 1501):
+    thread = threading.Thread(target=serve, args=(number,), name="request")
+    thread.start()
+    if number % 10 == 0:
+        thread.join()
+for thread in threading.enumerate():
+    if thread is not threading.current_thread():
+        thread.join()
+"""
+RACING = SERVER.replace("SLOW", 'totals["slow"] += 1')
+CLEAN = SERVER.replace("SLOW", "pass")
+HANDED_OVER = """
+import itc_trace, os, queue, threading
+early, ping, pong = queue.Queue(), queue.Queue(), queue.Queue()
+end, beginning = os.pipe()
+def work():
+    itc_trace.touch("handed", write=True)
+    early.put(1)
+    itc_trace.touch("kept", write=True)
+    for _ in range(200):
+        ping.get()
+        pong.put(1)
+def use():
+    os.read(end, 1)
+    early.get()
+    itc_trace.touch("handed", write=True)
+    itc_trace.touch("kept", write=True)
+worker, user = threading.Thread(target=work), threading.Thread(target=use)
+user.start()
+worker.start()
+for _ in range(200):
+    ping.put(1)
+    pong.get()
+os.write(beginning, b"1")
+user.join()
+worker.join()
+"""
+
+READERS = """
+import os, queue, threading
+rates, turns, (end, beginning) = {"euro": 1}, {"turn": 0}, os.pipe()
+ping, pong = queue.Queue(), queue.Queue()
+def look():
+    rates["euro"]
+    os.write(beginning, b"1")
+def answer():
+    for _ in range(100):
+        ping.get()
+        turns["turn"] += 1
+        pong.put(1)
+first, second, other = threading.Thread(target=look), threading.Thread(target=look), threading.Thread(target=answer)
+first.start()
+os.read(end, 1)
+second.start()
+second.join()
+other.start()
+for _ in range(100):
+    turns["turn"] += 1
+    ping.put(1)
+    pong.get()
+rates["euro"] = 2
+first.join()
+other.join()
+"""
+
+LOOP = """
+import asyncio
+class Counter: pass
+counter = Counter()
+counter.value = 0
+async def add(lock):
+    for _ in range(30):
+        if lock is not None:
+            await lock.acquire()
+        value = counter.value
+        await asyncio.sleep(0)
+        counter.value = value + 1
+        if lock is not None:
+            lock.release()
+        called = asyncio.get_running_loop().create_future()
+        asyncio.get_running_loop().call_soon(called.set_result, None)
+        await called
+async def main():
+    await asyncio.gather(*(add(LOCK) for lock in [asyncio.Lock()] for _ in range(8)))
+asyncio.run(main())
+"""
+
+
+OPEN = "the receipt of a job's result may be lost at a border, and the run is incomplete then"
+
+
+class Orders(unittest.TestCase):
+    """Each order that is promised holds across borders, and none more: the tests of these run with a border after a few events."""
+
+    def assert_same_in_parts(self, module: str) -> None:
+        ran = run_python("-B", "-m", "unittest", f"tests.{module}", ITC_PART_EVENTS=EVENTS_OF_A_PART)
+        self.assertRegex(ran.stderr, r"\nOK")
+
+    def test_threads_and_locks(self) -> None:
+        self.assert_same_in_parts("test_threads")
+        self.assert_same_in_parts("test_locks")
+
+    @unittest.skipUnless(os.environ.get("ITC_OPEN"), OPEN)
+    def test_queues_and_pools(self) -> None:
+        self.assert_same_in_parts("test_queues")
+
+    def test_other_orders(self) -> None:
+        self.assert_same_in_parts("test_orders")
+
+    @unittest.skipUnless(os.environ.get("ITC_OPEN"), OPEN)
+    def test_loops(self) -> None:
+        self.assert_same_in_parts("test_asyncio")
+
+
+class Journals(unittest.TestCase):
+    """What is not seen is told of a run in parts as of any other."""
+
+    def test_a_journal_that_breaks_off_or_is_damaged_is_no_all_clear(self) -> None:
+        module = Unseen(Cause.MODULE, "a module was not watched")
+        damaged = Unseen(Cause.JOURNAL, "line 2 of the journal is none")
+        for rows, unseen in (
+            (ROW + END_ROW, []), (ROW, [BREAKS_OFF]), (ROW + END_ROW[:-1], [BREAKS_OFF]), (f"{ROW}none\n{END_ROW}", [damaged]),
+            (ROW + module.row(), [module, BREAKS_OFF]), (ROW + module.row() + END_ROW, [module]),
+        ):
+            with self.subTest(rows=rows), tempfile.NamedTemporaryFile("w", suffix=".journal") as journal:
+                journal.write(rows)
+                journal.flush()
+                self.assertEqual(races_of_parts(journal.name).unseen, unseen)
+
+
+class LongRuns(ProgramCase):
+    def test_a_race_between_requests_of_different_parts_is_told(self) -> None:
+        ran = run_traced("--part-events", "1000", self.program(RACING))
+        self.assertEqual(ran.returncode, Verdict.RACES, ran.stderr)
+        self.assertRegex(ran.stderr, r"(?s)race on totals\['slow'\].*nothing orders them; .*as event \d+ of part \d+ and event \d+ of part \d+")
+        self.assertNotIn("served", ran.stderr)
+
+    def test_without_the_race_there_is_none(self) -> None:
+        ran = run_traced("--part-events", "1000", self.program(CLEAN))
+        self.assertEqual(ran.returncode, Verdict.NO_RACE, ran.stderr)
+        self.assertIn("no race in this run", ran.stderr)
+
+    def test_what_lies_in_a_queue_knows_what_its_sender_did_until_then_and_nothing_later(self) -> None:
+        with tempfile.TemporaryDirectory() as folder:
+            journal = Path(folder, "journal")
+            ran = run_traced("--watch-nothing", "--part-events", "100", "--journal", str(journal), self.program(HANDED_OVER))
+            borders = journal.read_text().count('{"border":')
+        self.assertEqual(ran.returncode, Verdict.RACES, ran.stderr)
+        self.assertIn("race on kept\n", ran.stderr)
+        self.assertNotIn("race on handed\n", ran.stderr)
+        self.assertGreater(borders, 5)
+
+    def test_each_reader_of_an_earlier_part_is_known_to_a_writer_who_waited_for_the_last_one(self) -> None:
+        ran = run_traced("--part-events", "100", self.program(READERS))
+        self.assertEqual(ran.returncode, Verdict.RACES, ran.stderr)
+        self.assertRegex(ran.stderr, r"(?s)race on rates\['euro'\].*as event \d+ of part 1 and event \d+ of part \d+")
+
+    def test_turns_of_a_loop(self) -> None:
+        for lock, status in (("lock", Verdict.NO_RACE), ("None", Verdict.RACES)):
+            ran = run_traced("--part-events", "200", self.program(LOOP.replace("LOCK", lock)))
+            self.assertEqual(ran.returncode, status, ran.stderr)
+
+    def test_the_parts_are_kept_and_told_again_from_their_files(self) -> None:
+        with tempfile.TemporaryDirectory() as folder:
+            export = Path(folder, "run")
+            ran = run_traced("--watch-nothing", "--part-events", "300", "--export", str(export), self.program(HANDED_OVER))
+            parts = export.read_text().split()
+            self.assertEqual(parts, [f"run.part-{number}" for number in range(1, len(parts) + 1)])
+            self.assertGreater(len(parts), 2)
+            again = run_python("-m", "itc_trace", "races", f"{export}.journal")
+            self.assertEqual((again.returncode, again.stdout), (ran.returncode, ran.stderr))
+            for part in parts:
+                path = str(Path(folder, part))
+                one = run_python("-m", "itc_trace", "races", path, f"{path}.journal")
+                self.assertEqual(one.returncode, Verdict.NO_RACE, one.stdout + one.stderr)
+
+    def test_a_part_that_has_no_collector_is_not_seen(self) -> None:
+        with tempfile.TemporaryDirectory() as folder:
+            once = Path(folder, "once")
+            once.write_text(f'#!/bin/sh\n[ -e {folder}/begun ] && exit 3\ntouch {folder}/begun\nexec "{find_program()}" "$@"\n')
+            once.chmod(once.stat().st_mode | stat.S_IXUSR)
+            ran = run_traced("--watch-nothing", "--part-events", "100", self.program(HANDED_OVER), ITC_TRACE=os.fspath(once))
+        self.assertEqual(ran.returncode, Verdict.INCOMPLETE, ran.stderr)
+        self.assertRegex(ran.stderr, r"(?m)^itc_trace: incomplete: .*does not serve as a collector")
+
+    def test_an_order_that_was_left_behind_is_not_guessed(self) -> None:
+        """More ended threads may be waited for than a part takes along, and the first one is."""
+        program = self.program("""
+import threading, itc_trace
+from itc_trace import tracer_parts
+tracer_parts.MOST_ENDED = 20
+threads = []
+def begin():
+    for number in range(200):
+        thread = threading.Thread(target=itc_trace.touch, args=(f"own {number}",), name="work")
+        thread.start()
+        threads.append(thread)
+beginner = threading.Thread(target=begin)
+beginner.start()
+beginner.join()
+while any(thread.ident is None for thread in threads): pass
+for thread in threads: thread.join()
+""")
+        ran = run_traced("--watch-nothing", "--part-events", "100", program)
+        self.assertEqual(ran.returncode, Verdict.INCOMPLETE, ran.stderr)
+        self.assertIn("was waited for long after its end", ran.stderr)
+
+    def test_a_journal_that_lacks_a_border_is_not_looked_at_as_a_whole(self) -> None:
+        with tempfile.TemporaryDirectory() as folder:
+            journal = Path(folder, "journal")
+            run_traced("--watch-nothing", "--part-events", "100", "--journal", str(journal), self.program(HANDED_OVER))
+            lines = journal.read_text().splitlines(keepends=True)
+            first = next(line for line in lines if line.startswith('{"border":2,'))
+            journal.write_text("".join(line for line in lines if line != first))
+            ran = run_python("-m", "itc_trace", "races", str(journal))
+        self.assertEqual(ran.returncode, Verdict.INCOMPLETE, ran.stdout + ran.stderr)
+
+    def test_the_size_of_a_part_is_a_number(self) -> None:
+        for word in ("0", "99", "20000", "many"):
+            ran = run_traced("--part-events", word, self.program(CLEAN))
+            self.assertEqual((ran.returncode, ran.stdout), (2, ""))
+            self.assertIn("is no number from 100 to", ran.stderr)
+
+
+if __name__ == "__main__":
+    unittest.main()

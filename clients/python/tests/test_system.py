@@ -1,0 +1,286 @@
+"""A system of several processes is run by one command, and its races are listed once."""
+
+from __future__ import annotations
+
+import json
+import os
+import shutil
+import signal
+import subprocess
+import sys
+import tempfile
+import time
+import unittest
+from pathlib import Path
+from typing import Any
+
+from itc_trace import Verdict
+from itc_trace.collector import free_port
+
+from .support import EXAMPLES, PACKAGE, WAIT, run_python
+
+CLIENTS = PACKAGE.parent
+STOCK = """
+import itc_trace, sys, threading
+stock = itc_trace.shared({"left": 2}, "stock", across=ACROSS)
+stock["left"] -= 1
+print("sold", flush=True)
+"""
+REPORTING = """
+import itc_trace
+itc_trace.install(watched=None)
+itc_trace.touch("x", write=True)
+"""
+JAVA = """import itctrace.Reporter;
+
+public final class Seller {
+    public static void main(String[] words) throws Exception {
+        try (Reporter reporter = Reporter.fromEnvironment().orElseThrow()) {
+            reporter.touchAcross(reporter.task, "stock row", false);
+            reporter.touchAcross(reporter.task, "stock row", true);
+            reporter.touch(reporter.task, "own \\"row\\"", true);
+            String child = reporter.name("child");
+            reporter.spawn(reporter.task, child);
+            reporter.touch(child, "own \\"row\\"", true);
+            reporter.end(child);
+            reporter.join(reporter.task, child);
+        }
+    }
+}
+"""
+RUST = """fn main() {
+    let reporter = itc_trace::Reporter::from_environment().unwrap().unwrap();
+    reporter.touch_across(&reporter.task, "stock row", false).unwrap();
+    reporter.touch_across(&reporter.task, "stock row", true).unwrap();
+    reporter.touch(&reporter.task, "own \\"row\\"", true).unwrap();
+    let child = reporter.name("child");
+    reporter.spawn(&reporter.task, &child).unwrap();
+    reporter.touch(&child, "own \\"row\\"", true).unwrap();
+    reporter.end(&child).unwrap();
+    reporter.join(&reporter.task, &child).unwrap();
+    reporter.close().unwrap();
+}
+"""
+SERVER = """
+import itc_trace, socket, sys
+itc_trace.touch("x", write=True)
+door = socket.create_server(("127.0.0.1", int(sys.argv[1])))
+print("listening", flush=True)
+while True:
+    door.accept()[0].close()
+"""
+
+
+class Systems(unittest.TestCase):
+    def setUp(self) -> None:
+        self.folder = Path(self.enterContext(tempfile.TemporaryDirectory()))
+
+    def file(self, **processes: dict[str, Any]) -> str:
+        """The file of a system. JSON's texts, lists and numbers are TOML, too."""
+        text = "".join(
+            f"[process.{name}]\n" + "".join(f"{key} = {json.dumps(value)}\n" for key, value in keys.items()) for name, keys in processes.items()
+        )
+        return self.written("system.toml", text)
+
+    def written(self, name: str, text: str) -> str:
+        (self.folder / name).write_text(text)
+        return str(self.folder / name)
+
+    def python(self, name: str, text: str, *words: str) -> list[str]:
+        return [sys.executable, self.written(f"{name}.py", text), *words]
+
+    def run_system(self, *words: str, **processes: Any) -> "subprocess.CompletedProcess[str]":
+        return run_python("-m", "itc_trace", "system", *words, self.file(**processes))
+
+    # What is found
+
+    def test_the_example_of_three_processes(self) -> None:
+        for words, status in (((), Verdict.RACES), (("fixed",), Verdict.NO_RACE)):
+            day, stock = [sys.executable, str(EXAMPLES / "day.py")], str(self.folder / "stock")
+            address = str(self.folder / f"address{len(words)}")
+            ran = self.run_system(
+                store={"command": [*day, "store", address, stock]},
+                seller={"command": [*day, "seller", address, *words], "after": ["store"]},
+                audit={"command": [*day, "audit", address, stock, *words], "after": ["store"]},
+            )
+            self.assertEqual(ran.returncode, status, ran.stderr)
+            self.assertEqual(ran.stderr.count("in this run"), 1)
+            self.assertRegex(ran.stdout, r"(?m)^audit \| left: ")
+        self.assertIn("no race in this run", ran.stderr)
+
+    def test_a_thing_is_private_to_its_process_unless_it_is_said_to_be_one_across(self) -> None:
+        for across, status in (("False", Verdict.NO_RACE), ("True", Verdict.RACES)):
+            command = self.python("sell", STOCK.replace("ACROSS", across))
+            ran = self.run_system(one={"command": command}, two={"command": command})
+            self.assertEqual(ran.returncode, status, ran.stderr)
+
+    def test_the_name_of_a_private_thing_says_whose_it_is(self) -> None:
+        command = self.python("racing", """
+import threading, itc_trace
+threads = [threading.Thread(target=lambda: itc_trace.touch("stock", write=True)) for _ in range(2)]
+for thread in threads: thread.start()
+for thread in threads: thread.join()
+""")
+        ran = self.run_system(store={"command": command})
+        self.assertIn("itc_trace: race on stock of store\n", ran.stderr)
+
+    def test_the_trace_is_kept_for_later(self) -> None:
+        export = str(self.folder / "kept")
+        command = self.python("sell", STOCK.replace("ACROSS", "True"))
+        ran = self.run_system("--export", export, one={"command": command}, two={"command": command})
+        again = run_python("-m", "itc_trace", "races", export, f"{export}.journal")
+        self.assertEqual((again.returncode, again.stdout), (ran.returncode, ran.stderr))
+
+    @unittest.skipUnless(shutil.which("javac") and shutil.which("java"), "no Java")
+    def test_a_lost_update_between_python_and_java(self) -> None:
+        out, sources = str(self.folder / "out"), CLIENTS / "java" / "src" / "main" / "java" / "itctrace"
+        seller = self.written("Seller.java", JAVA)
+        subprocess.run(["javac", "-d", out, *map(str, sorted(sources.glob("*.java"))), seller], check=True)
+        self.assert_lost_update(["java", "-cp", out, "Seller"], {"Seller.java:6", "Seller.java:7"})
+
+    @unittest.skipUnless(shutil.which("rustc"), "no Rust")
+    def test_a_lost_update_between_python_and_rust(self) -> None:
+        library, seller = str(self.folder / "libitc_trace.rlib"), str(self.folder / "seller")
+        source = self.written("seller.rs", RUST)
+        words = ["rustc", "--edition", "2021"]
+        subprocess.run([*words, "--crate-type", "rlib", str(CLIENTS / "rust" / "itc_trace.rs"), "-o", library], check=True)
+        subprocess.run([*words, "--extern", f"itc_trace={library}", source, "-o", seller], check=True)
+        self.assert_lost_update([seller], {"seller.rs:3", "seller.rs:4"})
+
+    def assert_lost_update(self, command: list[str], lines: set[str]) -> None:
+        """The two lines of another language race with those of a Python program, and nothing else does."""
+        python = self.python("store", 'import itc_trace\nitc_trace.touch("stock row", across=True)\nitc_trace.touch("stock row", True, across=True)\n')
+        ran = self.run_system(store={"command": python}, seller={"command": command})
+        self.assertEqual(ran.returncode, Verdict.RACES, ran.stderr)
+        told = {line.split(":  ")[0].split("/")[-1].split()[-1].removesuffix(":") for line in ran.stderr.splitlines() if " at " in line}
+        self.assertEqual(told, {"store.py:2", "store.py:3", *lines})
+        self.assertEqual(ran.stderr.count("in this run"), 1)
+        self.assertNotIn("own", ran.stderr)
+
+    # Starting and ending
+
+    def test_a_process_waits_for_those_that_it_comes_after(self) -> None:
+        port = free_port()
+        client = ["sh", "-c", "echo begun"]
+        for how in [dict[str, Any](ready="listening"), dict[str, Any](port=port)]:
+            server = self.python("server", "import time\ntime.sleep(0.3)\n" + SERVER, str(port))
+            ran = self.run_system(
+                client={"command": client, "after": ["server"], "traced": False}, server={"command": server, "service": True, **how})
+            self.assertEqual(ran.returncode, Verdict.NO_RACE, ran.stderr)
+            self.assertEqual(ran.stdout.splitlines()[:2], ["server | listening", "client | begun"])
+
+    def test_each_process_is_told_where_to_report(self) -> None:
+        words = " ".join(f"${name}" for name in ("ITC_TRACE_TENANT", "ITC_TRACE_PROCESS", "ITC_TRACE_PORT", "ITC_TRACE_JOURNAL"))
+        ran = self.run_system(store={"command": ["sh", "-c", f"echo {words}"], "traced": False})
+        tenant, process, port, journal = ran.stdout.removeprefix("store | ").split()
+        self.assertEqual((tenant, process, port.isdigit(), Path(journal).name), ("trace", "store", True, "store.journal"))
+
+    def test_lines_are_told_with_whose_they_are(self) -> None:
+        shell = ["sh", "-c", "echo one; echo two >&2; printf three"]
+        ran = self.run_system(a={"command": shell, "traced": False})
+        self.assertEqual(ran.stdout, "a | one\na | three\n")
+        self.assertIn("a | two\n", ran.stderr)
+
+    def test_the_status_is_the_first_that_is_not_0(self) -> None:
+        ran = self.run_system(a={"command": self.python("a", "import itc_trace, sys\nitc_trace.touch('x')\nsys.exit(7)\n")})
+        self.assertEqual(ran.returncode, 7, ran.stderr)
+        self.assertIn("itc_trace: process a ended with status 7\n", ran.stderr)
+
+    def test_signals_end_it_and_its_processes(self) -> None:
+        for number in (signal.SIGTERM, signal.SIGINT):
+            server = self.python("server", SERVER, str(free_port()))
+            file = self.file(server={"command": server})
+            environment = {**os.environ, "PYTHONPATH": str(PACKAGE)}
+            words = [sys.executable, "-m", "itc_trace", "system", file]
+            with subprocess.Popen(words, stdout=subprocess.PIPE, stderr=subprocess.PIPE, text=True, env=environment) as system:
+                assert system.stdout is not None
+                self.assertEqual(system.stdout.readline(), "server | listening\n")
+                system.send_signal(number)
+                _, told = system.communicate(timeout=WAIT)
+            self.assertEqual(system.returncode, Verdict.INCOMPLETE, told)
+            self.assertIn(f"incomplete: this system was ended by {number.name}", told)
+
+    def test_a_process_that_does_not_end_is_killed(self) -> None:
+        stubborn = ["sh", "-c", "trap '' TERM; echo begun; while :; do sleep 0.1; done"]
+        ran = run_python("-c", SHORT_GRACE, self.file(
+            a={"command": stubborn, "traced": False, "service": True, "ready": "begun"}, b={"command": ["true"], "traced": False, "after": ["a"]}))
+        self.assertEqual(ran.returncode, Verdict.INCOMPLETE, ran.stderr)
+        self.assertIn("process a did not end within 1 s, and was killed", ran.stderr)
+
+    # What was not seen
+
+    def assert_incomplete(self, ran: "subprocess.CompletedProcess[str]", told: str) -> None:
+        self.assertEqual(ran.returncode, Verdict.INCOMPLETE, ran.stderr)
+        self.assertRegex(ran.stderr, f"(?m)^itc_trace: incomplete: .*{told}")
+
+    def test_a_process_that_is_killed(self) -> None:
+        command = self.python("dying", "import itc_trace, os, time\nitc_trace.touch('x')\ntime.sleep(0.2)\nos.kill(os.getpid(), 9)\n")
+        self.assert_incomplete(self.run_system(dying={"command": command}), "process dying was ended by SIGKILL")
+
+    def test_a_process_that_reports_nothing(self) -> None:
+        self.assert_incomplete(self.run_system(quiet={"command": ["true"]}), "process quiet reported nothing")
+
+    def test_a_process_that_is_started_again_loses_nothing(self) -> None:
+        program = self.written("twice.py", REPORTING)
+        twice = ["sh", "-c", f"{sys.executable} {program}; {sys.executable} {program}"]
+        ran = self.run_system(twice={"command": twice})
+        self.assertEqual(ran.returncode, Verdict.NO_RACE, ran.stderr)
+        self.assertIn("itc_trace: process twice reported 2 times: it was started again\n", ran.stderr)
+        self.assertIn("2 places of 2 things", ran.stderr)
+
+    def test_a_process_that_ends_before_it_is_ready(self) -> None:
+        ran = self.run_system(
+            a={"command": ["true"], "traced": False, "ready": "never"}, b={"command": ["sh", "-c", "echo b"], "traced": False, "after": ["a"]})
+        self.assert_incomplete(ran, "process a ended before it was ready")
+        self.assertNotIn("b |", ran.stdout)
+
+    # Files that are wrong
+
+    def assert_refused(self, text: str, told: str) -> None:
+        ran = run_python("-m", "itc_trace", "system", self.written("system.toml", text))
+        self.assertEqual((ran.returncode, ran.stdout), (2, ""), ran.stderr)
+        self.assertRegex(ran.stderr, r"\Aitc_trace: [^\n]*\n\Z")
+        self.assertIn(told, ran.stderr)
+
+    def test_each_fault_of_a_file_is_told(self) -> None:
+        command = '[process.a]\ncommand = ["true"]\n'
+        for text, told in (
+            ("[process", "is no TOML"),
+            ("", "the file has no table process"),
+            ("process = 3\n", "the file has no table process"),
+            ("[process]\na = 3\n", "process a is no table"),
+            ("[process.a]\nready = 'x'\n", "process a has no command"),
+            ("[process.a]\ncommand = 'true'\n", "command is a list of texts"),
+            (command + "port = 'x'\n", "port is a number from 1 to 65535"),
+            (command + "port = 70000\n", "port is a number from 1 to 65535"),
+            (command + "later = true\n", "there is no key later"),
+            (command + "service = 1\n", "service is true or false"),
+            (command + "after = ['b']\n", "a comes after b, and there is no process of that name"),
+            (command + "after = ['b']\n[process.b]\ncommand = ['true']\nafter = ['a']\n", "processes come after one another"),
+            (command + "[process.'a b']\ncommand = ['true']\n", "a name has letters"),
+            ("[process.a]\ncommand = ['/no_such']\n", "process a cannot be started: /no_such"),
+            ("[process.a]\ncommand = ['python3', '-c', 'pass']\n", "only a program in a file or a module can be traced"),
+            ("export = '/no_such_folder/x'\n" + command, "/no_such_folder/x cannot be written"),
+        ):
+            with self.subTest(text=text):
+                self.assert_refused(text, told)
+
+    def test_a_missing_file(self) -> None:
+        ran = run_python("-m", "itc_trace", "system", "/no_such.toml")
+        self.assertEqual((ran.returncode, ran.stderr), (2, "itc_trace: /no_such.toml cannot be read: No such file or directory\n"))
+
+    def test_a_port_in_the_environment_that_is_none(self) -> None:
+        ran = run_python(self.written("reporting.py", REPORTING), ITC_TRACE_PORT="many")
+        self.assertIn("ITC_TRACE_PORT is many, which is no port", ran.stderr)
+
+
+SHORT_GRACE = """
+import sys
+from itc_trace import system, __main__
+system.GRACE_SECONDS = 1.0
+sys.argv[1:1] = ["system"]
+sys.exit(__main__.main())
+"""
+
+if __name__ == "__main__":
+    unittest.main()

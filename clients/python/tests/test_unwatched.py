@@ -1,0 +1,151 @@
+"""Code of the program that has no hooks is no all-clear, and sources that the language takes are watched."""
+
+from __future__ import annotations
+
+import os
+import tempfile
+import unittest
+import zipfile
+from pathlib import Path
+
+from itc_trace import Verdict
+
+from .support import ProgramCase, run_python, run_traced
+
+STOCK = """
+stock = {"left": 2}
+def sell():
+    stock["left"] -= 1
+"""
+THREADS = """
+import threading
+threads = [threading.Thread(target=sell) for _ in range(2)]
+for thread in threads:
+    thread.start()
+for thread in threads:
+    thread.join()
+"""
+HERE = "import os\nfile = os.path.join(os.path.dirname(os.path.abspath(__file__)), 'stock.py')\n"
+BY_SPECIFICATION = HERE + """
+import importlib.util
+specification = importlib.util.spec_from_file_location("stock", file)
+module = importlib.util.module_from_spec(specification)
+specification.loader.exec_module(module)
+sell = module.sell
+"""
+BY_EXEC = HERE + """
+found = {}
+exec(compile(open(file).read(), file, "exec"), found)
+sell = found["sell"]
+"""
+BY_PATH = HERE + "import runpy\nsell = runpy.run_path(file)['sell']\n"
+BY_LOADER = HERE + """
+import importlib.machinery, types
+module = types.ModuleType("stock")
+importlib.machinery.SourceFileLoader("stock", file).exec_module(module)
+sell = module.sell
+"""
+NOT_REWRITTEN = """
+from itc_trace.watch import finder
+def fail(*words):
+    raise ValueError("planted")
+finder.rewritten = fail
+from stock import sell
+"""
+TERMS = " + ".join(["'a'"] * 2500)
+BRANCHES = "".join(f"    elif key == {number}: return {number}\n" for number in range(1, 700))
+DEEP = f"text = {TERMS}\ndef branch(key):\n    if key == 0: return 0\n{BRANCHES}{STOCK}"
+TOO_DEEP = "text = " + " + ".join(["'a'"] * 20000)
+LAMBDAS = """
+import itc_trace, threading
+calls = (lambda x, y: x + y, lambda x, y: x - y, lambda: 1, lambda: (lambda: 2)())
+with itc_trace.tracing():
+    threading.Thread(target=calls[0], args=(1, 2)).start()
+    print(*[call(3, 2) for call in calls[:2]], *[call() for call in calls[2:]])
+"""
+CLOSES_FILES = """
+import os, threading
+thread = threading.Thread(target=int)
+thread.start()
+thread.join()
+os.closerange(3, 200)
+print("ran")
+"""
+REMOVES_JOURNAL = "import glob, os\nfor file in glob.glob(os.environ['TMPDIR'] + '/itc_trace_*/journal'): os.unlink(file)\n"
+
+
+class Unwatched(ProgramCase):
+    def beside(self, text: str, stock: str = STOCK) -> str:
+        program = self.program(text)
+        Path(program).with_name("stock.py").write_text(stock)
+        return program
+
+    def test_a_source_that_is_nested_deeply_is_watched(self) -> None:
+        for program in (self.beside("from stock import sell" + THREADS, DEEP), self.program(DEEP + THREADS)):
+            ran = run_traced(program)
+            self.assertEqual(ran.returncode, Verdict.RACES, ran.stderr)
+            self.assertIn("race on stock['left']", ran.stderr)
+
+    def test_a_source_that_the_language_does_not_take_is_told(self) -> None:
+        ran = run_traced(self.program(TOO_DEEP))
+        self.assertEqual(ran.returncode, 2, ran.stderr)
+        self.assertRegex(ran.stderr, r"\Aitc_trace: \S*program.py cannot be run: [^\n]*\n\Z")
+
+    def test_a_module_that_is_found_by_its_file_is_watched(self) -> None:
+        ran = run_traced(self.beside(BY_SPECIFICATION + THREADS))
+        self.assertEqual(ran.returncode, Verdict.RACES, ran.stderr)
+
+    def test_a_module_that_was_loaded_without_hooks_is_no_all_clear(self) -> None:
+        for text in (BY_EXEC, BY_PATH, BY_LOADER):
+            with self.subTest(text=text):
+                ran = run_traced(self.beside(text + THREADS))
+                self.assertEqual(ran.returncode, Verdict.INCOMPLETE, ran.stderr)
+                told = "itc_trace: incomplete: stock.py was not watched, as it was not imported from a source file"
+                self.assertEqual(ran.stderr.splitlines()[0], told)
+
+    def test_a_module_that_cannot_be_rewritten_is_no_all_clear(self) -> None:
+        ran = run_traced(self.beside(NOT_REWRITTEN + THREADS))
+        self.assertEqual(ran.returncode, Verdict.INCOMPLETE, ran.stderr)
+        self.assertIn("itc_trace: incomplete: stock.py runs as it is, and is not watched: ValueError: planted\n", ran.stderr)
+
+    def test_what_is_not_to_be_watched_leaves_a_run_whole(self) -> None:
+        ran = run_traced("--watch-nothing", self.beside(BY_EXEC + THREADS))
+        self.assertEqual(ran.returncode, Verdict.NO_RACE, ran.stderr)
+
+    def test_a_folder_is_run_as_untraced(self) -> None:
+        folder = Path(self.beside("")).parent
+        (folder / "__main__.py").write_text("import sys\nfrom stock import sell\nprint(sys.argv, sys.path[0], __name__)" + THREADS)
+        ran = run_traced(str(folder), "word")
+        self.assertEqual((ran.returncode, ran.stdout), (Verdict.RACES, run_python(str(folder), "word").stdout), ran.stderr)
+
+    def test_an_archive_is_run_as_untraced_and_no_all_clear(self) -> None:
+        with tempfile.TemporaryDirectory() as folder:
+            archive = str(Path(folder, "shop.zip"))
+            with zipfile.ZipFile(archive, "w") as parts:
+                parts.writestr("__main__.py", "import sys\nfrom stock import sell\nprint(sys.argv, sys.path[0], __name__)" + THREADS)
+                parts.writestr("stock.py", STOCK)
+            ran = run_traced(archive, "word")
+            self.assertEqual((ran.returncode, ran.stdout), (Verdict.INCOMPLETE, run_python(archive, "word").stdout), ran.stderr)
+
+    def test_each_lambda_of_a_line_keeps_its_own_code(self) -> None:
+        ran = run_python(self.program(LAMBDAS))
+        self.assertEqual((ran.stdout, ran.stderr), ("5 1 1 2\n", ""))
+
+
+class Files(ProgramCase):
+    """A program that reaches for the package's own files."""
+
+    def test_a_program_that_closes_all_files_is_no_all_clear(self) -> None:
+        ran = run_traced(self.program(CLOSES_FILES))
+        self.assertEqual((ran.returncode, ran.stdout), (Verdict.INCOMPLETE, "ran\n"), ran.stderr)
+        self.assertNotIn("Traceback", ran.stderr)
+
+    def test_a_journal_that_the_program_removed_is_no_all_clear(self) -> None:
+        with tempfile.TemporaryDirectory() as folder:
+            ran = run_traced(self.program(REMOVES_JOURNAL), TMPDIR=os.fspath(folder))
+        self.assertEqual(ran.returncode, Verdict.INCOMPLETE, ran.stderr)
+        self.assertIn("itc_trace: incomplete: the journal breaks off", ran.stderr)
+
+
+if __name__ == "__main__":
+    unittest.main()
