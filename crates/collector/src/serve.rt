@@ -2,6 +2,7 @@
 ghost use Rattle.std.specs.Prelude.{◌≡◌, ◌≢◌, ◌<◌, true, IfErr, IfOk, OnOk, map, string_bytes};
 ghost use Rattle.command_line.specs.Demand.{ToServe};
 ghost use Rattle.command_line.specs.Reading.{service_of};
+ghost use Rattle.trace_session.specs.Hubs.{IsHubOf};
 ghost use Rattle.collector.specs.Fault.{status_of};
 ghost use Rattle.collector.specs.Program.{RefusesTenants, TellsFault, TellsOfTenants};
 ghost use Rattle.collector.specs.Serving.{Serves, ServesInPart, line_of_counts, line_of_port};
@@ -75,7 +76,7 @@ fn serve_hub<T, W: Sink>(
 ) -> Result<(), Fault>
 where
     T: Threads + Wait + Sync + Net<Listener = TcpListener, Stream = TcpStream>,
-    requires hub { hub.now ≡ record { names = map string_bytes wanted.now.tenants.items; limits = wanted.now.limits } }
+    requires hub { IsHubOf (map string_bytes wanted.now.tenants.items) wanted.now.limits hub.now }
     ensures ok { OnOk result (Serves wanted.now.port wanted.now.sessions (W.seen writer.old) (W.seen writer.new)) }
     ensures err { IfErr result (λ fault. ServesInPart fault wanted.now.port (W.seen writer.old) (W.seen writer.new)) }
     ensures other { IfErr result (λ fault. fault ≢ Fault.Tenants) }

@@ -1,27 +1,29 @@
 -- A hub may be shared among threads. It is shown type by type, lowest first: a search that goes down through all of them runs
 -- out of steps.
-use denote.Param.Send.{IsSend, IsSync, sendable}
+use denote.Param.Send.{IsSend, IsSync, recorded_sync, sendable, struct_sync, view_sync}
+use denote.Struct.Declared.{shape}
 use Rattle.std.proofs.Crossing.{crosses}
-use Rattle.trace_types.proofs.limits.Limits.TheSendSync as limits
+use Rattle.atomic_table.proofs.send_lease.SendLease.TheSendSync as lease
+use Rattle.atomic_table.proofs.shared.Shared.TheSendSync as shared
 use Rattle.tenant_desk.proofs.Crossing.{desk_send, view_send}
-use Rattle.tenant_desk.specs.contracts.desk.Desk as Desk
-use Rattle.tenant_desk.specs.contracts.view.View as View
+use Rattle.trace_session.proofs.owner.Owner.TheSendSync as owner
 use Rattle.trace_session.specs.contracts.hub.Hub as Hub
-use Rattle.trace_session.specs.contracts.hub.Tenant as Tenant
-use Rattle.trace_session.specs.contracts.owned.Owned as Owned
 use Rattle.trace_session.specs.contracts.resting.Resting as Resting
-
-owned_desk_send : IsSend (Owned.the_row Desk.the_row)
-owned_desk_send = search (sendable, crosses, desk_send) depth 20
-
-owned_view_send : IsSend (Owned.the_row View.the_row)
-owned_view_send = search (sendable, crosses, view_send) depth 20
+use Rattle.trace_session.specs.contracts.shelf.Shelf as Shelf
+use Rattle.trace_session.specs.contracts.tenant.Tenant as Tenant
+use Rattle.trace_session.specs.contracts.tenant.Tenant.TheInside as Inside
 
 resting_send : IsSend Resting.the_row
-resting_send = search (sendable, crosses, owned_desk_send, owned_view_send) depth 20
+resting_send = search (sendable, crosses, desk_send, view_send) depth 20
+
+-- a shelf, as a field of a tenant
+shelf_sync : IsSync Shelf.the_field.row
+shelf_sync = search (sendable, crosses, shared.the_sync, lease.the_sync, resting_send) depth 20
 
 tenant_sync : IsSync Tenant.the_row
-tenant_sync = search (sendable, crosses, resting_send) depth 20
+tenant_sync =
+    view_sync _ _ _ _ _
+    (recorded_sync Inside.the_field.row Inside.the_field.Value Inside.the_field.into Inside.the_field.into_one (struct_sync (shape Inside.the_type) (owner.the_sync, (shelf_sync, tt))))
 
 pub hub_sync : IsSync Hub.the_row
-hub_sync = search (sendable, crosses, tenant_sync, limits.the_sync) depth 20
+hub_sync = search (sendable, crosses, tenant_sync) depth 20

@@ -6,5 +6,7 @@ mod Lists
 mod Reading
 mod Refusing
 mod Running
+mod Shelves
 mod Soundness
+mod Tenants
 mod Writing

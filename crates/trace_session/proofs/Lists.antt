@@ -1,7 +1,6 @@
 -- Facts of each element of a list that is pushed to and popped from.
-use Rattle.std.proofs.Common.{◌≡◌, Bool, true, false, cond, List, [], ◌∷◌, ◌++◌, length, map, refl, subst, ap, arith, Option, Some, None}
-use Rattle.std.specs.Prelude.{All, IfSome, ◌||◌}
-use Rattle.std.specs.List.{list_any}
+use Rattle.std.proofs.Common.{◌≡◌, ◌<◌, Bool, true, false, cond, List, [], ◌∷◌, ◌++◌, length, refl, subst, arith, Option, Some, None}
+use Rattle.std.specs.Prelude.{All, IfNone, IfSome}
 use Rattle.std.specs.Option.{option_to_list}
 use Rattle.std.proofs.lemmas.List.{length-append}
 use Rattle.std.proofs.lemmas.List.Elements.{All-push}
@@ -22,7 +21,12 @@ pub All-pushed : {A : Type 0} (P : A → Type 0) (xs ys : List A) (x : A) (pushe
 All-pushed P xs ys x true is all one = rw is (All-push P xs x all one)
 All-pushed P xs ys x false is all one = rw is all
 
--- a test of what is made of each element
-pub list_any-map : {A B : Type 0} (test : B → Bool) (f : A → B) (xs : List A) → list_any test (map f xs) ≡ list_any (λ x. test (f x)) xs
-list_any-map test f [] = refl
-list_any-map test f (x ∷ xs) = ap (λ rest. test (f x) || rest) (list_any-map test f xs)
+-- Nothing is in the list of a value that is not there.
+pub none_listed : {A : Type 0} (one : Option A) → IfNone one (option_to_list one ≡ [])
+none_listed None = refl
+none_listed (Some x) = tt
+
+-- The list of such a value has no element, so the value is not there.
+pub none_there : {A : Type 0} (one : Option A) (x : A) → length (option_to_list one) < 1 → (option_to_list (Some x) ≡ option_to_list one ++ x ∷ []) × (one ≡ None)
+none_there None x few = (refl, refl)
+none_there (Some y) x few = absurd (omega (arith, few))

@@ -1,6 +1,6 @@
 -- What stays so while it is lent to a session.
 use Rattle.std.proofs.Common.{◌≡◌, Bool, true, false, [], inl, inr, refl, sym, subst, ap, ◌∙◌}
-use Rattle.std.specs.Prelude.{IfSome, MatchBool, Option, Some, None}
+use Rattle.std.specs.Prelude.{IfSome, IsSomeAnd, MatchBool, Option, Some, None}
 use Rattle.trace_types.specs.declared.code.Code.{Code}
 use Rattle.trace_types.specs.declared.request.Request.{Request}
 use Rattle.trace_types.specs.declared.reply.Reply.{Reply}
@@ -10,13 +10,11 @@ use Rattle.trace_types.specs.declared.row.Row.{Row}
 use Rattle.trace_types.specs.tenant.Tenant.{Tenant, Steps, fresh, step_unless, with_row}
 use Rattle.trace_types.specs.tenant.Limits.{Limits}
 use Rattle.tenant_desk.specs.Desks.{Desk}
-use Rattle.tenant_desk.specs.Views.{Known, LooksUp}
-use Rattle.trace_types.specs.text.Name.{Text}
-use Rattle.trace_session.specs.Belonging.{IsDeskOf, IsViewOf}
-use Rattle.trace_session.specs.Hubs.{owner}
+use Rattle.tenant_desk.specs.Views.{Known, LooksUp, new_view}
+use Rattle.trace_session.specs.Belonging.{IsDeskOf, IsViewOf, RestOf}
+use Rattle.trace_session.specs.Hubs.{Owner}
 use Rattle.trace_session.specs.Lent.{IsSoundDesk, IsSoundView}
-use Rattle.trace_session.specs.declared.owned.Owned.{Owned}
-use Rattle.trace_session.specs.declared.owner.Owner.{Owner}
+use Rattle.trace_session.specs.Resting.{IsNewDesk, IsWhole, Rests}
 
 looks_up : (old new : Known) (request : Request) (reply : Reply) → LooksUp old request reply new → IsSoundView old → IsSoundView new
 looks_up old new request reply (inl (answers, enters)) holds = record { legal = enters.legal }
@@ -50,28 +48,27 @@ pub steps_keep_limits : (old new : Tenant) (request : Request) (reply : Reply) �
 steps_keep_limits old new request reply (inl stepped) = sym (ap (λ (pair : Reply × Tenant). pair.1.limits) stepped) ∙ step_unless-limits _ old request
 steps_keep_limits old new request reply (inr (may, is, same)) = ap (λ (tenant : Tenant). tenant.limits) same
 
--- A new view belongs to the tenant for which it was made.
-pub new_view_belongs : (owner : Owner) (owned : Owned Known) → owned.owner ≡ owner → owned.value.seen ≡ [] → owned.value.limits ≡ owner.limits → IsViewOf owner owned
-new_view_belongs owner owned made none limits = record { owner_is = made; sound = new_view_is_sound owned.value none; limits = limits }
+-- A new view of this log belongs to the tenant.
+new_view_belongs : (owner : Owner) → IsViewOf owner (new_view owner.limits owner.book)
+new_view_belongs owner = record { sound = new_view_is_sound (new_view owner.limits owner.book) refl; limits = refl; book = refl }
 
 new_desk_is_sound : (desk : Desk) (limits : Limits) → desk.tenant ≡ fresh limits → desk.published ≡ [] → IsSoundDesk desk
 new_desk_is_sound desk limits is none =
     let no_rows = ap (λ (tenant : Tenant). tenant.rows) is in
     record { legal = ([], tt, sym no_rows); published = none ∙ sym no_rows }
 
--- A new desk belongs to the tenant for which it was made.
-pub new_desk_belongs : (owner : Owner) (owned : Owned Desk) (desk : Desk) → owned.owner ≡ owner → owned.value ≡ desk → desk.tenant ≡ fresh owner.limits → desk.published ≡ [] → IsDeskOf owner owned
-new_desk_belongs owner owned desk made is new none = record {
-  owner_is = made;
-  sound = subst IsSoundDesk (sym is) (new_desk_is_sound desk owner.limits new none);
-  limits = ap (λ (one : Desk). one.tenant.limits) is ∙ ap (λ (tenant : Tenant). tenant.limits) new;
+-- and so does a new desk
+new_desk_belongs : (owner : Owner) (desk : Option Desk) → IsSomeAnd desk (IsNewDesk owner.limits owner.book) → IfSome desk (IsDeskOf owner)
+new_desk_belongs owner None none = absurd none
+new_desk_belongs owner (Some desk) new = record {
+  sound = new_desk_is_sound desk owner.limits new.tenant new.published;
+  limits = ap (λ (tenant : Tenant). tenant.limits) new.tenant;
+  book = new.book;
 }
 
-owner_is : (one : Owner) (name : Text) (limits : Limits) → one.name ≡ name → one.limits ≡ limits → one ≡ owner name limits
-owner_is one name limits same_name same_limits = subst (λ (text : Text). one ≡ owner text limits) same_name (subst (λ (bounds : Limits). one ≡ owner one.name bounds) same_limits refl)
-
--- What was found, if it has this name and these limits.
-pub owner_found : {A : Type 0} (found : Option A) (owner_of : A → Owner) (name : Text) (limits : Limits) → IfSome found (λ one. (owner_of one).name ≡ name) → IfSome found (λ one. (owner_of one).limits ≡ limits)
-    → IfSome found (λ one. owner_of one ≡ owner name limits)
-owner_found None owner_of name limits named bounded = tt
-owner_found (Some one) owner_of name limits named bounded = owner_is (owner_of one) name limits named bounded
+-- All that a new tenant has belongs to it.
+pub whole_belongs : (owner : Owner) (rests : Rests) → IsWhole owner.limits owner.book rests → RestOf owner rests
+whole_belongs owner rests whole = record {
+  desk = new_desk_belongs owner rests.desk whole.desk;
+  views = λ k d within. subst (IsViewOf owner) (sym (whole.views k d within)) (new_view_belongs owner);
+}

@@ -1,5 +1,6 @@
 -- What a session on a hub did.
-use Rattle.std.specs.Prelude.{◌≡◌, Result, Ok, Err, [], ◌∷◌, ◌⊎◌, Option, Some, None, MatchBool}
+use Rattle.std.specs.Prelude.{◌≡◌, Result, Ok, Err, [], ◌∷◌, ◌⊎◌, Option, Some, None, MatchOption}
+use Rattle.logbook.specs.Pages.{Book}
 use Rattle.trace_types.specs.tenant.Tenant.{Tenant}
 use Rattle.trace_types.specs.text.Name.{Text}
 use Rattle.trace_types.specs.declared.code.Code.{Code}
@@ -12,17 +13,15 @@ use Rattle.line_protocol.specs.Sink.{Taken}
 use Rattle.line_protocol.specs.declared.line.Line.TheVariants as line
 use Rattle.line_protocol.specs.declared.read_fault.ReadFault.TheVariants as read
 use Rattle.trace_session.specs.Belonging.{Belongs}
-use Rattle.trace_session.specs.Hubs.{Hub, owner}
+use Rattle.trace_session.specs.Hubs.{Hub, Owner, tenant_named}
 use Rattle.trace_session.specs.Lent.{AsksView, IsSoundDesk, IsSoundView, TakesRequest, tenant_seen}
-use Rattle.trace_session.specs.Openings.{is_tenant, opening_in}
+use Rattle.trace_session.specs.Openings.{opening_in}
 use Rattle.trace_session.specs.Sessions.{Session}
 use Rattle.trace_session.specs.State.{State}
 use Rattle.trace_session.specs.Written.{WritesAll, WritesLinesInPart}
 use Rattle.trace_session.specs.declared.conversation.Lending.{Lending}
 use Rattle.trace_session.specs.declared.conversation.Lending.TheVariants as lending
 use Rattle.trace_session.specs.declared.conversation.Opening.{Opening}
-use Rattle.trace_session.specs.declared.owned.Owned.{Owned}
-use Rattle.trace_session.specs.declared.owner.Owner.{Owner}
 use Rattle.trace_session.specs.declared.end.SessionEnd.{SessionEnd}
 use Rattle.trace_session.specs.declared.end.SessionEnd.TheVariants.{EndOfInput, Refused}
 use Rattle.trace_session.specs.declared.end.SessionFault.{SessionFault}
@@ -49,28 +48,28 @@ pub record IsTurnedAway (code : Code) (before after : State) (result : Result Se
   pub same_held : after.held ≡ before.held
 
 -- What was lent belongs to this tenant, and what the session left of it does. The session was held with it.
-pub record IsHeld {S : Type 0} (IsSound : S → Type 0) (tenant_of : S → Tenant) (Does : S → Request → Reply → S → Type 0) (owner : Owner) (before after : State) (result : Result SessionEnd SessionFault) : Type 0 where
-  pub lent : Owned S
-  pub left : Owned S
-  pub lent_belongs : Belongs IsSound tenant_of owner lent
-  pub left_belongs : Belongs IsSound tenant_of owner left
-  pub session : Session Does lent.value left.value before after result
+pub record IsHeld {S : Type 0} (IsSound : S → Type 0) (tenant_of : S → Tenant) (book_of : S → Book) (Does : S → Request → Reply → S → Type 0) (owner : Owner) (before after : State) (result : Result SessionEnd SessionFault) : Type 0 where
+  pub lent : S
+  pub left : S
+  pub lent_belongs : Belongs IsSound tenant_of book_of owner lent
+  pub left_belongs : Belongs IsSound tenant_of book_of owner left
+  pub session : Session Does lent left before after result
 
 -- It was not there to be lent, and the session was refused with this code; or the session was held with it.
-abbrev pub Lends : {S : Type 0} → (S → Type 0) → (S → Tenant) → (S → Request → Reply → S → Type 0) → Code → Owner → State → State → Result SessionEnd SessionFault → Type 0
-Lends IsSound tenant_of Does code owner before after result = IsTurnedAway code before after result ⊎ IsHeld IsSound tenant_of Does owner before after result
+abbrev pub Lends : {S : Type 0} → (S → Type 0) → (S → Tenant) → (S → Book) → (S → Request → Reply → S → Type 0) → Code → Owner → State → State → Result SessionEnd SessionFault → Type 0
+Lends IsSound tenant_of book_of Does code owner before after result = IsTurnedAway code before after result ⊎ IsHeld IsSound tenant_of book_of Does owner before after result
 
 -- The session asked for the desk of this tenant, or for a view.
 abbrev pub LendsTo : Lending → Owner → State → State → Result SessionEnd SessionFault → Type 0
-LendsTo lending.Desk owner before after result = Lends IsSoundDesk (λ desk. desk.tenant) TakesRequest DeskTaken owner before after result
-LendsTo lending.View owner before after result = Lends IsSoundView tenant_seen AsksView NoPlace owner before after result
+LendsTo lending.Desk owner before after result = Lends IsSoundDesk (λ desk. desk.tenant) (λ desk. desk.book) TakesRequest DeskTaken owner before after result
+LendsTo lending.View owner before after result = Lends IsSoundView tenant_seen (λ view. view.book) AsksView NoPlace owner before after result
 
 -- What came of the first line on this hub: one that opens nothing is refused, one that names no tenant is, and else what it
--- asks for is lent of the tenant that it names, under the hub's limits, if it is there.
+-- asks for is lent of the tenant that it names, if it is there.
 abbrev pub Opens : Hub → Option Opening → State → State → Result SessionEnd SessionFault → Type 0
 Opens hub None before after result = IsTurnedAway Line before after result
 Opens hub (Some opening) before after result =
-    MatchBool (is_tenant hub.names opening.tenant) (LendsTo opening.lending (owner opening.tenant hub.limits) before after result) (IsTurnedAway NoTenant before after result)
+    MatchOption (tenant_named opening.tenant hub) (IsTurnedAway NoTenant before after result) (λ tenant. LendsTo opening.lending tenant before after result)
 
 -- The first line was read, and this came of it.
 pub record OpensBy (hub : Hub) (before after : State) (result : Result SessionEnd SessionFault) : Type 0 where

@@ -1,14 +1,25 @@
 -- What a hub is.
-use Rattle.std.specs.Prelude.{List}
+use Rattle.std.specs.Prelude.{◌≡◌, List, [], ◌∷◌, Option, Some, None, All, map, if◌then◌else◌}
+use Rattle.logbook.specs.Pages.{Book}
 use Rattle.trace_types.specs.tenant.Limits.{Limits}
-use Rattle.trace_types.specs.text.Name.{Text}
-use Rattle.trace_session.specs.declared.owner.Owner.{Owner}
+use Rattle.trace_types.specs.text.Name.{Text, is_same}
 
--- its tenants' names, and the limits that each of them has by itself
-pub record Hub : Type 0 where
-  pub names : List Text
+-- a tenant: its name, its limits, and the log in which the rows of its desk and of its views stand
+pub record Owner : Type 0 where
+  pub name : Text
   pub limits : Limits
+  pub book : Book
 
--- the tenant of this name under these limits
-abbrev pub owner : Text → Limits → Owner
-owner name limits = record { name = name; limits = limits }
+-- a hub: its tenants
+abbrev pub Hub : Type 0
+Hub = List Owner
+
+-- The hub has tenants of these names, each with these limits by itself.
+pub record IsHubOf (names : List Text) (limits : Limits) (hub : Hub) : Type 0 where
+  pub named : map (λ (tenant : Owner). tenant.name) hub ≡ names
+  pub limited : All (λ (tenant : Owner). tenant.limits ≡ limits) hub
+
+-- the tenant that has this name: the first, if there were several
+abbrev pub tenant_named : Text → Hub → Option Owner
+tenant_named name [] = None
+tenant_named name (tenant ∷ others) = if is_same tenant.name name then Some tenant else tenant_named name others

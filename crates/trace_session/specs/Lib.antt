@@ -13,5 +13,6 @@ pub mod Resting
 pub mod RunsThrough
 pub mod Serving
 pub mod Sessions
+pub mod Shelves
 pub mod State
 pub mod Written

@@ -1,6 +1,5 @@
 -- The first line of a session.
-use Rattle.std.specs.Prelude.{ℕ, Bool, List, take, drop, Option, Some, None, if◌then◌else◌, codes, option_map}
-use Rattle.std.specs.List.{list_any}
+use Rattle.std.specs.Prelude.{ℕ, take, drop, Option, Some, None, if◌then◌else◌, codes, option_map}
 use Rattle.trace_types.specs.text.Name.{Text, is_same}
 use Rattle.trace_types.specs.text.Lines.{is_longer_than}
 use Rattle.trace_types.specs.text.Reading.{name_of}
@@ -30,7 +29,3 @@ abbrev pub opening_at : Line → Text → Option (Option Opening)
 opening_at line.End text = None
 opening_at line.TooLong text = Some None
 opening_at line.Whole text = Some (opening_of text)
-
--- whether a tenant has this name
-abbrev pub is_tenant : List Text → Text → Bool
-is_tenant names name = list_any (λ other. is_same other name) names

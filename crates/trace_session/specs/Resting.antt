@@ -1,17 +1,24 @@
 -- What rests of one tenant.
-use Rattle.std.specs.Prelude.{◌≡◌, List, Option, IfSome, All}
+use Rattle.std.specs.Prelude.{◌≡◌, List, [], Option, IsSomeAnd, All, length}
+use Rattle.logbook.specs.Pages.{Book}
 use Rattle.trace_types.specs.tenant.Limits.{Limits}
+use Rattle.trace_types.specs.tenant.Tenant.{fresh}
 use Rattle.tenant_desk.specs.Desks.{Desk}
 use Rattle.tenant_desk.specs.Views.{Known, new_view}
-use Rattle.trace_session.specs.declared.owned.Owned.{Owned}
-use Rattle.trace_session.specs.declared.owner.Owner.{Owner}
 
--- the tenant, its desk, if no session has it, and the views that none has, the one that is lent next behind all others
+-- the desk of the tenant, if no session has it, and the views that none has, the one that is lent next behind all others
 pub record Rests : Type 0 where
-  pub owner : Owner
-  pub desk : Option (Owned Desk)
-  pub views : List (Owned Known)
+  pub desk : Option Desk
+  pub views : List Known
 
--- each view is one of the desk that rests there, has these limits, and has seen nothing
-abbrev pub AreOfDesk : Limits → Rests → Type 0
-AreOfDesk limits rests = IfSome rests.desk (λ desk. All (λ view. view.value ≡ new_view limits desk.value.book) rests.views)
+-- a new desk: it has no rows, these limits, and this log
+pub record IsNewDesk (limits : Limits) (log : Book) (desk : Desk) : Type 0 where
+  pub tenant : desk.tenant ≡ fresh limits
+  pub published : desk.published ≡ []
+  pub book : desk.book ≡ log
+
+-- What rests is a new desk of this log, and eight views of that desk, which have seen nothing.
+pub record IsWhole (limits : Limits) (book : Book) (rests : Rests) : Type 0 where
+  pub desk : IsSomeAnd rests.desk (IsNewDesk limits book)
+  pub count : length rests.views ≡ 8
+  pub views : All (λ view. view ≡ new_view limits book) rests.views

@@ -9,9 +9,9 @@ ghost use Rattle.trace_session.specs.Goings.{GoesOn};
 ghost use Rattle.trace_session.specs.Openings.{opening_at, opening_of};
 ghost use Rattle.trace_session.specs.State.{state};
 
-use crate::hub::Tenant;
 use crate::lendable::Lendable;
 use crate::output::Output;
+use crate::tenant::Tenant;
 use crate::{Gate, Hub, SessionEnd, SessionFault};
 use line_protocol::{Buffer, Line, LineReader, Sink, Source};
 use std::alloc::Global;
@@ -146,7 +146,7 @@ impl<'a, W: Sink, T: Wait, G: Gate> Output<'a, W, T, G> {
         lines: &mut LineReader<'_, R>,
     ) -> Result<SessionEnd, SessionFault>
         requires { lines.old.fault ≡ None }
-        ensures { GoesOn R.seen W.seen G.lets_out G.holds_back (LendsTo opening.now.lending tenant.now.owner) lines.old lines.new self.old self.new result }
+        ensures { GoesOn R.seen W.seen G.lets_out G.holds_back (LendsTo opening.now.lending tenant.now) lines.old lines.new self.old self.new result }
     {
         match opening.lending {
             Lending::Desk => self.hold::<Desk, R>(tenant, lines),
@@ -161,12 +161,12 @@ impl<'a, W: Sink, T: Wait, G: Gate> Output<'a, W, T, G> {
         lines: &mut LineReader<'_, R>,
     ) -> Result<SessionEnd, SessionFault>
         requires { lines.old.fault ≡ None }
-        ensures { GoesOn R.seen W.seen G.lets_out G.holds_back (Lends L.is_sound L.tenant_of L.does L.NONE_LEFT tenant.now.owner) lines.old lines.new self.old self.new result }
+        ensures { GoesOn R.seen W.seen G.lets_out G.holds_back (Lends L.is_sound L.tenant_of L.book_of L.does L.NONE_LEFT tenant.now) lines.old lines.new self.old self.new result }
     {
         let Some(mut lent) = tenant.lend::<L, T>(self.rt) else {
             return self.refuse(L::NONE_LEFT);
         };
-        let result = lent.answer_lines(self, lines);
+        let result = self.answer_lines(&mut lent, lines);
         tenant.take_back(self.rt, lent);
         result
     }

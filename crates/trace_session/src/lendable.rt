@@ -1,44 +1,88 @@
 //! What tenants lend.
-ghost use Rattle.std.specs.Prelude.{IfSome};
-ghost use Rattle.trace_session.specs.Belonging.{Belongs, IsDeskOf, IsViewOf};
+ghost use Rattle.std.specs.Prelude.{◌≡◌, ◌<◌, ◌++◌, ◌∷◌, [], None, IfNone, IfSome, length};
+ghost use Rattle.std.specs.Option.{option_to_list};
+ghost use Rattle.trace_session.specs.Belonging.{Belongs, RestOf};
+ghost use Rattle.trace_session.specs.Hubs.{Owner};
 
 use crate::lent::Lent;
-use crate::owned::Owned;
 use crate::resting::Resting;
+use std::sync::Wait;
 use tenant_desk::{Desk, View};
 
 /// What a tenant lends while it rests, and takes back.
 pub(crate) trait Lendable: Lent {
-    /// Takes one out of what rests, if there is one.
-    fn take(resting: &mut Resting) -> Option<Owned<Self>>
-        ensures { IfSome result (Belongs Self.is_sound Self.tenant_of resting.old.owner) };
+    ghost use Rattle.std.specs.Prelude.{ℕ, List};
+    ghost use Rattle.trace_session.specs.Resting.{Rests};
 
-    /// Puts it back to what rests of its tenant. It gives out a desk that has to be ended.
-    fn put(lent: Owned<Self>, resting: &mut Resting) -> Option<Owned<Desk>>
-        requires { Belongs Self.is_sound Self.tenant_of lent.owner lent };
+    // those of this kind that rest, the one that is lent next behind all others
+    ghost those: { Rests → List Self };
+
+    // what rests beside those
+    ghost beside: { Rests → Rests };
+
+    // how many of this kind a tenant has
+    ghost most: { ℕ };
+
+    /// Takes one out of what rests, if there is one.
+    fn take(resting: &mut Resting) -> Option<Self>
+        ensures taken { those resting.old ≡ those resting.new ++ option_to_list result }
+        ensures none { IfNone result (those resting.old ≡ []) }
+        ensures beside { beside resting.new ≡ beside resting.old }
+        // What rested belonged to a tenant. Then it still does, and so does what is taken.
+        ensures owner { (owner : Owner) → RestOf owner resting.old → RestOf owner resting.new × IfSome result (Belongs Self.is_sound Self.tenant_of Self.book_of owner) };
+
+    /// Puts it back to what rests. It gives out a desk that was there already, which has to be ended.
+    fn put(self, resting: &mut Resting) -> Option<Desk>
+        ensures put { length (those resting.old) < most → (those resting.new ≡ those resting.old ++ self ∷ []) × (result ≡ None) }
+        ensures beside { beside resting.new ≡ beside resting.old }
+        ensures owner { (owner : Owner) → RestOf owner resting.old → Belongs Self.is_sound Self.tenant_of Self.book_of owner self → RestOf owner resting.new };
+
+    /// Ends it.
+    fn end<R: Wait>(self, rt: &R);
 }
 
 impl Lendable for Desk {
-    fn take(resting: &mut Resting) -> Option<Owned<Desk>> {
+    ghost use Rattle.std.specs.Prelude.{None};
+    ghost use Rattle.std.specs.Option.{option_to_list};
+
+    ghost those = { λ rests. option_to_list rests.desk };
+
+    ghost beside = { λ rests. record rests { desk = None } };
+
+    ghost most = { 1 };
+
+    fn take(resting: &mut Resting) -> Option<Desk> {
         resting.take_desk()
     }
 
-    fn put(lent: Owned<Desk>, resting: &mut Resting) -> Option<Owned<Desk>>
-        requires { IsDeskOf lent.owner lent }
-    {
-        resting.put_desk(lent)
+    fn put(self, resting: &mut Resting) -> Option<Desk> {
+        resting.put_desk(self)
+    }
+
+    fn end<R: Wait>(self, rt: &R) {
+        self.close(rt);
     }
 }
 
 impl Lendable for View {
-    fn take(resting: &mut Resting) -> Option<Owned<View>> {
+    ghost use Rattle.std.specs.Prelude.{[]};
+
+    ghost those = { λ rests. rests.views };
+
+    ghost beside = { λ rests. record rests { views = [] } };
+
+    ghost most = { 8 };
+
+    fn take(resting: &mut Resting) -> Option<View> {
         resting.take_view()
     }
 
-    fn put(lent: Owned<View>, resting: &mut Resting) -> Option<Owned<Desk>>
-        requires { IsViewOf lent.owner lent }
-    {
-        resting.put_view(lent);
+    fn put(self, resting: &mut Resting) -> Option<Desk> {
+        resting.put_view(self);
         None
+    }
+
+    fn end<R: Wait>(self, _rt: &R) {
+        drop(self);
     }
 }

@@ -11,6 +11,7 @@ pub(crate) trait Lent: Sized {
     ghost use Rattle.trace_types.specs.declared.request.Request.{Request};
     ghost use Rattle.trace_types.specs.declared.reply.Reply.{Reply};
     ghost use Rattle.trace_types.specs.tenant.Tenant.{Tenant};
+    ghost use Rattle.logbook.specs.Pages.{Book};
 
     // the request may be answered so, and leave it so
     ghost does: { Self → Request → Reply → Self → Type 0 };
@@ -20,6 +21,9 @@ pub(crate) trait Lent: Sized {
 
     // its tenant, with the rows that it knows of
     ghost tenant_of: { Self → Tenant };
+
+    // the log in which those rows stand
+    ghost book_of: { Self → Book };
 
     // the code of a session that is refused since there is none
     ghost NONE_LEFT: { Code };
@@ -31,7 +35,8 @@ pub(crate) trait Lent: Sized {
     fn answer<T: Wait>(&mut self, rt: &T, request: &Request, reply: &mut Reply)
         ensures does { does self.old request.now reply.new self.new }
         ensures sound { is_sound self.old → is_sound self.new }
-        ensures limits { (tenant_of self.new).limits ≡ (tenant_of self.old).limits };
+        ensures limits { (tenant_of self.new).limits ≡ (tenant_of self.old).limits }
+        ensures book { book_of self.new ≡ book_of self.old };
 }
 
 impl Lent for Desk {
@@ -43,6 +48,8 @@ impl Lent for Desk {
     ghost is_sound = { IsSoundDesk };
 
     ghost tenant_of = { λ desk. desk.tenant };
+
+    ghost book_of = { λ desk. desk.book };
 
     ghost NONE_LEFT = { DeskTaken };
 
@@ -62,6 +69,8 @@ impl Lent for View {
     ghost is_sound = { IsSoundView };
 
     ghost tenant_of = { tenant_seen };
+
+    ghost book_of = { λ view. view.book };
 
     ghost NONE_LEFT = { NoPlace };
 

@@ -6,8 +6,8 @@
 //! The contract that carries it: [`report_lines`] and [`view_lines`] answer the first lines that were read in turn, each
 //! as the desk takes its request or as the view answers it. Exactly these replies are written, a line each, or a prefix
 //! of them at a fault. [`laws::reports_run`] says that a session that reports gives the replies of a run from the rows of
-//! its desk. [`session`] is held with a desk or a view that was made for the tenant of its first line, under the hub's
-//! limits.
+//! its desk. [`session`] is held with a desk or a view of the tenant that its first line names. The rows of all that a
+//! tenant lends stand in one log, which the hub keeps for that tenant.
 //!
 //! ```
 //! use line_protocol::{FromReader, IntoWriter};
@@ -36,10 +36,11 @@ mod lendable;
 mod lent;
 mod lines;
 mod output;
-mod owned;
 mod owner;
 mod resting;
 mod serving;
+mod shelf;
+mod tenant;
 
 pub use conversation::{Connection, session};
 pub use door::{Door, DoorFault};

@@ -1,23 +1,24 @@
-//! Tenants, as those that own desks and views.
-ghost use Rattle.std.specs.Prelude.{◌≡◌};
+//! Tenants, as those whose something is.
 
+use std::marker::Model;
+use tenant_desk::Told;
 use trace_types::{Limits, Name};
 
-/// Whose something is: the name of a tenant, and its limits.
-#[derive(PartialEq, Eq, Drop)]
+/// Whose something is: the name of a tenant, its limits, and its log. A clause sees which log that is.
+///
+/// The rows of a tenant's desk stand in its log, and so do those of its views. Each desk has a log of its own.
+#[derive(Drop)]
 pub(crate) struct Owner {
     pub(crate) name: Name,
     pub(crate) limits: Limits,
+    /// What the tenant's desk told of when it was made. It takes no room for the log.
+    pub(crate) told: Told,
 }
 
-impl Owner {
-    /// An equal value. It takes no memory.
-    pub(crate) fn again(&self) -> Owner
-        ensures { result ≡ self.now }
-    {
-        Owner {
-            name: self.name,
-            limits: self.limits,
-        }
-    }
+impl Model for Owner {
+    ghost use Rattle.trace_session.specs.Hubs.{Owner as Seen};
+
+    ghost Value = { Seen };
+
+    ghost view = { λ owner. record { name = owner.name; limits = owner.limits; book = owner.told.book } };
 }

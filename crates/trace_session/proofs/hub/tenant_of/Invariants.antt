@@ -1,9 +1,8 @@
-use Rattle.std.proofs.Common.{◌≡◌, take, false}
-use Rattle.std.specs.List.{list_any}
-use Rattle.trace_types.specs.text.Name.{is_same}
-use Rattle.trace_session.specs.declared.hub.Tenant.{Tenant}
+use Rattle.std.proofs.Common.{◌≡◌, drop}
+use Rattle.std.specs.Prelude.{Option}
+use Rattle.trace_session.specs.Hubs.{Owner, tenant_named}
 use Rattle.trace_session.proofs.hub.tenant_of.Given as goal
 
 -- what was looked at has another name
 abbrev pub invariant-loop-tenant : goal.invariant-loop-tenant
-invariant-loop-tenant l = list_any (λ (tenant : Tenant). is_same tenant.owner.name l.name) (take l.tenant-index l.tenants) ≡ false
+invariant-loop-tenant l = ◌≡◌ {A = Option Owner} (tenant_named l.name l.tenants) (tenant_named l.name (drop l.tenant-index l.tenants))

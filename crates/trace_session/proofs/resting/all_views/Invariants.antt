@@ -1,16 +1,14 @@
 use Rattle.std.proofs.Common.{◌≡◌, ◌+◌, ◌≤◌, length}
 use Rattle.std.specs.Prelude.{All, vec_capacity}
 use Rattle.tenant_desk.specs.Views.{new_view}
-use Rattle.trace_session.specs.Belonging.{IsViewOf}
 use Rattle.trace_session.proofs.resting.all_views.Given as goal
 
 abbrev pub invariant-loop-view : goal.invariant-loop-view
 invariant-loop-view l = record {
   counted : length l.all.items + l.views.left ≡ l.fn.views.left;
-  owned : All (IsViewOf l.owner) l.all.items;
   limits : l.views.limits ≡ l.fn.views.limits;
   book : l.views.book ≡ l.fn.views.book;
-  same : All (λ view. view.value ≡ new_view l.fn.views.limits l.fn.views.book) l.all.items;
+  same : All (λ view. view ≡ new_view l.fn.views.limits l.fn.views.book) l.all.items;
   room : 8 ≤ vec_capacity l.all;
 }
 

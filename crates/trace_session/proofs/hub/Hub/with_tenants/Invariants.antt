@@ -1,6 +1,6 @@
-use Rattle.std.proofs.Common.{◌≡◌, take}
-use Rattle.trace_session.specs.Hubs.{Hub}
+use Rattle.std.proofs.Common.{take}
+use Rattle.trace_session.specs.Hubs.{IsHubOf}
 use Rattle.trace_session.proofs.hub.Hub.with_tenants.Given as goal
 
 abbrev pub invariant-loop-name : goal.invariant-loop-name
-invariant-loop-name g l = ◌≡◌ {A = Hub} l.hub (record { names = take l.name-index l.names; limits = l.fn.limits })
+invariant-loop-name g l = IsHubOf (take l.name-index l.names) l.limits l.hub

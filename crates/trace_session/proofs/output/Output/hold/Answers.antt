@@ -1,10 +1,11 @@
 use Rattle.std.proofs.Common.{inr, ◌∙◌}
+use Rattle.trace_session.proofs.FirstLines.{IfNone-from}
 use Rattle.trace_session.proofs.output.Output.hold.Goals as goal
 
 pub returns : goal.returns
 returns g c =
     let belongs = c.in-Some.ensures in
-    let on = c.answer_lines-result.ensures.goes in
+    let on = IfNone-from _ c.args.lines.now.fault c.requires c.answer_lines-result.ensures.goes in
     record {
       same_source = on.same_source;
       same = on.same;
@@ -12,12 +13,12 @@ returns g c =
         did =
             inr (record {
               lent = c.in-Some.lent;
-              left = c.answer_lines-result.new.self;
+              left = c.answer_lines-result.new.lent;
               lent_belongs = belongs;
               left_belongs = record {
-                owner_is = c.answer_lines-result.ensures.owner ∙ belongs.owner_is;
                 sound = c.answer_lines-result.ensures.sound belongs.sound;
                 limits = c.answer_lines-result.ensures.limits ∙ belongs.limits;
+                book = c.answer_lines-result.ensures.book ∙ belongs.book;
               };
               session = on.goes.did;
             });
