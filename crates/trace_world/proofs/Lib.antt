@@ -1,3 +1,5 @@
+mod PatientTexts
+mod ChunkLines
 mod Fresh
 mod Isolation
 mod Leading

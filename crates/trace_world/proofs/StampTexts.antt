@@ -6,7 +6,7 @@ use Rattle.trace_types.specs.clock.Id.{Id, Zero, One, Pair}
 use Rattle.trace_types.specs.clock.EventTree.{EventTree, Leaf, Node, maximum}
 use Rattle.trace_types.specs.text.Name.{Text}
 use Rattle.trace_types.specs.text.StampText.{id_text, tree_text, stamp_text}
-use Rattle.std.proofs.Common.{true, not, ◌⊎◌, inl, inr, sym, ap, ◌∙◌, subst}
+use Rattle.std.proofs.Common.{true, false, not, ◌⊎◌, inl, inr, sym, ap, ◌∙◌, subst}
 use Rattle.std.proofs.lemmas.List.{length-reverse}
 use Rattle.std.proofs.lemmas.Bool.Decides.{nat_tests}
 use Rattle.std.proofs.lemmas.List.FromFn.{get_or-map-range_with_len, length-map-range_with_len}
@@ -14,7 +14,7 @@ use Rattle.trace_types.specs.clock.Clock.{tree_clock}
 use Rattle.trace_types.specs.clock.Stamps.{stamp_of, stamp_text_of, tree_of}
 use Rattle.trace_types.specs.tenant.Refusal.{first_code}
 use Rattle.trace_types.specs.tenant.Rows.{History, history_of, is_event}
-use Rattle.trace_types.specs.tenant.Tenant.{Tenant, Answers, step_unless, reply_to_view}
+use Rattle.trace_types.specs.tenant.Tenant.{Tenant, Answers, Steps, step_unless, reply_to_view}
 use Rattle.trace_types.specs.declared.row.Row.{Row}
 use Rattle.trace_types.specs.declared.code.Code.TheVariants.{NoEvent, NoMemory}
 use Rattle.trace_types.specs.declared.request.Request.TheVariants.{Stamp}
@@ -73,6 +73,19 @@ length-stamp_texts rows = length-map-range_with_len (stamp_text_of (history_of r
 
 stamp_reply : (tenant : Tenant) (event : ℕ) → is_event (history_of tenant.rows) event ≡ true → reply_to_view tenant (Stamp event) ≡ reply.Stamp (stamp_text_of (history_of tenant.rows) event)
 stamp_reply tenant event is = ap (λ b. (step_unless (first_code ((not b, NoEvent) ∷ [])) tenant (Stamp event)).0) is
+
+-- an event's stamp is told, by its id and its tree
+pub Steps-stamp : (tenant : Tenant) (event : ℕ) (id : Id) (tree : EventTree) → is_event (history_of tenant.rows) event ≡ true → id ≡ (stamp_of tree_clock (history_of tenant.rows) event).0
+    → tree ≡ tree_of tree_clock (history_of tenant.rows) event → Steps tenant (Stamp event) (reply.Stamp (stamp_text id tree)) tenant
+Steps-stamp tenant event id tree is id_is tree_is =
+    let knows = tree_is ∙ sym (stamp_knows (history_of tenant.rows) event) in
+    inl
+    (ap (λ there. step_unless (first_code ((not there, NoEvent) ∷ [])) tenant (Stamp event)) is
+    ∙ ap (λ text. (reply.Stamp text, tenant)) (sym (λ i. stamp_text (id_is i) (knows i))))
+
+-- no stamp is told where there is no such event
+pub Steps-no_stamp : (tenant : Tenant) (event : ℕ) → is_event (history_of tenant.rows) event ≡ false → Steps tenant (Stamp event) (reply.Refused NoEvent) tenant
+Steps-no_stamp tenant event is = inl (ap (λ there. step_unless (first_code ((not there, NoEvent) ∷ [])) tenant (Stamp event)) is)
 
 -- what is answered to it
 pub answers_stamp : (tenant : Tenant) (event : ℕ) (answer : Reply) → is_event (history_of tenant.rows) event ≡ true → Answers tenant (Stamp event) answer

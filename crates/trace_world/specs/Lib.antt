@@ -5,3 +5,5 @@ pub mod Counted
 pub mod Tenants
 pub mod Isolation
 pub mod Answered
+pub mod Chunks
+pub mod Chunking

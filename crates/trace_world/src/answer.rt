@@ -6,6 +6,8 @@ ghost use Rattle.trace_types.specs.text.Reading.{request_of};
 ghost use Rattle.trace_world.specs.Answered.{AnswersFound, AnswersRequest, CarriesOut, TellsReply, code_to_nobody};
 ghost use Rattle.trace_world.specs.Counted.{CanCount};
 
+use crate::ledger_stamps::stamp_parts;
+use crate::stamp_answer::write_stamp;
 use crate::{Counts, World};
 use line_protocol::{
     Sink, WriteFault, is_count, read_addressed, read_order, read_request, split_first,
@@ -64,6 +66,9 @@ fn answer_at_length<R: Wait, W: Sink>(
     let Some(request) = read_request(request) else {
         return refuse(writer, counts, world.name(tenant).as_bytes(), Code::Line);
     };
+    if let Request::Stamp(event) = request {
+        return tell_stamp(writer, counts, world, tenant, event);
+    }
     let reply = world.step(rt, tenant, &request);
     tell(writer, counts, world.name(tenant).as_bytes(), &reply)
 }
@@ -82,6 +87,27 @@ fn tell_count<W: Sink>(
 {
     counts.count_answered();
     write_count(writer, world.name(tenant), world.ledger(tenant).counts())
+}
+
+/// Tells the tenant the stamp of the event. Its text goes from the id and the tree that are kept to the writer.
+fn tell_stamp<W: Sink>(
+    writer: &mut W,
+    counts: &mut Counts,
+    world: &World,
+    tenant: usize,
+    event: u64,
+) -> Result<(), WriteFault>
+    requires tenant { tenant < length world.now.tenants }
+    requires counts { CanCount counts.old }
+    ensures { AnswersRequest world.now tenant (Some (Request.Stamp event)) world.now (W.seen writer.old) (W.seen writer.new) counts.old counts.new result }
+{
+    match stamp_parts(world.ledger(tenant), event) {
+        Some((id, tree)) => {
+            counts.count_answered();
+            write_stamp(writer, world.name(tenant), id, tree)
+        }
+        None => refuse(writer, counts, world.name(tenant).as_bytes(), Code::NoEvent),
+    }
 }
 
 /// Tells the tenant how the first event stands to the second.

@@ -1,5 +1,6 @@
 //! Counts of a replay.
 ghost use Rattle.std.specs.Prelude.{◌≡◌, ℕ};
+ghost use Rattle.trace_types.specs.text.Name.{Text};
 
 use trace_types::{Order, Reply};
 
@@ -31,11 +32,12 @@ impl Counts {
         }
     }
 
-    /// Counts one more line, which got an order or a count.
+    /// Counts one more line, which got an order, a stamp or a count.
     #[inline(always)]
     pub(crate) fn count_answered(&mut self)
         requires { CanCount self.old }
         ensures order { (order : Order) → self.new ≡ counted_with self.old (Reply.Ordering order) }
+        ensures stamp { (text : Text) → self.new ≡ counted_with self.old (Reply.Stamp text) }
         ensures count { (events tasks messages : ℕ) → self.new ≡ counted_with self.old (Reply.Count events tasks messages) }
     {
         self.lines += 1;

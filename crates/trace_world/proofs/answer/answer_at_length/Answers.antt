@@ -28,3 +28,6 @@ returns g c = record {
   does = rw (sym c.read_request.ensures ∙ c.in-Some.is) c.step-reply.ensures.step;
   tells = c.tell.ensures;
 }
+
+pub returns-in-Stamp : goal.returns-in-Stamp
+returns-in-Stamp g c = rw (sym c.read_request.ensures ∙ c.in-Some.is ∙ ap Some c.in-Stamp.is) c.tell_stamp.ensures
