@@ -42,7 +42,18 @@ class Unseen(NamedTuple):
 
 
 END_ROW = '{"end":true}\n'
-"""The last line of a journal whose process reported all that it noted."""
+"""The last line of a journal whose process reported all that it noted. This one does not say how many lines there are."""
+
+
+def end_row(lines: int) -> str:
+    """The same, with how many lines the process has written before it."""
+    return json.dumps({"end": True, "lines": lines}, separators=(",", ":")) + "\n"
+
+
+def is_end_row(line: str) -> bool:
+    """Whether it is the last line of a journal, with or without a number."""
+    return line.startswith('{"end":')
+
 
 BREAKS_OFF = Unseen(Cause.JOURNAL, "the journal breaks off before the end of its process")
 
