@@ -137,6 +137,7 @@ class Tracing:
             self._tracer.forget()
         if self._file is not None:
             state.witness = Witness(self._file)
+            _witnesses.append(state.witness)
             watch.witness()
         self._tracer = self._file = self._collector = self._announced = None
         self._stopping = _thread.RLock()
@@ -224,11 +225,13 @@ def uninstall() -> None:
 
 _active: set[Tracing] = set()
 """What traces this process now."""
+_witnesses: list[Witness] = []
+"""Who tells in the journal of the parent, in a forked child."""
 
 
 def _tell(unseen: Unseen) -> None:
-    for traced in list(_active):
-        traced.tell(unseen)
+    for one in [*_active, *_witnesses]:
+        one.tell(unseen)
 
 
 def _forget() -> None:
