@@ -11,7 +11,7 @@ from typing import TYPE_CHECKING, Any, NamedTuple
 from .conflicts import CHANGING
 from .dividing import Border
 from .stretches import SITES, Across
-from .verdict import BREAKS_OFF, Cause, Unseen
+from .verdict import BREAKS_OFF, Cause, PassedOver, Unseen
 
 if TYPE_CHECKING:
     from .lock_identity import LockIdentity
@@ -66,6 +66,7 @@ class Journal(NamedTuple):
     unseen: list[Unseen]
     missing: list[Unseen]
     """What of `unseen` no line says: the journal breaks off, or has fewer lines than were written."""
+    passed_over: list[PassedOver]
 
 
 class NoJournal(Exception):
@@ -81,6 +82,7 @@ def read_whole(lines: Iterable[str]) -> Journal:
     """A journal, with a word of it if it breaks off. A last line that was cut off is passed over."""
     rows: list[Row] = []
     unseen: list[Unseen] = []
+    passed_over: list[PassedOver] = []
     count = Count()
     for number, line in enumerate(lines, 1):
         if not line.endswith("\n"):
@@ -91,6 +93,8 @@ def read_whole(lines: Iterable[str]) -> Journal:
             rows.append(read)
         elif isinstance(read, Unseen):
             unseen.append(read)
+        elif isinstance(read, PassedOver):
+            passed_over.append(read)
         elif isinstance(read, End):
             pass
         elif read is not None and number > 1:
@@ -100,7 +104,7 @@ def read_whole(lines: Iterable[str]) -> Journal:
         else:
             unseen.append(Unseen(Cause.JOURNAL, f"line {number} of the journal is none"))
     missing = count.missing(unseen)
-    return Journal(rows, [*unseen, *missing], missing)
+    return Journal(rows, [*unseen, *missing], missing, passed_over)
 
 
 class End(NamedTuple):
@@ -118,7 +122,7 @@ class Count:
     others: int = 0
     end: End | None = None
 
-    def add(self, read: Row | Unseen | Begun | End | None) -> None:
+    def add(self, read: Read | None) -> None:
         if isinstance(read, End):
             self.end = read
         elif isinstance(read, Unseen):
@@ -141,7 +145,7 @@ GOING_ON = frozenset({Cause.CHILD, Cause.MODULE})
 """Why something is not seen of a run that goes on to be traced."""
 
 
-def read_line(line: str) -> Row | Unseen | Begun | End | None:
+def read_line(line: str) -> Read | None:
     """What a line of a journal says. None if it is no such line."""
     try:
         read = json.loads(line)
@@ -151,6 +155,8 @@ def read_line(line: str) -> Row | Unseen | Begun | End | None:
             return border_of(read)
         if "unseen" in read:
             return Unseen(Cause(read["unseen"]), str(read["text"]))
+        if "passed_over" in read:
+            return PassedOver(str(read["passed_over"]), str(read["place"]))
         if "end" in read:
             return End(None if read.get("lines") is None else int(read["lines"]))
         return None
@@ -179,6 +185,10 @@ class Begun(NamedTuple):
 
     part: int
     border: Border
+
+
+Read = Row | Unseen | PassedOver | Begun | End
+"""What a line of a journal says."""
 
 
 def border_of(read: dict[str, Any]) -> Begun:

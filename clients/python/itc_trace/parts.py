@@ -22,7 +22,7 @@ from .races import Races, add_race, find_in, in_order, list_pair
 from .session import Refused, Session
 from .snapshot import write_export
 from .trace import Asked, Trace
-from .verdict import Cause, Unseen, end_row
+from .verdict import Cause, PassedOver, Unseen, end_row
 
 TENANT = "trace"
 UNSEEN_TURNS = "a task of a loop read {} in one part of the trace and wrote it back in the next, at {}: who came in between was not looked at"
@@ -141,7 +141,7 @@ def races_of_parts(
     looking = looking or Looking()
     with tempfile.TemporaryDirectory(prefix="itc_trace_") as folder:
         divided = _Divided(journal, folder)
-        found = Races(unseen=divided.unseen)
+        found = Races(unseen=divided.unseen, passed_over=divided.passed_over)
         try:
             keep = None if export is None else _Exports(export, divided).keep
             find_in_parts(divided.parts(found, last), found, looking.strict, collected, bar, keep)
@@ -177,6 +177,7 @@ class _Divided:
         self._folder = folder
         self._borders: dict[int, Border] = {}
         self.unseen: list[Unseen] = []
+        self.passed_over: list[PassedOver] = []
         count = Count()
         with contextlib.closing(_Files(self.file)) as files, open(journal, encoding="utf-8", errors="replace") as lines:
             for number, line in enumerate(lines, 1):
@@ -190,6 +191,8 @@ class _Divided:
                     self.unseen.append(read)
                 elif isinstance(read, Begun):
                     self._borders[read.part] = read.border
+                elif isinstance(read, PassedOver):
+                    self.passed_over.append(read)
                 elif not isinstance(read, End):
                     self.unseen.append(Unseen(Cause.JOURNAL, f"line {number} of the journal is none"))
         self.unseen += count.missing(self.unseen)

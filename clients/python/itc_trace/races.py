@@ -24,7 +24,7 @@ from .progress import Bar, Shown
 from .racing_pairs import Pair, racing_pairs
 from .session import Refused, Session
 from .trace import Asked, Events, Trace, Unordered, lock_events, lock_that_tells, told_by_signals
-from .verdict import Cause, Unseen, Verdict, verdict_of
+from .verdict import Cause, PassedOver, Unseen, Verdict, listed, verdict_of
 from .without_locks import WithoutLocks
 
 NOTHING = "nothing orders them"
@@ -94,6 +94,7 @@ class Races:
     races: list[Race] = field(default_factory=list)
     possible: list[Race] = field(default_factory=list)
     unseen: list[Unseen] = field(default_factory=list)
+    passed_over: list[PassedOver] = field(default_factory=list)
     silenced: int = 0
     """How many more there are, but meant."""
     touches: int = 0
@@ -120,7 +121,7 @@ class Races:
         found = "no race" if not self.races else _counted(len(self.races), "race")
         where = "in what was seen" if self.unseen else "in this run"
         return f"{found} {where}" + (f"; {len(self.possible)} possible" if self.possible else "") + (
-            f"; {self.silenced} silenced" if self.silenced else "")
+            f"; {self.silenced} silenced" if self.silenced else "") + listed(self.passed_over)
 
     def summary(self) -> str:
         return (
@@ -173,7 +174,7 @@ def find_races(
     whole = read_whole(journal)
     rows = sorted(dict.fromkeys(whole.rows), key=lambda row: row.event)
     touches = [row for row in rows if row.is_touch and row.kind != MAKING]
-    found = Races(unseen=whole.unseen, touches=len(touches), events=len({row.event for row in rows}))
+    found = Races(unseen=whole.unseen, passed_over=whole.passed_over, touches=len(touches), events=len({row.event for row in rows}))
     found.places = len({(row.thing, row.place) for row in touches})
     found.things = len({row.thing for row in touches})
     things = [thing for thing in _things_of(rows) if thing.may_race]

@@ -23,7 +23,7 @@ from .seeing import races_seen
 from .shaking import Shaking
 from .tracer import Tracer
 from .tracer_parts import Parts
-from .verdict import Unseen
+from .verdict import PassedOver, Unseen
 
 
 class Tracing:
@@ -95,7 +95,7 @@ class Tracing:
         with self._stopping:
             self.is_stopping = True
             if self._file is not None:
-                for one in watch.unwatched():
+                for one in [*watch.unwatched(), *watch.not_looked_into()]:
                     self.tell(one)
             tracer, self._tracer = self._tracer, None
             file, self._file = self._file, None
@@ -110,7 +110,7 @@ class Tracing:
                     one.close()
             self.is_stopping = False
 
-    def tell(self, unseen: Unseen) -> None:
+    def tell(self, unseen: Unseen | PassedOver) -> None:
         """Says in the journal what of the run is not seen. If that cannot be written, tracing stops, and the journal breaks off."""
         if self._file is None:
             return

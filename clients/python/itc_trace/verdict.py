@@ -41,6 +41,27 @@ class Unseen(NamedTuple):
         return json.dumps({"unseen": self.cause.value, "text": self.text}, separators=(",", ":")) + "\n"
 
 
+class PassedOver(NamedTuple):
+    """What the program's source does that no hook looks into, and where."""
+
+    what: str
+    place: str
+
+    def row(self) -> str:
+        """The line of a journal that says so."""
+        return json.dumps({"passed_over": self.what, "place": self.place}, separators=(",", ":")) + "\n"
+
+
+MOST_LISTED = 3
+
+
+def listed(passed_over: Iterable[PassedOver]) -> str:
+    """What was not looked into, as the last line says it."""
+    words = [f"{one.what} at {one.place}" for one in dict.fromkeys(passed_over)]
+    more = f" and {len(words) - MOST_LISTED} more" if len(words) > MOST_LISTED else ""
+    return f"; not looked into: {', '.join(words[:MOST_LISTED])}{more}" if words else ""
+
+
 END_ROW = '{"end":true}\n'
 """The last line of a journal whose process reported all that it noted. This one does not say how many lines there are."""
 

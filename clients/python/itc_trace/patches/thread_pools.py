@@ -14,6 +14,7 @@ from collections.abc import Iterable, Iterator
 from types import FrameType, ModuleType
 from typing import Any
 
+from ..handed_on import HANDED, called, handed_at, watched_place
 from ..lines import CALLED, FINISH, MARK, RESULT, SPAWN, SUBMIT, TAKE_END, WORKER, LateJob, Line, Token, What, state
 from ..noting import current, enter, frame_at, line_of_now, local, mark, place, take
 from .base import Patches, like
@@ -112,6 +113,7 @@ class _Job:
         self._line = line
         self._number = number
         self._comes_after_initializer = comes_after_initializer
+        self.submitted = awaited.submitted
         self._worker: Line | None = None
 
     def run(self) -> None:
@@ -126,7 +128,7 @@ class _Job:
             enter(line)
             take(ready)
         local.job_of_pool = self
-        take(self._awaited.submitted)
+        take(self.submitted)
 
     def end(self) -> None:
         local.job_of_pool = None
@@ -155,7 +157,18 @@ class _Jobs:
         job, begun = self._queue.get(block, timeout)
         if block and begun is not None:  # Else the pool ends, and only empties the queue.
             begun.run()
+            self._tell_called(job, begun.submitted)
         return job
+
+    def _tell_called(self, job: Any, submitted: Token | None) -> None:
+        """Tells of a method of a container that is the job itself."""
+        _, _, function, words, _ = job
+        handed = None if submitted is None else watched_place(submitted.code, submitted.instruction)
+        if function not in self._maps:
+            called(function, tuple(words), handed)
+        elif type(words[0][0]) in HANDED:
+            for one in words[0][1]:
+                called(words[0][0], (one,) if function is self._maps[0] else tuple(one), handed)
 
     def _begun(self, job: Any) -> _Job | None:
         note, tracer, pool = state.note, state.tracer, self._pool()
@@ -243,15 +256,18 @@ def _begin_result(original: Any) -> Any:
 def _called_back(callback: Any, awaited: _Awaited) -> Any:
     """The callback, called after the jobs and after who gave it. Whoever takes the result comes after it."""
 
-    def called(value: Any) -> Any:
+    place_of_callback = handed_at(callback, 2)
+
+    def call(value: Any) -> Any:
         take(awaited.submitted)
         awaited.take()
+        called(callback, (value,), place_of_callback)
         try:
             return callback(value)
         finally:
             awaited.called = mark(CALLED)
 
-    return like(callback, called)
+    return like(callback, call)
 
 
 def _wait(original: Any) -> Any:

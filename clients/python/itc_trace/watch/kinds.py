@@ -48,10 +48,26 @@ _KNOWN = {
     **dict.fromkeys(("bisect.insort", "bisect.insort_left", "bisect.insort_right", "random.shuffle"), REWRITE),
     **dict.fromkeys(
         "copy.copy copy.deepcopy json.dumps json.dump pickle.dumps pickle.dump pprint.pprint pprint.pformat random.choice random.sample "
-        "heapq.nlargest heapq.nsmallest bisect.bisect bisect.bisect_left bisect.bisect_right statistics.mean statistics.median "
-        "math.fsum itertools.chain itertools.islice itertools.cycle collections.Counter".split(), ITERATION,
+        "random.choices heapq.nlargest heapq.nsmallest heapq.merge bisect.bisect bisect.bisect_left bisect.bisect_right statistics.mean "
+        "statistics.fmean statistics.median statistics.stdev math.fsum math.prod functools.reduce array.array collections.Counter "
+        "collections.deque collections.OrderedDict collections.defaultdict itertools.chain itertools.chain.from_iterable itertools.islice "
+        "itertools.cycle itertools.accumulate itertools.combinations itertools.compress itertools.dropwhile itertools.filterfalse "
+        "itertools.groupby itertools.pairwise itertools.permutations itertools.product itertools.starmap itertools.takewhile "
+        "itertools.zip_longest asyncio.wait asyncio.as_completed concurrent.futures.wait concurrent.futures.as_completed".split(), ITERATION,
     ),
 }
+
+CONSUMING = {
+    **dict.fromkeys(
+        "extend extendleft union intersection difference symmetric_difference issubset issuperset isdisjoint intersection_update "
+        "difference_update symmetric_difference_update fromkeys".split(), KEYS,
+    ),
+    **dict.fromkeys(
+        "join update subtract fromlist format format_map writelines writerow writerows debug info warning error exception critical log".split(),
+        ITERATION,
+    ),
+}
+"""Methods that look at the containers which they are given, whatever they are methods of."""
 
 
 def known_function(name: str | None) -> str | None:
