@@ -121,6 +121,15 @@ def has_own_method(kind: type, name: str) -> bool:
     return known[name]
 
 
+def is_watched_class(kind: type) -> bool:
+    """Whether it is a class of a module that is watched."""
+    return _vars_of(kind).get("__module__") in WATCHED
+
+
+def vars_of(kind: type) -> Any:
+    return _vars_of(kind)
+
+
 def has_watched_method(kind: type, name: str) -> bool:
     """Whether a class that is watched has such a method of its own."""
     if kind in _EXACT:

@@ -24,8 +24,8 @@ from .decisions import (
     FIELD, OF_CLASS, OF_MODULE, OF_TYPE, OWN_FIELD, PLAIN, SKIP, WATCHED, class_with, decision, family_of, fields_of,
     field_inside, has_own_method, has_watched_method, name_of, value_of_field, without_own,
 )
-from .inside import inside_of
-from .kinds import DEQUE, DICT, KEYED, LIST, WHOLE
+from .inside import fields_looked_at, inside_of, nested_in
+from .kinds import DEQUE, DICT, KEYED, LIST, SHOWN, STATE, WHOLE
 from .places import ACCESSES, SKIPPED, Access
 from .rewrite import ON, PREFIX
 from .things import (
@@ -309,6 +309,8 @@ def _touch_whole(one: Any, site: int, limit: int) -> None:
             _touch_generator(one, site)
         for inside in inside_of(one):
             _touch_whole(inside, site, ANYBODY)
+        if ACCESSES[site].name:
+            _touch_fields(one, site)
         return
     owner = OWNERS.get(id(one))
     if owner is None:
@@ -316,6 +318,26 @@ def _touch_whole(one: Any, site: int, limit: int) -> None:
             return
         owner = owner_of(one, ACCESSES[site].text)
     touched(owner.base + site, shape_of(owner), _kind_of(ACCESSES[site].kinds, family), site)
+    if ACCESSES[site].name in (SHOWN, STATE):
+        _touch_nested(one, owner, site)
+
+
+def _touch_nested(one: Any, owner: Owner, site: int) -> None:
+    """What is inside of a container is looked at, too."""
+    for part in nested_in(one):
+        family = family_of(type(part))
+        if family is None:
+            _touch_fields(part, site)
+        else:
+            inner = owner_of(part, f"{owner.name}[..]")
+            touched(inner.base + site, shape_of(inner), _kind_of(ACCESSES[site].kinds, family), site)
+
+
+def _touch_fields(one: Any, site: int) -> None:
+    """All fields of an object that a function looks at by itself."""
+    for name in fields_looked_at(one, ACCESSES[site].name):
+        owner = owner_of(one, "")
+        touched((owner.base, site, name), field_of(owner, name_of(type(one)), name), READ, site)
 
 
 def _kind_of(kind: str, family: int | None) -> str:
@@ -736,6 +758,26 @@ def hook_Y(function: Any) -> Any:
 
 
 hook_Y_local = hook_Y
+
+
+def hook_x(value: Any, one: Any, site: int) -> Any:
+    """What a method is given, which may look at all of it."""
+    if type(value) in PLAIN:
+        return value
+    try:
+        name = ACCESSES[site].name
+        if class_with(type(one), name) is None or has_watched_method(type(one), name):
+            return value
+    except Exception as fault:
+        failed(fault)
+        return value
+    return hook_h(value, site)
+
+
+def hook_X(value: Any, place: int) -> Any:
+    """The same, behind the object whose method it is."""
+    one = PENDING.pop((id(_getframe(1)), place), None)
+    return value if one is None else hook_x(value, one, place)
 
 
 # Where things are made

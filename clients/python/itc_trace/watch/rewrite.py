@@ -15,7 +15,7 @@ from typing import Any
 
 from ..conflicts import ADDITION, ITERATION, KEYS, LENGTH, REWRITE
 from . import passed_over
-from .kinds import CONSUMING, KEYED, LATE_METHODS, METHODS, known_function
+from .kinds import CONSUMING, KEYED, LATE_METHODS, METHODS, SHOWN, depth_of, known_function
 from .places import NAMES_OF_HANDED, Access, new_site
 from .scopes import CLASS, COMPREHENSION, COMPREHENSIONS, FUNCTION, MODULE, Scope, Scopes
 
@@ -28,6 +28,8 @@ READERS = {
     **dict.fromkeys("list tuple set frozenset sorted sum min max any all next iter reversed enumerate zip map filter".split(), KEYS),
 }
 """Functions of the language that look at what they are given."""
+SHOWING = frozenset(("str", "repr", "ascii", "format", "print"))
+"""Those that show what is inside, too."""
 STEPPERS = frozenset(("enumerate", "zip", "map", "filter"))
 """Those that look at it step by step."""
 OF_ATTRIBUTES = {"getattr": "r", "hasattr": "r", "setattr": "w", "delattr": "w"}
@@ -581,7 +583,7 @@ class Rewriter:
         passed_over.look_at_call(node, self._file, self._is_builtin, name)
         known = known_function(name)
         if known is not None:
-            return self._call_known(node, known)
+            return self._call_known(node, known, depth_of(name))
         if name in OPERATORS and len(node.args) > 1 and not any(isinstance(one, ast.Starred) for one in node.args[:2]):
             node.args = self._given_first(node, OPERATORS[name])
             return node
@@ -612,11 +614,11 @@ class Rewriter:
             is_handed = isinstance(node, ast.Attribute) and node.attr in METHODS
         return self._operand(node, "Y") if is_handed else self._child(node)
 
-    def _call_known(self, node: ast.Call, kinds: str) -> ast.expr:
+    def _call_known(self, node: ast.Call, kinds: str, depth: str) -> ast.expr:
         """A function of the library that looks at its first argument, or changes it."""
         for place, one in enumerate(node.args):
             if place == 0 and not isinstance(one, ast.Starred):
-                node.args[0] = self._operand(one, "h", self._site(node, "whole", kinds, "", self._text(one)))
+                node.args[0] = self._operand(one, "h", self._site(node, "whole", kinds, depth, self._text(one)))
             else:
                 node.args[place] = self._child(one) if kinds == REWRITE else self._whole(one, kinds)
         for keyword in node.keywords:
@@ -650,7 +652,7 @@ class Rewriter:
         if isinstance(node, ast.Starred) or is_new or not isinstance(node, (*REACHED, ast.Call)):
             return self._child(node)  # type: ignore[no-any-return]
         hook = "f" if name in STEPPERS else "h"
-        return self._operand(node, hook, self._site(node, "whole", READERS[name], "", self._text(node)))
+        return self._operand(node, hook, self._site(node, "whole", READERS[name], SHOWN if name in SHOWING else "", self._text(node)))
 
     def _call_method(self, node: ast.Call, func: ast.Attribute) -> ast.expr:
         name, owner = func.attr, func.value
@@ -662,15 +664,18 @@ class Rewriter:
         elif name in OF_OBJECT and len(node.args) > 1 and isinstance(owner, ast.Name) and owner.id == "object" and self._is_builtin("object"):
             self._attribute_by_name(node, OF_OBJECT[name])
         elif name not in METHODS or self._is_foreign(owner):
+            given = node.args
             node.func = self._called(func)
-            node.args = [self._argument(one, name) for one in node.args]
+            node.args = [self._argument(one, func, owner) for one in given]
+            self._keep_owner(func, node)
         elif name in KEYED and node.args and not isinstance(node.args[0], ast.Starred):
             self._call_keyed(node, func, self._site(node, "method", "", name, self._text(owner)))
         elif is_late and name in LATE_METHODS and not isinstance(node.args[-1], ast.Starred):
             self._call_late(node, func, self._site(node, "method", "", name, self._text(owner)))
         else:
             func.value = self._operand(owner, "m", self._site(node, "method", "", name, self._text(owner)))
-            node.args = [self._argument(one, name) for one in node.args]
+            node.args = [self._argument(one, func, owner) for one in node.args]
+            self._keep_owner(func, node)
         for keyword in node.keywords:
             self._keyword(keyword)
         return node
@@ -680,7 +685,7 @@ class Rewriter:
         site = self._site(node, "base", "", func.attr, self._scope.class_name or "")
         me = ast.copy_location(ast.Name(self._scope.first, ast.Load()), node)
         given: list[Any] = node.args
-        node.args = [self._argument(one, func.attr) for one in given]
+        node.args = [self._child(one) for one in given]
         if func.attr in KEYED and given and not isinstance(given[0], ast.Starred):
             node.args[0] = self._hook("K", given[0], me, node.args[0], site)
         elif given and not isinstance(given[-1], ast.Starred):
@@ -698,7 +703,7 @@ class Rewriter:
         site = self._site(node, "base", "", name, self._text(owner))
         given: list[Any] = node.args
         is_keyed = name in KEYED and len(given) > 1 and not isinstance(given[1], ast.Starred)
-        rest = [self._argument(one, name) for one in given[2 if is_keyed else 1:]]
+        rest = [self._child(one) for one in given[2 if is_keyed else 1:]]
         if is_keyed and isinstance(owner, ast.Name):
             return [self._child(owner), self._key_of(owner, given[1], site), *rest]
         if is_keyed:
@@ -711,16 +716,29 @@ class Rewriter:
             return node.id in MAKERS
         return self._import_of(node) in CONTAINER_CLASSES
 
-    def _argument(self, node: Any, method: str) -> Any:
-        """What a method is given. Some look at all of it."""
-        kinds = CONSUMING.get(method)
-        return self._child(node) if kinds is None else self._whole(node, kinds)
+    def _argument(self, node: Any, func: ast.Attribute, owner: Any) -> Any:
+        """What a method is given. Some look at all of it, and a class of the program may have a method of such a name."""
+        kinds = CONSUMING.get(func.attr)
+        if kinds is None or not isinstance(node, REACHED) or self._is_foreign(node) or self._import_of(owner) is not None:
+            return self._child(node)
+        if isinstance(owner, (ast.Constant, ast.JoinedStr)) or isinstance(owner, ast.Name) and self._is_builtin(owner.id):
+            return self._whole(node, kinds)
+        site = self._site(node, "given", kinds, func.attr, self._text(node))
+        if isinstance(owner, ast.Name):
+            return self._hook("x", node, self._child(node), owner.twin, site)  # type: ignore[attr-defined]
+        return self._hook("X", node, self._child(node), site)
 
-    def _whole(self, node: Any, kinds: str) -> Any:
+    def _keep_owner(self, func: ast.Attribute, node: ast.Call) -> None:
+        """Has the object kept whose method is called, until what it is given is there."""
+        for one in node.args:
+            if isinstance(one, ast.Call) and isinstance(one.func, ast.Name) and one.func.id == f"{PREFIX}X":
+                func.value = self._hook("p", func.value, func.value, one.args[1], 0)
+
+    def _whole(self, node: Any, kinds: str, depth: str = "") -> Any:
         """An expression, all of which is looked at if it is a container."""
         if not isinstance(node, REACHED) or self._is_foreign(node):
             return self._child(node)
-        return self._operand(node, "h", self._site(node, "whole", kinds, "", self._text(node)))
+        return self._operand(node, "h", self._site(node, "whole", kinds, depth, self._text(node)))
 
     def _visit_BinOp(self, node: ast.BinOp) -> ast.expr:
         sides: list[Any] = [node.left, node.right]
@@ -735,9 +753,9 @@ class Rewriter:
     def _formatted(self, node: Any) -> Any:
         """What `%` puts into a text."""
         if isinstance(node, ast.Tuple):
-            node.elts = [self._whole(one, ITERATION) for one in node.elts]
+            node.elts = [self._whole(one, ITERATION, SHOWN) for one in node.elts]
             return node
-        return self._whole(node, ITERATION)
+        return self._whole(node, ITERATION, SHOWN)
 
     def _joined(self, node: Any, operator: ast.operator) -> Any:
         """One side of an operator. Numbers are often subtracted, and a variable of one function is seldom a set that others share."""
@@ -813,7 +831,7 @@ class Rewriter:
         made = []
         for side in sides:
             is_looked_at = not is_plain and (has_new or isinstance(side, ast.Attribute) or not self._is_local(side))
-            made.append(self._whole(side, ITERATION) if is_looked_at else self._child(side))
+            made.append(self._whole(side, ITERATION, SHOWN) if is_looked_at else self._child(side))
         node.left, node.comparators = made[0], made[1:]
         return node
 
@@ -844,7 +862,7 @@ class Rewriter:
 
     def _visit_FormattedValue(self, node: ast.FormattedValue) -> ast.expr:
         if isinstance(node.value, (ast.Attribute, ast.Name)):
-            node.value = self._operand(node.value, "h", self._site(node.value, "whole", ITERATION, "", self._text(node.value)))
+            node.value = self._operand(node.value, "h", self._site(node.value, "whole", ITERATION, SHOWN, self._text(node.value)))
         else:
             node.value = self._child(node.value)
         return node  # What it is formatted by is left as it is.
