@@ -1,0 +1,281 @@
+import itctrace.Traced;
+import itctrace.TracedFuture;
+import itctrace.TracedThread;
+import java.nio.file.Files;
+import java.nio.file.Path;
+import java.util.concurrent.BlockingQueue;
+import java.util.concurrent.CompletableFuture;
+import java.util.concurrent.ExecutorService;
+import java.util.concurrent.Executors;
+import java.util.concurrent.Future;
+import java.util.concurrent.LinkedBlockingQueue;
+import java.util.concurrent.TimeUnit;
+import java.util.concurrent.locks.Condition;
+import java.util.concurrent.locks.Lock;
+import java.util.concurrent.locks.ReentrantLock;
+
+/**
+ * Small programs, each for one order that is reported by itself. A line that races says so in a comment, with the name of its program:
+ * clients/wrappers.py looks whether these lines are listed, and no others.
+ *
+ * <p>Usage: java Wrappers NAME [FILE]
+ */
+public final class Wrappers {
+    private static final int MANY = 100_000;
+    private static int stock = 2;
+
+    private static void readStock() {
+        Traced.touch("stock", false); // race: after_hand_off before_future before_end two_jobs callback_too_early
+    }
+
+    private static void writeStock() {
+        Traced.touch("stock", true); // race: after_hand_off before_future before_end two_jobs callback_too_early
+    }
+
+    private static void sell() {
+        Traced.touch("stock", false); // race: lost_update plain_threads
+        int left = stock;
+        Traced.touch("stock", true); // race: lost_update plain_threads
+        stock = left - 1;
+    }
+
+    private static void inTwoThreads(Runnable body) throws InterruptedException {
+        TracedThread first = Traced.start("alice", body);
+        TracedThread second = Traced.start("bob", body);
+        first.join();
+        second.join();
+        Traced.touch("stock", true);
+    }
+
+    private static void lostUpdate() throws InterruptedException {
+        inTwoThreads(Wrappers::sell);
+    }
+
+    private static void plainThreads() throws InterruptedException {
+        Thread first = new Thread(Wrappers::sell);
+        Thread second = new Thread(Wrappers::sell);
+        first.start();
+        second.start();
+        first.join();
+        second.join();
+    }
+
+    private static void locked() throws InterruptedException {
+        Lock lock = Traced.lock(new ReentrantLock());
+        inTwoThreads(
+                () -> {
+                    lock.lock();
+                    try {
+                        lock.lock();
+                        sell();
+                        lock.unlock();
+                        sell();
+                    } finally {
+                        lock.unlock();
+                    }
+                });
+    }
+
+    /** One thread is done with the stock before it acquires the lock, and the other one had it before. */
+    private static void luckyLock() throws InterruptedException {
+        Lock lock = Traced.lock(new ReentrantLock());
+        TracedThread first =
+                Traced.start(
+                        "alice",
+                        () -> {
+                            Traced.touch("stock", true); // possible: lucky_lock
+                            lock.lock();
+                            lock.unlock();
+                        });
+        first.thread().join();
+        lock.lock();
+        lock.unlock();
+        Traced.touch("stock", true); // possible: lucky_lock
+    }
+
+    private static void condition() throws InterruptedException {
+        Lock lock = Traced.lock(new ReentrantLock());
+        Condition isReady = lock.newCondition();
+        boolean[] ready = {false};
+        TracedThread waiting =
+                Traced.start(
+                        "waiting",
+                        () -> {
+                            lock.lock();
+                            while (!ready[0]) {
+                                isReady.awaitUninterruptibly();
+                            }
+                            lock.unlock();
+                            readStock();
+                        });
+        writeStock();
+        lock.lock();
+        ready[0] = true;
+        isReady.signalAll();
+        lock.unlock();
+        waiting.join();
+    }
+
+    private static void handOff(boolean isTouchedAfter) throws InterruptedException {
+        BlockingQueue<String> queue = Traced.queue(new LinkedBlockingQueue<>());
+        TracedThread taker =
+                Traced.start(
+                        "taker",
+                        () -> {
+                            try {
+                                queue.take();
+                                readStock();
+                            } catch (InterruptedException interrupted) {
+                                throw new IllegalStateException(interrupted);
+                            }
+                        });
+        if (!isTouchedAfter) {
+            writeStock();
+        }
+        queue.put("item");
+        if (isTouchedAfter) {
+            writeStock();
+        }
+        taker.join();
+    }
+
+    private static void executor(boolean isTouchedBefore) throws Exception {
+        ExecutorService executor = Traced.executor(Executors.newFixedThreadPool(2));
+        Future<Integer> future =
+                executor.submit(
+                        () -> {
+                            writeStock();
+                            return 1;
+                        });
+        if (isTouchedBefore) {
+            readStock();
+        }
+        future.get();
+        readStock();
+        executor.execute(Wrappers::writeStock);
+        executor.shutdown();
+        executor.awaitTermination(1, TimeUnit.MINUTES);
+        readStock();
+    }
+
+    /** Two jobs of one pool race, though one thread may have run both. */
+    private static void twoJobs() throws Exception {
+        ExecutorService executor = Traced.executor(Executors.newFixedThreadPool(2));
+        Future<?> first = executor.submit(Wrappers::writeStock);
+        Future<?> second = executor.submit(Wrappers::readStock);
+        first.get();
+        second.get();
+        executor.shutdown();
+    }
+
+    private static void future() {
+        CompletableFuture<Integer> written =
+                TracedFuture.supplyAsync(
+                        () -> {
+                            writeStock();
+                            return 1;
+                        });
+        CompletableFuture<Integer> doubled =
+                written.thenApply(
+                        value -> {
+                            writeStock();
+                            return 2 * value;
+                        });
+        CompletableFuture<Integer> composed = doubled.thenCompose(value -> TracedFuture.supplyAsync(() -> readAnd(value)));
+        CompletableFuture<Integer> combined = composed.thenCombine(doubled, Integer::sum);
+        TracedFuture.allOf(combined, doubled).join();
+        writeStock();
+        CompletableFuture<String> byHand = new TracedFuture<>();
+        Traced.start(
+                "completing",
+                () -> {
+                    writeStock();
+                    byHand.complete("done");
+                });
+        byHand.join();
+        readStock();
+    }
+
+    private static int readAnd(int value) {
+        readStock();
+        return value;
+    }
+
+    /** The function comes after the completion of its future, and not after what its caller does next. */
+    private static void callbackTooEarly() {
+        CompletableFuture<Integer> written = TracedFuture.supplyAsync(() -> 1);
+        CompletableFuture<Void> told = written.thenAccept(value -> readStock());
+        writeStock();
+        told.join();
+    }
+
+    private static void beforeEnd() throws InterruptedException {
+        TracedThread thread = Traced.start("writer", Wrappers::writeStock);
+        readStock();
+        thread.join();
+    }
+
+    private static void many() throws InterruptedException {
+        inTwoThreads(
+                () -> {
+                    for (int turn = 0; turn < MANY; turn++) {
+                        Traced.touch("own " + Thread.currentThread().getName(), true);
+                    }
+                });
+    }
+
+    private static void filling() throws InterruptedException {
+        BlockingQueue<Integer> queue = Traced.queue(new LinkedBlockingQueue<>());
+        for (int turn = 0; turn < MANY; turn++) {
+            queue.put(turn);
+            Traced.touch("stock", true);
+            queue.take();
+        }
+    }
+
+    private static void across() {
+        Traced.touchAcross("row", false); // race: across
+        Traced.touchAcross("row", true); // race: across
+        Traced.touch("own \"row\"", true);
+    }
+
+    private static void receiver(Path file) throws Exception {
+        while (!Files.exists(file)) {
+            Thread.sleep(10);
+        }
+        Traced.incoming(Files.readString(file).strip());
+        Traced.touchAcross("row", true);
+    }
+
+    private static void sender(Path file) throws Exception {
+        Traced.touchAcross("row", true);
+        Path written = Path.of(file + ".new");
+        Files.writeString(written, Traced.outgoing().orElseThrow());
+        Files.move(written, file);
+    }
+
+    public static void main(String[] words) throws Exception {
+        switch (words[0]) {
+            case "lost_update" -> lostUpdate();
+            case "plain_threads" -> plainThreads();
+            case "locked" -> locked();
+            case "lucky_lock" -> luckyLock();
+            case "condition" -> condition();
+            case "hand_off" -> handOff(false);
+            case "after_hand_off" -> handOff(true);
+            case "executor" -> executor(false);
+            case "before_future" -> executor(true);
+            case "two_jobs" -> twoJobs();
+            case "future" -> future();
+            case "callback_too_early" -> callbackTooEarly();
+            case "before_end" -> beforeEnd();
+            case "many" -> many();
+            case "filling" -> filling();
+            case "across" -> across();
+            case "receiver" -> receiver(Path.of(words[1]));
+            case "sender" -> sender(Path.of(words[1]));
+            default -> throw new IllegalArgumentException(words[0]);
+        }
+        System.out.println("done");
+    }
+}

@@ -1,0 +1,184 @@
+package itctrace;
+
+import itctrace.Row.Site;
+import itctrace.Task.Token;
+import itctrace.Task.What;
+import java.util.ArrayList;
+import java.util.Date;
+import java.util.List;
+import java.util.concurrent.TimeUnit;
+import java.util.concurrent.locks.Condition;
+import java.util.concurrent.locks.Lock;
+import java.util.concurrent.locks.ReentrantReadWriteLock;
+
+/**
+ * A lock whose releases come before the next time that it is acquired. All fields but the first are read and written with the lock
+ * held.
+ */
+final class TracedLock implements Lock {
+    private final Lock lock;
+    private final Site made = Traced.site();
+    private String name;
+    private Token released;
+    private int depth;
+
+    /** Whether others wait for more than the lock, as for a condition. Then its hand-over is meant, and no luck. */
+    private volatile boolean isSignal;
+
+    TracedLock(Lock lock) {
+        if (lock instanceof ReentrantReadWriteLock.ReadLock) {
+            throw new IllegalArgumentException("several threads may hold the lock at once");
+        }
+        this.lock = lock;
+    }
+
+    @Override
+    public void lock() {
+        lock.lock();
+        acquired(Traced.site());
+    }
+
+    @Override
+    public void lockInterruptibly() throws InterruptedException {
+        lock.lockInterruptibly();
+        acquired(Traced.site());
+    }
+
+    @Override
+    public boolean tryLock() {
+        return acquiredIf(lock.tryLock());
+    }
+
+    @Override
+    public boolean tryLock(long time, TimeUnit unit) throws InterruptedException {
+        return acquiredIf(lock.tryLock(time, unit));
+    }
+
+    @Override
+    public void unlock() {
+        releasing(Traced.site());
+        lock.unlock();
+    }
+
+    private boolean acquiredIf(boolean isAcquired) {
+        if (isAcquired) {
+            acquired(Traced.site());
+        }
+        return isAcquired;
+    }
+
+    private void acquired(Site site) {
+        if (depth++ == 0 && Traced.isOn()) {
+            Traced.take(released, site);
+            Task task = Traced.current();
+            List<String> held = new ArrayList<>(task.held);
+            held.add(name());
+            task.held = List.copyOf(held);
+        }
+    }
+
+    private void releasing(Site site) {
+        if (depth == 0) {
+            return; // The lock itself says what is wrong.
+        }
+        if (--depth == 0 && Traced.isOn()) {
+            Task task = Traced.current();
+            List<String> held = new ArrayList<>(task.held);
+            isSignal |= held.indexOf(name()) < held.size() - 1; // One that was acquired later stays, as in a lock made of two.
+            released = Traced.mark(release(), site);
+            held.remove(name());
+            task.held = List.copyOf(held);
+        }
+    }
+
+    private What release() {
+        String told = "lock (" + made + ")";
+        return new What("lock" + made.line(), "release " + told, "acquire " + told, isSignal ? null : name(), true);
+    }
+
+    private String name() {
+        if (name == null) {
+            name = Traced.lockName(made);
+        }
+        return name;
+    }
+
+    @Override
+    public Condition newCondition() {
+        isSignal = true;
+        return new TracedCondition(lock.newCondition());
+    }
+
+    /** A condition. Whoever waits releases the lock, and acquires it from the one who has signalled or from a later one. */
+    private final class TracedCondition implements Condition {
+        private final Condition condition;
+
+        TracedCondition(Condition condition) {
+            this.condition = condition;
+        }
+
+        private interface Waiting<T> {
+            T await() throws InterruptedException;
+        }
+
+        private <T> T waiting(Waiting<T> waiting) throws InterruptedException {
+            Site site = Traced.site();
+            int depthBefore = depth;
+            depth = 1;
+            releasing(site);
+            try {
+                return waiting.await();
+            } finally {
+                acquired(site);
+                depth = depthBefore;
+            }
+        }
+
+        @Override
+        public void await() throws InterruptedException {
+            waiting(
+                    () -> {
+                        condition.await();
+                        return null;
+                    });
+        }
+
+        @Override
+        public void awaitUninterruptibly() {
+            try {
+                waiting(
+                        () -> {
+                            condition.awaitUninterruptibly();
+                            return null;
+                        });
+            } catch (InterruptedException interrupted) {
+                throw new AssertionError("it is not interrupted", interrupted);
+            }
+        }
+
+        @Override
+        public long awaitNanos(long nanoseconds) throws InterruptedException {
+            return waiting(() -> condition.awaitNanos(nanoseconds));
+        }
+
+        @Override
+        public boolean await(long time, TimeUnit unit) throws InterruptedException {
+            return waiting(() -> condition.await(time, unit));
+        }
+
+        @Override
+        public boolean awaitUntil(Date deadline) throws InterruptedException {
+            return waiting(() -> condition.awaitUntil(deadline));
+        }
+
+        @Override
+        public void signal() {
+            condition.signal();
+        }
+
+        @Override
+        public void signalAll() {
+            condition.signalAll();
+        }
+    }
+}
