@@ -13,7 +13,7 @@ import java.util.concurrent.TimeUnit;
 
 /** A blocking queue whose elements carry the place where they were put. Whoever takes one comes after that place. */
 public final class TracedQueue<E> extends AbstractQueue<E> implements BlockingQueue<E> {
-    private static final What ITEM = What.forOne("item", "put item", "take item");
+    private static final What ITEM = What.forAll("item", "put item", "take item");
 
     /** An element, and where it was put. It compares as the element does. */
     public static final class Carried<E> implements Comparable<Carried<E>> {
