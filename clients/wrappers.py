@@ -11,9 +11,11 @@ from __future__ import annotations
 import json
 import os
 import re
+import socket
 import subprocess
 import sys
 import tempfile
+import threading
 import time
 from concurrent.futures import ThreadPoolExecutor
 from pathlib import Path
@@ -139,12 +141,36 @@ def check_without_collector(programs: Programs) -> None:
             raise Wrong(f"with port '{port}' the program writes {ran.stdout}{ran.stderr}")
 
 
+def check_gone_collector(programs: Programs) -> None:
+    """The program goes on if the collector ends the session in the middle, and the journal says so."""
+    with socket.create_server(("127.0.0.1", 0)) as door, tempfile.TemporaryDirectory() as folder:
+        threading.Thread(target=begin_and_leave, args=(door,), daemon=True).start()
+        journal = Path(folder) / "journal"
+        environment = {**os.environ, "ITC_TRACE_PORT": str(door.getsockname()[1]), "ITC_TRACE_JOURNAL": str(journal)}
+        ran = subprocess.run(programs.words("many"), env=environment, capture_output=True, text=True, timeout=MOST_SECONDS)
+        if (ran.returncode, ran.stdout, ran.stderr) != (0, "done\n", "itc_trace: tracing stops: the collector is gone\n"):
+            raise Wrong(f"status {ran.returncode} without a collector\n{ran.stdout}{ran.stderr}")
+        last = journal.read_text().splitlines()[-1]
+        if json.loads(last) != {"unseen": "collector", "text": "the collector is gone"}:
+            raise Wrong(f"the journal ends with {last}")
+
+
+def begin_and_leave(door: socket.socket) -> None:
+    """Answers the beginning of a session and the spawn of the process, and then no more."""
+    connection, _ = door.accept()
+    with connection, connection.makefile("r", newline="\n") as lines:
+        for reply in (b"", b"200 0 1 0\n", b"201 1\n", b"201 2\n"):
+            lines.readline()
+            connection.sendall(reply)
+
+
 def main() -> int:
     checks = []
     for language in sys.argv[2:]:
         programs = Programs(language, Path(sys.argv[1]))
         checks += [(f"{language}: {name}", check_order, (programs, name, status)) for name, status in {**COMMON, **OWN[language]}.items()]
-        checks += [(f"{language}: across", check_across, (programs,)), (f"{language}: no collector", check_without_collector, (programs,))]
+        checks += [(f"{language}: across", check_across, (programs,)), (f"{language}: no collector", check_without_collector, (programs,)),
+                   (f"{language}: gone collector", check_gone_collector, (programs,))]
     failed = 0
     with ThreadPoolExecutor(AT_ONCE) as pool:
         for (name, _, _), done in [(one, pool.submit(one[1], *one[2])) for one in checks]:
