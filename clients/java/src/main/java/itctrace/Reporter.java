@@ -95,7 +95,7 @@ public final class Reporter implements AutoCloseable {
     }
 
     private int at(String request, String task, String kind, String thing, String label) throws IOException {
-        Row.Site site = Row.Site.ofCaller();
+        Row.Site site = Row.Site.ofCaller().withoutFunction();
         int event = Integer.parseInt(session.request(request).get(0));
         write(event, new Row(task, thing, kind, site, label, List.of(), null));
         return event;

@@ -20,6 +20,11 @@ record Row(String task, String thing, String kind, Site site, String label, List
                     .orElse(NONE);
         }
 
+        /** The line alone. */
+        Site withoutFunction() {
+            return new Site(file, line, "");
+        }
+
         @Override
         public String toString() {
             return file + ":" + line;
@@ -35,7 +40,7 @@ record Row(String task, String thing, String kind, Site site, String label, List
         StringBuilder text = new StringBuilder("{\"event\":").append(event).append(",\"task\":").append(quoted(task));
         text.append(",\"thing\":").append(quoted(thing)).append(",\"kind\":").append(quoted(kind));
         text.append(",\"file\":").append(quoted(site.file)).append(",\"line\":").append(site.line).append(",\"label\":").append(quoted(label));
-        if (thing != null) {
+        if (thing != null && !site.function.isEmpty()) {
             text.append(",\"function\":").append(quoted(site.function));
         }
         if (!held.isEmpty()) {
