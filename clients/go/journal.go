@@ -4,6 +4,7 @@ import (
 	"encoding/json"
 	"runtime"
 	"strings"
+	"sync"
 )
 
 // endRow is the last line of a journal whose process reported all that it noted.
@@ -45,15 +46,21 @@ func unseenRow(cause, reason string) string {
 	return string(text) + "\n"
 }
 
+// sites has the line of each place in the program that was asked for. Two counters tell a place also where calls are inlined.
+var sites sync.Map
+
 // siteAbove is the line so many calls above the one that calls this.
 func siteAbove(calls int) site {
-	counter, file, line, isKnown := runtime.Caller(calls + 1)
-	if !isKnown {
+	var counters [2]uintptr
+	count := runtime.Callers(calls+2, counters[:])
+	if known, isKnown := sites.Load(counters); isKnown {
+		return known.(site)
+	}
+	if count == 0 {
 		return site{}
 	}
-	function := ""
-	if called := runtime.FuncForPC(counter); called != nil {
-		function = called.Name()[strings.LastIndex(called.Name(), "/")+1:]
-	}
-	return site{&file, line, function}
+	frame, _ := runtime.CallersFrames(counters[:count]).Next()
+	found := site{&frame.File, frame.Line, frame.Function[strings.LastIndex(frame.Function, "/")+1:]}
+	sites.Store(counters, found)
+	return found
 }

@@ -10,8 +10,7 @@ import (
 type hand struct {
 	mutex     sync.Mutex
 	name      string
-	told      string
-	line      int
+	release   what
 	holder    *task
 	byWriter  *token
 	byReaders []*token
@@ -28,16 +27,17 @@ func (h *hand) acquired(isWriter bool, at site) {
 	defer h.mutex.Unlock()
 	by := own()
 	if h.name == "" {
-		h.told, h.line = "lock", at.Line
+		told := "lock"
 		if at.File != nil {
-			h.told = fmt.Sprintf("lock (%s:%d)", filepath.Base(*at.File), at.Line)
+			told = fmt.Sprintf("lock (%s:%d)", filepath.Base(*at.File), at.Line)
 		}
-		h.name = tracing.lockName(h.told)
+		h.name = tracing.lockName(told)
+		h.release = what{hint: fmt.Sprintf("lock%d", at.Line), giving: "release " + told, taking: "acquire " + told, lock: h.name}
 	}
-	take(h.byWriter, at)
+	takeBy(by, h.byWriter, at)
 	if isWriter {
 		for _, one := range h.byReaders {
-			take(one, at)
+			takeBy(by, one, at)
 		}
 		h.byReaders, h.holder = nil, by
 	}
@@ -57,11 +57,12 @@ func (h *hand) releasing(isWriter bool, at site) {
 	} else if tracing.letGo(by, h.name) {
 		h.isSignal = true // One that was acquired later stays, as in a lock made of two.
 	}
-	called := what{fmt.Sprintf("lock%d", h.line), "release " + h.told, "acquire " + h.told, h.name, !isWriter || !h.isShared}
+	called := h.release
+	called.isForOne = !isWriter || !h.isShared
 	if h.isSignal {
 		called.lock = ""
 	}
-	made := mark(called, at)
+	made := tracing.mark(by, called, at)
 	if isWriter {
 		h.byWriter, h.holder = made, nil
 	} else {

@@ -183,7 +183,14 @@ func mark(called what, at site) *token {
 
 func take(taken *token, at site) {
 	if taken != nil && isOn() {
-		tracing.take(own(), taken, at)
+		takeBy(own(), taken, at)
+	}
+}
+
+// takeBy does so for this goroutine, if its task is known.
+func takeBy(by *task, taken *token, at site) {
+	if taken != nil {
+		tracing.take(by, taken, at)
 	}
 }
 

@@ -59,8 +59,17 @@ type message struct {
 type touches struct {
 	event    int
 	isClosed bool
-	seen     map[string]bool
+	seen     map[touch]bool
 	fresh    []row
+}
+
+// touch is what tells one touch of a task from the others.
+type touch struct {
+	thing            string
+	writes, isAcross bool
+	file             *string
+	line             int
+	held             string
 }
 
 // report is on its way.
@@ -171,7 +180,7 @@ func (t *tracer) touch(of *task, thing string, writes, isAcross bool, at site) {
 	defer t.mutex.Unlock()
 	t.leave(of)
 	if of.touches == nil {
-		begun := &touches{seen: map[string]bool{}}
+		begun := &touches{seen: map[touch]bool{}}
 		t.report(of, report{request: "local " + of.name, touches: begun})
 		of.touches = begun
 		t.growing = append(t.growing, begun)
@@ -180,14 +189,16 @@ func (t *tracer) touch(of *task, thing string, writes, isAcross bool, at site) {
 	if writes {
 		kind = "write"
 	}
+	key := touch{thing, writes, isAcross, at.File, at.Line, strings.Join(of.held, "\n")}
+	if of.touches.seen[key] {
+		return
+	}
+	of.touches.seen[key] = true
 	if !isAcross {
 		named = thing + " of " + t.main.name
 	}
 	told := row{Task: of.name, Thing: &named, Kind: kind, site: at, Label: kind + " " + thing, Held: of.held}
-	if key := told.text(); !of.touches.seen[key] {
-		of.touches.seen[key] = true
-		of.touches.fresh = append(of.touches.fresh, told)
-	}
+	of.touches.fresh = append(of.touches.fresh, told)
 }
 
 // mark makes a place in the task that somebody may come after.

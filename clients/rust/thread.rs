@@ -23,14 +23,9 @@ impl<T> JoinHandle<T> {
         value
     }
 
-    /// Whether it has ended. Whoever sees that comes after its end.
-    #[track_caller]
+    /// Whether it has ended. To see that is no order, other than to join.
     pub fn is_finished(&self) -> bool {
-        let is_finished = self.handle.is_finished();
-        if is_finished {
-            traced::join(self.task, Some(Location::caller()));
-        }
-        is_finished
+        self.handle.is_finished()
     }
 
     pub fn thread(&self) -> &Thread {

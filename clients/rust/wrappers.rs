@@ -8,10 +8,11 @@ use itc_trace::sync::{Condvar, Mutex, RwLock};
 use itc_trace::{incoming, outgoing, thread, touch, touch_across};
 use std::path::Path;
 use std::sync::Arc;
-use std::time::Duration;
+use std::time::{Duration, Instant};
 use std::{fs, thread as plain};
 
 const MANY: usize = 100_000;
+const FEW: usize = 3_000;
 
 fn read_stock() {
     touch("stock", false); // race: after_hand_off before_end
@@ -160,6 +161,29 @@ fn filling() {
     }
 }
 
+fn lock_turns() {
+    let (lock, began) = (Mutex::new(()), Instant::now());
+    for _ in 0..MANY {
+        let _held = lock.lock().unwrap();
+        touch("stock", true);
+    }
+    tell_turns(MANY, began);
+}
+
+fn channel_turns() {
+    let (sender, receiver) = channel();
+    let taker = thread::spawn(move || receiver.iter().for_each(|_: usize| touch("stock", true)));
+    let began = Instant::now();
+    (0..FEW).for_each(|turn| sender.send(turn).unwrap());
+    drop(sender);
+    taker.join().unwrap();
+    tell_turns(FEW, began);
+}
+
+fn tell_turns(turns: usize, began: Instant) {
+    println!("nanoseconds a turn: {}", began.elapsed().as_nanos() / turns as u128);
+}
+
 fn across() {
     touch_across("row", false); // race: across
     touch_across("row", true); // race: across
@@ -200,6 +224,8 @@ fn main() {
         "read_lock_race" => read_lock(true),
         "many" => many(),
         "filling" => filling(),
+        "lock_turns" => lock_turns(),
+        "channel_turns" => channel_turns(),
         "across" => across(),
         "receiver" => receiver(file()),
         "sender" => sender(file()),

@@ -16,7 +16,10 @@ import (
 	"hometturi.example/itctrace"
 )
 
-const many = 100_000
+const (
+	many = 100_000
+	few  = 3_000
+)
 
 func readStock() {
 	itctrace.Touch("stock", false) // race: after_hand_off before_end http_race
@@ -242,6 +245,37 @@ func filling() {
 	}
 }
 
+func lockTurns() {
+	var lock itctrace.Mutex
+	began := time.Now()
+	for turn := 0; turn < many; turn++ {
+		lock.Lock()
+		itctrace.Touch("stock", true)
+		lock.Unlock()
+	}
+	tellTurns(many, began)
+}
+
+func channelTurns() {
+	channel := itctrace.MakeChan[int](few)
+	taker := start(func() {
+		for turn := 0; turn < few; turn++ {
+			channel.Receive()
+			itctrace.Touch("stock", true)
+		}
+	})
+	began := time.Now()
+	for turn := 0; turn < few; turn++ {
+		channel.Send(turn)
+	}
+	taker.Wait()
+	tellTurns(few, began)
+}
+
+func tellTurns(turns int, began time.Time) {
+	fmt.Println("nanoseconds a turn:", time.Since(began).Nanoseconds()/int64(turns))
+}
+
 func across() {
 	itctrace.TouchAcross("row", false) // race: across
 	itctrace.TouchAcross("row", true)  // race: across
@@ -291,6 +325,8 @@ func main() {
 		"before_end":     beforeEnd,
 		"many":           touchMany,
 		"filling":        filling,
+		"lock_turns":     lockTurns,
+		"channel_turns":  channelTurns,
 		"across":         across,
 		"receiver":       func() { receiver(os.Args[2]) },
 		"sender":         func() { sender(os.Args[2]) },

@@ -4,7 +4,9 @@ import itctrace.TracedThread;
 import java.nio.file.Files;
 import java.nio.file.Path;
 import java.util.concurrent.BlockingQueue;
+import java.util.concurrent.CancellationException;
 import java.util.concurrent.CompletableFuture;
+import java.util.concurrent.CountDownLatch;
 import java.util.concurrent.ExecutorService;
 import java.util.concurrent.Executors;
 import java.util.concurrent.Future;
@@ -22,14 +24,15 @@ import java.util.concurrent.locks.ReentrantLock;
  */
 public final class Wrappers {
     private static final int MANY = 100_000;
+    private static final int FEW = 3_000;
     private static int stock = 2;
 
     private static void readStock() {
-        Traced.touch("stock", false); // race: after_hand_off before_future before_end two_jobs callback_too_early
+        Traced.touch("stock", false); // race: after_hand_off before_future before_end two_jobs callback_too_early cancelled_job
     }
 
     private static void writeStock() {
-        Traced.touch("stock", true); // race: after_hand_off before_future before_end two_jobs callback_too_early
+        Traced.touch("stock", true); // race: after_hand_off before_future before_end two_jobs callback_too_early cancelled_job
     }
 
     private static void sell() {
@@ -168,6 +171,33 @@ public final class Wrappers {
         executor.shutdown();
     }
 
+    /** Whoever takes the result of a cancelled job does not wait for the job. */
+    private static void cancelledJob() throws Exception {
+        ExecutorService executor = Traced.executor(Executors.newFixedThreadPool(1));
+        CountDownLatch begun = new CountDownLatch(1);
+        CountDownLatch done = new CountDownLatch(1);
+        Future<?> future =
+                executor.submit(
+                        () -> {
+                            begun.countDown();
+                            while (!Thread.interrupted()) {
+                                Thread.onSpinWait();
+                            }
+                            writeStock();
+                            done.countDown();
+                        });
+        begun.await();
+        future.cancel(true);
+        done.await();
+        Thread.sleep(200); // The job is over, and its task has ended.
+        try {
+            future.get();
+        } catch (CancellationException cancelled) {
+            readStock();
+        }
+        executor.shutdown();
+    }
+
     private static void future() {
         CompletableFuture<Integer> written =
                 TracedFuture.supplyAsync(
@@ -233,6 +263,44 @@ public final class Wrappers {
         }
     }
 
+    private static void lockTurns() {
+        Lock lock = Traced.lock(new ReentrantLock());
+        long began = System.nanoTime();
+        for (int turn = 0; turn < MANY; turn++) {
+            lock.lock();
+            Traced.touch("stock", true);
+            lock.unlock();
+        }
+        tellTurns(MANY, began);
+    }
+
+    private static void channelTurns() throws InterruptedException {
+        BlockingQueue<Integer> queue = Traced.queue(new LinkedBlockingQueue<>());
+        TracedThread taker =
+                Traced.start(
+                        "taker",
+                        () -> {
+                            try {
+                                for (int turn = 0; turn < FEW; turn++) {
+                                    queue.take();
+                                    Traced.touch("stock", true);
+                                }
+                            } catch (InterruptedException interrupted) {
+                                throw new IllegalStateException(interrupted);
+                            }
+                        });
+        long began = System.nanoTime();
+        for (int turn = 0; turn < FEW; turn++) {
+            queue.put(turn);
+        }
+        taker.join();
+        tellTurns(FEW, began);
+    }
+
+    private static void tellTurns(int turns, long began) {
+        System.out.printf("nanoseconds a turn: %d%n", (System.nanoTime() - began) / turns);
+    }
+
     private static void across() {
         Traced.touchAcross("row", false); // race: across
         Traced.touchAcross("row", true); // race: across
@@ -266,11 +334,14 @@ public final class Wrappers {
             case "executor" -> executor(false);
             case "before_future" -> executor(true);
             case "two_jobs" -> twoJobs();
+            case "cancelled_job" -> cancelledJob();
             case "future" -> future();
             case "callback_too_early" -> callbackTooEarly();
             case "before_end" -> beforeEnd();
             case "many" -> many();
             case "filling" -> filling();
+            case "lock_turns" -> lockTurns();
+            case "channel_turns" -> channelTurns();
             case "across" -> across();
             case "receiver" -> receiver(Path.of(words[1]));
             case "sender" -> sender(Path.of(words[1]));

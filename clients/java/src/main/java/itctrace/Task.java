@@ -59,6 +59,9 @@ final class Task {
         }
     }
 
+    /** What tells one touch of a task from the others. */
+    record Touch(String thing, boolean writes, boolean isAcross, Row.Site site, List<String> held) {}
+
     /** An event that stands for all that its task touches up to its next event. Each touch is told once. */
     static final class Touches {
         /** Its number, once the collector has answered. */
@@ -67,13 +70,16 @@ final class Task {
         /** Whether its task has had another event since. */
         boolean isClosed;
 
-        private final Set<Row> seen = new HashSet<>();
+        private final Set<Touch> seen = new HashSet<>();
         private List<Row> fresh = new ArrayList<>();
 
+        /** Whether the touch is the first of its kind. Then its row is to be added. */
+        boolean isNew(Touch touch) {
+            return seen.add(touch);
+        }
+
         void add(Row row) {
-            if (seen.add(row)) {
-                fresh.add(row);
-            }
+            fresh.add(row);
         }
 
         /** The rows that are new since the last time. */

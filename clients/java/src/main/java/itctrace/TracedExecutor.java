@@ -72,15 +72,15 @@ final class TracedExecutor extends AbstractExecutorService {
 
         @Override
         public boolean isDone() {
-            boolean isDone = super.isDone();
-            if (isDone) {
-                taken();
-            }
-            return isDone;
+            taken();
+            return super.isDone();
         }
 
+        /** This thread comes after a job that is done. One that was cancelled may go on, and so may one whose result did not come in time. */
         private void taken() {
-            Traced.join(task, Traced.site());
+            if (super.isDone() && !isCancelled()) {
+                Traced.join(task, Traced.site());
+            }
         }
     }
 

@@ -21,7 +21,8 @@ import java.util.function.Supplier;
  * A future whose value carries the order. Whoever takes the value comes after its completion. A function that is given to it is a task
  * of its own, which comes after the call that gave it and after the completion.
  *
- * <p>The functions that are given to other methods than those here are run as part of the thread that runs them.
+ * <p>The functions that are given to other methods than those here are run as part of the thread that runs them. A future that a
+ * function completes and somebody by hand tells no order, since nobody knows who was first.
  */
 public final class TracedFuture<T> extends CompletableFuture<T> {
     private static final What RESULT = What.forAll("result", "complete future", "take result");
@@ -131,9 +132,9 @@ public final class TracedFuture<T> extends CompletableFuture<T> {
     private void taken(Site site) {
         Token token = completed.get();
         Origin origin = this.origin.get();
-        if (token != null) {
+        if (token != null && origin == null) {
             Traced.take(token, site);
-        } else if (origin != null) {
+        } else if (token == null && origin != null) {
             origin.taken();
         }
     }

@@ -20,7 +20,9 @@ final class TracedLock implements Lock {
     private final Site made = Traced.site();
     private String name;
     private Token released;
+    private What release;
     private int depth;
+    private Thread owner;
 
     /** Whether others wait for more than the lock, as for a condition. Then its hand-over is meant, and no luck. */
     private volatile boolean isSignal;
@@ -68,6 +70,7 @@ final class TracedLock implements Lock {
     }
 
     private void acquired(Site site) {
+        owner = Thread.currentThread();
         if (depth++ == 0 && Traced.isOn()) {
             Traced.take(released, site);
             Task task = Traced.current();
@@ -78,7 +81,7 @@ final class TracedLock implements Lock {
     }
 
     private void releasing(Site site) {
-        if (depth == 0) {
+        if (!isOwner()) {
             return; // The lock itself says what is wrong.
         }
         if (--depth == 0 && Traced.isOn()) {
@@ -91,9 +94,16 @@ final class TracedLock implements Lock {
         }
     }
 
+    private boolean isOwner() {
+        return depth > 0 && owner == Thread.currentThread();
+    }
+
     private What release() {
-        String told = "lock (" + made + ")";
-        return new What("lock" + made.line(), "release " + told, "acquire " + told, isSignal ? null : name(), true);
+        if (release == null || isSignal && release.lock() != null) {
+            String told = "lock (" + made + ")";
+            release = new What("lock" + made.line(), "release " + told, "acquire " + told, isSignal ? null : name(), true);
+        }
+        return release;
     }
 
     private String name() {
@@ -122,6 +132,9 @@ final class TracedLock implements Lock {
         }
 
         private <T> T waiting(Waiting<T> waiting) throws InterruptedException {
+            if (!isOwner()) {
+                return waiting.await(); // The condition itself says what is wrong.
+            }
             Site site = Traced.site();
             int depthBefore = depth;
             depth = 1;

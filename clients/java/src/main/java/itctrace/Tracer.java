@@ -126,9 +126,11 @@ final class Tracer {
             task.touches = touches;
             growing.add(touches);
         }
-        String kind = writes ? "write" : "read";
-        String named = isAcross ? thing : thing + " of " + main.name;
-        task.touches.add(new Row(task.name, named, kind, site, kind + " " + thing, task.held, null));
+        if (task.touches.isNew(new Task.Touch(thing, writes, isAcross, site, task.held))) {
+            String kind = writes ? "write" : "read";
+            String named = isAcross ? thing : thing + " of " + main.name;
+            task.touches.add(new Row(task.name, named, kind, site, kind + " " + thing, task.held, null));
+        }
     }
 
     /** A place in the task that somebody may come after. */
