@@ -139,13 +139,28 @@ fn read_lock(is_written_by_both: bool) {
             write_stock();
             plain::sleep(Duration::from_millis(200)); // Both hold the lock at once.
         } else {
-            let reading = lock.read().unwrap();
-            touch("stock", false);
-            drop(reading);
-            let _held = lock.write().unwrap();
+            let writing = lock.write().unwrap();
             write_stock();
+            drop(writing);
+            let _held = lock.read().unwrap();
+            read_stock();
         }
     });
+}
+
+/// One thread reads under the lock before the other one writes under it.
+fn read_first() {
+    let lock = Arc::new(RwLock::new(()));
+    let other = lock.clone();
+    thread::spawn(move || {
+        let _held = other.read().unwrap();
+        read_stock();
+    });
+    while Arc::strong_count(&lock) > 1 {
+        plain::sleep(Duration::from_millis(1));
+    }
+    let _held = lock.write().unwrap();
+    write_stock();
 }
 
 fn many() {
@@ -221,6 +236,7 @@ fn main() {
         "before_end" => before_end(),
         "scope" => scope(),
         "read_lock" => read_lock(false),
+        "read_first" => read_first(),
         "read_lock_race" => read_lock(true),
         "many" => many(),
         "filling" => filling(),

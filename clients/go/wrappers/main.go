@@ -194,13 +194,29 @@ func readLock(isWrittenByBoth bool) {
 			lock.RUnlock()
 			return
 		}
-		lock.RLock()
-		itctrace.Touch("stock", false)
-		lock.RUnlock()
 		lock.Lock()
 		writeStock()
 		lock.Unlock()
+		lock.RLock()
+		readStock()
+		lock.RUnlock()
 	})
+}
+
+// readFirst has one goroutine read under the lock before the other one writes under it.
+func readFirst() {
+	var lock itctrace.RWMutex
+	done := make(chan bool)
+	start(func() {
+		lock.RLock()
+		readStock()
+		lock.RUnlock()
+		close(done)
+	})
+	<-done
+	lock.Lock()
+	writeStock()
+	lock.Unlock()
 }
 
 // web asks a server of this process, by a client that is traced or by another one.
@@ -319,6 +335,7 @@ func main() {
 		"wait_group":     waitGroup,
 		"context":        cancelledContext,
 		"read_lock":      func() { readLock(false) },
+		"read_first":     readFirst,
 		"read_lock_race": func() { readLock(true) },
 		"http":           func() { web(&http.Client{Transport: itctrace.Transport{}}) },
 		"http_race":      func() { web(http.DefaultClient) },
