@@ -30,7 +30,7 @@ COMMON = {
     "before_end": RACES, "condition": NO_RACE, "many": NO_RACE, "filling": INCOMPLETE,
 }
 OWN = {
-    "java": {"executor": NO_RACE, "before_future": RACES, "two_jobs": RACES, "cancelled_job": RACES, "future": NO_RACE, "callback_too_early": RACES},
+    "java": {"read_lock": NO_RACE, "read_first": NO_RACE, "read_lock_race": RACES, "executor": NO_RACE, "before_future": RACES, "two_jobs": RACES, "cancelled_job": RACES, "future": NO_RACE, "callback_too_early": RACES},
     "rust": {"scope": NO_RACE, "read_lock": NO_RACE, "read_first": NO_RACE, "read_lock_race": RACES, "rendezvous": NO_RACE},
     "go": {"read_lock": NO_RACE, "read_first": NO_RACE, "read_lock_race": RACES, "wait_group": NO_RACE, "rendezvous": NO_RACE, "full_channel": NO_RACE,
            "closed_channel": NO_RACE, "context": NO_RACE, "http": NO_RACE, "http_race": RACES},

@@ -14,7 +14,9 @@ import java.util.concurrent.LinkedBlockingQueue;
 import java.util.concurrent.TimeUnit;
 import java.util.concurrent.locks.Condition;
 import java.util.concurrent.locks.Lock;
+import java.util.concurrent.locks.ReadWriteLock;
 import java.util.concurrent.locks.ReentrantLock;
+import java.util.concurrent.locks.ReentrantReadWriteLock;
 
 /**
  * Small programs, each for one order that is reported by itself. A line that races says so in a comment, with the name of its program:
@@ -32,7 +34,7 @@ public final class Wrappers {
     }
 
     private static void writeStock() {
-        Traced.touch("stock", true); // race: after_hand_off before_future before_end two_jobs callback_too_early cancelled_job
+        Traced.touch("stock", true); // race: read_lock_race after_hand_off before_future before_end two_jobs callback_too_early cancelled_job
     }
 
     private static void sell() {
@@ -117,6 +119,51 @@ public final class Wrappers {
         isReady.signalAll();
         lock.unlock();
         waiting.join();
+    }
+
+    private static void readLock(boolean isWrittenByBoth) throws InterruptedException {
+        ReadWriteLock lock = Traced.lock(new ReentrantReadWriteLock());
+        inTwoThreads(
+                () -> {
+                    if (isWrittenByBoth) {
+                        lock.readLock().lock();
+                        writeStock();
+                        sleep(300); // Both hold the lock at once.
+                        lock.readLock().unlock();
+                        return;
+                    }
+                    lock.writeLock().lock();
+                    writeStock();
+                    lock.writeLock().unlock();
+                    lock.readLock().lock();
+                    readStock();
+                    lock.readLock().unlock();
+                });
+    }
+
+    /** One thread reads under the lock before the other one writes under it. */
+    private static void readFirst() throws InterruptedException {
+        ReadWriteLock lock = Traced.lock(new ReentrantReadWriteLock());
+        TracedThread reader =
+                Traced.start(
+                        "reader",
+                        () -> {
+                            lock.readLock().lock();
+                            readStock();
+                            lock.readLock().unlock();
+                        });
+        reader.thread().join(); // That is no order that is reported.
+        lock.writeLock().lock();
+        writeStock();
+        lock.writeLock().unlock();
+    }
+
+    private static void sleep(long milliseconds) {
+        try {
+            Thread.sleep(milliseconds);
+        } catch (InterruptedException interrupted) {
+            throw new IllegalStateException(interrupted);
+        }
     }
 
     private static void handOff(boolean isTouchedAfter) throws InterruptedException {
@@ -329,6 +376,9 @@ public final class Wrappers {
             case "locked" -> locked();
             case "lucky_lock" -> luckyLock();
             case "condition" -> condition();
+            case "read_lock" -> readLock(false);
+            case "read_first" -> readFirst();
+            case "read_lock_race" -> readLock(true);
             case "hand_off" -> handOff(false);
             case "after_hand_off" -> handOff(true);
             case "executor" -> executor(false);

@@ -9,6 +9,8 @@ import java.util.concurrent.BlockingQueue;
 import java.util.concurrent.ExecutorService;
 import java.util.concurrent.ThreadFactory;
 import java.util.concurrent.locks.Lock;
+import java.util.concurrent.locks.ReadWriteLock;
+import java.util.concurrent.locks.ReentrantReadWriteLock;
 import java.util.function.Supplier;
 
 /**
@@ -71,6 +73,11 @@ public final class Traced {
     /** The lock, whose release comes before the next time that it is acquired. */
     public static Lock lock(Lock lock) {
         return new TracedLock(lock);
+    }
+
+    /** The lock for readers and writers. A writer comes after those who read before, and readers come after the last writer. */
+    public static ReadWriteLock lock(ReentrantReadWriteLock lock) {
+        return new TracedReadWriteLock(lock);
     }
 
     /** The executor. Each of its jobs is a task, which comes after its submission. Whoever takes the result comes after the job. */

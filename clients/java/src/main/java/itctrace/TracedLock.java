@@ -4,7 +4,6 @@ import itctrace.Row.Site;
 import itctrace.Task.Token;
 import itctrace.Task.What;
 import java.util.ArrayList;
-import java.util.Date;
 import java.util.List;
 import java.util.concurrent.TimeUnit;
 import java.util.concurrent.locks.Condition;
@@ -29,7 +28,7 @@ final class TracedLock implements Lock {
 
     TracedLock(Lock lock) {
         if (lock instanceof ReentrantReadWriteLock.ReadLock) {
-            throw new IllegalArgumentException("several threads may hold the lock at once");
+            throw new IllegalArgumentException("several threads may hold the lock at once: wrap the lock that it is of");
         }
         this.lock = lock;
     }
@@ -116,82 +115,20 @@ final class TracedLock implements Lock {
     @Override
     public Condition newCondition() {
         isSignal = true;
-        return new TracedCondition(lock.newCondition());
+        return new TracedCondition(lock.newCondition(), this::lend);
     }
 
-    /** A condition. Whoever waits releases the lock, and acquires it from the one who has signalled or from a later one. */
-    private final class TracedCondition implements Condition {
-        private final Condition condition;
-
-        TracedCondition(Condition condition) {
-            this.condition = condition;
+    /** Reports that the lock is released, however often it is held. Gives what reports that it is acquired again. */
+    private Runnable lend(Site site) {
+        if (!isOwner()) {
+            return () -> {}; // The condition itself says what is wrong.
         }
-
-        private interface Waiting<T> {
-            T await() throws InterruptedException;
-        }
-
-        private <T> T waiting(Waiting<T> waiting) throws InterruptedException {
-            if (!isOwner()) {
-                return waiting.await(); // The condition itself says what is wrong.
-            }
-            Site site = Traced.site();
-            int depthBefore = depth;
-            depth = 1;
-            releasing(site);
-            try {
-                return waiting.await();
-            } finally {
-                acquired(site);
-                depth = depthBefore;
-            }
-        }
-
-        @Override
-        public void await() throws InterruptedException {
-            waiting(
-                    () -> {
-                        condition.await();
-                        return null;
-                    });
-        }
-
-        @Override
-        public void awaitUninterruptibly() {
-            try {
-                waiting(
-                        () -> {
-                            condition.awaitUninterruptibly();
-                            return null;
-                        });
-            } catch (InterruptedException interrupted) {
-                throw new AssertionError("it is not interrupted", interrupted);
-            }
-        }
-
-        @Override
-        public long awaitNanos(long nanoseconds) throws InterruptedException {
-            return waiting(() -> condition.awaitNanos(nanoseconds));
-        }
-
-        @Override
-        public boolean await(long time, TimeUnit unit) throws InterruptedException {
-            return waiting(() -> condition.await(time, unit));
-        }
-
-        @Override
-        public boolean awaitUntil(Date deadline) throws InterruptedException {
-            return waiting(() -> condition.awaitUntil(deadline));
-        }
-
-        @Override
-        public void signal() {
-            condition.signal();
-        }
-
-        @Override
-        public void signalAll() {
-            condition.signalAll();
-        }
+        int before = depth;
+        depth = 1;
+        releasing(site);
+        return () -> {
+            acquired(site);
+            depth = before;
+        };
     }
 }
