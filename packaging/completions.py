@@ -24,13 +24,17 @@ def _words(told: list[Option]) -> list[str]:
 def zsh() -> str:
     """A function that describes the commands, and behind one of them its options."""
     described = "\n".join(f"        {_quoted(f'{command.name}:{command.text}')}" for command in commands())
-    cases = "\n".join(f"    {command.name}) _arguments {' '.join(_zsh_option(one) for one in command.options)} '*:tenant:' ;;"
-                      for command in commands())
+    cases = "\n".join(f"    {command.name}) _arguments {' '.join(_zsh_words(command))} ;;" for command in commands())
     return (
         f"#compdef itc_trace\n# Completes the words of itc_trace for zsh.\n_itc_trace() {{\n    local -a commands=(\n{described}\n    )\n"
         "    if (( CURRENT == 2 )); then\n        _describe command commands\n        return\n    fi\n"
         f"    shift words\n    (( CURRENT-- ))\n    case $words[1] in\n{cases}\n    esac\n}}\n_itc_trace \"$@\"\n"
     )
+
+
+def _zsh_words(command: Command) -> list[str]:
+    tenant = ["'*:tenant:'"] if "<TENANT>" in command.help else []
+    return [_zsh_option(one) for one in command.options] + tenant
 
 
 def _zsh_option(option: Option) -> str:
