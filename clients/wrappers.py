@@ -84,13 +84,13 @@ class Programs:
         return [str(self._built / f"{self.language}_wrappers"), *words]
 
 
-def run_system(folder: Path, **processes: list[str]) -> "subprocess.CompletedProcess[str]":
-    """Runs these processes as a system."""
+def run_system(folder: Path, options: list[str] | None = None, **processes: list[str]) -> "subprocess.CompletedProcess[str]":
+    """Runs these processes as a system, with these options."""
     file = folder / "system.toml"
     file.write_text("".join(f"[process.{name}]\ncommand = {json.dumps(words)}\n" for name, words in processes.items()))
     environment = {**os.environ, "PYTHONPATH": str(CLIENTS / "python")}
     return subprocess.run(
-        [sys.executable, "-m", "itc_trace", "system", str(file)], env=environment, capture_output=True, text=True, timeout=MOST_SECONDS)
+        [sys.executable, "-m", "itc_trace", "system", *(options or []), str(file)], env=environment, capture_output=True, text=True, timeout=MOST_SECONDS)
 
 
 def check(ran: "subprocess.CompletedProcess[str]", status: int, races: set[str], possible: set[str]) -> None:

@@ -3,11 +3,12 @@
 //!
 //! Usage: cargo run --example wrappers NAME [FILE]
 
-use itc_trace::sync::mpsc::{channel, sync_channel};
+use itc_trace::sync::mpsc::{channel, sync_channel, Receiver, Sender};
 use itc_trace::sync::{Condvar, Mutex, RwLock};
 use itc_trace::{incoming, outgoing, thread, touch, touch_across};
 use std::path::Path;
-use std::sync::Arc;
+use std::collections::HashMap;
+use std::sync::{self as plain_sync, mpsc as plain_mpsc, Arc};
 use std::time::{Duration, Instant};
 use std::{fs, thread as plain};
 
@@ -205,6 +206,109 @@ fn across() {
     touch("own \"row\"", true);
 }
 
+/// The steps of a file are done one after the other, each in its own thread. What hands them on is no order that is reported.
+#[derive(Default)]
+struct Steps {
+    inboxes: HashMap<String, plain_mpsc::Sender<Vec<String>>>,
+    shared: Arc<Shared>,
+}
+
+struct Shared {
+    threads: plain_sync::Mutex<HashMap<String, thread::JoinHandle<()>>>,
+    fresh: plain_sync::Mutex<HashMap<String, plain_mpsc::Receiver<Vec<String>>>>,
+    done: plain_sync::Mutex<Option<plain_mpsc::Sender<()>>>,
+    locks: [&'static Mutex<()>; 2],
+    read_locks: [&'static RwLock<()>; 2],
+    queues: [(Sender<usize>, plain_sync::Mutex<Receiver<usize>>); 2],
+}
+
+impl Default for Shared {
+    fn default() -> Shared {
+        let queue = || {
+            let (sender, receiver) = channel();
+            (sender, plain_sync::Mutex::new(receiver))
+        };
+        Shared {
+            threads: Default::default(),
+            fresh: Default::default(),
+            done: Default::default(),
+            locks: [Box::leak(Box::new(Mutex::new(()))), Box::leak(Box::new(Mutex::new(())))],
+            read_locks: [Box::leak(Box::new(RwLock::new(()))), Box::leak(Box::new(RwLock::new(())))],
+            queues: [queue(), queue()],
+        }
+    }
+}
+
+/// The locks that a thread holds, by the step that gives them back.
+type Held = HashMap<String, Box<dyn std::any::Any>>;
+
+impl Steps {
+    fn run(mut self, file: &Path) {
+        let (done, is_done) = plain_mpsc::channel();
+        *self.shared.done.lock().unwrap() = Some(done);
+        let mut held = Held::new();
+        for line in fs::read_to_string(file).unwrap().lines() {
+            let words: Vec<String> = line.split(' ').map(String::from).collect();
+            if words[1] == "spawn" {
+                let (inbox, steps) = plain_mpsc::channel();
+                self.inboxes.insert(words[2].clone(), inbox);
+                self.shared.fresh.lock().unwrap().insert(words[2].clone(), steps);
+            }
+            match (words[0].as_str(), words[1].as_str()) {
+                (task, "end") => drop(self.inboxes.remove(task)),
+                ("main", _) => self.shared.clone().step(&words, &mut held),
+                (task, _) => {
+                    self.inboxes[task].send(words).unwrap();
+                    is_done.recv().unwrap();
+                }
+            }
+        }
+    }
+}
+
+impl Shared {
+    fn step(self: Arc<Shared>, words: &[String], held: &mut Held) {
+        let word = &words[2];
+        match words[1].as_str() {
+            "touch" => touch(word, true),
+            "spawn" => {
+                let (steps, shared) = (self.fresh.lock().unwrap().remove(word).unwrap(), self.clone());
+                let thread = thread::spawn_named(word, move || shared.work(steps)).unwrap();
+                self.threads.lock().unwrap().insert(word.clone(), thread);
+            }
+            "join" => self.join(word),
+            operation => self.step_at(operation, word.parse().unwrap(), held),
+        }
+    }
+
+    fn join(&self, child: &str) {
+        let thread = self.threads.lock().unwrap().remove(child).unwrap();
+        thread.join().unwrap();
+    }
+
+    fn work(self: Arc<Shared>, steps: plain_mpsc::Receiver<Vec<String>>) {
+        let mut held = Held::new();
+        for words in steps {
+            self.clone().step(&words, &mut held);
+            self.done.lock().unwrap().as_ref().unwrap().send(()).unwrap();
+        }
+    }
+
+    fn step_at(&self, operation: &str, place: usize, held: &mut Held) {
+        let kind = operation.trim_end_matches("unlock").trim_end_matches("lock");
+        let key = format!("{kind}{place}");
+        match operation {
+            "lock" => drop(held.insert(key, Box::new(self.locks[place].lock().unwrap()))),
+            "write_lock" => drop(held.insert(key, Box::new(self.read_locks[place].write().unwrap()))),
+            "read_lock" => drop(held.insert(key, Box::new(self.read_locks[place].read().unwrap()))),
+            "unlock" | "write_unlock" | "read_unlock" => drop(held.remove(&key)),
+            "put" => self.queues[place].0.send(place).unwrap(),
+            "take" => drop(self.queues[place].1.lock().unwrap().recv()),
+            other => panic!("there is no step {other}"),
+        }
+    }
+}
+
 fn receiver(file: &Path) {
     while !file.exists() {
         plain::sleep(Duration::from_millis(10));
@@ -243,6 +347,7 @@ fn main() {
         "lock_turns" => lock_turns(),
         "channel_turns" => channel_turns(),
         "across" => across(),
+        "steps" => Steps::default().run(file()),
         "receiver" => receiver(file()),
         "sender" => sender(file()),
         other => panic!("there is no program {other}"),

@@ -10,6 +10,7 @@ import (
 	"net/http"
 	"net/http/httptest"
 	"os"
+	"strconv"
 	"strings"
 	"time"
 
@@ -298,6 +299,74 @@ func across() {
 	itctrace.Touch("own \"row\"", true)
 }
 
+// steps does the steps of a file one after the other, each in its own goroutine. What hands them on is no order that is reported.
+type steps struct {
+	inboxes   map[string]chan func()
+	routines  map[string]*itctrace.Routine
+	done      chan bool
+	locks     [2]itctrace.Mutex
+	readLocks [2]itctrace.RWMutex
+	queues    [2]*itctrace.Chan[int]
+}
+
+func runSteps(file string) {
+	text, err := os.ReadFile(file)
+	if err != nil {
+		panic(err)
+	}
+	all := &steps{inboxes: map[string]chan func(){}, routines: map[string]*itctrace.Routine{}, done: make(chan bool)}
+	all.queues = [2]*itctrace.Chan[int]{itctrace.MakeChan[int](few), itctrace.MakeChan[int](few)}
+	for _, line := range strings.Split(strings.TrimSpace(string(text)), "\n") {
+		words := strings.Split(line, " ")
+		switch {
+		case words[1] == "end":
+			close(all.inboxes[words[0]])
+		case words[0] == "main":
+			all.step(words[1], words[2])
+		default:
+			all.inboxes[words[0]] <- func() { all.step(words[1], words[2]) }
+			<-all.done
+		}
+	}
+}
+
+func (s *steps) step(operation, word string) {
+	switch operation {
+	case "touch":
+		itctrace.Touch(word, true)
+	case "spawn":
+		inbox := make(chan func(), 1)
+		s.inboxes[word] = inbox
+		s.routines[word] = start(func() {
+			for step := range inbox {
+				step()
+				s.done <- true
+			}
+		})
+	case "join":
+		s.routines[word].Wait()
+	default:
+		place, err := strconv.Atoi(word)
+		if err != nil {
+			panic(err)
+		}
+		s.stepAt(operation, place)
+	}
+}
+
+func (s *steps) stepAt(operation string, place int) {
+	map[string]func(){
+		"lock":         s.locks[place].Lock,
+		"unlock":       s.locks[place].Unlock,
+		"write_lock":   s.readLocks[place].Lock,
+		"write_unlock": s.readLocks[place].Unlock,
+		"read_lock":    s.readLocks[place].RLock,
+		"read_unlock":  s.readLocks[place].RUnlock,
+		"put":          func() { s.queues[place].Send(place) },
+		"take":         func() { s.queues[place].Receive() },
+	}[operation]()
+}
+
 func receiver(file string) {
 	for {
 		if text, err := os.ReadFile(file); err == nil {
@@ -345,6 +414,7 @@ func main() {
 		"lock_turns":     lockTurns,
 		"channel_turns":  channelTurns,
 		"across":         across,
+		"steps":          func() { runSteps(os.Args[2]) },
 		"receiver":       func() { receiver(os.Args[2]) },
 		"sender":         func() { sender(os.Args[2]) },
 	}

@@ -3,14 +3,19 @@ import itctrace.TracedFuture;
 import itctrace.TracedThread;
 import java.nio.file.Files;
 import java.nio.file.Path;
+import java.util.HashMap;
+import java.util.List;
+import java.util.Map;
 import java.util.concurrent.BlockingQueue;
 import java.util.concurrent.CancellationException;
 import java.util.concurrent.CompletableFuture;
+import java.util.concurrent.ConcurrentHashMap;
 import java.util.concurrent.CountDownLatch;
 import java.util.concurrent.ExecutorService;
 import java.util.concurrent.Executors;
 import java.util.concurrent.Future;
 import java.util.concurrent.LinkedBlockingQueue;
+import java.util.concurrent.Semaphore;
 import java.util.concurrent.TimeUnit;
 import java.util.concurrent.locks.Condition;
 import java.util.concurrent.locks.Lock;
@@ -354,6 +359,81 @@ public final class Wrappers {
         Traced.touch("own \"row\"", true);
     }
 
+    /** Does the steps of a file one after the other, each in its own thread. What hands them to the threads is no order that is reported. */
+    private static final class Steps {
+        private static final Runnable END = () -> {};
+        private final Map<String, BlockingQueue<Runnable>> inboxes = new HashMap<>();
+        private final Map<String, TracedThread> threads = new ConcurrentHashMap<>();
+        private final Semaphore done = new Semaphore(0);
+        private final Lock[] locks = {Traced.lock(new ReentrantLock()), Traced.lock(new ReentrantLock())};
+        private final ReadWriteLock[] readLocks = {
+            Traced.lock(new ReentrantReadWriteLock()), Traced.lock(new ReentrantReadWriteLock())
+        };
+        private final List<BlockingQueue<Integer>> queues =
+                List.of(Traced.queue(new LinkedBlockingQueue<>()), Traced.queue(new LinkedBlockingQueue<>()));
+
+        void run(Path file) throws Exception {
+            for (String line : Files.readAllLines(file)) {
+                String[] words = line.split(" ");
+                if (words[1].equals("end")) {
+                    inboxes.get(words[0]).put(END);
+                    continue;
+                }
+                if (words[1].equals("spawn")) {
+                    inboxes.put(words[2], new LinkedBlockingQueue<>());
+                }
+                if (words[0].equals("main")) {
+                    step(words);
+                } else {
+                    inboxes.get(words[0]).put(() -> step(words));
+                    done.acquire();
+                }
+            }
+        }
+
+        private void work(BlockingQueue<Runnable> inbox) {
+            try {
+                for (Runnable step = inbox.take(); step != END; step = inbox.take()) {
+                    step.run();
+                    done.release();
+                }
+            } catch (InterruptedException interrupted) {
+                throw new IllegalStateException(interrupted);
+            }
+        }
+
+        private void step(String[] words) {
+            switch (words[1]) {
+                case "touch" -> Traced.touch(words[2], true);
+                case "spawn" -> threads.put(words[2], Traced.start(words[2], () -> work(inboxes.get(words[2]))));
+                case "join" -> join(threads.get(words[2]));
+                default -> step(words[1], Integer.parseInt(words[2]));
+            }
+        }
+
+        private static void join(TracedThread thread) {
+            try {
+                thread.join();
+            } catch (InterruptedException interrupted) {
+                throw new IllegalStateException(interrupted);
+            }
+        }
+
+        private void step(String operation, int place) {
+            switch (operation) {
+                case "lock" -> locks[place].lock();
+                case "unlock" -> locks[place].unlock();
+                case "write_lock" -> readLocks[place].writeLock().lock();
+                case "write_unlock" -> readLocks[place].writeLock().unlock();
+                case "read_lock" -> readLocks[place].readLock().lock();
+                case "read_unlock" -> readLocks[place].readLock().unlock();
+                case "put" -> queues.get(place).add(place);
+                case "take" -> queues.get(place).remove();
+                default -> throw new IllegalArgumentException(operation);
+            }
+        }
+    }
+
     private static void receiver(Path file) throws Exception {
         while (!Files.exists(file)) {
             Thread.sleep(10);
@@ -393,6 +473,7 @@ public final class Wrappers {
             case "lock_turns" -> lockTurns();
             case "channel_turns" -> channelTurns();
             case "across" -> across();
+            case "steps" -> new Steps().run(Path.of(words[1]));
             case "receiver" -> receiver(Path.of(words[1]));
             case "sender" -> sender(Path.of(words[1]));
             default -> throw new IllegalArgumentException(words[0]);
