@@ -24,7 +24,7 @@ CLIENTS = Path(__file__).resolve().parent
 SOURCES = {"java": CLIENTS / "java/examples/Wrappers.java", "rust": CLIENTS / "rust/wrappers.rs", "go": CLIENTS / "go/wrappers/main.go"}
 NO_RACE, RACES, INCOMPLETE = 0, 66, 67
 AT_ONCE = max(2, os.cpu_count() or 1)
-MOST_SECONDS = 120
+MOST_SECONDS = 300
 COMMON = {
     "lost_update": RACES, "plain_threads": RACES, "locked": NO_RACE, "lucky_lock": NO_RACE, "hand_off": NO_RACE, "after_hand_off": RACES,
     "before_end": RACES, "condition": NO_RACE, "many": NO_RACE, "filling": INCOMPLETE,
