@@ -10,7 +10,7 @@ from .journal import Journal, NoJournal, read_whole
 from .progress import Bar
 from .races import Races, find_races
 from .session import Refused, Session
-from .verdict import BREAKS_OFF, END_ROW, Cause, Unseen
+from .verdict import BREAKS_OFF, END_OF_ALL, Cause, Unseen
 
 MOST_LOOKED_AT = 64
 
@@ -60,4 +60,4 @@ def lines_of(journals: Iterable[str]) -> Iterator[str]:
         yield from (line for line in lines if line.endswith("\n"))
         if BREAKS_OFF in unseen:
             yield Unseen(Cause.JOURNAL, f"{name} breaks off before the end of its process").row()
-    yield END_ROW
+    yield END_OF_ALL

@@ -44,6 +44,9 @@ class Unseen(NamedTuple):
 END_ROW = '{"end":true}\n'
 """The last line of a journal whose process reported all that it noted."""
 
+END_OF_ALL = '{"end":true,"task":null}\n'
+"""The last line of several journals put together. Which of the processes have ended is told by the lines before it."""
+
 BREAKS_OFF = Unseen(Cause.JOURNAL, "the journal breaks off before the end of its process")
 
 
