@@ -3,6 +3,7 @@ import assert from "node:assert/strict";
 import { Browser } from "./browser.mjs";
 import { hostileText, names, opening, policyFits, spoilt, spoiltPictures, versions } from "./opening.mjs";
 import { cleanUp, exportOf, pictureOf } from "./program.mjs";
+import { ends, hostileRaces, races } from "./racing.mjs";
 import { screenshots } from "./screenshots.mjs";
 import { broadcasts, busyTrace, lanes, shapes, topic, workedExport } from "./showing.mjs";
 import { size } from "./size.mjs";
@@ -12,7 +13,7 @@ import { address, keyboard, labels, listsAndSearch, moving } from "./using.mjs";
 const [folder, only = ""] = process.argv.slice(2);
 const CHECKS = { "worked export": workedExport, shapes, "500 events": busyTrace, topic, broadcasts, lanes, "spoilt exports": spoilt, opening,
   versions, "spoilt pictures": spoiltPictures, names, "hostile text": hostileText, "lists and search": listsAndSearch, labels, keyboard,
-  address, moving, "16384 events": size };
+  address, moving, races, "hostile races": hostileRaces, ends, "16384 events": size };
 
 /** No page asked for anything but files, or complained. */
 function nothingElse(name, pages) {
