@@ -149,6 +149,12 @@ class Page {
     await this.frame();
   }
 
+  /** Moves the mouse there, with no button down. */
+  async hover(x, y) {
+    await this.send("Input.dispatchMouseEvent", { type: "mouseMoved", x, y });
+    await this.frame();
+  }
+
   async drag(fromX, fromY, toX, toY) {
     await this.send("Input.dispatchMouseEvent", { type: "mousePressed", x: fromX, y: fromY, button: "left", clickCount: 1 });
     for (let part = 1; part <= 5; part++) {

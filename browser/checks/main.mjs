@@ -8,12 +8,12 @@ import { screenshots } from "./screenshots.mjs";
 import { broadcasts, busyTrace, lanes, shapes, topic, workedExport } from "./showing.mjs";
 import { size } from "./size.mjs";
 import { BUSY, WORKED } from "./traces.mjs";
-import { address, keyboard, labels, listsAndSearch, moving } from "./using.mjs";
+import { address, keyboard, labels, listsAndSearch, moving, tips } from "./using.mjs";
 
 const [folder, only = ""] = process.argv.slice(2);
 const CHECKS = { "worked export": workedExport, shapes, "500 events": busyTrace, topic, broadcasts, lanes, "spoilt exports": spoilt, opening,
   versions, "spoilt pictures": spoiltPictures, names, "hostile text": hostileText, "lists and search": listsAndSearch, labels, keyboard,
-  address, moving, races, "hostile races": hostileRaces, ends, "16384 events": size };
+  address, moving, tips, races, "hostile races": hostileRaces, ends, "16384 events": size };
 
 /** No page asked for anything but files, or complained. */
 function nothingElse(name, pages) {
