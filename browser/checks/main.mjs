@@ -1,6 +1,7 @@
 // Checks the page in headless Chromium against what the program answers: see `browser/test`.
 import assert from "node:assert/strict";
 import { Browser } from "./browser.mjs";
+import { filters } from "./filtering.mjs";
 import { hostileText, names, opening, policyFits, spoilt, spoiltPictures, versions } from "./opening.mjs";
 import { cleanUp, exportOf, pictureOf } from "./program.mjs";
 import { ends, hostileRaces, races } from "./racing.mjs";
@@ -14,7 +15,8 @@ import { address, keyboard, labels, listsAndSearch, moving, tips } from "./using
 const [folder, only = ""] = process.argv.slice(2);
 const CHECKS = { "worked export": workedExport, shapes, "500 events": busyTrace, topic, broadcasts, lanes, "spoilt exports": spoilt, opening,
   versions, "spoilt pictures": spoiltPictures, names, "hostile text": hostileText, "lists and search": listsAndSearch, labels, keyboard,
-  address, moving, tips, races, "hostile races": hostileRaces, ends, why, "16384 events": size };
+  address, moving, tips, races, "hostile races": hostileRaces, ends, why, filters,
+  "16384 events": size };
 
 /** No page asked for anything but files, or complained. */
 function nothingElse(name, pages) {
