@@ -3,6 +3,7 @@ import assert from "node:assert/strict";
 import { Browser } from "./browser.mjs";
 import { filters } from "./filtering.mjs";
 import { hostileText, names, opening, policyFits, spoilt, spoiltPictures, versions } from "./opening.mjs";
+import { spoiltStamps, stamps, unjoinedTasks, worker } from "./packing.mjs";
 import { cleanUp, exportOf, pictureOf } from "./program.mjs";
 import { ends, hostileRaces, races } from "./racing.mjs";
 import { why } from "./reasons.mjs";
@@ -15,14 +16,14 @@ import { address, keyboard, labels, listsAndSearch, moving, tips } from "./using
 const [folder, only = ""] = process.argv.slice(2);
 const CHECKS = { "worked export": workedExport, shapes, "500 events": busyTrace, topic, broadcasts, lanes, "spoilt exports": spoilt, opening,
   versions, "spoilt pictures": spoiltPictures, names, "hostile text": hostileText, "lists and search": listsAndSearch, labels, keyboard,
-  address, moving, tips, races, "hostile races": hostileRaces, ends, why, filters,
-  "16384 events": size };
+  address, moving, tips, races, "hostile races": hostileRaces, ends, why, filters, stamps,
+  "spoilt stamps": spoiltStamps, worker, "unjoined tasks": unjoinedTasks, "16384 events": size };
 
 /** No page asked for anything but files, or complained. */
 function nothingElse(name, pages) {
   for (const { complaints, requests } of pages) {
     assert.deepEqual(complaints, [], name);
-    assert.deepEqual(requests.filter((address) => !address.startsWith("file://") && address !== "about:blank"), [], name);
+    assert.deepEqual(requests.filter((address) => !/^(file:\/\/|blob:null\/|about:blank$)/.test(address)), [], name);
   }
 }
 
