@@ -7,6 +7,7 @@ import { spoiltStamps, stamps, unjoinedTasks, worker } from "./packing.mjs";
 import { cleanUp, exportOf, pictureOf } from "./program.mjs";
 import { ends, hostileRaces, races } from "./racing.mjs";
 import { why } from "./reasons.mjs";
+import { svg } from "./saving.mjs";
 import { screenshots } from "./screenshots.mjs";
 import { broadcasts, busyTrace, lanes, shapes, topic, workedExport } from "./showing.mjs";
 import { size } from "./size.mjs";
@@ -17,7 +18,7 @@ const [folder, only = ""] = process.argv.slice(2);
 const CHECKS = { "worked export": workedExport, shapes, "500 events": busyTrace, topic, broadcasts, lanes, "spoilt exports": spoilt, opening,
   versions, "spoilt pictures": spoiltPictures, names, "hostile text": hostileText, "lists and search": listsAndSearch, labels, keyboard,
   address, moving, tips, races, "hostile races": hostileRaces, ends, why, filters, stamps,
-  "spoilt stamps": spoiltStamps, worker, "unjoined tasks": unjoinedTasks, "16384 events": size };
+  "spoilt stamps": spoiltStamps, worker, svg, "unjoined tasks": unjoinedTasks, "16384 events": size };
 
 /** No page asked for anything but files, or complained. */
 function nothingElse(name, pages) {
