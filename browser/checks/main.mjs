@@ -1,6 +1,7 @@
 // Checks the page in headless Chromium against what the program answers: see `browser/test`.
 import assert from "node:assert/strict";
 import { Browser } from "./browser.mjs";
+import { beside } from "./comparing.mjs";
 import { filters } from "./filtering.mjs";
 import { hostileText, names, opening, policyFits, spoilt, spoiltPictures, versions } from "./opening.mjs";
 import { spoiltStamps, stamps, unjoinedTasks, worker } from "./packing.mjs";
@@ -18,7 +19,8 @@ const [folder, only = ""] = process.argv.slice(2);
 const CHECKS = { "worked export": workedExport, shapes, "500 events": busyTrace, topic, broadcasts, lanes, "spoilt exports": spoilt, opening,
   versions, "spoilt pictures": spoiltPictures, names, "hostile text": hostileText, "lists and search": listsAndSearch, labels, keyboard,
   address, moving, tips, races, "hostile races": hostileRaces, ends, why, filters, stamps,
-  "spoilt stamps": spoiltStamps, worker, svg, "unjoined tasks": unjoinedTasks, "16384 events": size };
+  "spoilt stamps": spoiltStamps, worker, svg, beside,
+  "unjoined tasks": unjoinedTasks, "16384 events": size };
 
 /** No page asked for anything but files, or complained. */
 function nothingElse(name, pages) {
