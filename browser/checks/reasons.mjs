@@ -82,7 +82,7 @@ export async function why(tab) {
   return `${counts.free} concurrent pairs, ${counts.chains} ordered ones`;
 }
 
-/** A broad line leads from event to event of the chain, also in the whole picture. */
+/** A broad line leads from event to event of the chain, also in the whole picture. To a task that was started it goes as the lane. */
 async function isDrawn(tab, [one, other]) {
   const drawn = await tab.run((first, second) => {
     const { view } = page, lines = [];
@@ -95,7 +95,10 @@ async function isDrawn(tab, [one, other]) {
     view.drawChains();
     for (const step of ["moveTo", "lineTo"]) delete view.context[step];
     const placeOf = (event) => [view.x(view.layout.times[event]), view.y(view.layout.lane(event))].map(Math.round).join(" ");
-    return [lines, view.chains[0].map(placeOf)];
+    const starts = view.chains[0].filter((event, place, chain) => page.trace.tasks[page.trace.taskOf[event]].started === chain[place - 1]);
+    return [lines, view.chains[0].map(placeOf), starts.length];
   }, one, other);
-  assert.deepEqual(drawn[0], drawn[1]);
+  const [lines, places, starts] = drawn;
+  assert.deepEqual(lines.filter((place) => places.includes(place)), places);
+  assert.equal(lines.length, places.length + starts);
 }
