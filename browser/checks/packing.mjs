@@ -15,7 +15,8 @@ const stampsShown = (tab) => tab.run(() => Array.from({ length: page.trace.event
 export async function stamps(tab) {
   const busy = exportOf(BUSY), worked = exportOf(WORKED), [header, ...lines] = worked.toString().split("\n").slice(0, -1);
   const otherwise = lines.map((line, place) => [line, line.replaceAll(":", " : "), line.replace('"stamp"', '"\\u0073tamp"'),
-    line.replace("{", '{"stamp":"x",'), line.replace('"[', '"\\u005b')][place % 5]).join("\r\n");
+    line.replace("{", '{"stamp":"x",'), line.replace('"[', '"\\u005b'), line.replace('"stamp":', '"stamp":"x","stamp" : '),
+    line.replace('"stamp":', '"stamp":"x","\\u0073tamp":')][place % 7]).join("\r\n");
   for (const bytes of [busy, worked, Buffer.from(lines.join("\n")), Buffer.from(otherwise), Buffer.from(`${header}\n${otherwise}`)]) {
     await opened(tab, pictureOf("stamps.html", bytes));
     assert.equal(await tab.run(() => page.verdict), verdictOf(bytes));
@@ -27,8 +28,8 @@ export async function stamps(tab) {
 export async function spoiltStamps(tab) {
   const html = readFileSync(pictureOf("spoilt_stamps.html", exportOf(WORKED))).toString();
   const place = /(id="stamps">)[^<]*/, right = ["-", "0 0 0 [1;1]", "0 0 0 [(1,0);2]"];
-  const rows = [["9 1 1 x"], ["1 1 1 x"], ["-", "1 0 0 x"], [...right, "1 7 9999 x"], [...right, "99999999999999999999 1 1 "], [...right, "1 3"],
-    [...right, "1 1 1 )"], ["\u0000\u00ff"], ["-", "0 0 0 [1;1]", `1 0 0 ${"x".repeat(70000)}`], []];
+  const rows = [["9 1 1 x"], ["1 1 1 x"], ["-", "1 0 0 x"], [...right, "1 7 9999 x"], [...right, "99999999999999999999 1 1 "],
+    [...right, "1 3"], [...right, "1 1 1 )"], ["\u0000\u00ff"], ["-", "0 0 0 [1;1]", `1 0 0 ${"x".repeat(70000)}`], []];
   for (const list of rows) {
     const packed = gzipSync(Buffer.from(list.map((row) => `${row}\n`).join(""))).toString("base64");
     await opened(tab, file("spoilt_stamps.html", html.replace(place, `$1${packed}`)));
@@ -48,7 +49,10 @@ export async function worker(tab) {
     await tab.open(file("nothing.html", readFileSync(pictureOf("empty.html", ""))));
     await tab.pick("#file", file(`${name}.export`, bytes));
     await tab.until(() => page.isShown === true && page.worker !== null);
-    const meanwhile = await tab.run(() => ({ verdict: page.verdict, bar: document.getElementById("bar").hidden, text: document.getElementById("progress").textContent }));
+    const meanwhile = await tab.run(() => {
+      const [bar, progress] = ["bar", "progress"].map((id) => document.getElementById(id));
+      return { verdict: page.verdict, bar: bar.hidden, text: progress.textContent };
+    });
     assert.deepEqual([meanwhile.verdict, meanwhile.bar], [null, false]);
     assert.match(meanwhile.text, /^Not yet checked: \d+ of 3000 lines compared\.$/);
     await tab.run(() => page.view.zoom(2));
@@ -88,7 +92,8 @@ export async function unjoinedTasks(tab) {
     assert.equal(await tab.run(() => page.verdict), null, "the picture is there before the check ends");
   }
   const mebibytes = (length) => (length / 2 ** 20).toFixed(1);
-  const words = `${mebibytes(bytes.length)} MiB as a page of ${mebibytes(size)} MiB, shown after ${times.map((time) => time.toFixed(0)).join(", ")} ms`;
+  const took = times.map((time) => time.toFixed(0)).join(", ");
+  const words = `${mebibytes(bytes.length)} MiB as a page of ${mebibytes(size)} MiB, shown after ${took} ms`;
   assert.ok(size * 10 <= bytes.length && Math.min(...times) < MOST_OPENING, words);
   return words;
 }
