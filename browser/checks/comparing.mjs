@@ -18,7 +18,8 @@ async function pickedBeside(tab, path, done) {
 export async function beside(tab) {
   await opened(tab, pictureOf("beside.html", exportOf([...LOST_UPDATE, "spawn root carol"])), "#event=6&other=7");
   assert.equal(await text(tab, "#words"), "Event 6 and event 7 are concurrent: nothing kept them in order.");
-  await pickedBeside(tab, file("fixed.export", exportOf([...WITH_LOCK, "spawn root dave", "local dave"])), () => page.beside.verdict.startsWith("Checked"));
+  const fixed = exportOf([...WITH_LOCK, "spawn root dave", "local dave"]);
+  await pickedBeside(tab, file("fixed.export", fixed), () => page.beside.verdict.startsWith("Checked"));
   assert.deepEqual([await text(tab, "#aboutBeside h2"), await text(tab, "#besideVerdict"), await text(tab, "#besideWords")],
     ["Beside: fixed.export", "11 events. Checked: yes 11.", "Event 5 happened before event 9."]);
   const lanes = await tab.run(() => [[page.trace, page.view], [page.beside.trace, page.beside.view]].map(([trace, { layout }]) =>
@@ -27,19 +28,22 @@ export async function beside(tab) {
   await tab.wheel(300, 200, 200, 0);
   await tab.run(() => page.view.zoom(1.5));
   await tab.frame();
-  const [first, second] = await tab.run(() => [page.view, page.beside.view].map(({ left, top, scale, width, height }) => [left, top, scale, width, height]));
+  const [first, second] = await tab.run(() => [page.view, page.beside.view].map(({ left, top, scale, width, height }) =>
+    [left, top, scale, width, height]));
   assert.deepEqual(first, second);
   await tab.run(() => page.choose(2));
   assert.match(await text(tab, "#aboutBeside"), /Event 2 is event 2 there\./);
   await tab.run(() => page.choose(12));
   assert.match(await text(tab, "#aboutBeside"), /Event 12 is not there\./);
   await pickedBeside(tab, file("fixed.journal", row(9, "bob", "write stock")), () => page.beside.labels.size === 1);
-  await pickedBeside(tab, file(HOSTILE, exportOf(LOST_UPDATE)), () => page.beside.name.startsWith("<img") && page.beside.verdict.startsWith("Checked"));
+  const isHostile = () => page.beside.name.startsWith("<img") && page.beside.verdict.startsWith("Checked");
+  await pickedBeside(tab, file(HOSTILE, exportOf(LOST_UPDATE)), isHostile);
   assert.equal(await text(tab, "#aboutBeside h2"), `Beside: ${HOSTILE}`);
   assert.equal(await tab.run(() => document.querySelectorAll("img").length), 0);
   const wrong = exportOf(LOST_UPDATE).toString().replace("[((0,1),0);(2,(1,0,2),0)]", "[((0,1),0);(3,(0,0,2),1)]");
   await pickedBeside(tab, file("wrong.export", wrong), () => page.beside.verdict.startsWith("no 8 6."));
-  await pickedBeside(tab, file("cut.export", "{"), () => document.getElementById("aboutBeside").textContent.startsWith("cut.export: no 1 1."));
+  const isCut = () => document.getElementById("aboutBeside").textContent.startsWith("cut.export: no 1 1.");
+  await pickedBeside(tab, file("cut.export", "{"), isCut);
   assert.deepEqual(await tab.run(() => [document.getElementById("beside").hidden, page.isShown]), [true, true]);
   await press(tab, "#fit");
 }

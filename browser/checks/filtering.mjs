@@ -16,9 +16,11 @@ const set = (tab, id, value) => tab.run((name, wanted) => {
 
 /** The events that the layout shows, in order, and whether edges lead from or to others. */
 const shown = (tab) => tab.run(() => {
-  const { layout } = page.view, events = layout.eventsIn.flatMap((list) => [...list]).sort((one, other) => one - other), there = new Set([0, ...events]);
+  const { layout } = page.view, events = layout.eventsIn.flatMap((list) => [...list]).sort((one, other) => one - other);
+  const there = new Set([0, ...events]);
   const ends = [...layout.edgePreds, ...[...layout.edgeEvents].filter((_, edge) => layout.edgeKinds[edge] !== SPAWN_EDGE)];
-  return { events, areWhole: ends.every((event) => there.has(event)), hidden: document.getElementById("hidden").textContent, inPicture: page.view.hiddenWords };
+  const hidden = document.getElementById("hidden").textContent, inPicture = page.view.hiddenWords;
+  return { events, areWhole: ends.every((event) => there.has(event)), hidden, inPicture };
 });
 
 /** Local events are hidden but for the chosen one, and the picture says how many; what is shown stands at times without a gap. */
@@ -66,11 +68,12 @@ async function within(tab) {
   assert.equal((await shown(tab)).events.length, BUSY.length, "nothing is chosen");
 }
 
-const SYSTEM = ["spawn root till", "spawn root stock", "local till", "spawn till till_1", "spawn stock stock_1", "local till_1", "local stock_1",
-  "local stock", "spawn till helper", "local helper", "local till_1"];
-const row = (event, task, thing, kind = "local", label = `read ${thing}`) => ({ event, task, thing, kind, file: "shop.py", line: event, label });
-const JOURNAL = [row(1, "root", null, "spawn", "start process till"), row(2, "root", null, "spawn", "start process stock"), row(3, "till", "#1"),
-  row(6, "till_1", "#2"), row(7, "stock_1", "#1"), row(8, "stock", "#3"), row(10, "helper", "#2")];
+const SYSTEM = ["spawn root till", "spawn root stock", "local till", "spawn till till_1", "spawn stock stock_1", "local till_1",
+  "local stock_1", "local stock", "spawn till helper", "local helper", "local till_1"];
+const row = (event, task, thing, kind = "local", label = `read ${thing}`) =>
+  ({ event, task, thing, kind, file: "shop.py", line: event, label });
+const JOURNAL = [row(1, "root", null, "spawn", "start process till"), row(2, "root", null, "spawn", "start process stock"),
+  row(3, "till", "#1"), row(6, "till_1", "#2"), row(7, "stock_1", "#1"), row(8, "stock", "#3"), row(10, "helper", "#2")];
 
 /** Tasks are hidden that touch nothing which another one touches; the lanes of a process stand together, and are folded into one. */
 async function processes(tab) {
@@ -83,7 +86,7 @@ async function processes(tab) {
   assert.match(hidden, /^Hidden: 4 events, 2 tasks, /);
   await set(tab, "hidesUnshared", false);
   await set(tab, "groups", true);
-  const lanes = () => tab.run(() => page.trace.tasks.map(({ name }, place) => [page.view.layout.laneOf[place], name]).sort().map(([lane, name]) => `${lane} ${name}`));
+  const lanes = () => tab.run(() => page.trace.tasks.map(({ name }, place) => `${page.view.layout.laneOf[place]} ${name}`).sort());
   assert.deepEqual(await lanes(), ["0 root", "1 till", "2 till_1", "3 helper", "4 stock", "5 stock_1"]);
   const folds = await tab.run(() => [...document.querySelectorAll("#folds li")].map((item) => item.textContent.trim()));
   assert.deepEqual(folds, ["Fold root: 1 task", "Fold till: 3 tasks", "Fold stock: 2 tasks"]);

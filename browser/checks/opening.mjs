@@ -132,7 +132,7 @@ async function nothingGetsOut(tab) {
       async () => Object.assign(document.body, { innerHTML: "<p>x</p>" }),
       async () => Object.assign(document.createElement("script"), { text: "0" }),
       async () => new Worker(URL.createObjectURL(new Blob(["1"]))), async () => trustedTypes.createPolicy("other", {}),
-      async () => new Worker(CheckingWorker.trusted(URL.createObjectURL(new Blob(["1"]))) && CheckingWorker.policy.createScriptURL("data:text/javascript,1"))];
+      async () => new Worker(CheckingWorker.trusted("blob:x") && CheckingWorker.policy.createScriptURL("data:text/javascript,1"))];
     const told = [];
     document.addEventListener("securitypolicyviolation", (violation) => told.push(violation.effectiveDirective));
     for (const attempt of attempts) told.push(await attempt().then(() => "allowed", () => "refused"));

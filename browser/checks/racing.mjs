@@ -53,7 +53,8 @@ export async function races(tab) {
   assert.ok((await tab.spokenButtons()).some((name) => name.startsWith("stock (a Shop made at shop.py:3) read shop.py:11 in buy: alice")));
 }
 
-const pressed = (tab) => tab.run(() => [...document.querySelectorAll("#races li button")].map((button) => button.getAttribute("aria-pressed")));
+const pressed = (tab) => tab.run(() =>
+  [...document.querySelectorAll("#races li button")].map((button) => button.getAttribute("aria-pressed")));
 
 /** A line of the colour of races leads from the one event to the other, and both have a ring of it. */
 async function pairIsMarked(tab, events) {
@@ -80,9 +81,9 @@ const HOSTILE = '</script><img src=x onerror="window.wasRead = 1"><script>window
 export async function hostileRaces(tab) {
   const evil = { ...side(4, HOSTILE, HOSTILE, 11), file: HOSTILE, function: HOSTILE, text: [HOSTILE, HOSTILE] };
   const right = race(HOSTILE, [evil, side(7, "bob", "write", 12)], { made: HOSTILE, why: HOSTILE });
-  const wrong = [{ ...right, sides: [evil] }, { ...right, sides: [evil, { ...evil, event: 12 }] }, { ...right, sides: [evil, { ...evil, event: 0 }] },
-    { ...right, times: "1" }, { ...right, thing: null }, { ...right, sides: [evil, null] }, { ...right, sides: [evil, { ...evil, text: [1] }] },
-    { ...right, sides: [evil, { ...evil, text: Array(41).fill("") }] }, { ...right, sides: [evil, { ...evil, event: 1.5 }] }, [], null, 1, "x"];
+  const others = [{ event: 12 }, { event: 0 }, { event: 1.5 }, { text: [1] }, { text: Array(41).fill("") }].map((more) => ({ ...evil, ...more }));
+  const wrong = [...[null, ...others].map((other) => ({ ...right, sides: [evil, other] })), { ...right, sides: [evil] },
+    { ...right, times: "1" }, { ...right, thing: null }, [], null, 1, "x"];
   const path = pictureOfRaces("hostile_races", LOST_UPDATE, [...wrong, right]);
   await opened(tab, path);
   assert.equal(await tab.run(() => page.races.length), 1);
@@ -95,13 +96,15 @@ export async function hostileRaces(tab) {
   assert.deepEqual(await tab.run(() => [page.races.length, document.getElementById("races").hidden]), [0, true]);
 }
 
-const journalRow = (event, task, kind, label, more = {}) => ({ event, task, thing: null, kind, file: "shop.py", line: event, label, ...more });
+const journalRow = (event, task, kind, label, more = {}) =>
+  ({ event, task, thing: null, kind, file: "shop.py", line: event, label, ...more });
 
 /** With a journal, a lock that nobody took again is no message that nobody received, and a process that ended is no task that did
  * not end. */
 export async function ends(tab) {
   const reports = [...WITH_LOCK, "send bob stock_2", "send bob letter"], lock = { lock: "#1 stock" };
-  const journal = [journalRow(2, "root", "spawn", "start process alice"), journalRow(6, "alice", "send", "release stock", lock), { end: true },
+  const journal = [journalRow(2, "root", "spawn", "start process alice"), journalRow(6, "alice", "send", "release stock", lock),
+    { end: true },
     journalRow(3, "root", "spawn", "start process bob"), journalRow(10, "bob", "send", "release stock", lock),
     journalRow(11, "bob", "send", "put letter")];
   const shown = async (more) => {

@@ -55,7 +55,8 @@ export async function why(tab) {
     page.chooseNothing();
     page.choose(one);
     page.choose(other, { asOther: true });
-    const told = (selector) => [...document.querySelectorAll(selector)].map((part) => part.querySelector("button")?.dataset.event ?? part.textContent);
+    const words = (part) => part.querySelector("button")?.dataset.event ?? part.textContent;
+    const told = (selector) => [...document.querySelectorAll(selector)].map(words);
     return { freedom: told("#freedom dd"), steps: told("#chain li"), chains: page.view.chains };
   }), pairs);
   pairs.forEach(([one, other], place) => {

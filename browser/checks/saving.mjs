@@ -10,7 +10,8 @@ const HOSTILE = '</text><script>window.wasRead = 1</script> & " \u0001 ]]> \ud83
 
 /** Reads an SVG as XML, in a page without this page's policy: the texts, the numbers of elements, and whether it is well formed. */
 const read = (tab, svg) => tab.run((text) => {
-  const { documentElement } = new DOMParser().parseFromString(text, "image/svg+xml"), all = [...documentElement.querySelectorAll("*")], counts = {};
+  const { documentElement } = new DOMParser().parseFromString(text, "image/svg+xml");
+  const all = [...documentElement.querySelectorAll("*")], counts = {};
   for (const { localName } of all) counts[localName] = (counts[localName] ?? 0) + 1;
   return { counts, texts: all.filter(({ localName }) => localName === "text").map((part) => part.textContent),
     said: documentElement.querySelector("desc")?.textContent, box: documentElement.getAttribute("viewBox") };
@@ -18,7 +19,8 @@ const read = (tab, svg) => tab.run((text) => {
 
 /** The button saves what is shown: the same shapes and texts as are on the canvas, with the race that is chosen and what is hidden. */
 export async function svg(tab) {
-  const journal = file("svg.journal", rows([{ event: 4, task: "alice", thing: "#1", kind: "read", file: "a.py", line: 1, label: HOSTILE }]));
+  const label = { event: 4, task: "alice", thing: "#1", kind: "read", file: "a.py", line: 1, label: HOSTILE };
+  const journal = file("svg.journal", rows([label]));
   const races = file("svg.races", rows([race("stock", [side(4, "alice", "read", 11), side(7, "bob", "write", 12)])]));
   await opened(tab, pictureOf("svg.html", exportOf(LOST_UPDATE), ["--labels", journal, "--races", races]), "#event=4&other=7");
   mkdirSync(inWork("saved"), { recursive: true });

@@ -27,7 +27,8 @@ async function shot(browser, path, hash, [, width, height, settings], target, be
 /** The touch that this line of the example makes, with the lines around it. */
 function touch(event, task, kind, text) {
   const lines = readFileSync(join(TOP, EXAMPLE)).toString().split("\n"), line = lines.findIndex((one) => one.includes(text)) + 1;
-  return { event, task, kind, file: EXAMPLE, line, function: "sell", begin: line - AROUND, text: lines.slice(line - AROUND - 1, line + AROUND) };
+  const around = lines.slice(line - AROUND - 1, line + AROUND);
+  return { event, task, kind, file: EXAMPLE, line, function: "sell", begin: line - AROUND, text: around };
 }
 
 const READ = ["read", 'left = stock["left"]'], WRITE = ["write", 'stock["left"] = left - 1'];
@@ -37,7 +38,8 @@ const LABELS = [[4, "alice", ...READ], [5, "bob", ...READ], [6, "alice", ...WRIT
 
 /** The lost update with its races and labels, as `run` draws it. */
 function racing() {
-  const labels = LABELS.map(([event, task, kind, text]) => ({ ...touch(event, task, kind, text), thing: "stock", label: `${kind} stock['left']` }));
+  const labels = LABELS.map(([event, task, kind, text]) =>
+    ({ ...touch(event, task, kind, text), thing: "stock", label: `${kind} stock['left']` }));
   const words = ["--labels", file("race.journal", rows(labels)), "--races", file("race.races", rows(RACES))];
   return pictureOf("race_shot.html", exportOf(LOST_UPDATE), words);
 }

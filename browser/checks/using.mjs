@@ -44,7 +44,8 @@ export async function labels(tab) {
   assert.ok((await text(tab, "#chosen dl")).startsWith("kindrecv"));
 }
 
-const TOLD = [[3, "a", "local", "touch", 11], [5, "a", "send", "put order", 12], [6, "root", "recv", "get order", 30], [2, "root", "spawn", "start a", 29]];
+const TOLD = [[3, "a", "local", "touch", 11], [5, "a", "send", "put order", 12], [6, "root", "recv", "get order", 30],
+  [2, "root", "spawn", "start a", 29]];
 const TOUCHES = [["write", "write stock", 13], ["read", "read price", 14]];
 
 /** The mouse over an event, an arrow or a lane shows label, place, task and number; so does the focus on an event. Comparing two
@@ -55,7 +56,10 @@ export async function tips(tab) {
   const journal = file("tips.journal", [...TOLD.map((one) => row(one)), ...touches].map((one) => `${JSON.stringify(one)}\n`).join(""));
   await opened(tab, pictureOf("tips.html", exportOf(WORKED), ["--labels", journal]));
   await tab.until(() => page.labels.size === 4);
-  const shown = () => tab.run(() => document.getElementById("tip").hidden ? [] : [...document.getElementById("tip").children].map((line) => line.textContent));
+  const shown = () => tab.run(() => {
+    const { hidden, children } = document.getElementById("tip");
+    return hidden ? [] : [...children].map((line) => line.textContent);
+  });
   const tip = async (x, y) => {
     await tab.hover(x, y);
     return shown();
