@@ -281,11 +281,12 @@ def draw(export: str, journal: str, picture: str, races: Races) -> bool:
     if command is None:
         _say("itc_trace: no picture: the command of that name is in the repository of itc_trace")
         return False
-    with tempfile.NamedTemporaryFile("w", suffix=".races", encoding="utf-8") as rows, open(export, "rb") as given, open(picture, "wb") as page:
+    with tempfile.NamedTemporaryFile("w", suffix=".races", encoding="utf-8") as rows:
         rows.write(race_rows(races))
         rows.flush()
         words = [command, "--labels", journal, "--races", rows.name]
-        return subprocess.run(words, stdin=given, stdout=page, check=False).returncode == 0
+        with open(export, "rb") as given, open(picture, "wb") as page:
+            return subprocess.run(words, stdin=given, stdout=page, check=False).returncode == 0
 
 
 def draw_tenant(tenant: str, port: int, host: str, lines: Iterable[str], picture: str, races: Races) -> bool:
