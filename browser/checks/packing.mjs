@@ -7,6 +7,10 @@ import { notice, opened, pause, picked } from "./tab.mjs";
 import { BUSY, unjoined, WORKED } from "./traces.mjs";
 
 const MOST_OPENING = 3000;
+const processorTime = async (tab) => {
+  const { metrics } = await tab.send("Performance.getMetrics");
+  return 1000 * metrics.find(({ name }) => name === "ProcessTime").value;
+};
 const stampsOf = (bytes) => [...bytes.toString().matchAll(/"stamp":"([^"]*)"/g)].map((found) => found[1]);
 const stampsShown = (tab) => tab.run(() => Array.from({ length: page.trace.events }, (_, place) => page.trace.stamp(place + 1)));
 
@@ -79,21 +83,23 @@ export async function worker(tab) {
   assert.equal(await tab.run(() => page.verdict), "yes 3000", "without a worker the page checks in slices");
 }
 
-/** A page of 16384 events of 2047 tasks that nobody joined takes a tenth of its export at most, and shows its picture within 3 s. */
+/** A page of 16384 events of 2047 tasks that nobody joined takes a tenth of its export at most, and shows its picture within 3 s of
+ * the processor, which other work beside does not count. */
 export async function unjoinedTasks(tab) {
   const bytes = exportOf(unjoined(16384, 2047)), html = pictureOf("unjoined.html", bytes), size = readFileSync(html).length, times = [];
+  await tab.send("Performance.enable", { timeDomain: "threadTicks" });
   for (let turn = 0; turn < 3; turn++) {
     await tab.navigate("about:blank");
-    const begin = performance.now();
+    const begin = await processorTime(tab);
     await tab.navigate(`file://${html}`);
     await tab.until(() => typeof page !== "undefined" && page.isShown === true);
     await tab.frame();
-    times.push(performance.now() - begin);
+    times.push(await processorTime(tab) - begin);
     assert.equal(await tab.run(() => page.verdict), null, "the picture is there before the check ends");
   }
   const mebibytes = (length) => (length / 2 ** 20).toFixed(1);
   const took = times.map((time) => time.toFixed(0)).join(", ");
-  const words = `${mebibytes(bytes.length)} MiB as a page of ${mebibytes(size)} MiB, shown after ${took} ms`;
+  const words = `${mebibytes(bytes.length)} MiB as a page of ${mebibytes(size)} MiB, shown after ${took} ms of the processor`;
   assert.ok(size * 10 <= bytes.length && Math.min(...times) < MOST_OPENING, words);
   return words;
 }
