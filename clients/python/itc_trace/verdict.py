@@ -71,11 +71,6 @@ def end_row(lines: int) -> str:
     return json.dumps({"end": True, "lines": lines}, separators=(",", ":")) + "\n"
 
 
-def is_end_row(line: str) -> bool:
-    """Whether it is the last line of a journal, with or without a number."""
-    return line.startswith('{"end":')
-
-
 BREAKS_OFF = Unseen(Cause.JOURNAL, "the journal breaks off before the end of its process")
 
 
