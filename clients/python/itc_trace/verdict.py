@@ -71,6 +71,9 @@ def end_row(lines: int) -> str:
     return json.dumps({"end": True, "lines": lines}, separators=(",", ":")) + "\n"
 
 
+END_OF_ALL = '{"end":true,"task":null}\n'
+"""The last line of several journals put together. Which of the processes have ended is told by the lines before it."""
+
 BREAKS_OFF = Unseen(Cause.JOURNAL, "the journal breaks off before the end of its process")
 
 
