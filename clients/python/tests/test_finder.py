@@ -247,10 +247,10 @@ def _all_signals(trace: Trace, locks: set[int]) -> list[int]:
     return trace.before
 
 
-def _any_hand_over(thing: Any, trace: Trace, told: list[int]) -> Any:
+def _any_hand_over(thing: Any, trace: Trace, told: list[int], replaced: Any) -> Any:
     """As if a thing that was made before the other task began could be handed over to it."""
-    handed_over = races._handed_over(thing, trace)
-    return lambda touch: ~(told[touch] | handed_over) & ((1 << touch) - 2)
+    handed_over, taken_out = races._handed_over(thing, trace), races._taken_out(thing, replaced)
+    return lambda touch: ~(told[touch] | taken_out.get(touch, 0) | handed_over) & ((1 << touch) - 2)
 
 
 def _in_common(alike: Any, held: Iterable[str]) -> int:
