@@ -22,7 +22,8 @@ from .verdict import Cause, Unseen
 VARIABLE = "ITC_TRACE_CHILD_OF"
 """Names the journal of a traced process to those that it starts."""
 
-STARTING = frozenset({"multiprocessing", "concurrent", "subprocess", "itc_trace"})
+STARTING = frozenset({"multiprocessing", "concurrent", "subprocess", "os", "pty", "asyncio", "itc_trace"})
+OWN_FOLDER = os.path.dirname(os.path.abspath(__file__)) + os.sep
 """Modules that start processes for the program."""
 
 LEFT_CHILD = Unseen(Cause.CHILD, "a child process goes on after its parent, and was not traced")
@@ -40,11 +41,12 @@ class Witness:
         state.witness = None
         watch.end()
         name = thing if isinstance(thing, str) else thing.name
-        told = Unseen(Cause.CHILD, f"a child process was not traced, and touched {name} at {_place(site)}")
-        try:
-            self._journal.write(told.row())
-        except OSError:
-            pass
+        self.tell(Unseen(Cause.CHILD, f"a child process was not traced, and touched {name} at {_place(site)}"))
+
+    def tell(self, unseen: Unseen) -> None:
+        """Tells of what a child process does besides, as to start a program."""
+        with contextlib.suppress(OSError):
+            self._journal.write(unseen.row())
 
 
 def _place(site: Any) -> str:
@@ -69,6 +71,8 @@ def tell_of_processes(tell: Callable[[Unseen], None]) -> None:
         for name in ("posix_spawn", "posix_spawnp"):
             if hasattr(os, name):
                 _wrap_command(os, name, 1, tell)
+        for name in ("execv", "execve"):
+            _wrap_replacement(name, tell)
 
 
 def _wrap_start(kind: Any, tell: Callable[[Unseen], None]) -> None:
@@ -97,11 +101,37 @@ def _wrap_command(owner: Any, name: str, place: int, tell: Callable[[Unseen], No
     setattr(owner, name, like(original, run))
 
 
+def _wrap_replacement(name: str, tell: Callable[[Unseen], None]) -> None:
+    """Tells of each program of a watched folder that takes the place of a forked child. Nobody comes back from a call to say so."""
+    original = getattr(os, name)
+
+    def replace(path: Any, words: Any, *environment: Any) -> Any:
+        program = watch.program_of(words, os.getcwd()) if _can_be_run(path) else None
+        if program is not None:
+            tell(Unseen(Cause.CHILD, f"a child process was not traced: {program}, which was started at {_starting_place()}"))
+        return original(path, words, *environment)
+
+    setattr(os, name, like(original, replace))
+
+
+def _can_be_run(path: Any) -> bool:
+    """Whether there is such a program. Who looks for one along the path tries many that are not there."""
+    try:
+        return os.access(path, os.X_OK)
+    except (TypeError, ValueError):
+        return True  # A file that is open already.
+
+
 def _starting_place() -> str:
     frame: FrameType | None = sys._getframe(2)
-    while frame is not None and str(frame.f_globals.get("__name__")).partition(".")[0] in STARTING:
+    while frame is not None and _starts_processes(frame):
         frame = frame.f_back
     return "?" if frame is None else f"{frame.f_code.co_filename}:{frame.f_lineno}"
+
+
+def _starts_processes(frame: FrameType) -> bool:
+    """Whether a frame is of a module that starts processes for the program."""
+    return str(frame.f_globals.get("__name__")).partition(".")[0] in STARTING or frame.f_code.co_filename.startswith(OWN_FOLDER)
 
 
 class Announced:

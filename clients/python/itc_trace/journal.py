@@ -4,13 +4,14 @@ from __future__ import annotations
 
 import json
 from collections.abc import Iterable, Iterator
+from dataclasses import dataclass
 from types import CodeType
 from typing import TYPE_CHECKING, Any, NamedTuple
 
 from .conflicts import CHANGING
 from .dividing import Border
 from .stretches import SITES, Across
-from .verdict import BREAKS_OFF, Cause, Unseen
+from .verdict import BREAKS_OFF, Cause, PassedOver, Unseen
 
 if TYPE_CHECKING:
     from .lock_identity import LockIdentity
@@ -59,10 +60,13 @@ KEYS = Row._fields
 
 
 class Journal(NamedTuple):
-    """The rows of a journal, and what it says was not seen."""
+    """The rows of a journal, and what was not seen: by its own words, and by its end."""
 
     rows: list[Row]
     unseen: list[Unseen]
+    missing: list[Unseen]
+    """What of `unseen` no line says: the journal breaks off, or has fewer lines than were written."""
+    passed_over: list[PassedOver]
 
 
 class NoJournal(Exception):
@@ -78,38 +82,70 @@ def read_whole(lines: Iterable[str]) -> Journal:
     """A journal, with a word of it if it breaks off. A last line that was cut off is passed over."""
     rows: list[Row] = []
     unseen: list[Unseen] = []
-    has_ended = False
+    passed_over: list[PassedOver] = []
+    count = Count()
     for number, line in enumerate(lines, 1):
         if not line.endswith("\n"):
             break
         read = read_line(line)
+        count.add(read)
         if isinstance(read, Row):
             rows.append(read)
         elif isinstance(read, Unseen):
             unseen.append(read)
-        elif read == END:
-            has_ended = True
+        elif isinstance(read, PassedOver):
+            passed_over.append(read)
+        elif isinstance(read, End):
+            pass
         elif read is not None and number > 1:
             unseen.append(Unseen(Cause.JOURNAL, "the journal is of a run in parts, which was looked at as one"))
         elif number == 1:
             raise NoJournal("its first line is none of a journal")
         else:
             unseen.append(Unseen(Cause.JOURNAL, f"line {number} of the journal is none"))
-    return Journal(rows, unseen if has_ended else with_break(unseen))
+    missing = count.missing(unseen)
+    return Journal(rows, [*unseen, *missing], missing, passed_over)
 
 
-def with_break(unseen: list[Unseen]) -> list[Unseen]:
-    """What is not seen of a run whose journal has no end. It breaks off, if nothing else says why no more was told."""
-    return unseen if any(one.cause not in GOING_ON for one in unseen) else [*unseen, BREAKS_OFF]
+class End(NamedTuple):
+    """The last line of a journal, and how many lines the process has written before it, if it says so."""
+
+    lines: int | None = None
 
 
-END = "end"
+@dataclass
+class Count:
+    """The lines of a journal, which are compared with the number at its end."""
+
+    told: int = 0
+    """Lines that say what was not seen. A child process may have added some."""
+    others: int = 0
+    end: End | None = None
+
+    def add(self, read: Read | None) -> None:
+        if isinstance(read, End):
+            self.end = read
+        elif isinstance(read, Unseen):
+            self.told += 1
+        elif read is not None:
+            self.others += 1
+
+    def missing(self, unseen: list[Unseen]) -> list[Unseen]:
+        """What is not seen of the run besides. Without an end the journal breaks off, if nothing else says why no more was told."""
+        if self.end is None:
+            return [] if any(one.cause not in GOING_ON for one in unseen) else [BREAKS_OFF]
+        written = self.end.lines
+        if written is None or self.others <= written <= self.others + self.told:
+            return []
+        return [Unseen(Cause.JOURNAL, f"the journal has {self.others + self.told} lines where {written} were written")]
+
+
 BORDER = '{"border":'
 GOING_ON = frozenset({Cause.CHILD, Cause.MODULE})
 """Why something is not seen of a run that goes on to be traced."""
 
 
-def read_line(line: str) -> Row | Unseen | Begun | str | None:
+def read_line(line: str) -> Read | None:
     """What a line of a journal says. None if it is no such line."""
     try:
         read = json.loads(line)
@@ -119,7 +155,11 @@ def read_line(line: str) -> Row | Unseen | Begun | str | None:
             return border_of(read)
         if "unseen" in read:
             return Unseen(Cause(read["unseen"]), str(read["text"]))
-        return END if "end" in read else None
+        if "passed_over" in read:
+            return PassedOver(str(read["passed_over"]), str(read["place"]))
+        if "end" in read:
+            return End(None if read.get("lines") is None else int(read["lines"]))
+        return None
     except (ValueError, TypeError, KeyError):
         return None
 
@@ -145,6 +185,10 @@ class Begun(NamedTuple):
 
     part: int
     border: Border
+
+
+Read = Row | Unseen | PassedOver | Begun | End
+"""What a line of a journal says."""
 
 
 def border_of(read: dict[str, Any]) -> Begun:

@@ -4,17 +4,29 @@ from __future__ import annotations
 
 import contextlib
 import os
+from _thread import get_ident
 
 
 class JournalFile:
-    """Adds whole lines to the file. Nothing is kept in between, so that a forked child has nothing to write twice."""
+    """Adds whole lines to the file. Nothing is kept in between, so that a forked child has nothing to write twice.
+
+    It counts the lines that this process writes. Each thread counts its own, so that no thread waits for another.
+    """
 
     def __init__(self, path: str, adds: bool = False) -> None:
         """Writes the file anew, or adds to one that is there."""
         flags = os.O_WRONLY | os.O_APPEND | (0 if adds else os.O_CREAT | os.O_TRUNC)
         self._file: int | None = os.open(path, flags | getattr(os, "O_CLOEXEC", 0), 0o666)
+        self._lines: dict[int, int] = {}
+
+    @property
+    def lines(self) -> int:
+        """How many lines were written."""
+        return sum(list(self._lines.values()))
 
     def write(self, text: str) -> None:
+        thread = get_ident()
+        self._lines[thread] = self._lines.get(thread, 0) + text.count("\n")
         left = text.encode("utf-8", "backslashreplace")
         while left and self._file is not None:
             left = left[os.write(self._file, left):]

@@ -5,7 +5,7 @@ from __future__ import annotations
 from dataclasses import dataclass, field
 
 from .races import Race, Races
-from .verdict import Unseen, Verdict, reasons, verdict_of
+from .verdict import PassedOver, Unseen, Verdict, listed, reasons, verdict_of
 
 Key = object
 
@@ -28,12 +28,14 @@ class Merged:
     status: int = 0
     """The first status of the program that was not 0."""
     unseen: list[Unseen] = field(default_factory=list)
+    passed_over: list[PassedOver] = field(default_factory=list)
     _races: dict[Key, Often] = field(default_factory=dict)
     _possible: dict[Key, Often] = field(default_factory=dict)
 
     def add(self, races: Races, status: int, seed: int | None) -> None:
         self.runs += 1
         self.status = self.status or status
+        self.passed_over += races.passed_over
         self.unseen += [Unseen(one.cause, f"run {self.runs}: {one.text}") for one in races.unseen]
         for found, known in ((races.races, self._races), (races.possible, self._possible)):
             for key, race in {race.key: race for race in found}.items():
@@ -63,7 +65,7 @@ class Merged:
         count = len(self._races)
         found = "no race" if count == 0 else "1 race" if count == 1 else f"{count} races"
         possible = f"; {len(self._only_possible)} possible" if self._only_possible else ""
-        return f"{found} in {'what was seen of ' if self.unseen else ''}{_runs(self.runs)}{possible}"
+        return f"{found} in {'what was seen of ' if self.unseen else ''}{_runs(self.runs)}{possible}{listed(self.passed_over)}"
 
 
 def _runs(count: int) -> str:

@@ -16,13 +16,13 @@ from .benign import Looking
 from .collector import Collector, NoCollector
 from .conflicts import MAKING
 from .dividing import Border, Report
-from .journal import BORDER, END, Begun, Row, read_line, with_break
+from .journal import BORDER, Begun, Count, End, Row, read_line
 from .progress import Bar, Shown
 from .races import Races, add_race, find_in, in_order, list_pair
 from .session import Refused, Session
 from .snapshot import write_export
 from .trace import Asked, Trace
-from .verdict import END_ROW, Cause, Unseen
+from .verdict import Cause, PassedOver, Unseen, end_row
 
 TENANT = "trace"
 UNSEEN_TURNS = "a task of a loop read {} in one part of the trace and wrote it back in the next, at {}: who came in between was not looked at"
@@ -141,7 +141,7 @@ def races_of_parts(
     looking = looking or Looking()
     with tempfile.TemporaryDirectory(prefix="itc_trace_") as folder:
         divided = _Divided(journal, folder)
-        found = Races(unseen=divided.unseen)
+        found = Races(unseen=divided.unseen, passed_over=divided.passed_over)
         try:
             keep = None if export is None else _Exports(export, divided).keep
             find_in_parts(divided.parts(found, last), found, looking.strict, collected, bar, keep)
@@ -177,24 +177,25 @@ class _Divided:
         self._folder = folder
         self._borders: dict[int, Border] = {}
         self.unseen: list[Unseen] = []
-        has_ended = False
+        self.passed_over: list[PassedOver] = []
+        count = Count()
         with contextlib.closing(_Files(self.file)) as files, open(journal, encoding="utf-8", errors="replace") as lines:
             for number, line in enumerate(lines, 1):
                 if not line.endswith("\n"):
                     break
                 read = read_line(line)
+                count.add(read)
                 if isinstance(read, Row):
                     files.add(read.part, line)
                 elif isinstance(read, Unseen):
                     self.unseen.append(read)
                 elif isinstance(read, Begun):
                     self._borders[read.part] = read.border
-                elif read == END:
-                    has_ended = True
-                else:
+                elif isinstance(read, PassedOver):
+                    self.passed_over.append(read)
+                elif not isinstance(read, End):
                     self.unseen.append(Unseen(Cause.JOURNAL, f"line {number} of the journal is none"))
-        if not has_ended:
-            self.unseen = with_break(self.unseen)
+        self.unseen += count.missing(self.unseen)
 
     def file(self, part: int) -> str:
         return os.path.join(self._folder, f"part-{part}")
@@ -239,7 +240,7 @@ class _Exports:
         with open(name, "w", encoding="ascii", newline="\n") as output:
             write_export(view, events, TENANT, output)
         shutil.copyfile(self._divided.file(part.number), f"{name}.journal")
-        with open(f"{name}.journal", "a", encoding="utf-8") as journal:
-            journal.write(END_ROW)
+        with open(f"{name}.journal", "r+", encoding="utf-8") as journal:
+            journal.write(end_row(sum(1 for _ in journal)))
         with open(self._name, "a", encoding="utf-8") as listed:
             listed.write(f"{os.path.basename(name)}\n")

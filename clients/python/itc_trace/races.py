@@ -8,6 +8,7 @@ not both hold put two touches in order.
 from __future__ import annotations
 
 import linecache
+from bisect import bisect_left, bisect_right
 from collections import defaultdict
 from collections.abc import Iterable, Iterator
 from dataclasses import dataclass, field
@@ -16,7 +17,7 @@ from itertools import islice
 from typing import Protocol
 
 from .collector import HOST, NoCollector
-from .conflicts import CONFLICTING, MAKING
+from .conflicts import CONFLICTING, MAKING, WRITE
 from .fast_track import deciding_pairs
 from .journal import Row, read_whole
 from .order import Order
@@ -24,7 +25,7 @@ from .progress import Bar, Shown
 from .racing_pairs import Pair, racing_pairs
 from .session import Refused, Session
 from .trace import Asked, Events, Trace, Unordered, lock_events, lock_that_tells, told_by_signals
-from .verdict import Cause, Unseen, Verdict, verdict_of
+from .verdict import Cause, PassedOver, Unseen, Verdict, listed, verdict_of
 from .without_locks import WithoutLocks
 
 NOTHING = "nothing orders them"
@@ -94,6 +95,7 @@ class Races:
     races: list[Race] = field(default_factory=list)
     possible: list[Race] = field(default_factory=list)
     unseen: list[Unseen] = field(default_factory=list)
+    passed_over: list[PassedOver] = field(default_factory=list)
     silenced: int = 0
     """How many more there are, but meant."""
     touches: int = 0
@@ -120,7 +122,7 @@ class Races:
         found = "no race" if not self.races else _counted(len(self.races), "race")
         where = "in what was seen" if self.unseen else "in this run"
         return f"{found} {where}" + (f"; {len(self.possible)} possible" if self.possible else "") + (
-            f"; {self.silenced} silenced" if self.silenced else "")
+            f"; {self.silenced} silenced" if self.silenced else "") + listed(self.passed_over)
 
     def summary(self) -> str:
         return (
@@ -173,7 +175,7 @@ def find_races(
     whole = read_whole(journal)
     rows = sorted(dict.fromkeys(whole.rows), key=lambda row: row.event)
     touches = [row for row in rows if row.is_touch and row.kind != MAKING]
-    found = Races(unseen=whole.unseen, touches=len(touches), events=len({row.event for row in rows}))
+    found = Races(unseen=whole.unseen, passed_over=whole.passed_over, touches=len(touches), events=len({row.event for row in rows}))
     found.places = len({(row.thing, row.place) for row in touches})
     found.things = len({row.thing for row in touches})
     things = [thing for thing in _things_of(rows) if thing.may_race]
@@ -214,6 +216,7 @@ class _Finder:
         self._found = found
         self._is_strict = is_strict
         self._locks = {row.event: row.lock for row in rows if row.lock is not None}
+        self._replaced = _replaced(rows)
         self._order = Order(view)
 
     @cached_property
@@ -262,7 +265,7 @@ class _Finder:
         races = {_key(race.example) for race in self._found.races}
         listed: dict[object, Race] = {}
         for thing in things:
-            untold = _untold(thing, trace, told)
+            untold = _untold(thing, trace, told, self._replaced)
 
             def by_luck(touch: int, untold: Unordered = untold) -> Events:
                 return trace.before[touch] & untold(touch)
@@ -305,17 +308,51 @@ def _confirm(races: list[Race], order: _Confirms) -> None:
             raise Refused("order {} {}".format(*pair), "it contradicts what the events follow")
 
 
-def _untold(thing: _Thing, trace: Trace, told: list[Events]) -> Unordered:
+def _untold(thing: _Thing, trace: Trace, told: list[Events], replaced: _Replaced) -> Unordered:
     """Which earlier events a touch was told of by locks at most."""
-    making, handed_over = thing.making, _handed_over(thing, trace)
+    making, handed_over, taken_out = thing.making, _handed_over(thing, trace), _taken_out(thing, replaced)
 
     def untold(touch: int) -> Events:
-        known = told[touch]
+        known = told[touch] | taken_out.get(touch, 0)
         if making is not None and not known >> making.event & 1:
             known |= handed_over
         return ~known & ((1 << touch) - 2)
 
     return untold
+
+
+_Replaced = dict[tuple[str, str], list[Row]]
+"""Where a task has put something else into a field or a variable while it held a lock, by the task and the name."""
+
+
+def _replaced(rows: list[Row]) -> _Replaced:
+    found: _Replaced = defaultdict(list)
+    for row in rows:
+        if row.kind == WRITE and row.held and row.name:
+            found[row.task, row.name].append(row)
+    return found
+
+
+def _taken_out(thing: _Thing, replaced: _Replaced) -> dict[int, Events]:
+    """For each touch the earlier ones after which its task took the thing out of the place that it is named for.
+
+    The task put something else there under a lock that the earlier touches were under, and had the thing alone from then on.
+    """
+    taken: dict[int, Events] = defaultdict(int)
+    first, last = thing.touches[0], thing.touches[-1]
+    for task in thing.tasks:
+        puts = replaced.get((task, first.name), [])
+        between = puts[bisect_left(puts, first.event, key=_event):bisect_right(puts, last.event, key=_event)]
+        for put in between:
+            known = sum({1 << row.event for row in thing.touches if row.event <= put.event and not set(row.held).isdisjoint(put.held)})
+            for touch in thing.touches if known else ():
+                if touch.task == task and touch.event >= put.event and touch.thing != put.thing:
+                    taken[touch.event] |= known
+    return taken
+
+
+def _event(row: Row) -> int:
+    return row.event
 
 
 def _handed_over(thing: _Thing, trace: Trace) -> Events:

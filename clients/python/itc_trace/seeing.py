@@ -10,7 +10,7 @@ from .journal import Journal, NoJournal, read_whole
 from .progress import Bar
 from .races import Races, find_races
 from .session import Refused, Session
-from .verdict import BREAKS_OFF, END_ROW, Cause, Unseen
+from .verdict import END_ROW, Cause, Unseen, is_end_row
 
 MOST_LOOKED_AT = 64
 
@@ -54,10 +54,10 @@ def lines_of(journals: Iterable[str]) -> Iterator[str]:
         with open(name, encoding="utf-8", errors="replace") as file:
             lines = list(file)
         try:
-            unseen = read_whole(lines).unseen
+            missing = read_whole(lines).missing
         except NoJournal as fault:
             raise NoJournal(f"{name} is no journal: {fault}: name the FILE of --journal, or FILE.journal of --export") from fault
-        yield from (line for line in lines if line.endswith("\n"))
-        if BREAKS_OFF in unseen:
-            yield Unseen(Cause.JOURNAL, f"{name} breaks off before the end of its process").row()
+        yield from (line for line in lines if line.endswith("\n") and not is_end_row(line))
+        for one in missing:
+            yield one._replace(text=one.text.replace("the journal", name, 1)).row()
     yield END_ROW

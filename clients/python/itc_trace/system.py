@@ -35,7 +35,7 @@ from .seeing import races_seen
 from .session import Refused
 from .snapshot import snapshot
 from .system_file import Described, System
-from .verdict import BREAKS_OFF, END_ROW, Cause, Unseen
+from .verdict import Cause, Unseen, end_row, is_end_row
 
 READY_SECONDS = 60.0
 GRACE_SECONDS = 10.0
@@ -259,7 +259,7 @@ class Running:
                 print(f"itc_trace: process {process.name} reported {len(written)} times: it was started again", file=sys.stderr)
             for path in written:
                 lines += self._lines_of(process, path)
-        return [*lines, END_ROW]
+        return [*lines, end_row(len(lines))]
 
     def _is_refused(self, name: str) -> bool:
         told_by = Path(self._told_by(name))
@@ -269,14 +269,15 @@ class Running:
         with open(path, encoding="utf-8", errors="replace") as journal:
             lines = list(journal)
         try:
-            unseen = read_whole(lines).unseen
+            missing = read_whole(lines).missing
         except NoJournal:
             self._miss(Cause.JOURNAL, f"the journal of process {process.name} is none")
             return
-        if BREAKS_OFF in unseen:
-            self._miss(Cause.JOURNAL, f"the journal of process {process.name} breaks off before its end")
+        for one in missing:
+            self._miss(Cause.JOURNAL, one.text.replace("the journal", f"the journal of process {process.name}", 1))
         is_ended_by_us = process.described.is_service and process.is_ended_by_us
-        yield from (line for line in lines if line.endswith("\n") and line != END_ROW and not (is_ended_by_us and line == ENDED_AS_A_SERVICE))
+        left_out = {ENDED_AS_A_SERVICE} if is_ended_by_us else set()
+        yield from (line for line in lines if line.endswith("\n") and line not in left_out and not is_end_row(line))
 
 
 ENDED_AS_A_SERVICE = Unseen(Cause.KILLED, "the program was ended by SIGTERM").row()

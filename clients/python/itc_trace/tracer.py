@@ -29,7 +29,7 @@ from .stretches import STRETCHES, Stretch
 from .patches.exits import await_at_exit, take_awaited
 from .touch_rows import TouchEvent, TouchRows, part_text
 from .tracer_parts import Parts
-from .verdict import END_ROW, Cause, Unseen
+from .verdict import Cause, Unseen, end_row
 
 NOTES_AT_ONCE = 1024
 MOST_WAITING = 200_000
@@ -277,7 +277,7 @@ class Tracer:
             self._socket.close()
         self._write_touches(is_last=True)
         if not self._is_over:
-            self._journal_row(END_ROW)
+            self._journal_row(end_row(self._journal.lines))
 
     def _await(self, waiter: Waiter) -> None:
         """Waits for an answer, as long as something is reported or answered meanwhile."""

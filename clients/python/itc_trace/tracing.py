@@ -23,7 +23,7 @@ from .seeing import races_seen
 from .shaking import Shaking
 from .tracer import Tracer
 from .tracer_parts import Parts
-from .verdict import Unseen
+from .verdict import PassedOver, Unseen
 
 
 class Tracing:
@@ -95,7 +95,7 @@ class Tracing:
         with self._stopping:
             self.is_stopping = True
             if self._file is not None:
-                for one in watch.unwatched():
+                for one in [*watch.unwatched(), *watch.not_looked_into()]:
                     self.tell(one)
             tracer, self._tracer = self._tracer, None
             file, self._file = self._file, None
@@ -110,7 +110,7 @@ class Tracing:
                     one.close()
             self.is_stopping = False
 
-    def tell(self, unseen: Unseen) -> None:
+    def tell(self, unseen: Unseen | PassedOver) -> None:
         """Says in the journal what of the run is not seen. If that cannot be written, tracing stops, and the journal breaks off."""
         if self._file is None:
             return
@@ -137,6 +137,7 @@ class Tracing:
             self._tracer.forget()
         if self._file is not None:
             state.witness = Witness(self._file)
+            _witnesses.append(state.witness)
             watch.witness()
         self._tracer = self._file = self._collector = self._announced = None
         self._stopping = _thread.RLock()
@@ -224,11 +225,13 @@ def uninstall() -> None:
 
 _active: set[Tracing] = set()
 """What traces this process now."""
+_witnesses: list[Witness] = []
+"""Who tells in the journal of the parent, in a forked child."""
 
 
 def _tell(unseen: Unseen) -> None:
-    for traced in list(_active):
-        traced.tell(unseen)
+    for one in [*_active, *_witnesses]:
+        one.tell(unseen)
 
 
 def _forget() -> None:

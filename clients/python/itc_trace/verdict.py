@@ -41,8 +41,40 @@ class Unseen(NamedTuple):
         return json.dumps({"unseen": self.cause.value, "text": self.text}, separators=(",", ":")) + "\n"
 
 
+class PassedOver(NamedTuple):
+    """What the program's source does that no hook looks into, and where."""
+
+    what: str
+    place: str
+
+    def row(self) -> str:
+        """The line of a journal that says so."""
+        return json.dumps({"passed_over": self.what, "place": self.place}, separators=(",", ":")) + "\n"
+
+
+MOST_LISTED = 3
+
+
+def listed(passed_over: Iterable[PassedOver]) -> str:
+    """What was not looked into, as the last line says it."""
+    words = [f"{one.what} at {one.place}" for one in dict.fromkeys(passed_over)]
+    more = f" and {len(words) - MOST_LISTED} more" if len(words) > MOST_LISTED else ""
+    return f"; not looked into: {', '.join(words[:MOST_LISTED])}{more}" if words else ""
+
+
 END_ROW = '{"end":true}\n'
-"""The last line of a journal whose process reported all that it noted."""
+"""The last line of a journal whose process reported all that it noted. This one does not say how many lines there are."""
+
+
+def end_row(lines: int) -> str:
+    """The same, with how many lines the process has written before it."""
+    return json.dumps({"end": True, "lines": lines}, separators=(",", ":")) + "\n"
+
+
+def is_end_row(line: str) -> bool:
+    """Whether it is the last line of a journal, with or without a number."""
+    return line.startswith('{"end":')
+
 
 BREAKS_OFF = Unseen(Cause.JOURNAL, "the journal breaks off before the end of its process")
 

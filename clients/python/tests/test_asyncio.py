@@ -3,6 +3,8 @@
 from __future__ import annotations
 
 import asyncio
+import concurrent.futures
+import contextlib
 import sys
 import threading
 import unittest
@@ -184,7 +186,77 @@ class Tasks(Asynchronous):
         self.assertGreater([row.kind for row in self.rows].count("join"), 400)
 
 
+    def test_who_sees_a_task_done_comes_after_its_end(self) -> None:
+        async def main() -> None:
+            task = asyncio.create_task(writing())
+            while not task.done():
+                await asyncio.sleep(0)
+            write()
+
+        self.ordered(main)
+
+
 class Futures(Asynchronous):
+    def test_an_error_of_a_future_carries_order(self) -> None:
+        async def main() -> None:
+            future = asyncio.get_running_loop().create_future()
+
+            async def give() -> None:
+                write()
+                future.set_exception(ValueError())
+
+            async def take() -> None:
+                with contextlib.suppress(ValueError):
+                    await future
+                write()
+
+            await asyncio.gather(take(), give())
+
+        self.ordered(main)
+
+    def test_who_takes_a_result_without_waiting_comes_after_who_set_it(self) -> None:
+        for name in ("result", "exception", "done"):
+            with self.subTest(name=name):
+
+                async def main() -> None:
+                    future = asyncio.get_running_loop().create_future()
+
+                    async def give() -> None:
+                        write()
+                        future.set_result(None)
+
+                    async def take() -> None:
+                        getattr(future, name)()
+                        write()
+
+                    await one_after_another(give, take)
+
+                self.ordered(main)
+
+    def test_a_later_callback_comes_after_who_asked_for_it(self) -> None:
+        for name in ("call_later", "call_at"):
+            with self.subTest(name=name):
+
+                async def main() -> None:
+                    loop, called = asyncio.get_running_loop(), []
+                    write()
+                    getattr(loop, name)(loop.time() if name == "call_at" else 0.001, lambda: (write(), called.append(1)))
+                    while not called:
+                        await asyncio.sleep(0)
+
+                self.ordered(main)
+
+    def test_a_wrapped_future_of_threads_carries_order(self) -> None:
+        async def main() -> None:
+            future: concurrent.futures.Future[None] = concurrent.futures.Future()
+            thread = threading.Thread(target=lambda: (write(), future.set_result(None)))
+            wrapped = asyncio.wrap_future(future)
+            thread.start()
+            await wrapped
+            write()
+
+        self.ordered(main)
+
     def test_a_future_carries_order(self) -> None:
         for make in (asyncio.get_running_loop, None):
             with self.subTest(make=make):
@@ -358,6 +430,42 @@ class Locks(Asynchronous):
                     condition.notify_all()
 
             await asyncio.gather(consume(), produce())
+
+        self.ordered(main)
+
+    def test_who_is_woken_comes_after_the_call_that_woke_it(self) -> None:
+        async def main() -> None:
+            condition: Any = asyncio.Condition()
+
+            async def consume() -> None:
+                async with condition:
+                    await condition.wait()
+                    self.assertEqual(condition._waiters._tokens, {})
+                    self.assertEqual(condition._waiters._mine, {})
+
+            waiting = asyncio.create_task(consume())
+            while not condition._waiters:
+                await asyncio.sleep(0)
+            async with condition:
+                condition.notify()
+                self.assertEqual([token.what.hint for token in condition._waiters._tokens.values()], ["notify"])
+            await waiting
+
+        self.races(lambda: asyncio.run(main()))
+
+    def test_who_sees_an_event_set_comes_after_who_set_it(self) -> None:
+        async def main() -> None:
+            event = asyncio.Event()
+
+            async def first() -> None:
+                write()
+                event.set()
+
+            async def second() -> None:
+                if event.is_set():
+                    write()
+
+            await one_after_another(first, second)
 
         self.ordered(main)
 

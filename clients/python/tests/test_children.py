@@ -98,6 +98,14 @@ subprocess.run([sys.executable, "-c", "import itc_trace; itc_trace.touch('x')" i
 """
 STARTS_ITSELF = """
 import os, shlex, subprocess, sys
+def in_child(work):
+    child = os.fork()
+    if child == 0:
+        try:
+            work()
+        finally:
+            os._exit(0)
+    os.waitpid(child, 0)
 def start(how):
     words = [sys.executable, "-X", "utf8", __file__, "child"]
     if how == "run":
@@ -110,9 +118,21 @@ def start(how):
         subprocess.run([sys.executable, "-m", "program", "child"], cwd=os.path.dirname(os.path.abspath(__file__)), check=True)
     elif how == "system":
         os.system(shlex.join(words))
+    elif how == "words of a shell":
+        subprocess.run(["sh", "-c", "true && exec " + shlex.join(words)], check=True)
+    elif how == "text":
+        subprocess.run([sys.executable, "-c", "import os, program"], cwd=os.path.dirname(os.path.abspath(__file__)), check=True)
+    elif how == "fork":
+        in_child(lambda: os.execv(sys.executable, words))
+    elif how == "fork, by the path":
+        in_child(lambda: os.execlpe("env", "env", *words, {"PATH": "/no_such:/usr/bin:/bin"}))
+    elif how == "spawn":
+        os.spawnv(os.P_WAIT, sys.executable, words)
+    elif how == "run in a fork":
+        in_child(lambda: subprocess.run(words, check=True))
     else:
         os.waitpid(os.posix_spawn(sys.executable, words, os.environ), 0)
-if sys.argv[1] != "child":
+if __name__ == "__main__" and sys.argv[1] != "child":
     start(sys.argv[1])
 """
 STARTS_OTHERS = """
@@ -121,6 +141,15 @@ for words in ([sys.executable, "-m", "json.tool", "--help"], [sys.executable, "-
     subprocess.run(words, stdout=subprocess.DEVNULL, check=True)
 subprocess.run("true; echo program.py", shell=True, stdout=subprocess.DEVNULL, check=True)
 os.system("true")
+def replace(*words):
+    try:
+        os.execvp(words[0], words)
+    finally:
+        os._exit(0)
+for own in (("true",), (sys.executable, "-c", "import json"), ("/no_such/python", __file__)):
+    if os.fork() == 0:
+        replace(*own)
+    os.wait()
 """
 MOST_SECONDS = 450
 """A child that waits for a thread which it does not have takes twice as long. A machine with other work may be slow."""
@@ -193,7 +222,10 @@ class Children(ProgramCase):
 
     def test_a_program_of_the_same_folder_that_is_started_is_told_as_not_seen(self) -> None:
         program = self.program(STARTS_ITSELF)
-        for how in ("run", "without variables", "shell", "module", "system", "posix_spawn"):
+        for how in (
+            "run", "without variables", "shell", "module", "system", "posix_spawn", "words of a shell", "text", "fork",
+            "fork, by the path", "spawn", "run in a fork",
+        ):
             with self.subTest(how=how):
                 ran = run_traced(program, how)
                 self.assertEqual(ran.returncode, Verdict.INCOMPLETE, ran.stderr)

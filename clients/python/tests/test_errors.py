@@ -12,7 +12,7 @@ from pathlib import Path
 from itc_trace import Collector, Session, Verdict, touch, tracing
 from itc_trace.collector import find_program, free_port
 from itc_trace.journal import NoJournal, read_whole
-from itc_trace.verdict import BREAKS_OFF, END_ROW, Cause, Unseen
+from itc_trace.verdict import BREAKS_OFF, END_ROW, Cause, Unseen, end_row
 
 from .support import PACKAGE, ProgramCase, run_python, run_traced
 
@@ -180,6 +180,21 @@ class Journals(unittest.TestCase):
         except NoJournal:
             return True
 
+    def test_a_journal_that_lost_any_of_its_lines_is_no_all_clear(self) -> None:
+        lines = [ROW, ROW.replace('"event":1', '"event":2'), Unseen(Cause.MODULE, "a module").row()]
+        end = end_row(len(lines))
+        self.assertEqual(self.causes(*lines, end), [Cause.MODULE])
+        for number in range(len(lines)):
+            left = lines[:number] + lines[number + 1:]
+            self.assertIn(Cause.JOURNAL, self.causes(*left, end), left)
+        self.assertEqual(self.causes(end), [Cause.JOURNAL])
+
+    def test_lines_that_nobody_wrote_are_no_all_clear(self) -> None:
+        self.assertEqual(self.causes(ROW, ROW, end_row(1)), [Cause.JOURNAL])
+
+    def test_what_a_child_process_adds_is_no_line_too_many(self) -> None:
+        self.assertEqual(self.causes(ROW, Unseen(Cause.CHILD, "a child").row(), end_row(1)), [Cause.CHILD])
+
     def test_what_was_not_seen_is_told_wherever_it_stands(self) -> None:
         full = Unseen(Cause.FULL, "the trace is full").row()
         self.assertEqual(self.causes(ROW, full, ROW, END_ROW), [Cause.FULL])
@@ -195,11 +210,15 @@ class Journals(unittest.TestCase):
             with Session("trace", collector.port) as session:
                 session.local("root")
             whole, broken = Path(folder, "whole"), Path(folder, "broken")
-            whole.write_text(ROW + END_ROW)
+            whole.write_text(ROW + end_row(1))
             broken.write_text(ROW)
             ran = run_python("-m", "itc_trace", "races", "--port", str(collector.port), "trace", str(broken), str(whole))
             self.assertEqual(ran.returncode, Verdict.INCOMPLETE, ran.stderr)
             self.assertTrue(ran.stdout.startswith(f"itc_trace: incomplete: {broken} breaks off"), ran.stdout)
+            broken.write_text(end_row(1))
+            ran = run_python("-m", "itc_trace", "races", "--port", str(collector.port), "trace", str(whole), str(broken))
+            self.assertEqual(ran.returncode, Verdict.INCOMPLETE, ran.stderr)
+            self.assertTrue(ran.stdout.startswith(f"itc_trace: incomplete: {broken} has 0 lines where 1 were written"), ran.stdout)
             ran = run_python("-m", "itc_trace", "races", "--port", str(collector.port), "trace", str(whole))
             self.assertEqual(ran.returncode, Verdict.NO_RACE, ran.stdout)
 

@@ -11,7 +11,7 @@ from pathlib import Path
 from itc_trace import Verdict
 from itc_trace.collector import find_program
 from itc_trace.parts import races_of_parts
-from itc_trace.verdict import BREAKS_OFF, END_ROW, Cause, Unseen
+from itc_trace.verdict import BREAKS_OFF, END_ROW, Cause, Unseen, end_row
 
 from .support import ProgramCase, run_python, run_traced
 
@@ -145,9 +145,10 @@ class Journals(unittest.TestCase):
     def test_a_journal_that_breaks_off_or_is_damaged_is_no_all_clear(self) -> None:
         module = Unseen(Cause.MODULE, "a module was not watched")
         damaged = Unseen(Cause.JOURNAL, "line 2 of the journal is none")
+        lost = Unseen(Cause.JOURNAL, "the journal has 0 lines where 1 were written")
         for rows, unseen in (
             (ROW + END_ROW, []), (ROW, [BREAKS_OFF]), (ROW + END_ROW[:-1], [BREAKS_OFF]), (f"{ROW}none\n{END_ROW}", [damaged]),
-            (ROW + module.row(), [module, BREAKS_OFF]), (ROW + module.row() + END_ROW, [module]),
+            (end_row(1), [lost]), (ROW + end_row(1), []), (ROW + module.row(), [module, BREAKS_OFF]), (ROW + module.row() + END_ROW, [module]),
         ):
             with self.subTest(rows=rows), tempfile.NamedTemporaryFile("w", suffix=".journal") as journal:
                 journal.write(rows)

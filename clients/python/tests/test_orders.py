@@ -503,6 +503,16 @@ class Processes(TracedCase):
     def test_the_result_of_another_process_comes_after_who_set_it(self) -> None:
         def scenario() -> None:
             with ProcessPoolExecutor(1, multiprocessing.get_context("spawn")) as pool:
+                first, second = pool.submit(abs, -5), pool.submit(abs, -6)
+                first.add_done_callback(lambda _: write("x"))  # The thread calls it that sets the second result, too.
+                self.assertEqual(second.result(WAIT), 6)
+                write("x")
+
+        self.assert_ordered(scenario)
+
+    def test_a_callback_of_another_process_comes_after_who_added_it(self) -> None:
+        def scenario() -> None:
+            with ProcessPoolExecutor(1, multiprocessing.get_context("spawn")) as pool:
                 write("x")
                 future = pool.submit(abs, -5)
                 called = threading.Event()

@@ -12,7 +12,7 @@ from typing import Any
 
 from itc_trace import touch
 
-from .support import PART_EVENTS, WAIT, Step, TracedCase, in_turn
+from .support import PART_EVENTS, WAIT, Step, TracedCase, in_turn, wait_until
 from .test_threads import write
 
 KINDS: list[Any] = [queue.Queue, queue.LifoQueue, queue.PriorityQueue, lambda: queue.SimpleQueue()]
@@ -168,6 +168,13 @@ class Pools(TracedCase):
 
                     self.assert_ordered(scenario)
 
+    def test_who_sees_that_a_future_is_cancelled_comes_after_who_cancelled_it(self) -> None:
+        def scenario() -> None:
+            future: Future[int] = Future()
+            in_turn(lambda: (write(), future.cancel()), lambda: future.done() and write())
+
+        self.assert_ordered(scenario)
+
     def test_the_end_of_a_pool_comes_after_its_jobs(self) -> None:
         def scenario() -> None:
             kept = []
@@ -187,6 +194,20 @@ class Pools(TracedCase):
                     time.sleep(0.01)
 
         self.assert_race(scenario)
+
+    def test_a_job_comes_after_its_own_submission_and_not_after_the_job_that_its_thread_ran_before(self) -> None:
+        def scenario() -> None:
+            step = Step()
+            with ThreadPoolExecutor(2) as pool:
+                pool.submit(step.wait)  # It leaves one thread for the others.
+                first = pool.submit(write, "x")
+                wait_until(lambda: first._state == "FINISHED")
+                write("y")
+                second = pool.submit(lambda: (write("x"), write("y")))
+                wait_until(lambda: second._state == "FINISHED")
+                step.done()
+
+        self.assert_racing_things("x", scenario)
 
     def test_jobs_of_a_pool_of_one_thread_are_ordered(self) -> None:
         def scenario() -> None:

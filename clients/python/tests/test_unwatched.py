@@ -71,7 +71,15 @@ thread.join()
 os.closerange(3, 200)
 print("ran")
 """
-REMOVES_JOURNAL = "import glob, os\nfor file in glob.glob(os.environ['TMPDIR'] + '/itc_trace_*/journal'): os.unlink(file)\n"
+JOURNALS = "import glob, os\nfor file in glob.glob(os.environ['TMPDIR'] + '/itc_trace_*/journal'):\n    "
+REMOVES_JOURNAL = JOURNALS + "os.unlink(file)\n"
+EMPTIES_JOURNAL = "stock = {'left': 2}\ndef sell():\n    stock['left'] -= 1\n" + THREADS + """
+import glob, os, time
+file, = glob.glob(os.environ["TMPDIR"] + "/itc_trace_*/journal")
+while "stock" not in open(file).read():
+    time.sleep(0.01)
+os.truncate(file, 0)
+"""
 
 
 class Unwatched(ProgramCase):
@@ -145,6 +153,12 @@ class Files(ProgramCase):
             ran = run_traced(self.program(REMOVES_JOURNAL), TMPDIR=os.fspath(folder))
         self.assertEqual(ran.returncode, Verdict.INCOMPLETE, ran.stderr)
         self.assertIn("itc_trace: incomplete: the journal breaks off", ran.stderr)
+
+    def test_a_journal_that_the_program_emptied_is_no_all_clear(self) -> None:
+        with tempfile.TemporaryDirectory() as folder:
+            ran = run_traced("--quiet", self.program(EMPTIES_JOURNAL), TMPDIR=os.fspath(folder))
+        self.assertEqual(ran.returncode, Verdict.INCOMPLETE, ran.stderr)
+        self.assertRegex(ran.stderr, r"itc_trace: incomplete: the journal has \d+ lines where \d+ were written\n")
 
 
 if __name__ == "__main__":

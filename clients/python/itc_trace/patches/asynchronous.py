@@ -20,6 +20,7 @@ from collections import deque
 from collections.abc import Iterator
 from typing import Any
 
+from ..handed_on import called, watched_place
 from ..lines import (
     BARRIER, CALL, CALLBACK, CALLED, CANCEL, EVENT, NOTIFY, QUEUE, RESULT, SEMAPHORE, SPAWN, TAKE, TAKE_END,
     Line, Token, state,
@@ -471,22 +472,25 @@ def _after_caller(callback: Any, args: tuple[Any, ...]) -> Any:
     """The callback, called after whoever asked for it, and after whoever added it to the future that it is called with."""
     if state.note is None or not callable(callback) or not _is_the_programs(callback):
         return callback
-    token = mark(CALL, 4)
+    token = mark(CALL, 2)
     if token is None:
         return callback
     future = args[0] if args and issubclass(type(args[0]), _PlainFuture) else None
     added = _added(future, callback)
 
-    def called(*args: Any) -> Any:
+    given = added or token
+
+    def call(*args: Any) -> Any:
         take(token)
         take(added)
+        called(callback, args, watched_place(given.code, given.instruction))
         try:
             return callback(*args)
         finally:
             if added is not None:
                 future._itc_called.append(mark(CALLED))
 
-    return like(callback, called)
+    return like(callback, call)
 
 
 def _added(future: Any, callback: Any) -> Token | None:

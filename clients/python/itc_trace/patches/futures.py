@@ -12,6 +12,7 @@ import concurrent.futures.thread as pools
 from collections.abc import Iterator
 from typing import Any
 
+from ..handed_on import called, handed_at, watched_place
 from ..lines import CALLBACK, FINISH, RESULT, SPAWN, SUBMIT, TAKE_END, WORKER, LateJob, Line, Token, state
 from ..noting import current, enter, frame_at, is_internal, local, mark, place, take
 from .base import Patches, like
@@ -112,12 +113,14 @@ def _add_done_callback(original: Any) -> Any:
 def _called_back(callback: Any, token: Token | None) -> Any:
     """The callback, called after whoever added it, and after the result."""
 
-    def called(future: Any) -> Any:
+    def call(future: Any) -> Any:
         take(token)
         take_result(future)
+        if token is not None:
+            called(callback, (future,), watched_place(token.code, token.instruction))
         return callback(future)
 
-    return like(callback, called)
+    return like(callback, call)
 
 
 def _wait(original: Any) -> Any:
@@ -160,10 +163,11 @@ def _put_pools(patches: Patches) -> None:
 def _submit(original: Any) -> Any:
     def submit(self: Any, fn: Any, /, *args: Any, **kwargs: Any) -> Any:
         local.submitting = self, getattr(fn, "__name__", "job")
+        local.handed = handed_at(fn)
         try:
             return original(self, fn, *args, **kwargs)
         finally:
-            local.submitting = None
+            local.submitting = local.handed = None
 
     return submit
 
@@ -171,6 +175,7 @@ def _submit(original: Any) -> Any:
 def _item_begin(original: Any) -> Any:
     def __init__(self: Any, future: Any, *words: Any) -> None:
         original(self, future, *words)
+        self._itc_handed = getattr(local, "handed", None)
         submitting = getattr(local, "submitting", None)
         if state.note is not None and submitting is not None:
             _begin_job(self, future, *submitting)
@@ -206,12 +211,14 @@ def _item_run(original: Any) -> Any:
                 worker, number = current(), self.__dict__.get("_itc_job", 0)
                 worker.job = LateJob(worker, number) if number else None
             take(submitted)
+            _tell_called(self)
             return original(self, *words)  # type: ignore[no-any-return]
         ready = mark(WORKER) if self._itc_is_after_worker else None
         worker = getattr(local, "line", None)
         line.must_finish = True
         enter(line)
         take(ready)
+        _tell_called(self)
         try:
             return original(self, *words)  # type: ignore[no-any-return]
         finally:
@@ -221,6 +228,13 @@ def _item_run(original: Any) -> Any:
                 note((FINISH, line, False, False))
 
     return run
+
+
+def _tell_called(item: Any) -> None:
+    """Tells of a method of a container that is the job itself."""
+    handed = item.__dict__.get("_itc_handed")
+    if handed is not None and hasattr(item, "fn"):
+        called(item.fn, tuple(item.args), handed)
 
 
 def _shutdown(original: Any) -> Any:

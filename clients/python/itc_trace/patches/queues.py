@@ -233,6 +233,11 @@ class TracedSimpleQueue(_PlainSimpleQueue):  # type: ignore[misc]
         return _opened(_PlainSimpleQueue.get_nowait(self))
 
 
+def plain_simple_queue() -> Any:
+    """A queue that gives no order."""
+    return _PlainSimpleQueue()
+
+
 TracedSimpleQueue.__name__ = TracedSimpleQueue.__qualname__ = "SimpleQueue"
 
 

@@ -7,6 +7,7 @@ import threading
 from collections import deque
 from typing import Any
 
+from ..handed_on import called, handed_at
 from ..lines import BARRIER, EVENT, FINISH, JOIN, NOTIFY, SEMAPHORE, SPAWN, Line, state
 from ..noting import current, enter, frame_at, is_internal, mark, place, take, thread_name
 from .base import Patches, like
@@ -38,6 +39,10 @@ def put(patches: Patches) -> None:
 
 def _put_threads(patches: Patches) -> None:
     thread = threading.Thread
+    patches.wrap(thread, "__init__", _begin_thread)
+    patches.wrap(thread, "run", _run)
+    patches.wrap(threading.Timer, "__init__", _begin_timer)
+    patches.wrap(threading.Timer, "run", _run_timer)
     patches.wrap(thread, "start", _start)
     patches.wrap(thread, "_bootstrap", _bootstrap)
     patches.wrap(thread, "join", _join)
@@ -45,6 +50,50 @@ def _put_threads(patches: Patches) -> None:
     for name in ("start_new_thread", "start_new"):
         original = getattr(_thread, name)
         patches.replace(_thread, name, like(original, _start_plain(original)))
+
+
+def _begin_thread(original: Any) -> Any:
+    def __init__(self: Any, *words: Any, **named: Any) -> None:
+        original(self, *words, **named)
+        target = words[1] if len(words) > 1 else named.get("target")
+        handed = handed_at(target)
+        if handed is not None:
+            self.__dict__["_itc_handed"] = handed
+
+    return __init__
+
+
+def _run(original: Any) -> Any:
+    def run(self: Any) -> None:
+        handed = self.__dict__.get("_itc_handed")
+        if handed is not None:
+            called(self._target, tuple(self._args), handed)
+        original(self)
+
+    return run
+
+
+def _begin_timer(original: Any) -> Any:
+    def __init__(self: Any, interval: Any, function: Any, *words: Any, **named: Any) -> None:
+        original(self, interval, function, *words, **named)
+        self.__dict__["_itc_handed"] = handed_at(function)
+
+    return __init__
+
+
+def _run_timer(original: Any) -> Any:
+    def run(self: Any) -> None:
+        handed = self.__dict__.get("_itc_handed")
+        if handed is None:
+            return original(self)  # type: ignore[no-any-return]
+        self.finished.wait(self.interval)
+        if not self.finished.is_set():
+            called(self.function, tuple(self.args), handed)
+            self.function(*self.args, **self.kwargs)
+        self.finished.set()
+        return None
+
+    return run
 
 
 def _start(original: Any) -> Any:
@@ -131,10 +180,12 @@ def _start_plain(original: Any) -> Any:
         if note is None or is_internal(frame) or not callable(function):
             return original(function, *words)  # type: ignore[no-any-return]
         line = Line(state.tracer, getattr(function, "__name__", "thread") + "#")
+        place_of_function = handed_at(function)
 
         def run(*args: Any, **kwargs: Any) -> None:
             enter(line)
             try:
+                called(function, args, place_of_function)
                 function(*args, **kwargs)
             finally:
                 _note_end(line)

@@ -12,9 +12,9 @@ from typing import Any
 
 from ..lines import Line, state
 from ..noting import INTERNAL
-from ..verdict import Unseen
+from ..verdict import PassedOver, Unseen
 from ..patches.base import like
-from . import hooks, things
+from . import handed, hooks, passed_over, things
 from .commands import own_program
 from .finder import UNWATCHED, Finder, Selection, with_hooks
 from .loaded import Prepare, folder_of_main, rewrite_loaded
@@ -108,6 +108,11 @@ def is_on() -> bool:
 def unwatched() -> list[Unseen]:
     """What of the program was to be watched, and was not."""
     return [] if _finder is None else [*UNWATCHED, *files_without_hooks(_finder.selection)]
+
+
+def not_looked_into() -> list[PassedOver]:
+    """What no hook looks into, if there has been a second task that hooks were there for."""
+    return [] if _finder is None or not hooks.are_put() else list(passed_over.found)
 
 
 def program_of(command: str | Sequence[str], folder: str) -> str | None:

@@ -2,14 +2,17 @@
 
 from __future__ import annotations
 
+import ast
 import os
 import re
 import shlex
+import warnings
 from collections.abc import Iterator, Sequence
 
 from .finder import Selection
 
 _PYTHON = re.compile(r"(python|pypy)[0-9.]*(\.exe)?\Z")
+_SHELLS = frozenset(("sh", "bash", "dash", "ksh", "zsh", "busybox"))
 OWN_NAME = "itc_trace"
 """What is run by this package is traced."""
 _WITH_A_WORD = ("-W", "-X", "--check-hash-based-pycs")
@@ -19,6 +22,8 @@ _WITH_A_WORD = ("-W", "-X", "--check-hash-based-pycs")
 def own_program(command: str | Sequence[str], folder: str, selection: Selection) -> str | None:
     """The file or the module that a command runs, if it is one that is watched. A text is a command of the shell."""
     words = _words_of(command)
+    if words and os.path.basename(words[0]) in _SHELLS and "-c" in words[:-1]:
+        return own_program(words[words.index("-c") + 1], folder, selection)
     for place, word in enumerate(words):
         if _PYTHON.match(os.path.basename(word)):
             return _run_by_python(iter(words[place + 1:]), folder, selection)
@@ -39,12 +44,29 @@ def _run_by_python(words: Iterator[str], folder: str, selection: Selection) -> s
             return module if selection.has_import(module) and module.partition(".")[0] != OWN_NAME else None
         if word in _WITH_A_WORD:
             next(words, None)
-        elif word.startswith("-"):
-            if word.startswith("-c"):
-                return None
-        else:
+        elif word.startswith("-c"):
+            return _imported_by(word[2:] or next(words, ""), selection)
+        elif not word.startswith("-"):
             return _watched_file(word, folder, selection)
     return None
+
+
+def _imported_by(source: str, selection: Selection) -> str | None:
+    """The first watched module that a text of Python imports."""
+    try:
+        with warnings.catch_warnings():
+            warnings.simplefilter("ignore")
+            tree = ast.parse(source)
+    except (SyntaxError, ValueError, RecursionError, MemoryError):
+        return None
+    names = [name for node in ast.walk(tree) for name in _names_of(node)]
+    return next((name for name in names if name.partition(".")[0] != OWN_NAME and selection.has_import(name)), None)
+
+
+def _names_of(node: ast.AST) -> list[str]:
+    if isinstance(node, ast.Import):
+        return [one.name for one in node.names]
+    return [node.module] if isinstance(node, ast.ImportFrom) and node.module else []
 
 
 def _watched_file(word: str, folder: str, selection: Selection) -> str | None:

@@ -10,7 +10,7 @@ import types
 import weakref
 from array import array
 from builtins import any, id, issubclass, len, next, str, type
-from collections import Counter, OrderedDict, defaultdict, deque
+from collections import ChainMap, Counter, OrderedDict, UserDict, UserList, defaultdict, deque
 from typing import Any
 
 from .kinds import DEQUE, DICT, LIST, SET
@@ -35,6 +35,15 @@ _EXACT: dict[type, int] = {
 }
 _BASES = ((dict, DICT), (list, LIST), (bytearray, LIST), (array, LIST), (set, SET), (deque, DEQUE))
 NO_FAMILY = -1
+_METHODS_OF = {"r": "__getitem__", "w": "__setitem__", "d": "__delitem__", "c": "__contains__"}
+"""What is called for each way to touch an element."""
+
+DATA, MAPS = "data", "maps"
+_WITH_ONE_INSIDE: tuple[tuple[type, str], ...] = (
+    (UserDict, DATA), (UserList, DATA), (weakref.WeakValueDictionary, DATA), (weakref.WeakKeyDictionary, DATA), (weakref.WeakSet, DATA),
+    (ChainMap, MAPS),
+)
+"""Containers of the library that are written in Python, and the field in which each has its elements."""
 
 _mro_of: Any = vars(type)["__mro__"].__get__
 _vars_of: Any = vars(type)["__dict__"].__get__
@@ -44,6 +53,7 @@ _families: dict[int, int] = {}
 _decided: dict[int, dict[tuple[str, str], int]] = {}
 _own_methods: dict[int, dict[str, bool]] = {}
 _dictionaries: dict[int, Any] = {}
+_inside: dict[int, str] = {}
 _types: dict[int, weakref.ref[type]] = {}
 
 
@@ -54,7 +64,7 @@ def _remember(kind: type) -> None:
         return
 
     def gone(_: Any) -> None:
-        for table in (_types, _families, _decided, _own_methods, _dictionaries):
+        for table in (_types, _families, _decided, _own_methods, _dictionaries, _inside):
             table.pop(key, None)  # type: ignore[attr-defined]
         for skipped in SKIPPED:
             skipped.discard(key)
@@ -109,6 +119,43 @@ def has_own_method(kind: type, name: str) -> bool:
         owner = class_with(kind, name)
         known[name] = owner is not None and type(_vars_of(owner)[name]) is types.FunctionType and owner not in _EXACT
     return known[name]
+
+
+def is_watched_class(kind: type) -> bool:
+    """Whether it is a class of a module that is watched."""
+    return _vars_of(kind).get("__module__") in WATCHED
+
+
+def vars_of(kind: type) -> Any:
+    return _vars_of(kind)
+
+
+def has_watched_method(kind: type, name: str) -> bool:
+    """Whether a class that is watched has such a method of its own."""
+    if kind in _EXACT:
+        return False
+    known, key = _own_methods.setdefault(id(kind), {}), f"watched {name}"
+    if key not in known:
+        _remember(kind)
+        owner = class_with(kind, name)
+        known[key] = owner is not None and type(_vars_of(owner)[name]) is types.FunctionType and _vars_of(owner).get("__module__") in WATCHED
+    return known[key]
+
+
+def without_own(kind: type, ways: str) -> str:
+    """Of the ways in which an element is touched those that no method of the program stands before. Such a method has hooks itself."""
+    if kind in _EXACT:
+        return ways
+    return "".join([one for one in ways if not has_watched_method(kind, _METHODS_OF[one])])
+
+
+def field_inside(kind: type) -> str:
+    """The field that has the elements of a container that is written in Python. Nothing, if the type is none."""
+    name = _inside.get(id(kind))
+    if name is None:
+        _remember(kind)
+        name = _inside[id(kind)] = next((field for base, field in _WITH_ONE_INSIDE if issubclass(kind, base)), "")
+    return name
 
 
 def fields_of(one: Any) -> Any:

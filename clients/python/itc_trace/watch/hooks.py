@@ -17,13 +17,15 @@ from sys import _getframe, getrefcount
 from typing import Any
 
 from ..conflicts import ADDITION, ITERATION, KEYS, LENGTH, LOOKUP, MAKING, READ, REMOVAL, REPLACEMENT, REWRITE, WRITE
+from ..handed_on import HANDED, Calling, is_of_container
 from ..noting import failed, touched, touched_all
 from ..stretches import STRETCHES
 from .decisions import (
     FIELD, OF_CLASS, OF_MODULE, OF_TYPE, OWN_FIELD, PLAIN, SKIP, WATCHED, class_with, decision, family_of, fields_of,
-    has_own_method, name_of, value_of_field,
+    field_inside, has_own_method, has_watched_method, name_of, value_of_field, without_own,
 )
-from .kinds import DEQUE, DICT, KEYED, LIST, WHOLE
+from .inside import fields_looked_at, inside_of, nested_in
+from .kinds import DEQUE, DICT, KEYED, LIST, SHOWN, STATE, WHOLE
 from .places import ACCESSES, SKIPPED, Access
 from .rewrite import ON, PREFIX
 from .things import (
@@ -305,6 +307,10 @@ def _touch_whole(one: Any, site: int, limit: int) -> None:
     if family is None:
         if kind is types.GeneratorType and ACCESSES[site].kinds == KEYS and getrefcount(one) > limit:
             _touch_generator(one, site)
+        for inside in inside_of(one):
+            _touch_whole(inside, site, ANYBODY)
+        if ACCESSES[site].name:
+            _touch_fields(one, site)
         return
     owner = OWNERS.get(id(one))
     if owner is None:
@@ -312,6 +318,26 @@ def _touch_whole(one: Any, site: int, limit: int) -> None:
             return
         owner = owner_of(one, ACCESSES[site].text)
     touched(owner.base + site, shape_of(owner), _kind_of(ACCESSES[site].kinds, family), site)
+    if ACCESSES[site].name in (SHOWN, STATE):
+        _touch_nested(one, owner, site)
+
+
+def _touch_nested(one: Any, owner: Owner, site: int) -> None:
+    """What is inside of a container is looked at, too."""
+    for part in nested_in(one):
+        family = family_of(type(part))
+        if family is None:
+            _touch_fields(part, site)
+        else:
+            inner = owner_of(part, f"{owner.name}[..]")
+            touched(inner.base + site, shape_of(inner), _kind_of(ACCESSES[site].kinds, family), site)
+
+
+def _touch_fields(one: Any, site: int) -> None:
+    """All fields of an object that a function looks at by itself."""
+    for name in fields_looked_at(one, ACCESSES[site].name):
+        owner = owner_of(one, "")
+        touched((owner.base, site, name), field_of(owner, name_of(type(one)), name), READ, site)
 
 
 def _kind_of(kind: str, family: int | None) -> str:
@@ -349,7 +375,12 @@ def hook_f_local(one: Any, site: int) -> Any:
 def _stepping(one: Any, site: int, limit: int) -> Any:
     kind = type(one)
     is_generator, family = kind is types.GeneratorType, family_of(kind)
-    if not is_generator and (family is None or has_own_method(kind, "__iter__")):
+    if family is None and not is_generator:
+        inside = next(inside_of(one), None)
+        if inside is None or has_watched_method(kind, "__iter__"):
+            return one
+        return map(_step(owner_of(inside, ACCESSES[site].text), site, _kind_of(KEYS, family_of(type(inside)))), one)
+    if not is_generator and has_own_method(kind, "__iter__"):
         return one
     owner = OWNERS.get(id(one))
     if owner is None:
@@ -454,29 +485,46 @@ def _is_simple(key: Any) -> bool:
     return kind in SIMPLE or kind is tuple and len(key) <= MOST_PARTS and SIMPLE.issuperset(map(type, key))
 
 
-def _touch_keyed(one: Any, key: Any, site: int, limit: int) -> None:
+def _touch_keyed(one: Any, key: Any, site: int, limit: int, ways: str | None = None) -> None:
     kind = type(one)
     if id(kind) in SKIPPED[site]:
         return
     family, access = family_of(kind), ACCESSES[site]
     if family is None:
-        if access.what == "method":
+        if not _touch_inside(one, key, access, site) and access.what == "method":
             _touch_field(one, site)
         return
-    if access.what == "method" and has_own_method(kind, access.name):
+    if access.what == "element":
+        ways = without_own(kind, access.kinds if ways is None else ways)
+    if access.what == "method" and has_own_method(kind, access.name) or access.what == "element" and not ways:
         return
     owner = OWNERS.get(id(one))
     if owner is None:
         if getrefcount(one) <= limit:
             return
         owner = owner_of(one, access.text)
-    kinds = access.kinds if access.what == "element" else KEYED.get(access.name, {}).get(family, "")
+    kinds = ways or KEYED.get(access.name, {}).get(family, "")
     if not kinds:
         _touch_shape(owner, WHOLE[family].get(access.name), site)
     elif family == LIST or family == DEQUE:
         _touch_index(one, owner, key, kinds, family, site)
     else:
         _touch_key(one, owner, key, kinds, family, site)
+
+
+def _touch_inside(one: Any, key: Any, access: Access, site: int) -> bool:
+    """Touches the containers inside of one that is written in Python. Says whether there are some."""
+    kind, ways, found = type(one), None, False
+    if not field_inside(kind):
+        return False
+    if access.what == "element":
+        ways = without_own(kind, access.kinds)
+    if ways == "" or access.what == "method" and has_watched_method(kind, access.name):
+        return False
+    for inside in inside_of(one, ways or access.name):
+        _touch_keyed(inside, key, site, ANYBODY, ways)
+        found = True
+    return found
 
 
 def _touch_shape(owner: Owner, kind: str | None, site: int) -> None:
@@ -523,7 +571,7 @@ def _touch_key(one: Any, owner: Owner, key: Any, kinds: str, family: int, site: 
     whole, shape, element = owner.base + site, shape_of(owner), element_of(owner, key, is_simple)
     is_there = is_simple and (dict.__contains__(one, key) if family == DICT else set.__contains__(one, key))
     access = ACCESSES[site]
-    if kinds == "rw" and access.what == "method" and is_there:
+    if kinds == "rw" and access.what != "element" and is_there:
         kinds = "r"
     elif kinds == "r" and not is_there and is_simple and access.what == "element" and issubclass(type(one), defaultdict):
         kinds = "rw"
@@ -579,9 +627,9 @@ def _touch_method(one: Any, site: int, limit: int) -> None:
     family = family_of(kind)
     access = ACCESSES[site]
     if family is None:
-        _touch_field(one, site)
+        _touch_method_of_object(one, access, site)
         return
-    if has_own_method(kind, access.name):
+    if access.what == "method" and has_own_method(kind, access.name):
         return
     owner = OWNERS.get(id(one))
     if owner is None:
@@ -592,6 +640,16 @@ def _touch_method(one: Any, site: int, limit: int) -> None:
     if kind_of_touch is None and access.name in KEYED:
         kind_of_touch = REMOVAL if KEYED[access.name].get(family) else None
     _touch_shape(owner, kind_of_touch, site)
+
+
+def _touch_method_of_object(one: Any, access: Access, site: int) -> None:
+    """A method of what is no container itself: it may have one inside, or the name may be that of a field."""
+    is_own = access.what == "method" and has_watched_method(type(one), access.name)
+    inside = [] if is_own else [*inside_of(one, access.name)]
+    for container in inside:
+        _touch_method(container, site, ANYBODY)
+    if access.what == "method" and not inside:
+        _touch_field(one, site)
 
 
 # What comes behind its arguments
@@ -691,6 +749,37 @@ def hook_z(value: Any, place: int) -> Any:
     return value
 
 
+def hook_Y(function: Any) -> Any:
+    """Before something is called that may be a method of a container."""
+    if type(function) not in HANDED or not is_of_container(function):
+        return function
+    frame = _getframe(1)
+    return Calling(function, (frame.f_code, frame.f_lasti))
+
+
+hook_Y_local = hook_Y
+
+
+def hook_x(value: Any, one: Any, site: int) -> Any:
+    """What a method is given, which may look at all of it."""
+    if type(value) in PLAIN:
+        return value
+    try:
+        name = ACCESSES[site].name
+        if class_with(type(one), name) is None or has_watched_method(type(one), name):
+            return value
+    except Exception as fault:
+        failed(fault)
+        return value
+    return hook_h(value, site)
+
+
+def hook_X(value: Any, place: int) -> Any:
+    """The same, behind the object whose method it is."""
+    one = PENDING.pop((id(_getframe(1)), place), None)
+    return value if one is None else hook_x(value, one, place)
+
+
 # Where things are made
 
 
@@ -750,6 +839,11 @@ QUIET: dict[str, Callable[..., Any]] = {
     **dict.fromkeys(HOOKS, _first), **dict.fromkeys(("K", "K_local"), _second), "a": _rest, **dict.fromkeys(("g", "c", "d"), _nothing),
     **{name: HOOKS[name] for name in ALWAYS},
 }
+
+
+def are_put() -> bool:
+    """Whether touches are noted now."""
+    return bool(getattr(builtins, ON, False))
 
 
 def put(is_on: bool) -> None:

@@ -48,10 +48,39 @@ _KNOWN = {
     **dict.fromkeys(("bisect.insort", "bisect.insort_left", "bisect.insort_right", "random.shuffle"), REWRITE),
     **dict.fromkeys(
         "copy.copy copy.deepcopy json.dumps json.dump pickle.dumps pickle.dump pprint.pprint pprint.pformat random.choice random.sample "
-        "heapq.nlargest heapq.nsmallest bisect.bisect bisect.bisect_left bisect.bisect_right statistics.mean statistics.median "
-        "math.fsum itertools.chain itertools.islice itertools.cycle collections.Counter".split(), ITERATION,
+        "random.choices heapq.nlargest heapq.nsmallest heapq.merge bisect.bisect bisect.bisect_left bisect.bisect_right statistics.mean "
+        "statistics.fmean statistics.median statistics.stdev math.fsum math.prod functools.reduce array.array collections.Counter "
+        "collections.deque collections.OrderedDict collections.defaultdict itertools.chain itertools.chain.from_iterable itertools.islice "
+        "itertools.cycle itertools.accumulate itertools.combinations itertools.compress itertools.dropwhile itertools.filterfalse "
+        "itertools.groupby itertools.pairwise itertools.permutations itertools.product itertools.starmap itertools.takewhile "
+        "itertools.zip_longest asyncio.wait asyncio.as_completed concurrent.futures.wait concurrent.futures.as_completed "
+        "dataclasses.asdict dataclasses.astuple dataclasses.replace".split(), ITERATION,
     ),
 }
+
+SHOWN, STATE, FIELDS = "shown", "state", "fields"
+"""How deep a function looks at what it is given: at all that its text has, at all of its state, or at its own fields."""
+_DEPTHS = {
+    **dict.fromkeys("copy.deepcopy json.dumps json.dump pickle.dumps pickle.dump dataclasses.asdict dataclasses.astuple".split(), STATE),
+    **dict.fromkeys(("copy.copy", "dataclasses.replace"), FIELDS), **dict.fromkeys(("pprint.pprint", "pprint.pformat"), SHOWN),
+}
+
+
+def depth_of(name: str | None) -> str:
+    """How deep a function of the library looks, if it looks deeper than at the container that it is given."""
+    return "" if name is None else _DEPTHS.get(name, "")
+
+
+CONSUMING = {
+    **dict.fromkeys(
+        "extend extendleft union intersection difference symmetric_difference issubset issuperset isdisjoint intersection_update "
+        "difference_update symmetric_difference_update fromkeys".split(), KEYS,
+    ),
+    **dict.fromkeys(
+        "join update subtract fromlist format format_map writelines writerow writerows".split(), ITERATION,
+    ),
+}
+"""Methods that look at the containers which they are given, unless a class of the program has them."""
 
 
 def known_function(name: str | None) -> str | None:

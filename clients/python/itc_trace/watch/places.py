@@ -2,6 +2,9 @@
 
 from __future__ import annotations
 
+import os
+from _thread import allocate_lock
+
 from ..stretches import SITES, Site
 
 
@@ -24,10 +27,20 @@ SKIPPED: list[set[int]] = []
 """Of each place the types, by identity, for which there is nothing to note."""
 
 
+NAMES_OF_HANDED: dict[tuple[str, int, str], str] = {}
+"""How the program calls the container, one of whose methods is an argument of a call, by file, line and method."""
+
+_numbering = allocate_lock()
+if hasattr(os, "register_at_fork"):
+    os.register_at_fork(after_in_child=_numbering._at_fork_reinit)  # type: ignore[attr-defined]
+
+
 def new_site(file: str, line: int, function: str, access: Access) -> int:
-    SITES.append(Site(file, line, function))
-    number = len(SITES) - 1
-    while len(SKIPPED) <= number:
-        SKIPPED.append(set())
-    ACCESSES[number] = access
+    """The number of a further site. Threads that import modules may want one at a time."""
+    with _numbering:
+        SITES.append(Site(file, line, function))
+        number = len(SITES) - 1
+        while len(SKIPPED) <= number:
+            SKIPPED.append(set())
+        ACCESSES[number] = access
     return number

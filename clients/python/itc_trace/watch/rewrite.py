@@ -14,24 +14,34 @@ from types import CodeType
 from typing import Any
 
 from ..conflicts import ADDITION, ITERATION, KEYS, LENGTH, REWRITE
-from .kinds import KEYED, LATE_METHODS, METHODS, known_function
-from .places import Access, new_site
+from . import passed_over
+from .kinds import CONSUMING, KEYED, LATE_METHODS, METHODS, SHOWN, depth_of, known_function
+from .places import NAMES_OF_HANDED, Access, new_site
 from .scopes import CLASS, COMPREHENSION, COMPREHENSIONS, FUNCTION, MODULE, Scope, Scopes
 
 PREFIX = "_itc_"
 ON = PREFIX + "on"
 
 READERS = {
-    **dict.fromkeys(("len", "bool"), LENGTH), **dict.fromkeys(("dict", "str", "repr", "print"), ITERATION),
+    **dict.fromkeys(("len", "bool"), LENGTH),
+    **dict.fromkeys("dict str repr ascii format print bytes bytearray".split(), ITERATION),
     **dict.fromkeys("list tuple set frozenset sorted sum min max any all next iter reversed enumerate zip map filter".split(), KEYS),
 }
 """Functions of the language that look at what they are given."""
+SHOWING = frozenset(("str", "repr", "ascii", "format", "print"))
+"""Those that show what is inside, too."""
 STEPPERS = frozenset(("enumerate", "zip", "map", "filter"))
 """Those that look at it step by step."""
 OF_ATTRIBUTES = {"getattr": "r", "hasattr": "r", "setattr": "w", "delattr": "w"}
 OF_OBJECT = {"__getattribute__": "r", "__setattr__": "w", "__delattr__": "w"}
 """Methods of `object` that do the same for a class with methods of its own."""
 MAKERS = frozenset("dict list set bytearray deque defaultdict OrderedDict Counter".split())
+OPERATORS = {
+    "operator.setitem": "__setitem__", "operator.getitem": "__getitem__", "operator.delitem": "__delitem__",
+    "operator.contains": "__contains__",
+}
+"""Functions that do what a method of their first argument does."""
+CONTAINER_CLASSES = frozenset(f"collections.{name}" for name in "deque defaultdict OrderedDict Counter UserDict UserList".split())
 DISPLAYS = (ast.Dict, ast.List, ast.Set, ast.DictComp, ast.ListComp, ast.SetComp)
 VIEWS = frozenset(("items", "keys", "values"))
 SCOPED = (*COMPREHENSIONS, ast.Lambda, ast.Slice)
@@ -39,6 +49,8 @@ SCOPED = (*COMPREHENSIONS, ast.Lambda, ast.Slice)
 PARTS = (ast.Starred,)
 REACHED = (ast.Name, ast.Attribute, ast.Subscript)
 LATE = (ast.Call, ast.Await, ast.Yield, ast.YieldFrom)
+JOINING = (ast.Add, ast.Sub, ast.BitOr, ast.BitAnd, ast.BitXor)
+"""Operators that make a container of two others."""
 IN_PLACE = {
     ast.Add: ADDITION, **dict.fromkeys((ast.Mult, ast.BitOr, ast.BitAnd, ast.BitXor, ast.Sub), REWRITE),
 }
@@ -79,8 +91,23 @@ def _is_new(value: Any) -> bool:
     return isinstance(value, DISPLAYS) or isinstance(value, ast.Call) and isinstance(value.func, ast.Name) and value.func.id in MAKERS
 
 
+def _is_super(node: Any) -> bool:
+    return isinstance(node, ast.Call) and isinstance(node.func, ast.Name) and node.func.id == "super" and not node.args
+
+
 def _makes(node: ast.AST) -> bool:
-    return isinstance(node, ast.Assign) and isinstance(node.targets[0], REACHED) and _is_new(node.value)
+    if not isinstance(node, ast.Assign):
+        return False
+    pairs = _pairs_of(node) or [(node.targets[0], node.value)]
+    return any(isinstance(target, REACHED) and _is_new(value) for target, value in pairs)
+
+
+def _pairs_of(node: ast.Assign) -> list[tuple[Any, Any]]:
+    """The targets and the values of an assignment of several at once, as `a, b = [], {}`. None of another one."""
+    target, value = node.targets[0], node.value
+    is_paired = isinstance(target, (ast.Tuple, ast.List)) and isinstance(value, ast.Tuple) and len(target.elts) == len(value.elts)
+    pairs = [*zip(target.elts, value.elts)] if is_paired else []  # type: ignore[attr-defined]
+    return [] if any(isinstance(one, ast.Starred) for pair in pairs for one in pair) else pairs
 
 
 def _contains(node: ast.AST, kinds: tuple[type, ...]) -> bool:
@@ -260,6 +287,8 @@ class Rewriter:
         return [made for one in body for made in self._statement(one)]
 
     def _statement(self, node: Any) -> list[ast.stmt]:
+        if isinstance(node, (ast.Import, ast.ImportFrom)):
+            passed_over.look_at_import(node, self._file)
         compound = getattr(self, "_do_" + type(node).__name__, None)
         if compound is not None:
             return compound(node)  # type: ignore[no-any-return]
@@ -278,6 +307,12 @@ class Rewriter:
         return [*self._only_on(self._before, node), made, *self._only_on(self._after, node)]
 
     def _simple_Assign(self, node: ast.Assign) -> ast.stmt:
+        pairs = _pairs_of(node)
+        if any(_is_new(value) for _, value in pairs):
+            node.value.elts = [self._child(value) if made is value else made for target, value in pairs for made in [self._made(value, target)]]  # type: ignore[attr-defined]
+            node.targets = [self._child(target) for target in node.targets]
+            self._after += self._stores([target.twin for target in node.targets if hasattr(target, "twin")], node)
+            return node
         node.value = self._made(node.value, node.targets[0])
         if any(isinstance(target, (ast.Tuple, ast.List)) for target in node.targets) and isinstance(node.value, REACHED):
             node.value = self._operand(node.value, "h", self._site(node.value, "whole", KEYS, "", self._text(node.value)))
@@ -389,6 +424,8 @@ class Rewriter:
 
         is_constructor = node.name == "__init__" and self._scope.kind == CLASS
         first = next(iter((*node.args.posonlyargs, *node.args.args)), None)
+        if self._scope.kind == CLASS and first is not None:
+            self._scopes.by_node[node].first = first.arg
         if is_constructor and first is not None:
             scope = self._scopes.by_node[node]
             scope.made, scope.constructor = first.arg, self._site(node, "constructor", "")
@@ -491,7 +528,9 @@ class Rewriter:
         return node
 
     def _keyword(self, node: ast.keyword) -> None:
-        if node.arg is None and isinstance(node.value, REACHED):
+        if node.arg == "key" and isinstance(node.value, (ast.Name, ast.Attribute)):
+            node.value = self._handed(node.value)
+        elif node.arg is None and isinstance(node.value, REACHED):
             node.value = self._operand(node.value, "h", self._site(node.value, "whole", ITERATION, "", self._text(node.value)))
         else:
             node.value = self._child(node.value)
@@ -539,27 +578,49 @@ class Rewriter:
             node.slice = self._hook("q", key, self._child(key), site, site, False)
 
     def _visit_Call(self, node: ast.Call) -> ast.expr:
-        known = known_function(self._import_of(node.func))
+        self._name_handed(node)
+        name = self._import_of(node.func)
+        passed_over.look_at_call(node, self._file, self._is_builtin, name)
+        known = known_function(name)
         if known is not None:
-            return self._call_known(node, known)
+            return self._call_known(node, known, depth_of(name))
+        if name in OPERATORS and len(node.args) > 1 and not any(isinstance(one, ast.Starred) for one in node.args[:2]):
+            node.args = self._given_first(node, OPERATORS[name])
+            return node
         if isinstance(node.func, ast.Attribute):
             return self._call_method(node, node.func)
         if isinstance(node.func, ast.Name) and self._is_builtin(node.func.id):
             self._arguments_of_builtin(node, node.func.id)
         else:
-            node.func = self._child(node.func)
+            node.func = self._handed(node.func)
             node.args = [self._child(one) for one in node.args]
         for keyword in node.keywords:
             self._keyword(keyword)
         return node
 
-    def _call_known(self, node: ast.Call, kinds: str) -> ast.expr:
+    def _name_handed(self, node: ast.Call) -> None:
+        """Keeps the names of containers whose methods are arguments."""
+        for one in (*node.args, *(keyword.value for keyword in node.keywords)):
+            if isinstance(one, ast.Attribute) and one.attr in METHODS:
+                NAMES_OF_HANDED[self._file, node.lineno, one.attr] = self._text(one.value)
+
+    def _handed(self, node: Any) -> Any:
+        """What is called by its name, or handed to a function that calls it: it may be a method of a container."""
+        if isinstance(node, ast.Name):
+            owner = self._scope.owner(node.id)
+            is_known = self._is_builtin(node.id) or node.id in owner.defined or owner.kind == MODULE and node.id in self._scopes.imported
+            is_handed = not is_known
+        else:
+            is_handed = isinstance(node, ast.Attribute) and node.attr in METHODS
+        return self._operand(node, "Y") if is_handed else self._child(node)
+
+    def _call_known(self, node: ast.Call, kinds: str, depth: str) -> ast.expr:
         """A function of the library that looks at its first argument, or changes it."""
         for place, one in enumerate(node.args):
             if place == 0 and not isinstance(one, ast.Starred):
-                node.args[0] = self._operand(one, "h", self._site(node, "whole", kinds, "", self._text(one)))
+                node.args[0] = self._operand(one, "h", self._site(node, "whole", kinds, depth, self._text(one)))
             else:
-                node.args[place] = self._child(one)
+                node.args[place] = self._child(one) if kinds == REWRITE else self._whole(one, kinds)
         for keyword in node.keywords:
             self._keyword(keyword)
         return node
@@ -568,7 +629,10 @@ class Rewriter:
         if name in OF_ATTRIBUTES and len(node.args) > 1:
             self._attribute_by_name(node, OF_ATTRIBUTES[name])
         elif name in READERS or name in STEPPERS:
-            node.args = [self._looked_at(one, name) for one in node.args]
+            is_called = name in ("map", "filter")
+            node.args = [
+                self._handed(one) if is_called and place == 0 else self._looked_at(one, name) for place, one in enumerate(node.args)
+            ]
         else:
             node.args = [self._child(one) for one in node.args]
 
@@ -588,25 +652,124 @@ class Rewriter:
         if isinstance(node, ast.Starred) or is_new or not isinstance(node, (*REACHED, ast.Call)):
             return self._child(node)  # type: ignore[no-any-return]
         hook = "f" if name in STEPPERS else "h"
-        return self._operand(node, hook, self._site(node, "whole", READERS[name], "", self._text(node)))
+        return self._operand(node, hook, self._site(node, "whole", READERS[name], SHOWN if name in SHOWING else "", self._text(node)))
 
     def _call_method(self, node: ast.Call, func: ast.Attribute) -> ast.expr:
         name, owner = func.attr, func.value
         is_late = any(_contains(one, LATE) for one in node.args)
-        if name in OF_OBJECT and len(node.args) > 1 and isinstance(owner, ast.Name) and owner.id == "object" and self._is_builtin("object"):
+        if name in METHODS and _is_super(owner) and self._scope.first:
+            self._call_of_base(node, func)
+        elif name in METHODS and node.args and not isinstance(node.args[0], ast.Starred) and self._is_container_class(owner):
+            self._call_unbound(node, func)
+        elif name in OF_OBJECT and len(node.args) > 1 and isinstance(owner, ast.Name) and owner.id == "object" and self._is_builtin("object"):
             self._attribute_by_name(node, OF_OBJECT[name])
         elif name not in METHODS or self._is_foreign(owner):
+            given = node.args
             node.func = self._called(func)
-            node.args = [self._child(one) for one in node.args]
+            node.args = [self._argument(one, func, owner) for one in given]
+            self._keep_owner(func, node)
         elif name in KEYED and node.args and not isinstance(node.args[0], ast.Starred):
             self._call_keyed(node, func, self._site(node, "method", "", name, self._text(owner)))
         elif is_late and name in LATE_METHODS and not isinstance(node.args[-1], ast.Starred):
             self._call_late(node, func, self._site(node, "method", "", name, self._text(owner)))
         else:
             func.value = self._operand(owner, "m", self._site(node, "method", "", name, self._text(owner)))
-            node.args = [self._child(one) for one in node.args]
+            node.args = [self._argument(one, func, owner) for one in node.args]
+            self._keep_owner(func, node)
         for keyword in node.keywords:
             self._keyword(keyword)
+        return node
+
+    def _call_of_base(self, node: ast.Call, func: ast.Attribute) -> None:
+        """A method of the container that the object itself is, as in `super().append(one)`."""
+        site = self._site(node, "base", "", func.attr, self._scope.class_name or "")
+        me = ast.copy_location(ast.Name(self._scope.first, ast.Load()), node)
+        given: list[Any] = node.args
+        node.args = [self._child(one) for one in given]
+        if func.attr in KEYED and given and not isinstance(given[0], ast.Starred):
+            node.args[0] = self._hook("K", given[0], me, node.args[0], site)
+        elif given and not isinstance(given[-1], ast.Starred):
+            node.args[-1] = self._hook("l", given[-1], node.args[-1], me, site)
+        else:
+            func.value = self._hook("l", func.value, func.value, me, site)
+
+    def _call_unbound(self, node: ast.Call, func: ast.Attribute) -> None:
+        """A function of a class that is given the container first, as in `list.append(items, one)`."""
+        node.args = self._given_first(node, func.attr)
+
+    def _given_first(self, node: ast.Call, name: str) -> list[ast.expr]:
+        """The arguments of a function that does what a method of this name of its first argument does."""
+        owner: Any = node.args[0]
+        site = self._site(node, "base", "", name, self._text(owner))
+        given: list[Any] = node.args
+        is_keyed = name in KEYED and len(given) > 1 and not isinstance(given[1], ast.Starred)
+        rest = [self._child(one) for one in given[2 if is_keyed else 1:]]
+        if is_keyed and isinstance(owner, ast.Name):
+            return [self._child(owner), self._key_of(owner, given[1], site), *rest]
+        if is_keyed:
+            key: Any = given[1]
+            return [self._operand(owner, "p", site, 0), self._hook("q", key, self._child(key), site, site, False), *rest]
+        return [self._operand(owner, "m", site), *rest]
+
+    def _is_container_class(self, node: Any) -> bool:
+        if isinstance(node, ast.Name) and self._is_builtin(node.id):
+            return node.id in MAKERS
+        return self._import_of(node) in CONTAINER_CLASSES
+
+    def _argument(self, node: Any, func: ast.Attribute, owner: Any) -> Any:
+        """What a method is given. Some look at all of it, and a class of the program may have a method of such a name."""
+        kinds = CONSUMING.get(func.attr)
+        if kinds is None or not isinstance(node, REACHED) or self._is_foreign(node) or self._import_of(owner) is not None:
+            return self._child(node)
+        if isinstance(owner, (ast.Constant, ast.JoinedStr)) or isinstance(owner, ast.Name) and self._is_builtin(owner.id):
+            return self._whole(node, kinds)
+        site = self._site(node, "given", kinds, func.attr, self._text(node))
+        if isinstance(owner, ast.Name):
+            return self._hook("x", node, self._child(node), owner.twin, site)  # type: ignore[attr-defined]
+        return self._hook("X", node, self._child(node), site)
+
+    def _keep_owner(self, func: ast.Attribute, node: ast.Call) -> None:
+        """Has the object kept whose method is called, until what it is given is there."""
+        for one in node.args:
+            if isinstance(one, ast.Call) and isinstance(one.func, ast.Name) and one.func.id == f"{PREFIX}X":
+                func.value = self._hook("p", func.value, func.value, one.args[1], 0)
+
+    def _whole(self, node: Any, kinds: str, depth: str = "") -> Any:
+        """An expression, all of which is looked at if it is a container."""
+        if not isinstance(node, REACHED) or self._is_foreign(node):
+            return self._child(node)
+        return self._operand(node, "h", self._site(node, "whole", kinds, depth, self._text(node)))
+
+    def _visit_BinOp(self, node: ast.BinOp) -> ast.expr:
+        sides: list[Any] = [node.left, node.right]
+        if isinstance(node.op, ast.Mod) and isinstance(node.left, (ast.JoinedStr, ast.Constant)):
+            node.left, node.right = self._child(node.left), self._formatted(node.right)
+        elif isinstance(node.op, JOINING) and not any(isinstance(side, ast.Constant) for side in sides):
+            node.left, node.right = (self._joined(side, node.op) for side in sides)
+        else:
+            node.left, node.right = map(self._child, sides)
+        return node
+
+    def _formatted(self, node: Any) -> Any:
+        """What `%` puts into a text."""
+        if isinstance(node, ast.Tuple):
+            node.elts = [self._whole(one, ITERATION, SHOWN) for one in node.elts]
+            return node
+        return self._whole(node, ITERATION, SHOWN)
+
+    def _joined(self, node: Any, operator: ast.operator) -> Any:
+        """One side of an operator. Numbers are often subtracted, and a variable of one function is seldom a set that others share."""
+        is_number = isinstance(operator, ast.Sub) and self._is_local(node)
+        return self._child(node) if is_number else self._whole(node, ITERATION)
+
+    def _visit_Dict(self, node: ast.Dict) -> ast.expr:
+        pairs: list[Any] = [*zip(node.keys, node.values)]
+        node.keys = [None if key is None else self._child(key) for key, _ in pairs]
+        node.values = [self._whole(value, ITERATION) if key is None else self._child(value) for key, value in pairs]
+        return node
+
+    def _visit_YieldFrom(self, node: ast.YieldFrom) -> ast.expr:
+        node.value = self._whole(node.value, KEYS)
         return node
 
     def _called(self, func: ast.Attribute) -> ast.expr:
@@ -663,14 +826,12 @@ class Rewriter:
 
     def _compare_values(self, node: ast.Compare) -> ast.expr:
         sides: list[Any] = [node.left, *node.comparators]
-        is_plain = any(isinstance(side, ast.Constant) for side in sides)
+        is_plain = any(isinstance(side, ast.Constant) for side in sides) or not isinstance(node.ops[0], (ast.Eq, ast.NotEq))
+        has_new = any(_is_new(side) for side in sides)
         made = []
         for side in sides:
-            is_looked_at = isinstance(side, ast.Attribute) and not is_plain and isinstance(node.ops[0], (ast.Eq, ast.NotEq))
-            if is_looked_at and not self._is_foreign(side.value):
-                made.append(self._operand(side, "h", self._site(side, "whole", ITERATION, "", self._text(side))))
-            else:
-                made.append(self._child(side))
+            is_looked_at = not is_plain and (has_new or isinstance(side, ast.Attribute) or not self._is_local(side))
+            made.append(self._whole(side, ITERATION, SHOWN) if is_looked_at else self._child(side))
         node.left, node.comparators = made[0], made[1:]
         return node
 
@@ -701,7 +862,7 @@ class Rewriter:
 
     def _visit_FormattedValue(self, node: ast.FormattedValue) -> ast.expr:
         if isinstance(node.value, (ast.Attribute, ast.Name)):
-            node.value = self._operand(node.value, "h", self._site(node.value, "whole", ITERATION, "", self._text(node.value)))
+            node.value = self._operand(node.value, "h", self._site(node.value, "whole", ITERATION, SHOWN, self._text(node.value)))
         else:
             node.value = self._child(node.value)
         return node  # What it is formatted by is left as it is.

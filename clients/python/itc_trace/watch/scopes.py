@@ -34,6 +34,10 @@ class Scope:
         self.made = ""
         """The variable of a constructor that has the object that is made."""
         self.constructor = 0
+        self.defined: set[str] = set()
+        """Names of functions and classes that are defined there."""
+        self.first = ""
+        """The variable of a method that has the object it was called for."""
 
     @property
     def class_name(self) -> str | None:
@@ -183,6 +187,7 @@ class Scopes(ast.NodeVisitor):
 
     def _visit_definition(self, node: ast.FunctionDef | ast.AsyncFunctionDef) -> None:
         self._bind(node.name)
+        self._scope.defined.add(node.name)
         for one in (*node.decorator_list, *_defaults(node.args)):
             self.visit(one)
         self._visit_function(node, node.name, node.args, node.body)
@@ -207,6 +212,7 @@ class Scopes(ast.NodeVisitor):
 
     def visit_ClassDef(self, node: ast.ClassDef) -> None:
         self._bind(node.name)
+        self._scope.defined.add(node.name)
         for one in (*node.decorator_list, *node.bases, *node.keywords):
             self.visit(one)
         before = self._scope, self._loops

@@ -1,0 +1,70 @@
+"""What no hook looks into is named in the last line, and nothing else is."""
+
+from __future__ import annotations
+
+import unittest
+
+from itc_trace import Verdict
+from itc_trace.journal import read_whole
+from itc_trace.merging import Merged
+from itc_trace.races import Races
+from itc_trace.verdict import PassedOver, end_row
+
+from .support import ProgramCase, run_traced
+
+THREADS = """
+import threading
+threads = [threading.Thread(target=work) for _ in range(2)]
+for thread in threads:
+    thread.start()
+for thread in threads:
+    thread.join()
+"""
+TEXT = "stock = {}\ndef work():\n    exec('stock[1] = 2')\n" + THREADS
+LATER = "from operator import itemgetter\nimport ctypes\n\ndef work():\n    print(eval('1'), max([(1, 2)], key=itemgetter(0)), memoryview(b'x')[0])\n"
+SHADOWED = "def exec(text):\n    return text\ndef work():\n    print(exec('a'), evaluate())\nevaluate = int\n" + THREADS
+EXEC = PassedOver("exec", "shop.py:3")
+
+
+class PassedOverCase(ProgramCase):
+    def test_a_text_that_is_executed_is_named_in_the_last_line(self) -> None:
+        ran = run_traced(self.program(TEXT))
+        self.assertEqual(ran.returncode, Verdict.NO_RACE, ran.stderr)
+        self.assertRegex(ran.stderr, r"\Aitc_trace: no race in this run; not looked into: exec at program\.py:3: 0 places of 0 things, \d+ events\n\Z")
+
+    def test_each_is_named_once_and_not_too_many(self) -> None:
+        ran = run_traced(self.program(LATER + THREADS))
+        self.assertEqual(ran.returncode, Verdict.NO_RACE, ran.stderr)
+        self.assertIn("not looked into: ctypes at program.py:2, eval at program.py:5, itemgetter at program.py:5 and 1 more: ", ran.stderr)
+
+    def test_a_run_of_one_task_has_nothing_to_look_into(self) -> None:
+        ran = run_traced(self.program(LATER + "work()\n"))
+        self.assertNotIn("not looked into", ran.stderr)
+
+    def test_a_function_of_the_program_with_such_a_name_is_looked_into(self) -> None:
+        ran = run_traced(self.program(SHADOWED))
+        self.assertEqual(ran.returncode, Verdict.NO_RACE, ran.stderr)
+        self.assertNotIn("not looked into", ran.stderr)
+
+    def test_several_runs_and_a_run_in_parts_name_it(self) -> None:
+        for words in (("--runs", "2", "--no-shake"), ("--part-events", "100")):
+            with self.subTest(words=words):
+                self.assertIn("; not looked into: exec at program.py:3", run_traced(*words, self.program(TEXT)).stderr.splitlines()[-1])
+
+
+class Rows(unittest.TestCase):
+    def test_a_journal_keeps_it(self) -> None:
+        whole = read_whole([EXEC.row(), end_row(1)])
+        self.assertEqual((whole.passed_over, whole.unseen), ([EXEC], []))
+
+    def test_races_and_merged_runs_tell_it(self) -> None:
+        races = Races(passed_over=[EXEC, EXEC])
+        self.assertEqual(races.found(), "no race in this run; not looked into: exec at shop.py:3")
+        merged = Merged()
+        merged.add(races, 0, None)
+        merged.add(races, 0, None)
+        self.assertIn("no race in 2 runs; not looked into: exec at shop.py:3", merged.text())
+
+
+if __name__ == "__main__":
+    unittest.main()
