@@ -26,7 +26,7 @@ from .lock_identity import LockIdentity
 from .noting import enter
 from .shaking import Shaking
 from .stretches import STRETCHES, Stretch
-from .patches.exits import await_at_exit, take_awaited
+from .patches.exits import await_at_exit, await_nobody, take_awaited
 from .touch_rows import TouchEvent, TouchRows, part_text
 from .tracer_parts import Parts
 from .verdict import END_ROW, Cause, Unseen
@@ -250,6 +250,7 @@ class Tracer:
         _thread.start_new_thread(self._report_all, ())
         _thread.start_new_thread(self._read_all, ())
         STRETCHES.clear()
+        await_nobody()
         enter(self.main)
         if threading.active_count() > 1:
             self.parent_of_strangers = Line(self, "others")

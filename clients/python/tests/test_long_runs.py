@@ -113,9 +113,6 @@ asyncio.run(main())
 """
 
 
-OPEN = "the receipt of a job's result may be lost at a border, and the run is incomplete then"
-
-
 class Orders(unittest.TestCase):
     """Each order that is promised holds across borders, and none more: the tests of these run with a border after a few events."""
 
@@ -127,14 +124,12 @@ class Orders(unittest.TestCase):
         self.assert_same_in_parts("test_threads")
         self.assert_same_in_parts("test_locks")
 
-    @unittest.skipUnless(os.environ.get("ITC_OPEN"), OPEN)
     def test_queues_and_pools(self) -> None:
         self.assert_same_in_parts("test_queues")
 
     def test_other_orders(self) -> None:
         self.assert_same_in_parts("test_orders")
 
-    @unittest.skipUnless(os.environ.get("ITC_OPEN"), OPEN)
     def test_loops(self) -> None:
         self.assert_same_in_parts("test_asyncio")
 
