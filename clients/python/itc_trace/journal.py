@@ -78,6 +78,7 @@ def read_whole(lines: Iterable[str]) -> Journal:
     """A journal, with a word of it if it breaks off. A last line that was cut off is passed over."""
     rows: list[Row] = []
     unseen: list[Unseen] = []
+    children = Children()
     has_ended = False
     for number, line in enumerate(lines, 1):
         if not line.endswith("\n"):
@@ -87,6 +88,8 @@ def read_whole(lines: Iterable[str]) -> Journal:
             rows.append(read)
         elif isinstance(read, Unseen):
             unseen.append(read)
+        elif isinstance(read, ChildTold):
+            children.add(read)
         elif read == END:
             has_ended = True
         elif read is not None and number > 1:
@@ -95,7 +98,34 @@ def read_whole(lines: Iterable[str]) -> Journal:
             raise NoJournal("its first line is none of a journal")
         else:
             unseen.append(Unseen(Cause.JOURNAL, f"line {number} of the journal is none"))
+    unseen += children.unseen()
     return Journal(rows, unseen if has_ended else with_break(unseen))
+
+
+class ChildTold(NamedTuple):
+    """A child process of this tag has begun in some way, or has ended."""
+
+    tag: str
+    begun: str | None
+
+
+class Children:
+    """The child processes of which a journal tells."""
+
+    def __init__(self) -> None:
+        self._begun: dict[str, str] = {}
+        self._ended: set[str] = set()
+
+    def add(self, told: ChildTold) -> None:
+        if told.begun is None:
+            self._ended.add(told.tag)
+        else:
+            self._begun[told.tag] = told.begun
+
+    def unseen(self) -> list[Unseen]:
+        """Those whose end nobody has told of."""
+        left = [how for tag, how in self._begun.items() if tag not in self._ended]
+        return [Unseen(Cause.CHILD, f"a child process was not traced to its end: it was started by {how}") for how in left]
 
 
 def with_break(unseen: list[Unseen]) -> list[Unseen]:
@@ -109,7 +139,7 @@ GOING_ON = frozenset({Cause.CHILD, Cause.MODULE})
 """Why something is not seen of a run that goes on to be traced."""
 
 
-def read_line(line: str) -> Row | Unseen | Begun | str | None:
+def read_line(line: str) -> Row | Unseen | Begun | ChildTold | str | None:
     """What a line of a journal says. None if it is no such line."""
     try:
         read = json.loads(line)
@@ -117,6 +147,8 @@ def read_line(line: str) -> Row | Unseen | Begun | str | None:
             return _row_of(read)
         if "border" in read:
             return border_of(read)
+        if "child" in read:
+            return ChildTold(str(read["child"]), str(read["begun"]) if "begun" in read else None)
         if "unseen" in read:
             return Unseen(Cause(read["unseen"]), str(read["text"]))
         return END if "end" in read else None
@@ -186,9 +218,10 @@ class Touch(NamedTuple):
 class TouchTexts:
     """The rows of touches, behind the number and the task of their event. Each thing and each site is told once."""
 
-    def __init__(self, places: Places, prefix: str) -> None:
+    def __init__(self, places: Places, prefix: str, owner: str = "") -> None:
         self._places = places
         self._prefix = prefix
+        self._owner = owner or prefix.rstrip("_")
         self._things: dict[int, str] = {}
         self._sites: dict[int, str] = {}
         self._locks: dict[int, str] = {}
@@ -207,7 +240,7 @@ class TouchTexts:
 
     def _name(self, thing: str) -> str:
         """The name of a thing, which is of this process if it is not one across all."""
-        return thing if not self._prefix or isinstance(thing, Across) else f"{thing} of {self._prefix.rstrip('_')}"
+        return thing if not self._prefix or isinstance(thing, Across) else f"{thing} of {self._owner}"
 
     def forget(self) -> None:
         """Forgets the texts of things and locks, which may be no more."""

@@ -16,7 +16,7 @@ from .benign import Looking
 from .collector import Collector, NoCollector
 from .conflicts import MAKING
 from .dividing import Border, Report
-from .journal import BORDER, END, Begun, Row, read_line, with_break
+from .journal import BORDER, END, Begun, Children, ChildTold, Row, read_line, with_break
 from .progress import Bar, Shown
 from .races import Races, add_race, find_in, in_order, list_pair
 from .session import Refused, Session
@@ -177,6 +177,7 @@ class _Divided:
         self._folder = folder
         self._borders: dict[int, Border] = {}
         self.unseen: list[Unseen] = []
+        children = Children()
         has_ended = False
         with contextlib.closing(_Files(self.file)) as files, open(journal, encoding="utf-8", errors="replace") as lines:
             for number, line in enumerate(lines, 1):
@@ -187,12 +188,15 @@ class _Divided:
                     files.add(read.part, line)
                 elif isinstance(read, Unseen):
                     self.unseen.append(read)
+                elif isinstance(read, ChildTold):
+                    children.add(read)
                 elif isinstance(read, Begun):
                     self._borders[read.part] = read.border
                 elif read == END:
                     has_ended = True
                 else:
                     self.unseen.append(Unseen(Cause.JOURNAL, f"line {number} of the journal is none"))
+        self.unseen += children.unseen()
         if not has_ended:
             self.unseen = with_break(self.unseen)
 

@@ -44,6 +44,17 @@ class Unseen(NamedTuple):
 END_ROW = '{"end":true}\n'
 """The last line of a journal whose process reported all that it noted."""
 
+
+def child_begun_row(tag: str, how: str) -> str:
+    """The line that says that a child process has begun, and how and at which place."""
+    return json.dumps({"child": tag, "begun": how}, separators=(",", ":")) + "\n"
+
+
+def child_ended_row(tag: str) -> str:
+    """The last line of a child process that reported all that it noted."""
+    return json.dumps({"child": tag, "end": True}, separators=(",", ":")) + "\n"
+
+
 BREAKS_OFF = Unseen(Cause.JOURNAL, "the journal breaks off before the end of its process")
 
 

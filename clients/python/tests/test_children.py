@@ -1,4 +1,7 @@
-"""Child processes: they end as fast as untraced, and what they touch untraced is no all-clear."""
+"""Child processes that are not traced: they end as fast as untraced, and what they touch is no all-clear.
+
+The programs share memory with their children, which keeps the children from being traced.
+"""
 
 from __future__ import annotations
 
@@ -14,11 +17,11 @@ from itc_trace.journal import read_whole
 from .support import ProgramCase, fresh_tenant, run_traced
 
 PROGRAM = """
-import multiprocessing, os, sys, time
+import mmap, multiprocessing, os, sys, time
 import itc_trace
 from itc_trace import tracer
 
-tracer.ANSWER_WAIT = tracer.END_WAIT = 900
+tracer.ANSWER_WAIT, memory = 900, mmap.mmap(-1, 1)
 stock = itc_trace.shared({"left": 9}, "stock")
 
 def work(touches):
@@ -57,7 +60,8 @@ if __name__ == "__main__":
 """
 WAYS = ("_exit", "exit", "fork", "forkserver", "spawn")
 IN_BOTH = """
-import os, itc_trace
+import mmap, os, itc_trace
+memory = mmap.mmap(-1, 1)
 for turn in range(2):
     itc_trace.touch("x", write=True)
     if turn == 0:
