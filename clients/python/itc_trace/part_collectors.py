@@ -22,6 +22,7 @@ class PartCollectors:
     def __init__(self, tenant: str) -> None:
         self._tenant = tenant
         self._collectors = [Collector(tenant)]
+        self._number = 1
         self._relay: Relaying | None = None
         self._door = socket.create_server((HOST, 0))
         self.asked_at: int = self._door.getsockname()[1]
@@ -33,6 +34,10 @@ class PartCollectors:
     def port(self) -> int:
         """Where the part that began last is reported."""
         return self._collectors[-1].port
+
+    def port_of(self, part: int) -> int:
+        """Where the last part is reported that the journal tells of. A further one may have begun when the program was killed."""
+        return self._collectors[-1 if part >= self._number else -2].port
 
     def _serve(self) -> None:
         while True:
@@ -53,6 +58,7 @@ class PartCollectors:
             self._collectors.append(Collector(self._tenant))
         except (NoCollector, OSError) as fault:
             return f"no collector: {fault}"
+        self._number += 1
         return str(self.port)
 
     def _shared(self) -> str:

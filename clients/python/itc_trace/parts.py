@@ -126,8 +126,13 @@ def _confirm(pairing: Pairing, view: Asked) -> None:
 
 def is_in_parts(journal: str) -> bool:
     """Whether a journal is of a run that was divided."""
+    return number_of_parts(journal) > 1
+
+
+def number_of_parts(journal: str) -> int:
+    """Of how many parts the journal tells."""
     with open(journal, encoding="utf-8", errors="replace") as lines:
-        return any(line.startswith(BORDER) for line in lines)
+        return 1 + sum(line.startswith(BORDER) for line in lines)
 
 
 def races_of_parts(

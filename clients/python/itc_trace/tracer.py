@@ -383,7 +383,7 @@ class Tracer:
             handlers[note[0]](*note[1:])
             while self._goes_on:
                 self._touch(self._goes_on.pop())
-            if self._parts is not None and self._parts.is_full:
+            if self._parts is not None and self._parts.is_full and not self._all_sent:
                 self._divide(self._parts)
         self._gone_soon.clear()
         self._flush()
