@@ -85,6 +85,11 @@ def is_not_followed(what: str) -> None:
             traced.tell(Unseen(Cause.CHILD, f"what processes do to each other was not seen: {what} was used at {place_of_start(2)}"))
 
 
+def is_there() -> bool:
+    """Whether children of this process may be traced."""
+    return _following.traced is not None
+
+
 def is_on() -> bool:
     """Whether a child that is started now is traced."""
     return _following.traced is not None and state.note is not None and not _following.is_unfollowed and not _shares_memory()
@@ -144,9 +149,14 @@ def place_of_start(depth: int) -> str:
 
 def frame_of_start(depth: int) -> FrameType | None:
     frame = frame_at(depth + 1)
-    while frame is not None and str(frame.f_globals.get("__name__")).partition(".")[0] in STARTING:
-        frame = frame.f_back
+    while is_of_library(frame):
+        frame = frame.f_back  # type: ignore[union-attr]
     return frame
+
+
+def is_of_library(frame: FrameType | None) -> bool:
+    """Whether it is code that starts processes for the program, or carries something between them."""
+    return frame is not None and str(frame.f_globals.get("__name__")).partition(".")[0] in STARTING
 
 
 def _fresh_tag(tracer: Tracer) -> str:

@@ -736,9 +736,9 @@ class Tracer:
     def _send_outside(self, line: Line, message: str, waiter: Waiter, code: CodeType | None, instruction: int) -> None:
         report = self._report(line, "send", message, code, instruction, "send to another process")
         report.waiter = waiter
+        self._sent(line, message, None)
         if self._parts is not None:
             self._parts.sent_outside(message)
-        self._sent(line, message, None)
 
     def _receive_outside(self, line: Line, message: str, code: CodeType | None, instruction: int) -> None:
         self._leave(line)

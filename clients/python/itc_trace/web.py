@@ -7,6 +7,7 @@ import sys
 import urllib.request
 from collections.abc import Callable, Iterable
 from http.client import HTTPResponse
+from types import FrameType
 from typing import Any
 
 from .lines import RECV, SEND, state
@@ -34,9 +35,13 @@ def outgoing() -> str | None:
 
 def incoming(message: str | None) -> None:
     """From now on the current task comes after the place where this message was sent. What is no message is passed over."""
+    incoming_at(message, sys._getframe(1))
+
+
+def incoming_at(message: str | None, frame: FrameType | None) -> None:
     note = state.note
     if note is not None and message is not None and NAME.fullmatch(message):
-        note((RECV, current(), message, *place(sys._getframe(1))))
+        note((RECV, current(), message, *place(frame)))
 
 
 class Opener(urllib.request.BaseHandler):

@@ -3,13 +3,13 @@
 from __future__ import annotations
 
 from . import (
-    asynchronous, cached, entry_queue, exits, futures, handlers, heaps, importlib_bootstrap, processes, queues, starts, thread_pools,
+    asynchronous, cached, entry_queue, exits, futures, handlers, heaps, importlib_bootstrap, pipes, processes, queues, starts, thread_pools,
     threads, unfollowed,
 )
 from .base import Patches
 
 _TRACED = (
-    threads, exits, queues, futures, asynchronous, cached, handlers, heaps, processes, thread_pools, entry_queue, importlib_bootstrap, starts, unfollowed,
+    threads, exits, queues, futures, asynchronous, cached, handlers, heaps, processes, thread_pools, entry_queue, importlib_bootstrap, starts, pipes, unfollowed,
 )
 
 _patches: Patches | None = None

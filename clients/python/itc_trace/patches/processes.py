@@ -7,6 +7,7 @@ from collections import deque
 from types import ModuleType
 from typing import Any
 
+from .. import following
 from ..lines import SEMAPHORE, Line, Token, state
 from ..lock_identity import LockIdentity
 from ..noting import frame_at, is_internal, mark, take
@@ -107,6 +108,8 @@ def _begin(original: Any) -> Any:
         original(self, kind, value, maxvalue, **named)
         frame = _maker(frame_at(1))
         name = type(self).__name__
+        if frame is not None:
+            following.is_not_followed(name)
         if frame is None or value > MOST_PERMITS:
             return
         traced = _Lock(self._semlock, name, frame) if name in ("Lock", "RLock") else _Semaphore(self._semlock, value)

@@ -9,13 +9,9 @@ from .base import Patches
 from .later import once_imported
 
 _MAKING = (
-    ("multiprocessing.queues", "Queue", "__init__"),
-    ("multiprocessing.queues", "SimpleQueue", "__init__"),
-    ("multiprocessing.connection", "_ConnectionBase", "__init__"),
     ("multiprocessing.managers", "BaseManager", "__init__"),
     ("multiprocessing.managers", "BaseProxy", "__init__"),
     ("multiprocessing.heap", "BufferWrapper", "__init__"),
-    ("multiprocessing.synchronize", "SemLock", "__init__"),
     ("multiprocessing.pool", "Pool", "__init__"),
     ("multiprocessing.shared_memory", "SharedMemory", "__init__"),
     ("concurrent.futures.process", "ProcessPoolExecutor", "__init__"),
@@ -23,7 +19,12 @@ _MAKING = (
 """The modules, classes and methods by which a program makes such things, or gets them from another process."""
 
 
+MOST_PLACES = 16
+"""A queue of more places bounds memory, and puts nobody in order who waits for a place: see `queues`."""
+
+
 def put(patches: Patches) -> None:
+    once_imported("multiprocessing.queues", lambda module: patches.wrap(vars(module)["Queue"], "__init__", _tells_of_queue))
     for module, kind, method in _MAKING:
         once_imported(module, lambda found, kind=kind, method=method: _put(patches, vars(found)[kind], method))  # type: ignore[misc]
 
@@ -36,5 +37,16 @@ def _tells(original: Any) -> Any:
     def __init__(self: Any, *words: Any, **named: Any) -> None:
         following.is_not_followed(type(self).__name__)
         original(self, *words, **named)
+
+    return __init__
+
+
+def _tells_of_queue(original: Any) -> Any:
+    """A thread of a queue waits for a place, or another one for its items to be done."""
+
+    def __init__(self: Any, maxsize: int = 0, **named: Any) -> None:
+        if 0 < maxsize <= MOST_PLACES or type(self).__name__ != "Queue":
+            following.is_not_followed(type(self).__name__)
+        original(self, maxsize, **named)
 
     return __init__
