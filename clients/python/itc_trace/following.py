@@ -82,7 +82,7 @@ def is_not_followed(what: str) -> None:
     if traced is not None and not _following.is_unfollowed and place_of_start(2) != NOWHERE:
         _following.is_unfollowed = True
         if traced.is_child or _following.has_children:
-            traced.tell(Unseen(Cause.CHILD, f"what processes do to each other was not seen: {what} was used at {place_of_start(2)}"))
+            traced.tell(Unseen(Cause.CHILD, f"what processes do to each other was not all seen: {what} was used at {place_of_start(2)}"))
 
 
 def is_there() -> bool:

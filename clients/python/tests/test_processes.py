@@ -9,7 +9,7 @@ from itc_trace import Verdict
 from itc_trace.journal import read_whole
 from itc_trace.verdict import END_ROW, child_begun_row, child_ended_row
 
-from .support import ProgramCase, run_traced
+from .support import ProgramCase, run_python, run_traced
 
 METHODS = ("fork", "forkserver", "spawn")
 STARTS_AND_JOINS = """
@@ -193,6 +193,154 @@ class Starts(ProgramCase):
     def test_a_child_that_never_reports_is_not_seen(self) -> None:
         text = "import os\nif os.fork() == 0:\n    import socket\n    os.kill(os.getpid(), 9)\nos.wait()\n"
         self.assert_verdict(Verdict.INCOMPLETE, text)
+
+
+MESSAGES = """
+import multiprocessing, sys
+import itc_trace
+
+def work(requests, replies):
+    request = requests.recv() if is_pipe else requests.get()
+    assert request == ["write", 1], request
+    itc_trace.touch("file", write=True, across=True)
+    replies.send((1,)) if is_pipe else replies.put((1,))
+    itc_trace.touch("later", write=True, across=True)
+
+method, kind, is_wrong = sys.argv[1], sys.argv[2], sys.argv[3] == "wrong"
+is_pipe = kind == "Pipe"
+if __name__ == "__main__":
+    context = multiprocessing.get_context(method)
+    made = [getattr(context, kind)() for _ in range(2)]
+    (takes, gives), (gets, puts) = [one[::-1] if is_pipe else (one, one) for one in made]
+    child = context.Process(target=work, args=(takes, puts))
+    child.start()
+    itc_trace.touch("file", write=True, across=True)
+    gives.send(["write", 1]) if is_pipe else gives.put(["write", 1])
+    if is_wrong:
+        itc_trace.touch("file", write=True, across=True)
+    reply = gets.recv() if is_pipe else gets.get()
+    assert reply == (1,), reply
+    itc_trace.touch("file", write=True, across=True)
+    if is_wrong:
+        itc_trace.touch("later", across=True)
+    child.join()
+    itc_trace.touch("later", across=True)
+"""
+TWO_PUT = """
+import itc_trace, multiprocessing, sys, threading
+queue, first = getattr(multiprocessing, sys.argv[1])(), []
+def one():
+    itc_trace.touch("x", write=True)
+    queue.put(1)
+    first.append(1)
+def other():
+    while not first: pass
+    queue.put(2)
+    itc_trace.touch("x", write=True)
+threads = [threading.Thread(target=run) for run in (one, other)]
+for thread in threads:
+    thread.start()
+for thread in threads:
+    thread.join()
+"""
+FAILS = """
+import multiprocessing, time
+queue = multiprocessing.Queue()
+queue.put(lambda: None)
+queue.put("next")
+print(queue.get())
+"""
+UNTRACED_READER = """
+import multiprocessing, os, pickle
+reader, writer = multiprocessing.Pipe(False)
+writer.send({"left": 1})
+size = int.from_bytes(os.read(reader.fileno(), 4), "big")
+print(pickle.loads(os.read(reader.fileno(), size)))
+"""
+NOT_FOLLOWED = """
+import multiprocessing
+from multiprocessing import shared_memory
+def work(thing):
+    pass
+if __name__ == "__main__":
+    thing = MAKE
+    child = multiprocessing.Process(target=work, args=(thing,))
+    child.start()
+    child.join()
+    del thing
+"""
+MAKERS = (
+    "multiprocessing.Lock()", "multiprocessing.Condition()", "multiprocessing.Event()", "multiprocessing.Barrier(1)", "multiprocessing.Queue(1)",
+    "multiprocessing.JoinableQueue()", "multiprocessing.Value('i')", "multiprocessing.RawArray('i', 3)",
+    "shared_memory.ShareableList([1])", "multiprocessing.Pool(1).close()", "__import__('concurrent.futures').futures.ProcessPoolExecutor(1)",
+    "multiprocessing.Manager().list()", "__import__('mmap').mmap(-1, 1)", "(lambda pipe: pipe[0].send_bytes(b'x') or pipe)(multiprocessing.Pipe())",
+)
+LATER = """
+import multiprocessing
+def work(pipe, other):
+    other.close()
+    try:
+        USE
+    except EOFError:
+        pass
+if __name__ == "__main__":
+    there, here = multiprocessing.Pipe()
+    child = multiprocessing.Process(target=work, args=(there, here))
+    child.start()
+    there.close()
+    GIVE
+    here.close()
+    child.join()
+"""
+
+
+@unittest.skipUnless(hasattr(os, "fork"), "there is no fork here")
+class Messages(ProgramCase):
+    def test_an_item_is_a_message(self) -> None:
+        for method, kind in (("fork", "Queue"), ("fork", "SimpleQueue"), ("fork", "Pipe"), ("spawn", "Queue"), ("forkserver", "Pipe")):
+            with self.subTest(method=method, kind=kind):
+                program = self.program(MESSAGES)
+                ran = run_traced(program, method, kind, "right")
+                self.assertEqual(ran.returncode, Verdict.NO_RACE, ran.stderr)
+                ran = run_traced(program, method, kind, "wrong")
+                self.assertEqual(ran.returncode, Verdict.RACES, ran.stderr)
+                self.assertRegex(ran.stderr, r"race on file\n.*program\.py:(23|8)\b.*\n.*program\.py:(23|8)\b")
+                self.assertRegex(ran.stderr, r"race on later\n.*program\.py:(28|10)\b.*\n.*program\.py:(28|10)\b")
+                self.assertEqual(ran.stderr.count("race on"), 2)
+
+    def test_two_who_put_are_in_no_order(self) -> None:
+        for kind in ("Queue", "SimpleQueue"):
+            ran = run_traced("--watch-nothing", self.program(TWO_PUT), kind)
+            self.assertEqual(ran.returncode, Verdict.RACES, ran.stderr)
+
+    def test_an_item_that_cannot_be_pickled_is_told_as_ever(self) -> None:
+        program = self.program(FAILS)
+        ran, plain = run_traced(program), run_python(program)
+        self.assertEqual((ran.returncode, ran.stdout), (0, "next\n"), ran.stderr)
+        self.assertIn("PicklingError", plain.stderr)
+        self.assertEqual(ran.stderr.count("PicklingError"), plain.stderr.count("PicklingError"))
+
+    def test_whoever_does_not_know_of_the_name_reads_the_item(self) -> None:
+        ran = run_traced(self.program(UNTRACED_READER))
+        self.assertEqual((ran.returncode, ran.stdout), (Verdict.NO_RACE, "{'left': 1}\n"), ran.stderr)
+
+    def test_what_is_not_followed_is_no_all_clear(self) -> None:
+        for make in MAKERS:
+            with self.subTest(make=make):
+                ran = run_traced(self.program(NOT_FOLLOWED.replace("MAKE", make)))
+                self.assertEqual(ran.returncode, Verdict.INCOMPLETE, ran.stderr)
+                self.assertRegex(ran.stderr, r"incomplete: a child process was not traced: it was started by fork at \S+program\.py:\d+")
+
+    def test_what_is_used_later_and_is_not_followed_is_no_all_clear(self) -> None:
+        for use, give, told in (
+            ("pipe.recv_bytes()", "here.send_bytes(b'x')", "recv_bytes was used at"), ("pipe.recv()", "pass", "the end of a pipe was used at"),
+            ("multiprocessing.Value('i')", "pass", "Value"), ("pipe.send(1); pipe.recv()", "here.recv(); here.send(multiprocessing.Lock)", ""),
+        ):
+            with self.subTest(use=use):
+                ran = run_traced(self.program(LATER.replace("USE", use).replace("GIVE", give)))
+                self.assertEqual(ran.returncode, Verdict.INCOMPLETE if told else Verdict.NO_RACE, ran.stderr)
+                if told:
+                    self.assertIn("incomplete: what processes do to each other was not all seen: ", ran.stderr)
 
 
 class Rows(unittest.TestCase):
