@@ -90,6 +90,11 @@ def is_there() -> bool:
     return _following.traced is not None
 
 
+def has_children() -> bool:
+    """Whether a child of this process is traced."""
+    return _following.has_children
+
+
 def is_on() -> bool:
     """Whether a child that is started now is traced."""
     return _following.traced is not None and state.note is not None and not _following.is_unfollowed and not _shares_memory()

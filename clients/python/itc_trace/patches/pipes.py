@@ -11,9 +11,9 @@ from types import ModuleType
 from typing import Any
 
 from .. import following
-from ..lines import SEND, state
-from ..noting import current, frame_at, place_of
-from ..web import incoming_at
+from ..lines import state
+from ..noting import frame_at
+from ..web import Sending, incoming_at
 from .base import Patches, like
 from .later import once_imported
 
@@ -44,12 +44,12 @@ def _dumps(original: Any) -> Any:
     def dumps(cls: Any, obj: Any, protocol: int | None = None) -> Any:
         if type(obj) is _Put:
             return _named(original(cls, obj.item, protocol), obj.sending)
-        return _named(original(cls, obj, protocol), _Sending.begin())
+        return _named(original(cls, obj, protocol), _begin())
 
     return dumps
 
 
-def _named(pickled: Any, sending: _Sending | None) -> Any:
+def _named(pickled: Any, sending: Sending | None) -> Any:
     name = None if sending is None else sending.name()
     if name is None:
         return pickled
@@ -65,27 +65,9 @@ def _loads(data: Any, **named: Any) -> Any:
     return told
 
 
-class _Sending:
-    """A message that is on its way to the collector. Its name is handed on once the collector has it."""
-
-    def __init__(self, message: str, waiter: Any) -> None:
-        self._message = message
-        self._waiter = waiter
-
-    @staticmethod
-    def begin() -> _Sending | None:
-        from ..tracer import Waiter
-
-        note, tracer = state.note, state.tracer
-        if note is None or tracer is None or not following.is_there():
-            return None
-        message, waiter = tracer.fresh_message(), Waiter()
-        note((SEND, current(), message, waiter, *place_of(following.frame_of_start(2))))
-        tracer.hurry()
-        return _Sending(message, waiter)
-
-    def name(self) -> str | None:
-        return self._message if self._waiter.wait(following.ANSWER_SECONDS) else None
+def _begin() -> Sending | None:
+    """Sends a message, if it may be for another process."""
+    return Sending.begin(following.frame_of_start(1)) if following.is_there() else None
 
 
 # Queues: a thread of the queue pickles what was put
@@ -96,7 +78,7 @@ class _Put:
 
     __slots__ = ("item", "sending")
 
-    def __init__(self, item: Any, sending: _Sending) -> None:
+    def __init__(self, item: Any, sending: Sending) -> None:
         self.item = item
         self.sending = sending
 
@@ -109,7 +91,7 @@ def _put_queues(patches: Patches, module: ModuleType) -> None:
 
 def _put_item(original: Any, kind: Any) -> Any:
     def put(self: Any, obj: Any, block: bool = True, timeout: float | None = None) -> None:
-        sending = _Sending.begin() if type(self) is kind else None
+        sending = _begin() if type(self) is kind else None
         original(self, obj if sending is None else _Put(obj, sending), block, timeout)
 
     return put
