@@ -86,6 +86,8 @@ def _wrap_command(owner: Any, name: str, place: int, tell: Callable[[Unseen], No
 
     def run(*words: Any, **named: Any) -> Any:
         told = original(*words, **named)
+        if words and hasattr(words[0], "_itc_line"):
+            return told  # It is traced.
         command = words[place] if len(words) > place else named.get("args", named.get("argv", named.get("command", "")))
         program = watch.program_of(command, os.fspath(named.get("cwd") or os.getcwd()))
         if program is not None:

@@ -45,6 +45,7 @@ def main() -> None:
     configuration = json.loads(sys.argv[1])
     tell = Path(configuration.pop("told")).write_text
     seed = configuration.pop("seed")
+    child = configuration.pop("child", None)
     words = sys.argv[2:]
     packages = configuration.pop("watched")
     asked_at, events = configuration.pop("parts", (None, None))
@@ -54,7 +55,7 @@ def main() -> None:
         watch.watch_loaded(folders, packages)
     shaking = None if seed is None else Shaking(seed)
     try:
-        traced = Tracing(**configuration, shaking=shaking, parts=parts).start()
+        traced = Tracing(**configuration, shaking=shaking, parts=parts, child=None if child is None else ChildProcess(*child)).start()
     except OSError as fault:  # Another session reports, say.
         _refuse(tell, str(fault))
     Ending(traced).begin(folders, packages)

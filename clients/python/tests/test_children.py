@@ -197,7 +197,7 @@ class Children(ProgramCase):
 
     def test_a_program_of_the_same_folder_that_is_started_is_told_as_not_seen(self) -> None:
         program = self.program(STARTS_ITSELF)
-        for how in ("run", "without variables", "shell", "module", "system", "posix_spawn"):
+        for how in ("shell", "system", "posix_spawn"):
             with self.subTest(how=how):
                 ran = run_traced(program, how)
                 self.assertEqual(ran.returncode, Verdict.INCOMPLETE, ran.stderr)

@@ -343,6 +343,54 @@ class Messages(ProgramCase):
                     self.assertIn("incomplete: what processes do to each other was not all seen: ", ran.stderr)
 
 
+RUNS_ITSELF = """
+import os, subprocess, sys
+import itc_trace
+if sys.argv[1] == "child":
+    itc_trace.touch("file", write=True, across=True)
+    print(os.path.basename(sys.argv[0]), *sys.argv[1:], *sys.orig_argv[-1:], sys.flags.utf8_mode, flush=True)
+    sys.exit(3)
+how, is_wrong = sys.argv[1], sys.argv[2] == "wrong"
+words, folder = [sys.executable, "-X", "utf8", __file__, "child"], os.path.dirname(os.path.abspath(__file__))
+if how == "module":
+    words[3:4] = ["-m", "program"]
+child = subprocess.Popen(args=words, env={} if how == "without variables" else None, cwd=folder)
+if is_wrong:
+    itc_trace.touch("file", write=True, across=True)
+if how == "poll":
+    while child.poll() is None:
+        pass
+assert child.wait() == 3
+itc_trace.touch("file", write=True, across=True)
+assert subprocess.run(words, cwd=folder).returncode == 3
+itc_trace.touch("file", write=True, across=True)
+"""
+
+
+class Commands(ProgramCase):
+    def test_a_program_of_the_same_folder_is_a_task(self) -> None:
+        program = self.program(RUNS_ITSELF)
+        for how in ("run", "poll", "module", "without variables"):
+            with self.subTest(how=how):
+                ran = run_traced(program, how, "right")
+                self.assertEqual((ran.returncode, ran.stdout), (Verdict.NO_RACE, 2 * "program.py child child 1\n"), ran.stderr)
+        ran = run_traced(program, "run", "wrong")
+        self.assertEqual(ran.returncode, Verdict.RACES, ran.stderr)
+        self.assertRegex(ran.stderr, r"race on file\n.*program\.py:(14|5)\b.*\n.*program\.py:(14|5)\b")
+        self.assertEqual(ran.stderr.count("race on"), 1)
+
+    def test_one_that_cannot_be_started_is_told_as_ever(self) -> None:
+        text = "import subprocess, sys\ntry:\n    subprocess.run([sys.executable, __file__], cwd='/no_such')\nexcept OSError as error:\n    print(error.strerror)\n"
+        ran = run_traced(self.program(text))
+        self.assertEqual((ran.returncode, ran.stdout), (Verdict.NO_RACE, "No such file or directory\n"), ran.stderr)
+
+    def test_one_that_does_not_look_at_variables_is_told_as_not_seen(self) -> None:
+        for flag in ("-I", "-E", "-sE"):
+            text = f"import subprocess, sys\nif not sys.argv[1:]:\n    subprocess.run([sys.executable, '{flag}', __file__, 'child'], check=True)\n"
+            ran = run_traced(self.program(text))
+            self.assertEqual(ran.returncode, Verdict.INCOMPLETE, ran.stderr)
+
+
 class Rows(unittest.TestCase):
     def test_a_journal_tells_of_a_child_that_has_no_end(self) -> None:
         begun = child_begun_row("c1", "fork at shop.py:3")

@@ -3,14 +3,14 @@
 from __future__ import annotations
 
 from . import (
-    asynchronous, cached, entry_queue, exits, futures, handlers, heaps, http, importlib_bootstrap, pipes, processes, queues, starts,
-    thread_pools, threads, unfollowed,
+    asynchronous, cached, commands, entry_queue, exits, futures, handlers, heaps, http, importlib_bootstrap, pipes, processes, queues,
+    starts, thread_pools, threads, unfollowed,
 )
 from .base import Patches
 
 _TRACED = (
     threads, exits, queues, futures, asynchronous, cached, handlers, heaps, processes, thread_pools, entry_queue, importlib_bootstrap,
-    starts, pipes, http, unfollowed,
+    starts, commands, pipes, http, unfollowed,
 )
 
 _patches: Patches | None = None
