@@ -5,6 +5,7 @@ The children of a process are followed if it was begun by `run` or `system`, and
 
 from __future__ import annotations
 
+import contextlib
 import itertools
 import os
 import random
@@ -16,6 +17,7 @@ from typing import TYPE_CHECKING, Any, NamedTuple
 
 from .lines import CHILD, JOIN, Line, state
 from .noting import current, frame_at, place_of
+from .shared_names import PREFIX, SharedNames
 from .verdict import Cause, Unseen, child_begun_row, child_ended_row
 
 if TYPE_CHECKING:
@@ -26,6 +28,8 @@ MOST_TAG = 8
 NOWHERE = "?"
 SEMAPHORES = "/dev/shm/sem."
 """How the memory of named semaphores is called, which are no shared memory to the program."""
+FOLLOWED_MEMORY = (f"/{PREFIX}", "/pym-")
+"""The names of this package, and the memory of `multiprocessing`: who takes some of that is looked at by itself."""
 DIGITS = "0123456789abcdefghijklmnopqrstuvwxyz"
 ANSWER_SECONDS = 30.0
 
@@ -49,6 +53,8 @@ class ChildProcess(NamedTuple):
     """The part of a divided run that it is in. It is 0 if the run is not divided."""
     folders: list[str]
     packages: list[str] | None
+    names: str | None = None
+    """The file of the names that processes share."""
 
 
 @dataclass
@@ -63,6 +69,7 @@ class _Following:
     is_unfollowed: bool = False
     """Whether the program has made what orders processes, or what they share, and is not followed."""
     has_children: bool = False
+    names: SharedNames | None = None
     numbers: itertools.count[int] = field(default_factory=lambda: itertools.count(1))
 
 
@@ -70,10 +77,17 @@ _following = _Following()
 _own = threading.local()
 
 
-def follow(traced: Tracing, folders: list[str], packages: list[str] | None, begin: Callable[[ChildProcess], None]) -> None:
-    """From here on the children of this process are traced."""
+def follow(
+    traced: Tracing, folders: list[str], packages: list[str] | None, begin: Callable[[ChildProcess], None], names: str | None = None
+) -> None:
+    """From here on the children of this process are traced. The names that it shares with its parent are there already."""
     global _following
-    _following = _Following(traced, folders, packages, begin)
+    shared = _following.names
+    if shared is not None:
+        shared.after_fork()
+    elif names is not None:
+        shared = SharedNames(names)
+    _following = _Following(traced, folders, packages, begin, names=shared)
 
 
 def is_not_followed(what: str) -> None:
@@ -95,6 +109,25 @@ def has_children() -> bool:
     return _following.has_children
 
 
+def has_others() -> bool:
+    """Whether other processes of the program are traced, too."""
+    return _following.has_children or _following.traced is not None and _following.traced.is_child
+
+
+def shared_names() -> SharedNames | None:
+    """The names of messages that processes share. None if children are not traced."""
+    if _following.names is None and _following.traced is not None:
+        with contextlib.suppress(OSError):
+            _following.names = SharedNames()
+    return _following.names
+
+
+def end() -> None:
+    """The process ends, and with it what it has made for its children."""
+    if _following.names is not None and not (_following.traced is not None and _following.traced.is_child):
+        _following.names.remove()
+
+
 def is_on() -> bool:
     """Whether a child that is started now is traced."""
     return _following.traced is not None and state.note is not None and not _following.is_unfollowed and not _shares_memory()
@@ -110,7 +143,7 @@ def _shares_memory() -> bool:
 
 
 def _is_shared(_range: str, permissions: str, _offset: str, _device: str, _number: str, path: str = "") -> bool:
-    return permissions.startswith("rw") and permissions.endswith("s") and not path.startswith(SEMAPHORES)
+    return permissions.startswith("rw") and permissions.endswith("s") and not path.startswith(SEMAPHORES) and not any(one in path for one in FOLLOWED_MEMORY)
 
 
 class Begun(NamedTuple):
@@ -136,10 +169,10 @@ def begin(hint: str, how: str, depth: int) -> Begun | None:
     tracer.hurry()
     if not waiter.wait(ANSWER_SECONDS):
         return None
-    tag = _fresh_tag(tracer)
+    tag, names = _fresh_tag(tracer), shared_names()
     process = ChildProcess(
         tracer.port, traced.host, traced.tenant, os.path.abspath(traced.journal), line.name, tag, tracer.part,
-        _following.folders, _following.packages,
+        _following.folders, _following.packages, None if names is None else names.path,
     )
     _following.has_children = True
     traced.write(child_begun_row(tag, f"{how} at {place_of_start(depth)}"))

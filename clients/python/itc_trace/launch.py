@@ -25,6 +25,7 @@ from . import watch
 from .dividing import LEAVE
 from .faults import WORDS_REFUSED
 from .following import ChildProcess, follow, is_beginning
+from .following import end as end_following
 from .journal_file import JournalFile
 from .part_collectors import SHARED, ask_for_port
 from .patches.base import like
@@ -96,7 +97,7 @@ def begin_as_child(process: ChildProcess) -> None:
         traced.start()
     except OSError:
         return  # The journal of its parent has no end of it.
-    Ending(traced).begin(process.folders, process.packages)
+    Ending(traced).begin(process.folders, process.packages, process.names)
     watch.watch_path_runs()
 
 
@@ -125,10 +126,10 @@ class Ending:
         if hasattr(os, "register_at_fork"):
             os.register_at_fork(before=self._hold_signals, after_in_parent=self._let_signals, after_in_child=self._in_child)
 
-    def begin(self, folders: list[str], packages: list[str] | None) -> None:
+    def begin(self, folders: list[str], packages: list[str] | None, names: str | None = None) -> None:
         """From here on the end of this process is looked after, and its children are traced."""
         atexit.register(self.finish)
-        follow(self._traced, folders, packages, self._go_on_as)
+        follow(self._traced, folders, packages, self._go_on_as, names)
 
     def _go_on_as(self, process: ChildProcess) -> None:
         """In a forked child, which is traced as its parent."""
@@ -139,7 +140,7 @@ class Ending:
             self._let_signals()
             return  # The journal of its parent has no end of it.
         self._traced, self._process, self._waiting_signal = traced, os.getpid(), None
-        follow(traced, process.folders, process.packages, self._go_on_as)
+        follow(traced, process.folders, process.packages, self._go_on_as, process.names)
         for number in ENDING_SIGNALS:
             if signal.getsignal(number) == signal.SIG_DFL:
                 signal.signal(number, self._end_by)
@@ -149,6 +150,7 @@ class Ending:
         if os.getpid() == self._process:
             self._traced.tell_of_children()
             self._traced.stop()
+            end_following()
             if self._waiting_signal is not None:
                 self._die(self._waiting_signal)
 

@@ -71,12 +71,12 @@ if child:
 """
 SHARED_MEMORY = """
 import multiprocessing, sys
-def work(count):
-    count.value += 1
+def work(counts):
+    counts[0] += 1
 if __name__ == "__main__":
     context = multiprocessing.get_context(sys.argv[1])
-    count = context.Value("i", 0, lock=False)
-    children = [context.Process(target=work, args=(count,)) for _ in range(2)]
+    counts = context.Array("i", 1, lock=False)
+    children = [context.Process(target=work, args=(counts,)) for _ in range(2)]
     for child in children:
         child.start()
     for child in children:

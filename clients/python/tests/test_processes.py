@@ -4,9 +4,11 @@ from __future__ import annotations
 
 import os
 import unittest
+from unittest import mock
 
-from itc_trace import Verdict
+from itc_trace import Verdict, shared_names
 from itc_trace.journal import read_whole
+from itc_trace.shared_names import SharedNames
 from itc_trace.verdict import END_ROW, child_begun_row, child_ended_row
 
 from .support import ProgramCase, run_python, run_traced
@@ -270,8 +272,8 @@ if __name__ == "__main__":
     del thing
 """
 MAKERS = (
-    "multiprocessing.Lock()", "multiprocessing.Condition()", "multiprocessing.Event()", "multiprocessing.Barrier(1)", "multiprocessing.Queue(1)",
-    "multiprocessing.JoinableQueue()", "multiprocessing.Value('i')", "multiprocessing.RawArray('i', 3)",
+    "multiprocessing.Semaphore()", "multiprocessing.Condition()", "multiprocessing.Event()", "multiprocessing.Barrier(1)", "multiprocessing.Queue(1)",
+    "multiprocessing.JoinableQueue()", "multiprocessing.Array('i', 3)", "multiprocessing.RawArray('i', 3)",
     "shared_memory.ShareableList([1])", "multiprocessing.Pool(1).close()", "__import__('concurrent.futures').futures.ProcessPoolExecutor(1)",
     "multiprocessing.Manager().list()", "__import__('mmap').mmap(-1, 1)", "(lambda pipe: pipe[0].send_bytes(b'x') or pipe)(multiprocessing.Pipe())",
 )
@@ -334,7 +336,7 @@ class Messages(ProgramCase):
     def test_what_is_used_later_and_is_not_followed_is_no_all_clear(self) -> None:
         for use, give, told in (
             ("pipe.recv_bytes()", "here.send_bytes(b'x')", "recv_bytes was used at"), ("pipe.recv()", "pass", "the end of a pipe was used at"),
-            ("multiprocessing.Value('i')", "pass", "Value"), ("pipe.send(1); pipe.recv()", "here.recv(); here.send(multiprocessing.Lock)", ""),
+            ("multiprocessing.Array('i', 3)", "pass", "shared memory"), ("pipe.send(1); pipe.recv()", "here.recv(); here.send(multiprocessing.Lock)", ""),
         ):
             with self.subTest(use=use):
                 ran = run_traced(self.program(LATER.replace("USE", use).replace("GIVE", give)))
@@ -389,6 +391,126 @@ class Commands(ProgramCase):
             text = f"import subprocess, sys\nif not sys.argv[1:]:\n    subprocess.run([sys.executable, '{flag}', __file__, 'child'], check=True)\n"
             ran = run_traced(self.program(text))
             self.assertEqual(ran.returncode, Verdict.INCOMPLETE, ran.stderr)
+
+
+LOCKED = """
+import multiprocessing, sys
+import itc_trace
+
+def work(count, lock, how):
+    for _ in range(3):
+        if how == "plain":
+            count.value += 1
+        elif how == "with":
+            with lock:
+                count.value += 1
+        else:
+            lock.acquire()
+            try:
+                count.value += 1
+            finally:
+                lock.release()
+
+method, kind, how = sys.argv[1:]
+if __name__ == "__main__":
+    context = multiprocessing.get_context(method)
+    if kind == "Value":
+        count = context.Value("i", 0)
+        lock, raw = count.get_lock(), count.get_obj()
+    else:
+        raw = context.RawValue("i", 0)
+        lock = getattr(context, kind)()
+    children = [context.Process(target=work, args=(raw, lock, how)) for _ in range(2)]
+    for child in children:
+        child.start()
+    for child in children:
+        child.join()
+    print(raw.value, type(raw).__name__)
+"""
+NUMBERS = """
+import ctypes, multiprocessing
+number = multiprocessing.Value(ctypes.c_double, 1.5, lock=False)
+number.value *= 2
+letter = multiprocessing.RawValue("c", b"x")
+print(number, isinstance(number, ctypes.c_double), letter.value, multiprocessing.Value("i", 3), ctypes.sizeof(number))
+try:
+    number.value = "x"
+except TypeError as error:
+    print(error)
+"""
+HANDED_ON = """
+import multiprocessing
+def add(count, lock, mine, other):
+    for _ in range(3):
+        with lock:
+            with lock:
+                count.value += 1
+            count.value += 1
+if __name__ == "__main__":
+    count, lock = multiprocessing.RawValue("i", 0), multiprocessing.RLock()
+    child = multiprocessing.Process(target=add, args=(count, lock, 1, 2))
+    child.start()
+    add(count, lock, 2, 1)
+    child.join()
+    assert count.value == 12
+"""
+
+
+@unittest.skipUnless(hasattr(os, "fork"), "there is no fork here")
+class Locks(ProgramCase):
+    def test_a_lock_orders_processes_and_a_number_is_a_thing(self) -> None:
+        for method, kind, how in (
+            ("fork", "Lock", "with"), ("fork", "RLock", "acquire"), ("fork", "Value", "with"), ("spawn", "Lock", "acquire"),
+            ("spawn", "Value", "with"), ("forkserver", "RLock", "with"),
+        ):
+            with self.subTest(method=method, kind=kind, how=how):
+                ran = run_traced(self.program(LOCKED), method, kind, how)
+                self.assertEqual((ran.returncode, ran.stdout), (Verdict.NO_RACE, "6 c_int\n"), ran.stderr)
+
+    def test_without_a_lock_the_number_races(self) -> None:
+        for method in METHODS:
+            with self.subTest(method=method):
+                ran = run_traced(self.program(LOCKED), method, "Lock", "plain")
+                self.assertEqual(ran.returncode, Verdict.RACES, ran.stderr)
+                self.assertRegex(
+                    ran.stderr, r"race on raw, a Value made at \S*program\.py:26\n"
+                    r" +(write|read ) at \S*program\.py:8 in work: .*\n +(write|read ) at \S*program\.py:8 in work")
+                self.assertNotIn("root", ran.stderr)
+
+    def test_what_happens_outermost_counts_of_a_lock_that_is_acquired_again(self) -> None:
+        ran = run_traced(self.program(HANDED_ON))
+        self.assertEqual(ran.returncode, Verdict.NO_RACE, ran.stderr)
+
+    def test_numbers_behave_as_ever(self) -> None:
+        program = self.program(NUMBERS)
+        ran, plain = run_traced(program), run_python(program)
+        self.assertEqual((ran.returncode, ran.stdout), (0, plain.stdout), ran.stderr)
+
+    def test_a_lock_that_is_not_held_is_no_order(self) -> None:
+        text = LOCKED.replace("with lock:\n                count.value += 1", "with lock:\n                pass\n            count.value += 1")
+        ran = run_traced(self.program(text), "fork", "Lock", "with")
+        self.assertEqual(ran.returncode, Verdict.RACES, ran.stderr)
+
+
+class Names(unittest.TestCase):
+    def test_each_key_has_a_place_of_its_own_that_others_find(self) -> None:
+        names = SharedNames()
+        self.addCleanup(names.remove)
+        places = {key: names.slot_of(key) for key in [f"lock {number}" for number in range(500)]}
+        self.assertEqual(len(set(places.values())), 500)
+        for key, place in places.items():
+            assert place is not None
+            names.put(place, f"m_{key[5:]}")
+        again = SharedNames(names.path)
+        self.assertEqual({key: again.slot_of(key) for key in places}, places)
+        self.assertEqual([again.name_at(place or 0) for place in places.values()], [f"m_{number}" for number in range(500)])
+
+    def test_there_is_no_place_for_a_key_that_is_long_or_one_too_many(self) -> None:
+        names = SharedNames()
+        self.addCleanup(names.remove)
+        self.assertIsNone(names.slot_of("x" * 33))
+        with mock.patch.object(shared_names, "MOST_SLOTS", 3):
+            self.assertEqual([names.slot_of(key) is None for key in "abcda"], [False, False, False, True, False])
 
 
 class Rows(unittest.TestCase):

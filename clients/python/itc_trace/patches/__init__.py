@@ -4,13 +4,13 @@ from __future__ import annotations
 
 from . import (
     asynchronous, cached, commands, entry_queue, exits, futures, handlers, heaps, http, importlib_bootstrap, pipes, processes, queues,
-    starts, thread_pools, threads, unfollowed,
+    starts, thread_pools, threads, unfollowed, values,
 )
 from .base import Patches
 
 _TRACED = (
     threads, exits, queues, futures, asynchronous, cached, handlers, heaps, processes, thread_pools, entry_queue, importlib_bootstrap,
-    starts, commands, pipes, http, unfollowed,
+    starts, commands, pipes, http, values, unfollowed,
 )
 
 _patches: Patches | None = None

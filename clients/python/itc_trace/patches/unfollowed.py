@@ -7,11 +7,11 @@ from typing import Any
 from .. import following
 from .base import Patches
 from .later import once_imported
+from .values import is_making
 
 _MAKING = (
     ("multiprocessing.managers", "BaseManager", "__init__"),
     ("multiprocessing.managers", "BaseProxy", "__init__"),
-    ("multiprocessing.heap", "BufferWrapper", "__init__"),
     ("multiprocessing.pool", "Pool", "__init__"),
     ("multiprocessing.shared_memory", "SharedMemory", "__init__"),
     ("concurrent.futures.process", "ProcessPoolExecutor", "__init__"),
@@ -24,6 +24,7 @@ MOST_PLACES = 16
 
 
 def put(patches: Patches) -> None:
+    once_imported("multiprocessing.heap", lambda module: patches.wrap(vars(module)["BufferWrapper"], "__init__", _tells_of_memory))
     once_imported("multiprocessing.queues", lambda module: patches.wrap(vars(module)["Queue"], "__init__", _tells_of_queue))
     for module, kind, method in _MAKING:
         once_imported(module, lambda found, kind=kind, method=method: _put(patches, vars(found)[kind], method))  # type: ignore[misc]
@@ -37,6 +38,15 @@ def _tells(original: Any) -> Any:
     def __init__(self: Any, *words: Any, **named: Any) -> None:
         following.is_not_followed(type(self).__name__)
         original(self, *words, **named)
+
+    return __init__
+
+
+def _tells_of_memory(original: Any) -> Any:
+    def __init__(self: Any, size: int) -> None:
+        if not is_making():
+            following.is_not_followed("shared memory")
+        original(self, size)
 
     return __init__
 
