@@ -10,7 +10,7 @@ import itertools
 import os
 import random
 import threading
-from collections.abc import Callable
+from collections.abc import Callable, Iterator
 from dataclasses import dataclass, field
 from types import FrameType
 from typing import TYPE_CHECKING, Any, NamedTuple
@@ -165,7 +165,7 @@ def begin(hint: str, how: str, depth: int) -> Begun | None:
         return None
     line, waiter = Line(tracer, hint), Waiter()
     line.is_process = True
-    note((CHILD, current(), line, waiter, *place_of(frame_of_start(depth))))
+    note((CHILD, getattr(_own, "parent", None) or current(), line, waiter, *place_of(frame_of_start(depth))))
     tracer.hurry()
     if not waiter.wait(ANSWER_SECONDS):
         return None
@@ -195,6 +195,16 @@ def frame_of_start(depth: int) -> FrameType | None:
 def is_of_library(frame: FrameType | None) -> bool:
     """Whether it is code that starts processes for the program, or carries something between them."""
     return frame is not None and str(frame.f_globals.get("__name__")).partition(".")[0] in STARTING
+
+
+@contextlib.contextmanager
+def as_child_of(line: Line | None) -> Iterator[None]:
+    """The processes that this thread starts within the block are children of this task."""
+    _own.parent = line
+    try:
+        yield
+    finally:
+        _own.parent = None
 
 
 def _fresh_tag(tracer: Tracer) -> str:

@@ -29,6 +29,7 @@ from .following import end as end_following
 from .journal_file import JournalFile
 from .part_collectors import SHARED, ask_for_port
 from .patches.base import like
+from .patches.process_pools import take_done
 from .shaking import Shaking
 from .tracer_parts import Parts
 from .tracing import Tracing
@@ -149,6 +150,7 @@ class Ending:
     def finish(self) -> None:
         if os.getpid() == self._process:
             self._traced.tell_of_children()
+            take_done()
             self._traced.stop()
             end_following()
             if self._waiting_signal is not None:

@@ -274,7 +274,7 @@ if __name__ == "__main__":
 MAKERS = (
     "multiprocessing.Semaphore()", "multiprocessing.Condition()", "multiprocessing.Event()", "multiprocessing.Barrier(1)", "multiprocessing.Queue(1)",
     "multiprocessing.JoinableQueue()", "multiprocessing.Array('i', 3)", "multiprocessing.RawArray('i', 3)",
-    "shared_memory.ShareableList([1])", "multiprocessing.Pool(1).close()", "__import__('concurrent.futures').futures.ProcessPoolExecutor(1)",
+    "shared_memory.ShareableList([1])", "multiprocessing.Pool(1).close()",
     "multiprocessing.Manager().list()", "__import__('mmap').mmap(-1, 1)", "(lambda pipe: pipe[0].send_bytes(b'x') or pipe)(multiprocessing.Pipe())",
 )
 LATER = """
@@ -490,6 +490,73 @@ class Locks(ProgramCase):
         text = LOCKED.replace("with lock:\n                count.value += 1", "with lock:\n                pass\n            count.value += 1")
         ran = run_traced(self.program(text), "fork", "Lock", "with")
         self.assertEqual(ran.returncode, Verdict.RACES, ran.stderr)
+
+
+POOL = """
+import multiprocessing, sys, threading
+import itc_trace
+from concurrent.futures import ProcessPoolExecutor, as_completed, wait
+
+def write(name):
+    itc_trace.touch(name, write=True, across=True)
+    if name == "fails":
+        raise ValueError(name)
+    return len(name)
+
+def begin():
+    itc_trace.touch("begun", write=True, across=True)
+
+def use():
+    itc_trace.touch("begun", across=True)
+
+method, how = sys.argv[1:]
+if __name__ == "__main__":
+    pool = ProcessPoolExecutor(1, multiprocessing.get_context(method), begin)
+    write("one")
+    write("given")
+    jobs = [pool.submit(write, name) for name in ("one", "other", "fails", "given")]
+    if how == "submitted":
+        write("given")
+    assert jobs[0].result() == 3
+    write("one")
+    try:
+        jobs[2].result()
+    except ValueError as error:
+        assert error.args == ("fails",) and not error.__dict__, error.__dict__
+        write_again = itc_trace.touch("fails", write=True, across=True)
+    if how == "not taken":
+        write("other")
+    if how == "same":
+        more = [pool.submit(write, "same") for _ in range(2)]
+    assert list(pool.map(write, ["first", "second"], chunksize=2)) == [5, 6]
+    for job in as_completed(jobs):
+        pass
+    write("other")
+    write("first")
+    last = pool.submit(use)
+    pool.shutdown()
+    for name in ("begun", "same", "given"):
+        write(name)
+"""
+
+
+@unittest.skipUnless(hasattr(os, "fork"), "there is no fork here")
+class Pools(ProgramCase):
+    def test_a_job_comes_after_its_submission_and_before_its_result(self) -> None:
+        for method in METHODS:
+            with self.subTest(method=method):
+                ran = run_traced(self.program(POOL), method, "right")
+                self.assertEqual(ran.returncode, Verdict.NO_RACE, ran.stderr)
+
+    def test_neither_the_process_nor_the_thread_of_the_pool_orders_its_jobs(self) -> None:
+        """One process ran all jobs, and gave back the results of earlier ones first."""
+        for how, thing, task in (("not taken", "other", "root"), ("same", "same", "_write_"), ("submitted", "given", "root")):
+            with self.subTest(how=how):
+                ran = run_traced(self.program(POOL), "fork", how)
+                self.assertEqual(ran.returncode, Verdict.RACES, ran.stderr)
+                self.assertEqual(ran.stderr.count("race on"), 1, ran.stderr)
+                self.assertIn(f"race on {thing}\n", ran.stderr)
+                self.assertRegex(ran.stderr, f"threads (\\S*{task}\\S* and |\\S+ and \\S*{task})")
 
 
 class Names(unittest.TestCase):

@@ -42,6 +42,8 @@ def _put_pickler(patches: Patches, module: ModuleType) -> None:
 
 def _dumps(original: Any) -> Any:
     def dumps(cls: Any, obj: Any, protocol: int | None = None) -> Any:
+        if type(obj).__module__ == "concurrent.futures.process":
+            return original(cls, obj, protocol)  # A job or a result brings a message of its own.
         if type(obj) is _Put:
             return _named(original(cls, obj.item, protocol), obj.sending)
         return _named(original(cls, obj, protocol), _begin())

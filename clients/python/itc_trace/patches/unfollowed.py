@@ -14,11 +14,12 @@ _MAKING = (
     ("multiprocessing.managers", "BaseProxy", "__init__"),
     ("multiprocessing.pool", "Pool", "__init__"),
     ("multiprocessing.shared_memory", "SharedMemory", "__init__"),
-    ("concurrent.futures.process", "ProcessPoolExecutor", "__init__"),
 )
 """The modules, classes and methods by which a program makes such things, or gets them from another process."""
 
 
+OF_POOL = "_SafeQueue"
+"""The queue of a `ProcessPoolExecutor`, whose jobs have an order of their own."""
 MOST_PLACES = 16
 """A queue of more places bounds memory, and puts nobody in order who waits for a place: see `queues`."""
 
@@ -55,7 +56,7 @@ def _tells_of_queue(original: Any) -> Any:
     """A thread of a queue waits for a place, or another one for its items to be done."""
 
     def __init__(self: Any, maxsize: int = 0, **named: Any) -> None:
-        if 0 < maxsize <= MOST_PLACES or type(self).__name__ != "Queue":
+        if type(self).__name__ != OF_POOL and (0 < maxsize <= MOST_PLACES or type(self).__name__ != "Queue"):
             following.is_not_followed(type(self).__name__)
         original(self, maxsize, **named)
 
