@@ -12,10 +12,10 @@ from .session import Refused, Session
 from .shared import shared
 from .tracing import Tracing, install, tracing, uninstall
 from .verdict import Cause, Unseen, Verdict
-from .web import Middleware, Opener, incoming, opener, outgoing
+from .web import AsgiMiddleware, Middleware, Opener, incoming, opener, outgoing
 
 __all__ = [
-    "Cause", "Collector", "Middleware", "NoCollector", "Opener", "Race", "Races", "Refused", "Session", "Tracing", "Unseen", "Verdict",
+    "AsgiMiddleware", "Cause", "Collector", "Middleware", "NoCollector", "Opener", "Race", "Races", "Refused", "Session", "Tracing", "Unseen", "Verdict",
     "find_races", "incoming", "install", "opener", "outgoing", "shared", "touch", "tracing", "uninstall",
 ]
 

@@ -24,8 +24,12 @@ from typing import Any, NoReturn
 from . import watch
 from .dividing import LEAVE
 from .faults import WORDS_REFUSED
-from .part_collectors import ask_for_port
+from .following import ChildProcess, follow, is_beginning
+from .following import end as end_following
+from .journal_file import JournalFile
+from .part_collectors import SHARED, ask_for_port
 from .patches.base import like
+from .patches.process_pools import take_done
 from .shaking import Shaking
 from .tracer_parts import Parts
 from .tracing import Tracing
@@ -43,19 +47,20 @@ def main() -> None:
     configuration = json.loads(sys.argv[1])
     tell = Path(configuration.pop("told")).write_text
     seed = configuration.pop("seed")
+    child = configuration.pop("child", None)
     words = sys.argv[2:]
     packages = configuration.pop("watched")
     asked_at, events = configuration.pop("parts", (None, None))
-    parts = None if asked_at is None else Parts(partial(ask_for_port, asked_at), LEAVE._replace(events=events))
+    parts = None if asked_at is None else _parts(asked_at, events)
+    folders = [_folder_of(words)]
     if packages is not None:
-        watch.watch_loaded([_folder_of(words)], packages)
+        watch.watch_loaded(folders, packages)
     shaking = None if seed is None else Shaking(seed)
     try:
-        traced = Tracing(**configuration, shaking=shaking, parts=parts).start()
+        traced = Tracing(**configuration, shaking=shaking, parts=parts, child=None if child is None else ChildProcess(*child)).start()
     except OSError as fault:  # Another session reports, say.
         _refuse(tell, str(fault))
-    ending = Ending(traced)
-    atexit.register(ending.finish)
+    Ending(traced).begin(folders, packages)
     try:
         if words[0] == "-m":
             _run_module(words[1], words[1:])
@@ -80,6 +85,27 @@ def _refuse(tell: Callable[[str], object], text: str) -> NoReturn:
     sys.exit(WORDS_REFUSED)
 
 
+def _parts(asked_at: int, events: int) -> Parts:
+    return Parts(partial(ask_for_port, asked_at), LEAVE._replace(events=events), partial(ask_for_port, asked_at, SHARED))
+
+
+def begin_as_child(process: ChildProcess) -> None:
+    """In a process that `multiprocessing` has started anew, before it imports the program: from here on it is traced."""
+    if process.packages is not None:
+        watch.watch_loaded(process.folders, process.packages)
+    traced = _tracing_of(process)
+    try:
+        traced.start()
+    except OSError:
+        return  # The journal of its parent has no end of it.
+    Ending(traced).begin(process.folders, process.packages, process.names)
+    watch.watch_path_runs()
+
+
+def _tracing_of(process: ChildProcess) -> Tracing:
+    return Tracing(process.port, process.tenant, process.journal, host=process.host, child=process)
+
+
 class _NotRun(Exception):
     """The program could not be started."""
 
@@ -101,10 +127,32 @@ class Ending:
         if hasattr(os, "register_at_fork"):
             os.register_at_fork(before=self._hold_signals, after_in_parent=self._let_signals, after_in_child=self._in_child)
 
+    def begin(self, folders: list[str], packages: list[str] | None, names: str | None = None) -> None:
+        """From here on the end of this process is looked after, and its children are traced."""
+        atexit.register(self.finish)
+        follow(self._traced, folders, packages, self._go_on_as, names)
+
+    def _go_on_as(self, process: ChildProcess) -> None:
+        """In a forked child, which is traced as its parent."""
+        traced = _tracing_of(process)
+        try:
+            traced.start()
+        except OSError:
+            self._let_signals()
+            return  # The journal of its parent has no end of it.
+        self._traced, self._process, self._waiting_signal = traced, os.getpid(), None
+        follow(traced, process.folders, process.packages, self._go_on_as, process.names)
+        for number in ENDING_SIGNALS:
+            if signal.getsignal(number) == signal.SIG_DFL:
+                signal.signal(number, self._end_by)
+        self._let_signals()
+
     def finish(self) -> None:
         if os.getpid() == self._process:
             self._traced.tell_of_children()
+            take_done()
             self._traced.stop()
+            end_following()
             if self._waiting_signal is not None:
                 self._die(self._waiting_signal)
 
@@ -121,9 +169,17 @@ class Ending:
         original = getattr(os, name)
 
         def replace(*words: Any, **named: Any) -> Any:
-            self._traced.tell(ANOTHER_PROGRAM)
+            if os.getpid() != self._process or words and not os.access(words[0], os.X_OK):
+                return original(*words, **named)
+            if not self._traced.is_child or watch.program_of(words[1] if len(words) > 1 else (), os.getcwd()) is not None:
+                self._traced.tell(ANOTHER_PROGRAM)
+            journal = self._traced.journal
             self.finish()
-            return original(*words, **named)
+            try:
+                return original(*words, **named)
+            except BaseException:
+                JournalFile(journal, adds=True).write(ANOTHER_PROGRAM.row())
+                raise
 
         setattr(os, name, like(original, replace))
 
@@ -138,14 +194,16 @@ class Ending:
         for number in ENDING_SIGNALS:
             if signal.getsignal(number) == self._end_by:
                 signal.signal(number, signal.SIG_DFL)
-        self._let_signals()
+        if not is_beginning():
+            self._let_signals()
 
     def _end_by(self, number: int, _: FrameType | None) -> None:
         """Reports what was noted, before the signal ends the process as it would untraced."""
         if self._waiting_signal is not None:
             return
         self._waiting_signal = number
-        self._traced.tell(_ended_by(number))
+        if not self._traced.is_child:  # What ends a child is part of the program.
+            self._traced.tell(_ended_by(number))
         if not self._traced.is_stopping:  # Else whoever stops it looks for the signal.
             self._traced.stop()
             self._die(number)

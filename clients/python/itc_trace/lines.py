@@ -16,7 +16,7 @@ if TYPE_CHECKING:
     from .touch_rows import TouchEvent
     from .tracer import Tracer
 
-MARK, TAKE, TAKE_END, SPAWN, FINISH, JOIN, TOUCH, GONE, SEND, RECV, STOP = range(11)
+MARK, TAKE, TAKE_END, SPAWN, FINISH, JOIN, TOUCH, GONE, SEND, RECV, STOP, CHILD = range(12)
 
 Note = tuple[Any, ...]
 
@@ -65,7 +65,7 @@ class Line:
         "tracer", "hint", "waiting", "reference", "must_finish", "held", "section", "job",
         "name", "count", "message", "lock", "sent", "pending", "known", "known_by_locks", "parent", "parent_count", "touches",
         "end_token", "is_finished", "has_ended", "is_gone", "joined_by", "joined_at", "joined", "first_taker",
-        "is_forgotten",
+        "is_forgotten", "is_process",
     )
 
     def __init__(self, tracer: Tracer | None, hint: str) -> None:
@@ -102,6 +102,8 @@ class Line:
         self.first_taker: Line | None = None
         self.is_forgotten = False
         """Whether it ended in an earlier part of the run, and is no more known to the collector."""
+        self.is_process = False
+        """Whether it is a child process, which reports for itself."""
         state.lines += 1
 
     def watch(self, thing: object) -> None:

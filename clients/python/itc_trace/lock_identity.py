@@ -62,7 +62,7 @@ class LockIdentity:
     def name(self) -> str:
         """As `lock L (shop.py:12)`, or `stock_lock (shop.py:12)`. A later one of the same line has its number."""
         if not self._name:
-            variable = None if self.code is None else _variable(self.code, self.instruction)
+            variable = None if self.code is None else variable_of_result(self.code, self.instruction)
             words = [] if variable and "lock" in variable.lower() else ["lock"]
             words += [variable] if variable else []
             words += [str(self.number)] if self.number > 1 else []
@@ -119,13 +119,10 @@ def _maker(frame: FrameType | None) -> FrameType | None:
     return first
 
 
-def _variable(code: CodeType, instruction: int) -> str | None:
+def variable_of_result(code: CodeType, instruction: int) -> str | None:
     """The name of the variable or attribute that is given the result of the instruction at once."""
     instructions = (one for one in dis.get_instructions(code) if one.opname not in ("CACHE", "COPY"))
-    for one in instructions:
-        if one.offset == instruction:
-            break
-    following = next(instructions, None)
+    following = next((one for one in instructions if one.offset > instruction), None)  # A call may stand at the end of its caches.
     if following is not None and following.opname in _STORES:
         return str(following.argval)
     while following is not None and following.opname in _LOADS:

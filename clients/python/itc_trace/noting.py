@@ -24,6 +24,9 @@ INTERNAL = frozenset({
 })
 """Library modules whose own locks and queues are not traced: what they promise is traced as a whole."""
 
+INTERNAL_MODULES = frozenset(f"multiprocessing.{one}" for one in ("queues", "resource_tracker", "forkserver", "util", "heap"))
+"""Modules of a package that is not internal as a whole."""
+
 _internal_names: dict[Any, bool] = {}
 
 
@@ -52,7 +55,7 @@ def is_internal(frame: FrameType | None) -> bool:
     name = frame.f_globals.get("__name__")
     known = _internal_names.get(name)
     if known is None:
-        known = _internal_names[name] = isinstance(name, str) and name.partition(".")[0] in INTERNAL
+        known = _internal_names[name] = isinstance(name, str) and (name.partition(".")[0] in INTERNAL or name in INTERNAL_MODULES)
     return known
 
 

@@ -16,7 +16,7 @@ from .benign import Looking
 from .collector import Collector, NoCollector
 from .conflicts import MAKING
 from .dividing import Border, Report
-from .journal import BORDER, Begun, Count, End, Row, read_line
+from .journal import BORDER, Begun, Children, ChildTold, Count, End, Row, read_line
 from .progress import Bar, Shown
 from .races import Races, add_race, find_in, in_order, list_pair
 from .session import Refused, Session
@@ -126,8 +126,13 @@ def _confirm(pairing: Pairing, view: Asked) -> None:
 
 def is_in_parts(journal: str) -> bool:
     """Whether a journal is of a run that was divided."""
+    return number_of_parts(journal) > 1
+
+
+def number_of_parts(journal: str) -> int:
+    """Of how many parts the journal tells."""
     with open(journal, encoding="utf-8", errors="replace") as lines:
-        return any(line.startswith(BORDER) for line in lines)
+        return 1 + sum(line.startswith(BORDER) for line in lines)
 
 
 def races_of_parts(
@@ -178,6 +183,7 @@ class _Divided:
         self._borders: dict[int, Border] = {}
         self.unseen: list[Unseen] = []
         self.passed_over: list[PassedOver] = []
+        children = Children()
         count = Count()
         with contextlib.closing(_Files(self.file)) as files, open(journal, encoding="utf-8", errors="replace") as lines:
             for number, line in enumerate(lines, 1):
@@ -189,12 +195,15 @@ class _Divided:
                     files.add(read.part, line)
                 elif isinstance(read, Unseen):
                     self.unseen.append(read)
+                elif isinstance(read, ChildTold):
+                    children.add(read)
                 elif isinstance(read, Begun):
                     self._borders[read.part] = read.border
                 elif isinstance(read, PassedOver):
                     self.passed_over.append(read)
                 elif not isinstance(read, End):
                     self.unseen.append(Unseen(Cause.JOURNAL, f"line {number} of the journal is none"))
+        self.unseen += children.unseen()
         self.unseen += count.missing(self.unseen)
 
     def file(self, part: int) -> str:

@@ -26,7 +26,7 @@ from .faults import WORDS_REFUSED, Fault, look
 from .launch import RAISED, REFUSED
 from .merging import Merged
 from .part_collectors import PartCollectors
-from .parts import is_in_parts, races_of_parts
+from .parts import number_of_parts, races_of_parts
 from .progress import Bar
 from .races import Race, Races
 from .seeing import races_seen
@@ -196,8 +196,8 @@ def _outcome(asked: Run, seed: int | None) -> Outcome | None:
         child = _run_program(asked, collectors, journal, os.path.join(work, "told"), seed)
         if child.told == REFUSED:
             return None
-        port = _port(asked, collectors)
-        is_divided = collectors is not None and os.path.exists(journal) and is_in_parts(journal)
+        number = number_of_parts(journal) if collectors is not None and os.path.exists(journal) else 1
+        port, is_divided = _port(asked, collectors, number), number > 1
         if is_divided:
             races = races_of_parts(journal, asked.looking, Bar(sys.stderr), (asked.tenant, port), asked.export)
         else:
@@ -234,8 +234,8 @@ def _collectors(asked: Run) -> Iterator[PartCollectors | None]:
         yield collectors
 
 
-def _port(asked: Run, collectors: PartCollectors | None) -> int:
-    return collectors.port if collectors is not None else asked.port or 0
+def _port(asked: Run, collectors: PartCollectors | None, part: int = 1) -> int:
+    return collectors.port_of(part) if collectors is not None else asked.port or 0
 
 
 def _run_program(asked: Run, collectors: PartCollectors | None, journal: str, told: str, seed: int | None) -> Child:

@@ -29,13 +29,13 @@ from .journal import NoJournal, read_whole
 from .launch import REFUSED
 from .progress import Bar
 from .races import Races
-from .relay import Relay
+from .relay import Relaying
 from .run import check_writable, draw, environment_of_package, told
 from .seeing import races_seen
 from .session import Refused
 from .snapshot import snapshot
 from .system_file import Described, System
-from .verdict import Cause, Unseen, end_row, is_end_row
+from .verdict import END_ROW, Cause, Unseen, is_end_row
 
 READY_SECONDS = 60.0
 GRACE_SECONDS = 10.0
@@ -259,7 +259,7 @@ class Running:
                 print(f"itc_trace: process {process.name} reported {len(written)} times: it was started again", file=sys.stderr)
             for path in written:
                 lines += self._lines_of(process, path)
-        return [*lines, end_row(len(lines))]
+        return [*lines, END_ROW]
 
     def _is_refused(self, name: str) -> bool:
         told_by = Path(self._told_by(name))
@@ -283,28 +283,14 @@ class Running:
 ENDED_AS_A_SERVICE = Unseen(Cause.KILLED, "the program was ended by SIGTERM").row()
 
 
-@contextlib.contextmanager
-def _relayed(collector: Collector) -> Iterator[int]:
-    """The port of a relay to the collector."""
-    relay = Relay(0, collector.port)
-    thread = threading.Thread(target=relay.serve, daemon=True)
-    thread.start()
-    try:
-        yield relay.port
-    finally:
-        relay.stop()
-        thread.join()
-        relay.close()
-
-
 def run_system(system: System, looking: Looking, fail_on_possible: bool = False) -> int:
     """The verdict's status, and where that is 0 the first status of a process that was not 0."""
     for file in (system.export, system.picture):
         if file is not None:
             check_writable(file)
     with tempfile.TemporaryDirectory(prefix="itc_trace_") as folder, Collector(system.tenant) as collector:
-        with _relayed(collector) as port:
-            running = Running(system, port, folder)
+        with Relaying(collector.port) as relay:
+            running = Running(system, relay.port, folder)
             running.run()
         lines = running.lines()
         races = races_seen(system.tenant, collector.port, lines, HOST, looking, Bar(sys.stderr))

@@ -19,17 +19,18 @@ from types import CodeType
 from .collector import HOST, MOST_TASKS
 from .dividing import Report
 from .faults import FULL, Fault, nobody_listens, refusal
+from .following import ChildProcess
 from .journal import Places, TouchTexts, border_row
 from .journal_file import JournalFile
-from .lines import END, GONE, JOIN, RESULT, SPAWN, STOP, TAKE, TAKE_END, TOUCH, LateJob, Line, Note, Token, state
+from .lines import END, FINISH, GONE, JOIN, RESULT, SPAWN, STOP, TAKE, TAKE_END, TOUCH, LateJob, Line, Note, Token, state
 from .lock_identity import LockIdentity
 from .noting import enter
 from .shaking import Shaking
 from .stretches import STRETCHES, Stretch
-from .patches.exits import await_at_exit, take_awaited
+from .patches.exits import await_at_exit, await_nobody, take_awaited
 from .touch_rows import TouchEvent, TouchRows, part_text
 from .tracer_parts import Parts
-from .verdict import Cause, Unseen, end_row
+from .verdict import Cause, Unseen, child_ended_row, end_row
 
 NOTES_AT_ONCE = 1024
 MOST_WAITING = 200_000
@@ -63,8 +64,8 @@ def _references_of_nobody() -> int:
 
 REFERENCES_OF_NOBODY = _references_of_nobody()
 
-NOT_MINE = {405, 407}
-"""What a message of another process may be refused for: it was never sent, or this task has it."""
+NOT_MINE = {405, 407, 408, 409}
+"""What a message of another process may be refused for: it was never sent, or this task has it. A process was killed, or joined before."""
 
 
 def _clean(hint: str, room: int) -> str:
@@ -142,13 +143,14 @@ class Tracer:
     """Reports for one process to one tenant, from `start` to `stop`."""
 
     def __init__(self, port: int, tenant: str, journal: JournalFile, process: str | None = None, host: str = HOST,
-                 shaking: Shaking | None = None, parts: Parts | None = None) -> None:
-        """With parts, a trace that is nearly full goes on at another collector."""
+                 shaking: Shaking | None = None, parts: Parts | None = None, child: ChildProcess | None = None) -> None:
+        """With parts, a trace that is nearly full goes on at another collector. A child process has its task already."""
         self.notes: deque[Note] = deque()
         self.lines_made = 0
         self.most_lines = MOST_TASKS // 2
         self._journal = journal
         self._parts = parts
+        self._child = child
         self._shaking = shaking
         self._note: Callable[[Note], object] = self.notes.append if shaking is None else self._note_shaken
         self._places = Places()
@@ -176,24 +178,27 @@ class Tracer:
         """Whether the session ends since the trace goes on at another collector."""
         self._handlers: list[Callable[..., None]] = [
             self._mark, self._take, self._take_end, self._spawn, self._finish, self._join, self._touch, self._gone,
-            self._send_outside, self._receive_outside, self._stop_reporting,
+            self._send_outside, self._receive_outside, self._stop_reporting, self._begin_child,
         ]
-        self._tenant, self._port = tenant, port
+        self._tenant, self.port = tenant, port
         self._connect(host, process)
-        self._touch_texts = TouchTexts(self._places, self.prefix)
+        self._touch_texts = TouchTexts(self._places, self.prefix, child.task if child is not None else "")
         self._touch_rows = TouchRows(self._touch_texts)
 
     # Beginning
 
     def _connect(self, host: str, process: str | None) -> None:
         self._host = host
-        self._events_before = self._open(self._port)
+        self._events_before = self._open(self.port)
         try:
             self.main = Line(self, "root")
             self.main.name = "root"
             self.parent_of_strangers = self.main
             self.prefix = ""
-            if process is not None or self._events_before > 0:
+            if self._child is not None:
+                self.main.name = self.main.hint = self._child.task
+                self.prefix = f"{self._child.tag}_"
+            elif process is not None or self._events_before > 0:
                 self._begin_beside_others(process or ANY_PROCESS)
         except BaseException:
             self._socket.close()
@@ -220,6 +225,13 @@ class Tracer:
             raise
         return int(count.split()[1])
 
+    @property
+    def part(self) -> int:
+        """The number of the part that is reported now. It is 0 if the run is not divided."""
+        if self._parts is not None:
+            return self._parts.number
+        return 0 if self._child is None else self._child.part
+
     def _begin_beside_others(self, process: str) -> None:
         """Takes a task of its own in a trace that others report to as well, and a first part for all its names."""
         base = re.sub(r"[^A-Za-z0-9]+", "", process)[: MOST_TAG - 3] or ANY_PROCESS
@@ -233,7 +245,7 @@ class Tracer:
                 self._journal.write(self._row(int(reply[4:]), row))
                 return
             if not reply.startswith("402"):
-                raise Fault(refusal(reply, self._tenant, self._port))
+                raise Fault(refusal(reply, self._tenant, self.port))
 
     def _ask(self, lines: str) -> str:
         self._socket.sendall(f"{lines}\n".encode())
@@ -250,6 +262,7 @@ class Tracer:
         _thread.start_new_thread(self._report_all, ())
         _thread.start_new_thread(self._read_all, ())
         STRETCHES.clear()
+        await_nobody()
         enter(self.main)
         if threading.active_count() > 1:
             self.parent_of_strangers = Line(self, "others")
@@ -261,13 +274,15 @@ class Tracer:
 
     # Ending
 
-    def stop(self) -> None:
-        """Takes no more notes, and waits until all that were taken are reported and answered."""
+    def stop(self, ends: bool = False) -> None:
+        """Takes no more notes, and waits until all that were taken are reported and answered. The main task may end with it."""
         with self._switch:
             if state.tracer is self:
                 state.note = None
                 state.tracer = None
         if not self._is_over:
+            if ends:
+                self.notes.append((FINISH, self.main, True, False))
             self.notes.append((STOP,))
             self.hurry()
             self._await(self._ended)
@@ -277,7 +292,8 @@ class Tracer:
             self._socket.close()
         self._write_touches(is_last=True)
         if not self._is_over:
-            self._journal_row(end_row(self._journal.lines))
+            written = self._journal.lines
+            self._journal_row(end_row(written) if self._child is None else child_ended_row(self._child.tag, written + 1))
 
     def _await(self, waiter: Waiter) -> None:
         """Waits for an answer, as long as something is reported or answered meanwhile."""
@@ -368,7 +384,7 @@ class Tracer:
             handlers[note[0]](*note[1:])
             while self._goes_on:
                 self._touch(self._goes_on.pop())
-            if self._parts is not None and self._parts.is_full:
+            if self._parts is not None and self._parts.is_full and not self._all_sent:
                 self._divide(self._parts)
         self._gone_soon.clear()
         self._flush()
@@ -561,14 +577,28 @@ class Tracer:
             line.is_finished = True
             self._finished.append(line)
 
-    def _spawn(self, parent: Line, child: Line, code: CodeType | None, instruction: int) -> None:
+    def _spawn(self, parent: Line, child: Line, code: CodeType | None, instruction: int) -> Outstanding:
         self._leave(parent)
         child.name = self._names.new(child.hint)
-        self._report(parent, "spawn", child.name, code, instruction, f"start {child.name}")
+        report = self._report(parent, "spawn", child.name, code, instruction, f"start {child.name}")
         if self._parts is not None:
             self._parts.add(child)
         child.parent, child.parent_count = parent, parent.count
         child.known[parent] = parent.count
+        return report
+
+    def _begin_child(self, parent: Line, child: Line, waiter: Waiter, code: CodeType | None, instruction: int) -> None:
+        """A child process is about to start. From now on others report to this part of the trace, too."""
+        try:
+            if self._parts is not None and not self._parts.is_shared:
+                self._share(self._parts)
+        except BaseException:
+            waiter.answer(False)
+            raise
+        if self._is_over:
+            waiter.answer(False)
+        else:
+            self._spawn(parent, child, code, instruction).waiter = waiter
 
     def _finish(self, line: Line, ends: bool, is_awaited: bool) -> None:
         """The task does nothing more. A thread ends at once, where several wait for it with a message for all of them."""
@@ -600,6 +630,8 @@ class Tracer:
 
     def _join(self, line: Line, child: Line, code: CodeType | None, instruction: int) -> None:
         self._is_waited_for(child)
+        if child.is_process:
+            child.has_ended, child.count = True, 1
         if not child.has_ended or child is line or self._knows(line, child, max(child.count, 1)):
             return
         if child.joined_by is not None and child.end_token is not None:
@@ -609,7 +641,8 @@ class Tracer:
 
     def _join_now(self, line: Line, child: Line, code: CodeType | None, instruction: int, label: str) -> None:
         self._leave(line)
-        self._report(line, "join", child.name, code, instruction, label)
+        report = self._report(line, "join", child.name, code, instruction, label)
+        report.may_be_refused = child.is_process
         child.joined_by, child.joined_at = line, line.count
         line.joined.append(child)
         line.known[child] = child.count
@@ -646,7 +679,7 @@ class Tracer:
         self._leave(line)
         if line.touches is None:
             report = self._report(line, "local", "", None, 0, "")
-            line.touches = report.touches = TouchEvent(line.name, 1 if self._parts is None else self._parts.number)
+            line.touches = report.touches = TouchEvent(line.name, self.part or 1)
             with self._writing:
                 self._touch_events.append(line.touches)
         with self._writing:
@@ -704,9 +737,9 @@ class Tracer:
     def _send_outside(self, line: Line, message: str, waiter: Waiter, code: CodeType | None, instruction: int) -> None:
         report = self._report(line, "send", message, code, instruction, "send to another process")
         report.waiter = waiter
+        self._sent(line, message, None)
         if self._parts is not None:
             self._parts.sent_outside(message)
-        self._sent(line, message, None)
 
     def _receive_outside(self, line: Line, message: str, code: CodeType | None, instruction: int) -> None:
         self._leave(line)
@@ -732,11 +765,7 @@ class Tracer:
             if line.touches is not None:
                 self._end_touches(line)
         del line
-        answered = self._put(Report("count", ""), None, 0, "")
-        answered.text, self._texts[-1] = "count\n", "count\n"
-        answered.waiter = Waiter()
-        self._flush()
-        self._await(answered.waiter)
+        self._await_answers()
         if self._is_over:
             return
         self._write_touches()
@@ -752,6 +781,23 @@ class Tracer:
             self._touch_texts.forget()
         if parts.is_full:
             self._give_up(Cause.FULL, "the trace is full: too much that may still give order goes on from one part of it to the next")
+
+    def _await_answers(self) -> None:
+        """Waits until all that was reported is answered."""
+        answered = self._put(Report("count", ""), None, 0, "")
+        answered.text, self._texts[-1] = "count\n", "count\n"
+        answered.waiter = Waiter()
+        self._flush()
+        self._await(answered.waiter)
+
+    def _share(self, parts: Parts) -> None:
+        """Goes on in the same trace beside other processes, by a relay. It is not divided any more."""
+        self._await_answers()
+        if self._is_over:
+            return
+        self.port = parts.shared_port()
+        parts.is_shared = True
+        self._change_collector(self.port)
 
     def _keep_ended(self) -> None:
         """Has a task of its own take the ends of those that the end of the program waits for, in place of all of them."""
@@ -832,7 +878,7 @@ class Tracer:
         if code in FULL:
             self._give_up(Cause.FULL, f"the trace is full ({reply}){self._kept()}")
         else:
-            self._give_up(Cause.TRACER, f"{report.text.strip()}: {refusal(reply, self._tenant, self._port)}")
+            self._give_up(Cause.TRACER, f"{report.text.strip()}: {refusal(reply, self._tenant, self.port)}")
 
     def _kept(self) -> str:
         """What filled the trace besides this run, and what to do about it."""
@@ -846,8 +892,8 @@ class Tracer:
         place = self._places.text(report.code, report.instruction)
         lock = "" if report.lock is None else f',"lock":{self._touch_texts.lock(report.lock)}'
         part = of = ""
-        if self._parts is not None:
-            part, of = part_text(self._parts.number), f',"of":"{report.name}"' if report.name else ""
+        if self.part:
+            part, of = part_text(self.part), f',"of":"{report.name}"' if report.name else ""
         return (
             f'{{"event":{event},{part}"task":"{report.task}","thing":null,"kind":"{report.kind}",{place},'
             f'"label":{json.dumps(report.label)}{lock}{of}}}\n'

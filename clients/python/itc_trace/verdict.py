@@ -76,6 +76,16 @@ def is_end_row(line: str) -> bool:
     return line.startswith('{"end":')
 
 
+def child_begun_row(tag: str, how: str) -> str:
+    """The line that says that a child process has begun, and how and at which place."""
+    return json.dumps({"child": tag, "begun": how}, separators=(",", ":")) + "\n"
+
+
+def child_ended_row(tag: str, lines: int = 0) -> str:
+    """The last line of a child process that reported all that it noted, and how many lines it has written with this one."""
+    return json.dumps({"child": tag, "end": True, "lines": lines}, separators=(",", ":")) + "\n"
+
+
 BREAKS_OFF = Unseen(Cause.JOURNAL, "the journal breaks off before the end of its process")
 
 

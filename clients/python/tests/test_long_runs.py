@@ -10,6 +10,7 @@ from pathlib import Path
 
 from itc_trace import Verdict
 from itc_trace.collector import find_program
+from itc_trace.part_collectors import PartCollectors, ask_for_port
 from itc_trace.parts import races_of_parts
 from itc_trace.verdict import BREAKS_OFF, END_ROW, Cause, Unseen, end_row
 
@@ -113,7 +114,16 @@ asyncio.run(main())
 """
 
 
-OPEN = "the receipt of a job's result may be lost at a border, and the run is incomplete then"
+FULL_AT_ITS_END = """
+import itc_trace, threading, time
+from itc_trace import lines, tracer_parts
+tracer_parts.Parts.is_full = property(lambda parts: lines.state.tracer is None)
+threads = [threading.Thread(target=itc_trace.touch, args=("x", True)) for _ in range(2)]
+for thread in threads: thread.start()
+for thread in threads: thread.join()
+while lines.state.tracer.notes: pass
+time.sleep(0.1)
+"""
 
 
 class Orders(unittest.TestCase):
@@ -127,14 +137,12 @@ class Orders(unittest.TestCase):
         self.assert_same_in_parts("test_threads")
         self.assert_same_in_parts("test_locks")
 
-    @unittest.skipUnless(os.environ.get("ITC_OPEN"), OPEN)
     def test_queues_and_pools(self) -> None:
         self.assert_same_in_parts("test_queues")
 
     def test_other_orders(self) -> None:
         self.assert_same_in_parts("test_orders")
 
-    @unittest.skipUnless(os.environ.get("ITC_OPEN"), OPEN)
     def test_loops(self) -> None:
         self.assert_same_in_parts("test_asyncio")
 
@@ -210,6 +218,16 @@ class LongRuns(ProgramCase):
             ran = run_traced("--watch-nothing", "--part-events", "100", self.program(HANDED_OVER), ITC_TRACE=os.fspath(once))
         self.assertEqual(ran.returncode, Verdict.INCOMPLETE, ran.stderr)
         self.assertRegex(ran.stderr, r"(?m)^itc_trace: incomplete: .*does not serve as a collector")
+
+    def test_a_part_that_is_full_at_the_end_of_the_run_is_the_last_one(self) -> None:
+        ran = run_traced("--watch-nothing", self.program(FULL_AT_ITS_END))
+        self.assertEqual(ran.returncode, Verdict.RACES, ran.stderr)
+
+    def test_the_collector_of_a_part_that_no_journal_tells_of_is_not_asked(self) -> None:
+        with PartCollectors("trace") as collectors:
+            first = collectors.port
+            second = ask_for_port(collectors.asked_at)
+            self.assertEqual([collectors.port_of(part) for part in (1, 2)], [first, second])
 
     def test_an_order_that_was_left_behind_is_not_guessed(self) -> None:
         """More ended threads may be waited for than a part takes along, and the first one is."""

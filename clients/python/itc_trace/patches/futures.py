@@ -15,6 +15,7 @@ from typing import Any
 from ..handed_on import called, handed_at, watched_place
 from ..lines import CALLBACK, FINISH, RESULT, SPAWN, SUBMIT, TAKE_END, WORKER, LateJob, Line, Token, state
 from ..noting import current, enter, frame_at, is_internal, local, mark, place, take
+from ..web import incoming_at
 from .base import Patches, like
 from .exits import await_at_exit
 
@@ -25,6 +26,7 @@ def put(patches: Patches) -> None:
     future = base.Future
     patches.put(future, "_itc_token", None)
     patches.put(future, "_itc_sources", ())
+    patches.put(future, "_itc_message", None)
     for name in ("set_result", "set_exception"):
         patches.wrap(future, name, _set)
     for name in ("result", "exception"):
@@ -45,6 +47,8 @@ def take_result(future: Any, depth: int = 2) -> None:
     if future._itc_sources:
         for source in future._itc_sources:
             take_any(source, depth + 1)
+    elif future._itc_message is not None:
+        incoming_at(future._itc_message, frame_at(depth))
     elif future._itc_token is not None:
         take(future._itc_token, depth + 1)
 

@@ -268,6 +268,6 @@ _variables: dict[tuple[str, str], Thing] = {}
 def variable_of(module: str, name: str, made: str = "") -> Thing:
     thing = _variables.get((module, name))
     if thing is None:
-        whole = name if module == "__main__" else f"{module}.{name}"
+        whole = name if module in ("__main__", "__mp_main__") else f"{module}.{name}"
         thing = _variables[module, name] = Thing(next(_numbers), whole, made)
     return thing
