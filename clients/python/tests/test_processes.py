@@ -192,6 +192,17 @@ class Starts(ProgramCase):
         self.assertRegex(ran.stderr, r"(?s)race on file\n.*write_1 and write_2: nothing orders them; 2 times, as event \d+ of part 1 and event \d+ of part")
         self.assertEqual(ran.stderr.count("race on"), 1)
 
+    def test_a_pool_of_threads_does_not_keep_children_from_being_traced(self) -> None:
+        self.assert_verdict(Verdict.NO_RACE, """
+import multiprocessing, multiprocessing.pool
+if __name__ == "__main__":
+    with multiprocessing.pool.ThreadPool(2) as pool:
+        assert pool.map(abs, [-1]) == [1]
+    child = multiprocessing.Process(target=print)
+    child.start()
+    child.join()
+""")
+
     def test_a_child_that_never_reports_is_not_seen(self) -> None:
         text = "import os\nif os.fork() == 0:\n    import socket\n    os.kill(os.getpid(), 9)\nos.wait()\n"
         self.assert_verdict(Verdict.INCOMPLETE, text)
