@@ -15,7 +15,8 @@ from .verdict import Cause, Unseen, Verdict
 from .web import AsgiMiddleware, Middleware, Opener, incoming, opener, outgoing
 
 __all__ = [
-    "AsgiMiddleware", "Cause", "Collector", "Middleware", "NoCollector", "Opener", "Race", "Races", "Refused", "Session", "Tracing", "Unseen", "Verdict",
+    "AsgiMiddleware", "Cause", "Collector", "Middleware", "NoCollector", "Opener", "Race", "Races", "Refused", "Session", "Tracing",
+    "Unseen", "Verdict",
     "find_races", "incoming", "install", "opener", "outgoing", "shared", "touch", "tracing", "uninstall",
 ]
 

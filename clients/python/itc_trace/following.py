@@ -144,7 +144,8 @@ def _shares_memory() -> bool:
 
 
 def _is_shared(_range: str, permissions: str, _offset: str, _device: str, _number: str, path: str = "") -> bool:
-    return permissions.startswith("rw") and permissions.endswith("s") and not path.startswith(SEMAPHORES) and not any(one in path for one in FOLLOWED_MEMORY)
+    is_known = path.startswith(SEMAPHORES) or any(one in path for one in FOLLOWED_MEMORY)
+    return permissions.startswith("rw") and permissions.endswith("s") and not is_known
 
 
 class Begun(NamedTuple):

@@ -192,6 +192,17 @@ class Starts(ProgramCase):
         self.assertRegex(ran.stderr, r"(?s)race on file\n.*write_1 and write_2: nothing orders them; 2 times, as event \d+ of part 1 and event \d+ of part")
         self.assertEqual(ran.stderr.count("race on"), 1)
 
+    def test_a_pool_of_threads_does_not_keep_children_from_being_traced(self) -> None:
+        self.assert_verdict(Verdict.NO_RACE, """
+import multiprocessing, multiprocessing.pool
+if __name__ == "__main__":
+    with multiprocessing.pool.ThreadPool(2) as pool:
+        assert pool.map(abs, [-1]) == [1]
+    child = multiprocessing.Process(target=print)
+    child.start()
+    child.join()
+""")
+
     def test_a_child_that_never_reports_is_not_seen(self) -> None:
         text = "import os\nif os.fork() == 0:\n    import socket\n    os.kill(os.getpid(), 9)\nos.wait()\n"
         self.assert_verdict(Verdict.INCOMPLETE, text)
@@ -272,7 +283,7 @@ if __name__ == "__main__":
     del thing
 """
 MAKERS = (
-    "multiprocessing.Semaphore()", "multiprocessing.Condition()", "multiprocessing.Event()", "multiprocessing.Barrier(1)", "multiprocessing.Queue(1)",
+    "multiprocessing.Semaphore()", "multiprocessing.BoundedSemaphore()", "multiprocessing.Barrier(1)", "multiprocessing.Queue(1)",
     "multiprocessing.JoinableQueue()", "multiprocessing.Array('i', 3)", "multiprocessing.RawArray('i', 3)",
     "shared_memory.ShareableList([1])", "multiprocessing.Pool(1).close()",
     "multiprocessing.Manager().list()", "__import__('mmap').mmap(-1, 1)", "(lambda pipe: pipe[0].send_bytes(b'x') or pipe)(multiprocessing.Pipe())",
@@ -557,6 +568,65 @@ class Pools(ProgramCase):
                 self.assertEqual(ran.stderr.count("race on"), 1, ran.stderr)
                 self.assertIn(f"race on {thing}\n", ran.stderr)
                 self.assertRegex(ran.stderr, f"threads (\\S*{task}\\S* and |\\S+ and \\S*{task})")
+
+
+SIGNALS = """
+import multiprocessing, sys, time
+import itc_trace
+
+def work(event, condition, ready, how):
+    if how == "wait":
+        assert event.wait(60)
+    elif how == "poll":
+        while not event.is_set():
+            time.sleep(0.01)
+    elif how == "not set":
+        assert not event.is_set()
+        assert not event.wait(0.01)
+        ready.value = 1
+    elif how == "condition":
+        with condition:
+            while not ready.value:
+                condition.wait()
+    else:
+        with condition:
+            assert condition.wait_for(lambda: ready.value, 60)
+    itc_trace.touch("file", write=True, across=True)
+
+method, how = sys.argv[1:]
+if __name__ == "__main__":
+    context = multiprocessing.get_context(method)
+    event, condition, ready = context.Event(), context.Condition(), context.RawValue("i", 0)
+    child = context.Process(target=work, args=(event, condition, ready, how))
+    child.start()
+    itc_trace.touch("file", write=True, across=True)
+    if "condition" in how:
+        with condition:
+            ready.value = 1
+            condition.notify()
+    elif how == "not set":
+        while not any(memoryview(ready).cast("B")):
+            time.sleep(0.01)
+    event.set()
+    child.join()
+"""
+
+
+@unittest.skipUnless(hasattr(os, "fork"), "there is no fork here")
+class Signals(ProgramCase):
+    def test_whoever_sees_an_event_set_or_is_notified_comes_after_that(self) -> None:
+        for method, how in (
+            ("fork", "wait"), ("fork", "poll"), ("fork", "condition"), ("fork", "condition for"), ("spawn", "wait"), ("forkserver", "condition")
+        ):
+            with self.subTest(method=method, how=how):
+                ran = run_traced(self.program(SIGNALS), method, how)
+                self.assertEqual(ran.returncode, Verdict.NO_RACE, ran.stderr)
+
+    def test_an_event_that_is_not_set_is_no_order(self) -> None:
+        for method in ("fork", "spawn"):
+            ran = run_traced(self.program(SIGNALS), method, "not set")
+            self.assertEqual(ran.returncode, Verdict.RACES, ran.stderr)
+            self.assertEqual(ran.stderr.count("race on file"), 1)
 
 
 class Names(unittest.TestCase):

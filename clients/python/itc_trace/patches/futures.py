@@ -47,7 +47,7 @@ def take_result(future: Any, depth: int = 2) -> None:
     if future._itc_sources:
         for source in future._itc_sources:
             take_any(source, depth + 1)
-    elif future._itc_message is not None:
+    elif getattr(future, "_itc_message", None) is not None:  # It is no future of asyncio.
         incoming_at(future._itc_message, frame_at(depth))
     elif future._itc_token is not None:
         take(future._itc_token, depth + 1)

@@ -2,8 +2,10 @@
 
 from __future__ import annotations
 
+import contextlib
 import threading
 from collections import deque
+from collections.abc import Iterator
 from types import ModuleType
 from typing import Any
 
@@ -16,10 +18,17 @@ from .later import forget_all, once_imported
 from .locks import gave, took
 from .shared_locks import has_taken, is_giving, slot_of
 
-_MAKERS = ("multiprocessing.context", "multiprocessing.synchronize", "multiprocessing.sharedctypes")
+_MAKERS = ("multiprocessing.context", "multiprocessing.synchronize", "multiprocessing.sharedctypes", "itc_trace.patches.process_signals")
 """Modules that make locks for the program. Others of `multiprocessing` make them for themselves, and give no order."""
 MOST_PERMITS = 65536
 LOCKS = ("Lock", "RLock")
+
+
+class _Own(threading.local):
+    silent: frozenset[str] = frozenset()
+
+
+_own = _Own()
 _PLAIN_MAKERS = {name: getattr(threading, name) for name in ("Lock", "RLock")}
 
 
@@ -116,6 +125,8 @@ def _begin(original: Any) -> Any:
         original(self, kind, value, maxvalue, **named)
         frame = _maker(frame_at(1))
         name = type(self).__name__
+        if name in _own.silent:
+            return
         if frame is not None and name not in LOCKS:
             following.is_not_followed(name)
         if frame is None or value > MOST_PERMITS:
@@ -137,6 +148,23 @@ def _set_state(original: Any) -> Any:
             self._itc_traced, self.acquire, self.release = traced, traced.acquire, traced.release
 
     return __setstate__
+
+
+@contextlib.contextmanager
+def silence(*kinds: str) -> Iterator[None]:
+    """What this thread makes of these kinds within the block gives no order by itself."""
+    before = _own.silent
+    _own.silent = before | set(kinds)
+    try:
+        yield
+    finally:
+        _own.silent = before
+
+
+def make_silent(lock: Any) -> None:
+    """From here on this lock gives no order."""
+    lock.__dict__.pop("_itc_traced", None)
+    lock._make_methods()
 
 
 def _maker(frame: Any) -> Any:

@@ -19,14 +19,16 @@ def slot_of(name: str | None) -> int | None:
     return names.slot_of(name or f"{tracer.prefix}{next(_numbers)}")
 
 
-def has_taken(slot: int | None) -> None:
-    """The current task has acquired the lock. Among the threads of one process its order is known already."""
+def has_taken(slot: int | None) -> bool:
+    """The current task has acquired the lock. Whether another process has released it: the order of threads is known already."""
     names, tracer = following.shared_names(), state.tracer
     if slot is None or names is None or tracer is None or not following.has_others():
-        return
+        return False
     name = names.name_at(slot)
-    if name and not name.startswith(f"{tracer.prefix}out_"):
-        incoming_at(name, following.frame_of_start(2))
+    if not name or name.startswith(f"{tracer.prefix}out_"):
+        return False
+    incoming_at(name, following.frame_of_start(2))
+    return True
 
 
 def is_giving(slot: int | None) -> None:

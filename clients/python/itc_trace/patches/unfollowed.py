@@ -20,6 +20,7 @@ _MAKING = (
 
 OF_POOL = "_SafeQueue"
 """The queue of a `ProcessPoolExecutor`, whose jobs have an order of their own."""
+POOL_OF_THREADS = "ThreadPool"
 MOST_PLACES = 16
 """A queue of more places bounds memory, and puts nobody in order who waits for a place: see `queues`."""
 
@@ -37,7 +38,8 @@ def _put(patches: Patches, kind: Any, method: str) -> None:
 
 def _tells(original: Any) -> Any:
     def __init__(self: Any, *words: Any, **named: Any) -> None:
-        following.is_not_followed(type(self).__name__)
+        if type(self).__name__ != POOL_OF_THREADS:
+            following.is_not_followed(type(self).__name__)
         original(self, *words, **named)
 
     return __init__
