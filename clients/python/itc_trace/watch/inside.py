@@ -62,7 +62,7 @@ def _parts_inside(one: Any) -> Iterable[Any]:
 
 
 def fields_looked_at(one: Any, depth: str) -> list[str]:
-    """The fields of an object of the program that a function looks at, which is given the object, and no method of a class that is watched."""
+    """The fields of an object of the program that a function looks at by itself, and by no method of a class that is watched."""
     kind = type(one)
     if not is_watched_class(kind):
         return []
@@ -73,7 +73,8 @@ def fields_looked_at(one: Any, depth: str) -> list[str]:
         is_looked_at = not any([has_watched_method(kind, name) for name in _STATE_METHODS])
     if not is_looked_at:
         return []
-    return [name for name in list(fields_of(one) or (() if fields is None else vars_of(fields)["__dataclass_fields__"])) if type(name) is str]
+    in_slots = () if fields is None else vars_of(fields)["__dataclass_fields__"]
+    return [name for name in list(fields_of(one) or in_slots) if type(name) is str]
 
 
 def _is_made(kind: type, name: str) -> bool:

@@ -309,20 +309,27 @@ class Rewriter:
     def _simple_Assign(self, node: ast.Assign) -> ast.stmt:
         pairs = _pairs_of(node)
         if any(_is_new(value) for _, value in pairs):
-            node.value.elts = [self._child(value) if made is value else made for target, value in pairs for made in [self._made(value, target)]]  # type: ignore[attr-defined]
-            node.targets = [self._child(target) for target in node.targets]
-            self._after += self._stores([target.twin for target in node.targets if hasattr(target, "twin")], node)
+            node.value.elts = [self._made_or_visited(value, target) for target, value in pairs]  # type: ignore[attr-defined]
+            self._store_targets(node)
             return node
         node.value = self._made(node.value, node.targets[0])
         if any(isinstance(target, (ast.Tuple, ast.List)) for target in node.targets) and isinstance(node.value, REACHED):
             node.value = self._operand(node.value, "h", self._site(node.value, "whole", KEYS, "", self._text(node.value)))
         else:
             node.value = node.value if _is_hook(node.value) else self._child(node.value)
-        node.targets = [self._child(target) for target in node.targets]
-        self._after += self._stores([target.twin for target in node.targets if hasattr(target, "twin")], node)
+        self._store_targets(node)
         if isinstance(node.value, ast.Constant) and node.value.value is None:
             self._after.append(ast.copy_location(ast.Expr(self._hook("d", node)), node))
         return node
+
+    def _store_targets(self, node: ast.Assign) -> None:
+        node.targets = [self._child(target) for target in node.targets]
+        self._after += self._stores([target.twin for target in node.targets if hasattr(target, "twin")], node)
+
+    def _made_or_visited(self, value: Any, target: Any) -> Any:
+        """One of several values of an assignment."""
+        made = self._made(value, target)
+        return self._child(value) if made is value else made
 
     def _simple_AnnAssign(self, node: ast.AnnAssign) -> ast.stmt:
         if node.value is None:
