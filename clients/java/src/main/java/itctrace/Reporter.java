@@ -2,12 +2,7 @@ package itctrace;
 
 import java.io.IOException;
 import java.io.Writer;
-import java.nio.charset.StandardCharsets;
-import java.nio.file.FileAlreadyExistsException;
-import java.nio.file.Files;
-import java.nio.file.Path;
-import java.nio.file.StandardOpenOption;
-import java.util.Map;
+import java.util.List;
 import java.util.Optional;
 
 /**
@@ -16,7 +11,6 @@ import java.util.Optional;
  */
 public final class Reporter implements AutoCloseable {
     private static final int TASK_EXISTS = 402;
-    private static final int MOST_NAME = 5;
 
     /** The task of this process, and the first part of the names of its other tasks. */
     public final String task;
@@ -26,46 +20,21 @@ public final class Reporter implements AutoCloseable {
 
     /** None if the environment names no port. */
     public static Optional<Reporter> fromEnvironment() throws IOException {
-        return from(System.getenv());
+        Optional<Environment> environment = Environment.read(System.getenv());
+        return environment.isEmpty() ? Optional.empty() : Optional.of(new Reporter(environment.get()));
     }
 
-    static Optional<Reporter> from(Map<String, String> environment) throws IOException {
-        String port = environment.getOrDefault("ITC_TRACE_PORT", "");
-        return port.isEmpty() ? Optional.empty() : Optional.of(new Reporter(portOf(port), environment));
-    }
-
-    private static int portOf(String text) throws IOException {
-        if (!text.matches("[1-9][0-9]{0,4}") || Integer.parseInt(text) > 65535) {
-            throw new IOException("ITC_TRACE_PORT is " + text + ", which is no port: set it to a number from 1 to 65535");
-        }
-        return Integer.parseInt(text);
-    }
-
-    private Reporter(int port, Map<String, String> environment) throws IOException {
-        String file = environment.getOrDefault("ITC_TRACE_JOURNAL", "");
-        journal = file.isEmpty() ? Writer.nullWriter() : freshJournal(file);
-        session = new Session("report", environment.getOrDefault("ITC_TRACE_TENANT", "trace"), port);
-        String letters = environment.getOrDefault("ITC_TRACE_PROCESS", "").replaceAll("[^A-Za-z0-9]", "");
-        task = begin(letters.isEmpty() ? "p" : letters.substring(0, Math.min(MOST_NAME, letters.length())));
-    }
-
-    /** A file that was not there. A process that is started again does not overwrite its first journal. */
-    private static Writer freshJournal(String file) throws IOException {
-        for (int number = 1; ; number++) {
-            try {
-                Path path = Path.of(number == 1 ? file : file + "." + number);
-                return Files.newBufferedWriter(path, StandardCharsets.UTF_8, StandardOpenOption.CREATE_NEW, StandardOpenOption.WRITE);
-            } catch (FileAlreadyExistsException taken) {
-                continue;
-            }
-        }
+    private Reporter(Environment environment) throws IOException {
+        journal = environment.freshJournal();
+        session = new Session("report", environment.tenant(), environment.port());
+        task = begin(environment.process());
     }
 
     private String begin(String name) throws IOException {
         for (int number = 1; ; number++) {
             String tried = number == 1 ? name : name + number;
             try {
-                write(session.spawn("root", tried), "root", "spawn", null, "start process " + tried, "?", 0);
+                write(session.spawn("root", tried), Row.of("root", "spawn", Row.Site.NONE, "start process " + tried, null));
                 return tried;
             } catch (Session.Refused refused) {
                 if (refused.code != TASK_EXISTS) {
@@ -119,42 +88,23 @@ public final class Reporter implements AutoCloseable {
     @Override
     public void close() throws IOException {
         synchronized (journal) {
-            journal.write("{\"end\":true}\n");
+            journal.write(Row.END);
             journal.close();
         }
         session.close();
     }
 
     private int at(String request, String task, String kind, String thing, String label) throws IOException {
-        StackWalker.StackFrame caller =
-                StackWalker.getInstance()
-                        .walk(frames -> frames.filter(frame -> !frame.getClassName().equals(Reporter.class.getName())).findFirst())
-                        .orElseThrow();
+        Row.Site site = Row.Site.ofCaller().withoutFunction();
         int event = Integer.parseInt(session.request(request).get(0));
-        write(event, task, kind, thing, label, caller.getFileName(), caller.getLineNumber());
+        write(event, new Row(task, thing, kind, site, label, List.of(), null));
         return event;
     }
 
-    private void write(int event, String task, String kind, String thing, String label, String file, int line) throws IOException {
-        String row =
-                "{\"event\":" + event + ",\"task\":" + quoted(task) + ",\"thing\":" + (thing == null ? "null" : quoted(thing))
-                        + ",\"kind\":" + quoted(kind) + ",\"file\":" + quoted(file) + ",\"line\":" + line
-                        + ",\"label\":" + quoted(label) + "}\n";
+    private void write(int event, Row row) throws IOException {
         synchronized (journal) {
-            journal.write(row);
+            journal.write(row.text(event));
             journal.flush();
         }
-    }
-
-    private static String quoted(String text) {
-        StringBuilder quoted = new StringBuilder("\"");
-        for (char next : text.toCharArray()) {
-            if (next == '"' || next == '\\' || next < ' ') {
-                quoted.append(String.format("\\u%04x", (int) next));
-            } else {
-                quoted.append(next);
-            }
-        }
-        return quoted.append('"').toString();
     }
 }

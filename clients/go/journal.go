@@ -1,0 +1,66 @@
+package itctrace
+
+import (
+	"encoding/json"
+	"runtime"
+	"strings"
+	"sync"
+)
+
+// endRow is the last line of a journal whose process reported all that it noted.
+const endRow = "{\"end\":true}\n"
+
+// site is a line of the program.
+type site struct {
+	File     *string `json:"file"`
+	Line     int     `json:"line"`
+	Function string  `json:"function,omitempty"`
+}
+
+// row is what the journal says of one event, or of one of the touches that an event stands for. A thing is what was touched.
+type row struct {
+	Event int     `json:"event"`
+	Task  string  `json:"task"`
+	Thing *string `json:"thing"`
+	Kind  string  `json:"kind"`
+	site
+	Label string   `json:"label"`
+	Held  []string `json:"held,omitempty"`
+	Lock  string   `json:"lock,omitempty"`
+}
+
+func (r row) text() string {
+	text, err := json.Marshal(r)
+	if err != nil {
+		panic(err) // A row has texts and numbers alone.
+	}
+	return string(text) + "\n"
+}
+
+// unseenRow is the line that says what was not seen, and why.
+func unseenRow(cause, reason string) string {
+	text, err := json.Marshal(map[string]string{"unseen": cause, "text": reason})
+	if err != nil {
+		panic(err)
+	}
+	return string(text) + "\n"
+}
+
+// sites has the line of each place in the program that was asked for. Two counters tell a place also where calls are inlined.
+var sites sync.Map
+
+// siteAbove is the line so many calls above the one that calls this.
+func siteAbove(calls int) site {
+	var counters [2]uintptr
+	count := runtime.Callers(calls+2, counters[:])
+	if known, isKnown := sites.Load(counters); isKnown {
+		return known.(site)
+	}
+	if count == 0 {
+		return site{}
+	}
+	frame, _ := runtime.CallersFrames(counters[:count]).Next()
+	found := site{&frame.File, frame.Line, frame.Function[strings.LastIndex(frame.Function, "/")+1:]}
+	sites.Store(counters, found)
+	return found
+}

@@ -1,0 +1,74 @@
+package itctrace;
+
+import java.util.List;
+import java.util.stream.Collectors;
+
+/** What a journal says of one event, or of one of the touches that an event stands for. A thing is what was touched, else null. */
+record Row(String task, String thing, String kind, Site site, String label, List<String> held, String lock) {
+    /** The last line of a journal whose process reported all that it noted. */
+    static final String END = "{\"end\":true}\n";
+
+    /** A line of the program. */
+    record Site(String file, int line, String function) {
+        static final Site NONE = new Site(null, 0, "");
+
+        /** The line of the program that called this package. */
+        static Site ofCaller() {
+            return StackWalker.getInstance()
+                    .walk(frames -> frames.filter(frame -> !frame.getClassName().startsWith("itctrace.")).findFirst())
+                    .map(frame -> new Site(frame.getFileName(), frame.getLineNumber(), frame.getMethodName()))
+                    .orElse(NONE);
+        }
+
+        /** The line alone. */
+        Site withoutFunction() {
+            return new Site(file, line, "");
+        }
+
+        @Override
+        public String toString() {
+            return file + ":" + line;
+        }
+    }
+
+    /** The row of an event that touches nothing. */
+    static Row of(String task, String kind, Site site, String label, String lock) {
+        return new Row(task, null, kind, site, label, List.of(), lock);
+    }
+
+    String text(int event) {
+        StringBuilder text = new StringBuilder("{\"event\":").append(event).append(",\"task\":").append(quoted(task));
+        text.append(",\"thing\":").append(quoted(thing)).append(",\"kind\":").append(quoted(kind));
+        text.append(",\"file\":").append(quoted(site.file)).append(",\"line\":").append(site.line).append(",\"label\":").append(quoted(label));
+        if (thing != null && !site.function.isEmpty()) {
+            text.append(",\"function\":").append(quoted(site.function));
+        }
+        if (!held.isEmpty()) {
+            text.append(held.stream().map(Row::quoted).collect(Collectors.joining(",", ",\"held\":[", "]")));
+        }
+        if (lock != null) {
+            text.append(",\"lock\":").append(quoted(lock));
+        }
+        return text.append("}\n").toString();
+    }
+
+    /** The line that says what was not seen, and why. */
+    static String unseen(String cause, String reason) {
+        return "{\"unseen\":" + quoted(cause) + ",\"text\":" + quoted(reason) + "}\n";
+    }
+
+    static String quoted(String text) {
+        if (text == null) {
+            return "null";
+        }
+        StringBuilder quoted = new StringBuilder("\"");
+        for (char next : text.toCharArray()) {
+            if (next == '"' || next == '\\' || next < ' ' || Character.isSurrogate(next)) {
+                quoted.append(String.format("\\u%04x", (int) next));
+            } else {
+                quoted.append(next);
+            }
+        }
+        return quoted.append('"').toString();
+    }
+}

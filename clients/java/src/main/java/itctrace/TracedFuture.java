@@ -1,0 +1,358 @@
+package itctrace;
+
+import itctrace.Row.Site;
+import itctrace.Task.Token;
+import itctrace.Task.What;
+import java.util.List;
+import java.util.concurrent.CompletableFuture;
+import java.util.concurrent.CompletionStage;
+import java.util.concurrent.ExecutionException;
+import java.util.concurrent.Executor;
+import java.util.concurrent.TimeUnit;
+import java.util.concurrent.TimeoutException;
+import java.util.concurrent.atomic.AtomicReference;
+import java.util.function.BiConsumer;
+import java.util.function.BiFunction;
+import java.util.function.Consumer;
+import java.util.function.Function;
+import java.util.function.Supplier;
+
+/**
+ * A future whose value carries the order. Whoever takes the value comes after its completion. A function that is given to it is a task
+ * of its own, which comes after the call that gave it and after the completion.
+ *
+ * <p>The functions that are given to other methods than those here are run as part of the thread that runs them. A future that a
+ * function completes and somebody by hand tells no order, since nobody knows who was first.
+ */
+public final class TracedFuture<T> extends CompletableFuture<T> {
+    private static final What RESULT = What.forAll("result", "complete future", "take result");
+
+    private final AtomicReference<Token> completed = new AtomicReference<>();
+    private final AtomicReference<Origin> origin = new AtomicReference<>();
+
+    /** What completes a future: a function that runs as this task, after these sources, and gives perhaps another future. */
+    private static final class Origin {
+        private final List<CompletableFuture<?>> sources;
+        private final Task task;
+        private volatile boolean hasRun;
+        private volatile CompletionStage<?> given;
+
+        Origin(String hint, CompletableFuture<?>... sources) {
+            this.sources = List.of(sources);
+            this.task = hint == null ? null : Traced.spawn(hint, Traced.site());
+        }
+
+        <U> U run(Supplier<U> body) {
+            hasRun = true;
+            return Traced.call(
+                    task,
+                    () -> {
+                        sources.forEach(TracedFuture::taken);
+                        U value = body.get();
+                        given = value instanceof CompletionStage<?> stage ? stage : null;
+                        return value;
+                    });
+        }
+
+        <U> CompletableFuture<U> of(CompletableFuture<U> future) {
+            ((TracedFuture<U>) future).origin.set(this);
+            return future;
+        }
+
+        /** This thread comes after what completed the future. A function that was passed over is told by its sources. */
+        void taken() {
+            if (hasRun) {
+                Traced.join(task, Traced.site());
+                TracedFuture.taken(given);
+            } else {
+                sources.forEach(TracedFuture::taken);
+            }
+        }
+    }
+
+    /** The supplier's value. It runs in the common pool. */
+    public static <U> CompletableFuture<U> supplyAsync(Supplier<U> supplier) {
+        return supplyAsync(supplier, new TracedFuture<U>().defaultExecutor());
+    }
+
+    public static <U> CompletableFuture<U> supplyAsync(Supplier<U> supplier, Executor executor) {
+        TracedFuture<U> future = new TracedFuture<>();
+        Origin origin = new Origin("future");
+        origin.of(future);
+        executor.execute(() -> future.completeBy(origin, supplier));
+        return future;
+    }
+
+    public static CompletableFuture<Void> runAsync(Runnable body) {
+        return supplyAsync(supplying(body));
+    }
+
+    public static CompletableFuture<Void> runAsync(Runnable body, Executor executor) {
+        return supplyAsync(supplying(body), executor);
+    }
+
+    private static Supplier<Void> supplying(Runnable body) {
+        return () -> {
+            body.run();
+            return null;
+        };
+    }
+
+    private void completeBy(Origin origin, Supplier<T> supplier) {
+        try {
+            super.complete(origin.run(supplier));
+        } catch (Throwable failure) {
+            super.completeExceptionally(failure);
+        }
+    }
+
+    /** Completes once all have. Whoever waits for it comes after all of them. */
+    public static CompletableFuture<Void> allOf(CompletableFuture<?>... futures) {
+        TracedFuture<Void> all = new TracedFuture<>();
+        new Origin(null, futures).of(all);
+        CompletableFuture.allOf(futures).whenComplete(all::completeAs);
+        return all;
+    }
+
+    private void completeAs(T value, Throwable failure) {
+        if (failure == null) {
+            super.complete(value);
+        } else {
+            super.completeExceptionally(failure);
+        }
+    }
+
+    /** This thread comes after the completion. */
+    private static void taken(Object future) {
+        if (future instanceof TracedFuture<?> traced) {
+            traced.taken(Traced.site());
+        }
+    }
+
+    private void taken(Site site) {
+        Token token = completed.get();
+        Origin origin = this.origin.get();
+        if (token != null && origin == null) {
+            Traced.take(token, site);
+        } else if (token == null && origin != null) {
+            origin.taken();
+        }
+    }
+
+    @Override
+    public <U> CompletableFuture<U> newIncompleteFuture() {
+        return new TracedFuture<>();
+    }
+
+    // Completing: who is first has it done, and the others come too late.
+
+    @Override
+    public boolean complete(T value) {
+        return isFirst() && super.complete(value);
+    }
+
+    @Override
+    public boolean completeExceptionally(Throwable failure) {
+        return isFirst() && super.completeExceptionally(failure);
+    }
+
+    @Override
+    public boolean cancel(boolean mayInterrupt) {
+        if (isFirst()) {
+            return super.cancel(mayInterrupt);
+        }
+        return isCancelled();
+    }
+
+    private boolean isFirst() {
+        Token token = Traced.mark(RESULT, Traced.site());
+        return token == null || !super.isDone() && completed.compareAndSet(null, token);
+    }
+
+    // Taking.
+
+    @Override
+    public T get() throws InterruptedException, ExecutionException {
+        try {
+            return super.get();
+        } finally {
+            takenIfDone();
+        }
+    }
+
+    @Override
+    public T get(long time, TimeUnit unit) throws InterruptedException, ExecutionException, TimeoutException {
+        try {
+            return super.get(time, unit);
+        } finally {
+            takenIfDone();
+        }
+    }
+
+    @Override
+    public T join() {
+        try {
+            return super.join();
+        } finally {
+            takenIfDone();
+        }
+    }
+
+    @Override
+    public T getNow(T absent) {
+        takenIfDone();
+        return super.getNow(absent);
+    }
+
+    @Override
+    public boolean isDone() {
+        return takenIfDone();
+    }
+
+    private boolean takenIfDone() {
+        boolean isDone = super.isDone();
+        if (isDone) {
+            taken(Traced.site());
+        }
+        return isDone;
+    }
+
+    // Functions that are given to it.
+
+    private Origin origin(CompletionStage<?>... others) {
+        CompletableFuture<?>[] sources = new CompletableFuture<?>[others.length + 1];
+        sources[0] = this;
+        for (int place = 0; place < others.length; place++) {
+            sources[place + 1] = others[place].toCompletableFuture();
+        }
+        return new Origin("callback", sources);
+    }
+
+    private static <A, U> Function<A, U> by(Origin origin, Function<? super A, ? extends U> body) {
+        return value -> origin.run(() -> body.apply(value));
+    }
+
+    private static <A, B, U> BiFunction<A, B, U> by(Origin origin, BiFunction<? super A, ? super B, ? extends U> body) {
+        return (first, second) -> origin.run(() -> body.apply(first, second));
+    }
+
+    private static <A> Function<A, Void> returning(Consumer<? super A> body) {
+        return value -> {
+            body.accept(value);
+            return null;
+        };
+    }
+
+    @Override
+    public <U> CompletableFuture<U> thenApply(Function<? super T, ? extends U> body) {
+        Origin origin = origin();
+        return origin.of(super.thenApply(by(origin, body)));
+    }
+
+    @Override
+    public <U> CompletableFuture<U> thenApplyAsync(Function<? super T, ? extends U> body) {
+        return thenApplyAsync(body, defaultExecutor());
+    }
+
+    @Override
+    public <U> CompletableFuture<U> thenApplyAsync(Function<? super T, ? extends U> body, Executor executor) {
+        Origin origin = origin();
+        return origin.of(super.thenApplyAsync(by(origin, body), executor));
+    }
+
+    @Override
+    public CompletableFuture<Void> thenAccept(Consumer<? super T> body) {
+        return thenApply(returning(body));
+    }
+
+    @Override
+    public CompletableFuture<Void> thenAcceptAsync(Consumer<? super T> body) {
+        return thenApplyAsync(returning(body));
+    }
+
+    @Override
+    public CompletableFuture<Void> thenAcceptAsync(Consumer<? super T> body, Executor executor) {
+        return thenApplyAsync(returning(body), executor);
+    }
+
+    @Override
+    public CompletableFuture<Void> thenRun(Runnable body) {
+        return thenApply(returning(value -> body.run()));
+    }
+
+    @Override
+    public CompletableFuture<Void> thenRunAsync(Runnable body) {
+        return thenApplyAsync(returning(value -> body.run()));
+    }
+
+    @Override
+    public CompletableFuture<Void> thenRunAsync(Runnable body, Executor executor) {
+        return thenApplyAsync(returning(value -> body.run()), executor);
+    }
+
+    @Override
+    public <U> CompletableFuture<U> thenCompose(Function<? super T, ? extends CompletionStage<U>> body) {
+        Origin origin = origin();
+        return origin.of(super.<U>thenCompose(by(origin, body)));
+    }
+
+    @Override
+    public <U> CompletableFuture<U> thenComposeAsync(Function<? super T, ? extends CompletionStage<U>> body) {
+        return thenComposeAsync(body, defaultExecutor());
+    }
+
+    @Override
+    public <U> CompletableFuture<U> thenComposeAsync(Function<? super T, ? extends CompletionStage<U>> body, Executor executor) {
+        Origin origin = origin();
+        return origin.of(super.<U>thenComposeAsync(by(origin, body), executor));
+    }
+
+    @Override
+    public <U, V> CompletableFuture<V> thenCombine(
+            CompletionStage<? extends U> other, BiFunction<? super T, ? super U, ? extends V> body) {
+        Origin origin = origin(other);
+        return origin.of(super.<U, V>thenCombine(other, by(origin, body)));
+    }
+
+    @Override
+    public <U, V> CompletableFuture<V> thenCombineAsync(
+            CompletionStage<? extends U> other, BiFunction<? super T, ? super U, ? extends V> body) {
+        return thenCombineAsync(other, body, defaultExecutor());
+    }
+
+    @Override
+    public <U, V> CompletableFuture<V> thenCombineAsync(
+            CompletionStage<? extends U> other, BiFunction<? super T, ? super U, ? extends V> body, Executor executor) {
+        Origin origin = origin(other);
+        return origin.of(super.<U, V>thenCombineAsync(other, by(origin, body), executor));
+    }
+
+    @Override
+    public <U> CompletableFuture<U> handle(BiFunction<? super T, Throwable, ? extends U> body) {
+        Origin origin = origin();
+        return origin.of(super.<U>handle(by(origin, body)));
+    }
+
+    @Override
+    public <U> CompletableFuture<U> handleAsync(BiFunction<? super T, Throwable, ? extends U> body) {
+        return handleAsync(body, defaultExecutor());
+    }
+
+    @Override
+    public <U> CompletableFuture<U> handleAsync(BiFunction<? super T, Throwable, ? extends U> body, Executor executor) {
+        Origin origin = origin();
+        return origin.of(super.<U>handleAsync(by(origin, body), executor));
+    }
+
+    @Override
+    public CompletableFuture<T> whenComplete(BiConsumer<? super T, ? super Throwable> body) {
+        Origin origin = origin();
+        return origin.of(super.whenComplete((value, failure) -> origin.run(supplying(() -> body.accept(value, failure)))));
+    }
+
+    @Override
+    public CompletableFuture<T> exceptionally(Function<Throwable, ? extends T> body) {
+        Origin origin = origin();
+        return origin.of(super.exceptionally(by(origin, body)));
+    }
+}

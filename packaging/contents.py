@@ -1,0 +1,64 @@
+"""What the packages hold: the package of Python with the released program and the picture in it, and who it is by."""
+
+from __future__ import annotations
+
+import hashlib
+import re
+import subprocess
+from collections.abc import Iterator
+from pathlib import Path
+from typing import NamedTuple
+
+TOP = Path(__file__).resolve().parent.parent
+PACKAGE = "itc_trace"
+PROGRAM = TOP / "release" / "itc_trace"
+SUMMARY = "Finds the races of programs by the order of their events"
+MAINTAINER = "Hometturi maintainers <maintainers@users.noreply.hometturi.example>"
+ENTRY = "itc_trace.command:main"
+
+
+class File(NamedTuple):
+    """A file of a package, by its path below the folder where packages of Python lie."""
+
+    path: str
+    content: bytes
+    is_command: bool = False
+
+
+class Damaged(Exception):
+    """The released program is not the file that was released."""
+
+
+def released_program() -> bytes:
+    """The program, if it is the one that was released."""
+    content = PROGRAM.read_bytes()
+    line = f"{hashlib.sha256(content).hexdigest()}  {PROGRAM.name}"
+    if line not in (TOP / "release" / "SHA256SUMS").read_text().splitlines():
+        raise Damaged(f"{PROGRAM} is not the file that was released: git checkout release brings it back")
+    return content
+
+
+def files() -> Iterator[File]:
+    """The package of Python, and beside its modules what it looks for in a repository: the program and the picture."""
+    source = TOP / "clients" / "python" / PACKAGE
+    for path in sorted(source.rglob("*")):
+        if path.suffix == ".py" or path.name == "py.typed":
+            yield File(f"{PACKAGE}/{path.relative_to(source)}", path.read_bytes())
+    yield File(f"{PACKAGE}/command.py", (TOP / "packaging" / "command.py").read_bytes())
+    yield File(f"{PACKAGE}/itc_trace", released_program(), is_command=True)
+    yield File(f"{PACKAGE}/picture", (TOP / "picture").read_bytes(), is_command=True)
+    yield File(f"{PACKAGE}/browser/picture.html", (TOP / "browser" / "picture.html").read_bytes())
+    yield File(f"{PACKAGE}/crates.txt", (TOP / "crates.txt").read_bytes())
+
+
+def version() -> str:
+    """That of the program, which all packages have."""
+    told = subprocess.run([PROGRAM, "--version"], capture_output=True, text=True, check=True).stdout
+    return told.split()[1]
+
+
+def glibc() -> str:
+    """The earliest version of glibc with which the program runs."""
+    versions = re.findall(rb"GLIBC_(\d+)\.(\d+)", released_program())
+    major, minor = max((int(major), int(minor)) for major, minor in versions)
+    return f"{major}.{minor}"

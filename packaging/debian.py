@@ -1,0 +1,63 @@
+"""Writes the Debian package: the program, its manual and completions, the package of Python, and the command `itc-trace`.
+
+Usage: packaging/debian.py FOLDER. It wants dpkg-deb, and writes where the package is.
+"""
+
+from __future__ import annotations
+
+import gzip
+import os
+import subprocess
+import sys
+import tempfile
+from pathlib import Path
+
+import completions
+import manual
+from contents import MAINTAINER, SUMMARY, TOP, files, glibc, released_program, version
+
+MODULES = "usr/lib/python3/dist-packages"
+COMMAND = "#!/usr/bin/python3\nimport sys\n\nfrom itc_trace.command import main\n\nsys.exit(main())\n"
+DATE = "315532800"
+
+
+def control(kilobytes: int) -> str:
+    return (
+        f"Package: itc-trace\nVersion: {version()}\nArchitecture: amd64\nMaintainer: {MAINTAINER}\nInstalled-Size: {kilobytes}\n"
+        f"Depends: libc6 (>= {glibc()}), python3 (>= 3.11)\nSection: devel\nPriority: optional\nDescription: {SUMMARY}\n"
+        " The collector takes what tasks do, and answers which of their events are in order.\n"
+        " The package of Python runs a program with tracing on, and lists its races.\n"
+    )
+
+
+def contents() -> dict[str, tuple[bytes, int]]:
+    """Each file by its path, with its mode."""
+    held = {f"{MODULES}/{file.path}": (file.content, 0o755 if file.is_command else 0o644) for file in files()}
+    held["usr/bin/itc_trace"] = (released_program(), 0o755)
+    held["usr/bin/itc-trace"] = (COMMAND.encode(), 0o755)
+    held["usr/share/man/man1/itc_trace.1.gz"] = (gzip.compress(manual.page().encode(), mtime=0), 0o644)
+    held["usr/share/bash-completion/completions/itc_trace"] = (completions.bash().encode(), 0o644)
+    held["usr/share/zsh/vendor-completions/_itc_trace"] = (completions.zsh().encode(), 0o644)
+    held["usr/share/fish/vendor_completions.d/itc_trace.fish"] = (completions.fish().encode(), 0o644)
+    held["usr/share/doc/itc-trace/copyright"] = ((TOP / "LICENSE").read_bytes(), 0o644)
+    return held
+
+
+def write(target: Path) -> Path:
+    package = target / f"itc-trace_{version()}_amd64.deb"
+    held = contents()
+    with tempfile.TemporaryDirectory() as root:
+        size = sum(len(content) for content, _ in held.values()) // 1024
+        for path, (content, mode) in {**held, "DEBIAN/control": (control(size).encode(), 0o644)}.items():
+            file = Path(root) / path
+            file.parent.mkdir(parents=True, exist_ok=True)
+            file.write_bytes(content)
+            file.chmod(mode)
+        os.chmod(root, 0o755)
+        environment = {**os.environ, "SOURCE_DATE_EPOCH": DATE}
+        subprocess.run(["dpkg-deb", "--root-owner-group", "--build", root, str(package)], env=environment, check=True, capture_output=True)
+    return package
+
+
+if __name__ == "__main__":
+    print(write(Path(sys.argv[1])))
