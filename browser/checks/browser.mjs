@@ -10,9 +10,10 @@ const FLAGS = ["--headless=new", "--remote-debugging-pipe", "--no-first-run", "-
   "--disable-backgrounding-occluded-windows", "--disable-background-timer-throttling", "--font-render-hinting=none",
   "--force-color-profile=srgb"];
 
-const MOST_WAITING = 60000;
+// Beside other work a page may wait for minutes until it draws.
+const MOST_WAITING = 240000;
 
-/** What the promise gives, unless it takes a minute. */
+/** What the promise gives, unless it takes too long. */
 function inTime(what, promise) {
   let waiting;
   const late = new Promise((resolve, reject) => {
@@ -135,7 +136,8 @@ class Page {
 
   /** Waits until the function gives true in the page. */
   async until(body, ...values) {
-    for (let tries = 0; tries < 600; tries++) {
+    const end = performance.now() + MOST_WAITING;
+    while (performance.now() < end) {
       if (await this.run(body, ...values)) return;
       await new Promise((resolve) => setTimeout(resolve, 50));
     }
@@ -146,6 +148,12 @@ class Page {
     for (const type of ["mousePressed", "mouseReleased"]) {
       await this.send("Input.dispatchMouseEvent", { type, x, y, button: "left", clickCount: 1, modifiers });
     }
+    await this.frame();
+  }
+
+  /** Moves the mouse there, with no button down. */
+  async hover(x, y) {
+    await this.send("Input.dispatchMouseEvent", { type: "mouseMoved", x, y });
     await this.frame();
   }
 

@@ -11,15 +11,15 @@ const LINE = '{"event":1,"kind":"local","name":"-","preds":[],"stamp":"[1;1]","t
 const HOSTILE = '</script><script>window.wasRead = 1</script><img src="x" onerror="window.wasRead = 1"><!--';
 const WRONG = ["[((0,1),0);(2,(1,0,2),0)]", "[((0,1),0);(3,(0,0,2),1)]"];
 
-/** The page's policy allows its script and its style, which it names by their hashes, and nothing else. */
+/** The page's policy allows its script and its style, which it names by their hashes, a worker of that script, and nothing else. */
 export function policyFits() {
   const html = readFileSync(TEMPLATE, "utf8");
   const hashes = ["script", "style"].map((tag) => {
     const source = html.split(`<${tag}>`)[1].split(`</${tag}>`)[0];
     return `${tag}-src 'sha256-${createHash("sha256").update(source).digest("base64")}'`;
   });
-  const policy = ["default-src 'none'", ...hashes, "require-trusted-types-for 'script'", "trusted-types 'none'", "base-uri 'none'",
-    "form-action 'none'"].join("; ");
+  const policy = ["default-src 'none'", ...hashes, "worker-src blob:", "require-trusted-types-for 'script'", "trusted-types worker",
+    "base-uri 'none'", "form-action 'none'"].join("; ");
   assert.ok(html.includes(`<meta http-equiv="Content-Security-Policy" content="${policy}">`),
     `the policy of browser/picture.html has to be: ${policy}`);
 }
@@ -131,7 +131,8 @@ async function nothingGetsOut(tab) {
     const attempts = [() => fetch("https://example.com/"), () => fetch("data:text/plain,x"), image,
       async () => Object.assign(document.body, { innerHTML: "<p>x</p>" }),
       async () => Object.assign(document.createElement("script"), { text: "0" }),
-      async () => new Worker(URL.createObjectURL(new Blob(["1"])))];
+      async () => new Worker(URL.createObjectURL(new Blob(["1"]))), async () => trustedTypes.createPolicy("other", {}),
+      async () => new Worker(CheckingWorker.trusted("blob:x") && CheckingWorker.policy.createScriptURL("data:text/javascript,1"))];
     const told = [];
     document.addEventListener("securitypolicyviolation", (violation) => told.push(violation.effectiveDirective));
     for (const attempt of attempts) told.push(await attempt().then(() => "allowed", () => "refused"));
@@ -139,8 +140,8 @@ async function nothingGetsOut(tab) {
     return told.sort();
   });
   const by = ["connect-src", "connect-src", "img-src", "require-trusted-types-for", "require-trusted-types-for",
-    "require-trusted-types-for"];
-  assert.deepEqual(refused, [...by, ...by.map(() => "refused")].sort());
+    "require-trusted-types-for", "trusted-types"];
+  assert.deepEqual(refused, [...by, ...by.map(() => "refused"), "refused"].sort());
   tab.complaints.length = before;
   tab.requests = tab.requests.filter((address) => !/example\.com|^data:|^blob:/.test(address));
 }

@@ -89,6 +89,26 @@ export function mostAlive(reports) {
   return most;
 }
 
+/** So many events of root and of so many tasks that it starts one by one, and that nobody joins. */
+export function unjoined(events, tasks) {
+  const random = seeded(4), live = ["root"], unread = [], reports = [], some = () => live[Math.floor(random() * live.length)];
+  for (let sent = 0; reports.length < events;) {
+    const kind = random();
+    if (live.length <= tasks && live.length <= reports.length / (events / tasks) + 1) {
+      reports.push(`spawn root task_${live.length}`);
+      live.push(`task_${live.length}`);
+    } else if (unread.length > 0 && kind < 0.25) {
+      reports.push(`recv ${some()} ${takenFrom(unread, random)}`);
+    } else if (kind < 0.5) {
+      unread.push(`message_${++sent}`);
+      reports.push(`send ${some()} ${unread.at(-1)}`);
+    } else {
+      reports.push(`local ${some()}`);
+    }
+  }
+  return reports;
+}
+
 /** The trace of 500 events that most checks use. */
 export const BUSY = busy(seeded(19), 500, 14, 60);
 

@@ -44,6 +44,44 @@ export async function labels(tab) {
   assert.ok((await text(tab, "#chosen dl")).startsWith("kindrecv"));
 }
 
+const TOLD = [[3, "a", "local", "touch", 11], [5, "a", "send", "put order", 12], [6, "root", "recv", "get order", 30],
+  [2, "root", "spawn", "start a", 29]];
+const TOUCHES = [["write", "write stock", 13], ["read", "read price", 14]];
+
+/** The mouse over an event, an arrow or a lane shows label, place, task and number; so does the focus on an event. Comparing two
+ * events shows label and place of both. */
+export async function tips(tab) {
+  const row = ([event, task, kind, label, line], thing = null) => ({ event, task, thing, kind, file: "/home/ann/shop.py", line, label });
+  const touches = TOUCHES.map(([kind, label, line]) => row([3, "a", kind, label, line], "#1"));
+  const journal = file("tips.journal", [...TOLD.map((one) => row(one)), ...touches].map((one) => `${JSON.stringify(one)}\n`).join(""));
+  await opened(tab, pictureOf("tips.html", exportOf(WORKED), ["--labels", journal]));
+  await tab.until(() => page.labels.size === 4);
+  const shown = () => tab.run(() => {
+    const { hidden, children } = document.getElementById("tip");
+    return hidden ? [] : [...children].map((line) => line.textContent);
+  });
+  const tip = async (x, y) => {
+    await tab.hover(x, y);
+    return shown();
+  };
+  const [first, third, fifth, sixth] = [await placeOf(tab, 1), await placeOf(tab, 3), await placeOf(tab, 5), await placeOf(tab, 6)];
+  assert.deepEqual(await tip(...third), ["write stock, shop.py:13", "read price, shop.py:14", "Event 3, a: local"]);
+  assert.deepEqual(await tip(...first), ["Event 1, root: local"]);
+  assert.deepEqual(await tip((fifth[0] + sixth[0]) / 2, (fifth[1] + sixth[1]) / 2),
+    ["Message m", "sent by a, event 5: put order, shop.py:12", "received by root, event 6: get order, shop.py:30"]);
+  assert.deepEqual(await tip((third[0] + fifth[0]) / 2, third[1]),
+    ["Task a", "started by root, event 2, shop.py:29", "3 events, 3 to 7", "ended by event 7"]);
+  assert.deepEqual(await tip(sixth[0], third[1] + 100), []);
+  await tab.run(() => document.getElementById("fit").focus());
+  await tab.until(() => page.buttons.size === 8);
+  await tab.key("Tab");
+  assert.deepEqual(await shown(), ["Event 1, root: local"]);
+  await tab.click(...third);
+  await tab.click(...await placeOf(tab, 6), SHIFT);
+  const compared = await tab.run(() => [...document.querySelectorAll("#words + ul li")].map((item) => item.textContent));
+  assert.deepEqual(compared, ["3 a: write stock, shop.py:13 and 1 more", "6 root: get order, shop.py:30"]);
+}
+
 /** The title of a list, and of each item the name that it ends with. */
 async function listOf(tab, id) {
   await tab.run((list) => document.getElementById(list).setAttribute("open", ""), id);

@@ -19,7 +19,7 @@ from .parts import is_in_parts, races_of_parts
 from .progress import Bar
 from .races import Races
 from .relay import relay
-from .run import MOST_SEED, Run, run, tell_if_untouched, told
+from .run import MOST_SEED, NO_PICTURE_OF_PARTS, Run, check_writable, draw_tenant, run, tell_if_untouched, told
 from .seeing import check_trace, lines_of, races_seen
 from .session import Refused
 from .snapshot import snapshot
@@ -48,7 +48,7 @@ def _parser() -> argparse.ArgumentParser:
     _add_fail_on(races)
     _add_looking(races)
     races.add_argument("trace", metavar="EXPORT|TENANT", help="an export, or with --port a tenant of the collector there")
-    races.add_argument("--picture", metavar="FILE", help="the picture of the trace, for links into it")
+    races.add_argument("--picture", metavar="FILE", help="draw the trace there, with its races")
     races.add_argument("journal", nargs="*", help="the journal of each process; none, if that of a run in parts is given for EXPORT")
     relaying = commands.add_parser("relay", help="let many processes report to one tenant")
     relaying.add_argument("--listen", type=int, required=True, help="the port that the processes report to")
@@ -155,7 +155,11 @@ def _system(words: argparse.Namespace) -> int:
 
 
 def _races(words: argparse.Namespace) -> int:
+    if words.picture is not None:
+        check_writable(words.picture)
     if not words.journal and words.port is None and os.path.isfile(words.trace) and is_in_parts(words.trace):
+        if words.picture is not None:
+            print(NO_PICTURE_OF_PARTS, file=sys.stderr)
         return _tell(words, races_of_parts(words.trace, _looking(words), Bar(sys.stderr)))
     if not words.journal:
         raise Fault("races wants the journal of each process, behind the export or the tenant")
@@ -169,11 +173,13 @@ def _races(words: argparse.Namespace) -> int:
 def _races_of(words: argparse.Namespace, tenant: str, port: int, host: str, trace: str) -> int:
     lines = list(lines_of(words.journal))
     check_trace(tenant, port, lines, host, trace)
-    return _tell(words, races_seen(tenant, port, lines, host, _looking(words), Bar(sys.stderr)))
+    found = races_seen(tenant, port, lines, host, _looking(words), Bar(sys.stderr))
+    is_drawn = words.picture is not None and draw_tenant(tenant, port, host, lines, words.picture, found)
+    return _tell(words, found, words.picture if is_drawn else None)
 
 
-def _tell(words: argparse.Namespace, found: Races) -> int:
-    print(told(found, words.picture))
+def _tell(words: argparse.Namespace, found: Races, picture: str | None = None) -> int:
+    print(told(found, picture))
     tell_if_untouched(found)
     return int(found.verdict(words.fail_on == "possible"))
 

@@ -11,7 +11,7 @@ import random
 import subprocess
 import sys
 import tempfile
-from collections.abc import Iterator
+from collections.abc import Iterable, Iterator
 from dataclasses import dataclass, field, replace
 from pathlib import Path
 from typing import IO
@@ -28,6 +28,7 @@ from .merging import Merged
 from .part_collectors import PartCollectors
 from .parts import number_of_parts, races_of_parts
 from .progress import Bar
+from .race_rows import race_rows
 from .races import Race, Races
 from .seeing import races_seen
 from .session import Refused
@@ -38,6 +39,7 @@ UNTOUCHED = """\
 itc_trace: nothing was touched, so there was no race to find
     Wrap what tasks share by itc_trace.shared(value, "name"), or call itc_trace.touch("name") where it is used.
     A number, a text or a tuple needs touch."""
+NO_PICTURE_OF_PARTS = "itc_trace: no picture: the run has several parts, of which --export writes an export each for ./picture"
 MOST_SEED = 1 << 32
 
 
@@ -208,7 +210,7 @@ def _outcome(asked: Run, seed: int | None) -> Outcome | None:
             races.unseen = [killed, *(one for one in races.unseen if one != BREAKS_OFF)]
         picture = None if is_divided else _keep(asked, port, journal, work, races)
         if is_divided and asked.picture is not None:
-            _say("itc_trace: no picture: the run has several parts, of which --export writes an export each for ./picture")
+            _say(NO_PICTURE_OF_PARTS)
         return Outcome(child.status, races, child.told == RAISED, picture)
 
 
@@ -267,19 +269,34 @@ def _keep(asked: Run, port: int, journal: str, work: str, races: Races) -> str |
     try:
         with open(export, "w", encoding="ascii", newline="\n") as output:
             snapshot(asked.tenant, port, output, asked.host)
-        return asked.picture if asked.picture is not None and draw(export, journal, asked.picture) else None
+        return asked.picture if asked.picture is not None and draw(export, journal, asked.picture, races) else None
     except (OSError, Refused) as fault:  # The collector is gone, say.
         races.unseen.append(Unseen(Cause.COLLECTOR, f"the trace cannot be kept ({fault})"))
         return None
 
 
-def draw(export: str, journal: str, picture: str) -> bool:
+def draw(export: str, journal: str, picture: str, races: Races) -> bool:
+    """Draws the trace with its labels and races. Gives whether it did."""
     command = os.environ.get("ITC_PICTURE") or find_in_repository("picture")
     if command is None:
         _say("itc_trace: no picture: the command of that name is in the repository of itc_trace")
         return False
-    with open(export, "rb") as given, open(picture, "wb") as page:
-        return subprocess.run([command, "--labels", journal], stdin=given, stdout=page, check=False).returncode == 0
+    with tempfile.NamedTemporaryFile("w", suffix=".races", encoding="utf-8") as rows:
+        rows.write(race_rows(races))
+        rows.flush()
+        words = [command, "--labels", journal, "--races", rows.name]
+        with open(export, "rb") as given, open(picture, "wb") as page:
+            return subprocess.run(words, stdin=given, stdout=page, check=False).returncode == 0
+
+
+def draw_tenant(tenant: str, port: int, host: str, lines: Iterable[str], picture: str, races: Races) -> bool:
+    """Draws what the collector has of the tenant, with the labels of a journal's lines. Gives whether it did."""
+    with tempfile.TemporaryDirectory(prefix="itc_trace_") as work:
+        export, journal = os.path.join(work, "export"), os.path.join(work, "journal")
+        with open(export, "w", encoding="ascii", newline="\n") as output:
+            snapshot(tenant, port, output, host)
+        Path(journal).write_text("".join(lines), encoding="utf-8")
+        return draw(export, journal, picture, races)
 
 
 def _say(text: str) -> None:

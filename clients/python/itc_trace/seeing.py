@@ -10,7 +10,7 @@ from .journal import Journal, NoJournal, read_whole
 from .progress import Bar
 from .races import Races, find_races
 from .session import Refused, Session
-from .verdict import END_ROW, Cause, Unseen, is_end_row
+from .verdict import END_OF_ALL, Cause, Unseen
 
 MOST_LOOKED_AT = 64
 
@@ -57,7 +57,7 @@ def lines_of(journals: Iterable[str]) -> Iterator[str]:
             missing = read_whole(lines).missing
         except NoJournal as fault:
             raise NoJournal(f"{name} is no journal: {fault}: name the FILE of --journal, or FILE.journal of --export") from fault
-        yield from (line for line in lines if line.endswith("\n") and not is_end_row(line))
+        yield from (line for line in lines if line.endswith("\n"))
         for one in missing:
             yield one._replace(text=one.text.replace("the journal", name, 1)).row()
-    yield END_ROW
+    yield END_OF_ALL

@@ -35,7 +35,7 @@ from .seeing import races_seen
 from .session import Refused
 from .snapshot import snapshot
 from .system_file import Described, System
-from .verdict import END_ROW, Cause, Unseen, is_end_row
+from .verdict import END_OF_ALL, Cause, Unseen
 
 READY_SECONDS = 60.0
 GRACE_SECONDS = 10.0
@@ -259,7 +259,7 @@ class Running:
                 print(f"itc_trace: process {process.name} reported {len(written)} times: it was started again", file=sys.stderr)
             for path in written:
                 lines += self._lines_of(process, path)
-        return [*lines, END_ROW]
+        return [*lines, END_OF_ALL]
 
     def _is_refused(self, name: str) -> bool:
         told_by = Path(self._told_by(name))
@@ -276,8 +276,7 @@ class Running:
         for one in missing:
             self._miss(Cause.JOURNAL, one.text.replace("the journal", f"the journal of process {process.name}", 1))
         is_ended_by_us = process.described.is_service and process.is_ended_by_us
-        left_out = {ENDED_AS_A_SERVICE} if is_ended_by_us else set()
-        yield from (line for line in lines if line.endswith("\n") and line not in left_out and not is_end_row(line))
+        yield from (line for line in lines if line.endswith("\n") and not (is_ended_by_us and line == ENDED_AS_A_SERVICE))
 
 
 ENDED_AS_A_SERVICE = Unseen(Cause.KILLED, "the program was ended by SIGTERM").row()
@@ -309,7 +308,7 @@ def _keep(system: System, port: int, lines: list[str], folder: str, races: Races
         with open(export, "w", encoding="ascii", newline="\n") as output:
             snapshot(system.tenant, port, output)
         Path(f"{export}.journal").write_text("".join(lines), encoding="utf-8")
-        is_drawn = system.picture is not None and draw(export, f"{export}.journal", system.picture)
+        is_drawn = system.picture is not None and draw(export, f"{export}.journal", system.picture, races)
         return system.picture if is_drawn else None
     except (OSError, Refused, NoJournal) as fault:
         races.unseen.append(Unseen(Cause.COLLECTOR, f"the trace cannot be kept ({fault})"))

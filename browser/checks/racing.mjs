@@ -1,0 +1,127 @@
+// The checks of the panel of races: from a list of races to the two events and their lines of source.
+import assert from "node:assert/strict";
+import { exportOf, file, pictureOf } from "./program.mjs";
+import { chosen, opened, press, text } from "./tab.mjs";
+import { LOST_UPDATE, WITH_LOCK } from "./traces.mjs";
+
+const SOURCE = ["def buy(shop):", "    left = shop.stock", "    shop.stock = left - 1"];
+
+/** The row of one touch: in buy, which begins in line 10 of shop.py. */
+export const side = (event, task, kind, line) =>
+  ({ event, task, kind, file: "/home/ann/shop.py", line, function: "buy", begin: 10, text: SOURCE });
+
+export const race = (thing, sides, more = {}) =>
+  ({ thing, made: "", possible: false, why: "nothing orders them", times: 1, sides, ...more });
+
+export const rows = (list) => list.map((row) => `${JSON.stringify(row)}\n`).join("");
+
+export const pictureOfRaces = (name, reports, races, words = []) =>
+  pictureOf(`${name}.html`, exportOf(reports), ["--races", file(`${name}.races`, rows(races)), ...words]);
+
+const RACES = [race("stock", [side(4, "alice", "read", 11), side(7, "bob", "write", 12)], { made: "a Shop made at shop.py:3", times: 3 }),
+  race("price", [side(6, "alice", "write", 12), side(7, "bob", "write", 12)], { possible: true, why: "the hand-over of a lock" })];
+
+/** The panel lists each race with its thing, places and times. Choosing one shows both events, marks them as a pair, and shows the
+ * lines of source around both. */
+export async function races(tab) {
+  await opened(tab, pictureOfRaces("races", LOST_UPDATE, RACES));
+  assert.equal(await text(tab, "#races h2"), "1 race, 1 possible race");
+  const listed = await tab.run(() => [...document.querySelectorAll("#races li button")].map((button) =>
+    [...button.children].map((part) => part.textContent)));
+  assert.deepEqual(listed, [["stock (a Shop made at shop.py:3)", "read shop.py:11 in buy: alice, event 4",
+    "write shop.py:12 in buy: bob, event 7", "3 times; nothing orders them"], ["price", "write shop.py:12 in buy: alice, event 6",
+    "write shop.py:12 in buy: bob, event 7", "possible; once; the hand-over of a lock"]]);
+  await press(tab, "#races li:nth-child(1) button");
+  assert.equal(await chosen(tab), "Events 4 and 7");
+  assert.equal(await text(tab, "#chosen p"), "Race on stock, 3 times: nothing orders them.");
+  assert.equal(await tab.run(() => location.hash), "#event=4&other=7");
+  const sources = await tab.run(() => [...document.querySelectorAll("#chosen figure")].map((figure) =>
+    [figure.firstChild.textContent, figure.lastChild.textContent, figure.querySelector("strong").textContent]));
+  const shown = (line) => SOURCE.map((text, place) => `${10 + place === line ? ">" : " "} ${10 + place}  ${text}\n`).join("");
+  assert.deepEqual(sources, [["Event 4, alice: read at /home/ann/shop.py:11", shown(11), "> 11      left = shop.stock"],
+    ["Event 7, bob: write at /home/ann/shop.py:12", shown(12), "> 12      shop.stock = left - 1"]]);
+  await pairIsMarked(tab, [4, 7]);
+  await press(tab, "#fit");
+  await pairIsMarked(tab, [4, 7]);
+  assert.deepEqual(await pressed(tab), ["true", "false"]);
+  await press(tab, "#races li:nth-child(2) button");
+  assert.deepEqual([await chosen(tab), ...await pressed(tab)], ["Events 6 and 7", "false", "true"]);
+  await opened(tab, pictureOfRaces("races", LOST_UPDATE, RACES), "#event=7&other=4");
+  assert.deepEqual([await chosen(tab), ...await pressed(tab)], ["Events 7 and 4", "true", "false"]);
+  await tab.key("Escape");
+  assert.deepEqual([await chosen(tab), ...await pressed(tab)], ["Event 7", "false", "false"]);
+  assert.ok((await tab.spokenButtons()).some((name) => name.startsWith("stock (a Shop made at shop.py:3) read shop.py:11 in buy: alice")));
+}
+
+const pressed = (tab) => tab.run(() =>
+  [...document.querySelectorAll("#races li button")].map((button) => button.getAttribute("aria-pressed")));
+
+/** A line of the colour of races leads from the one event to the other, and both have a ring of it. */
+async function pairIsMarked(tab, events) {
+  const marked = await tab.run((pair) => {
+    const { view } = page;
+    const colourAt = (x, y) => {
+      const near = view.context.getImageData(Math.round(x * view.ratio) - 3, Math.round(y * view.ratio) - 3, 7, 7).data;
+      return Array.from({ length: 49 }, (_, place) => [...near.subarray(4 * place, 4 * place + 3)]);
+    };
+    const isRed = ([red, green, blue]) => red > 150 && green < 80 && blue < 90;
+    const [one, other] = pair.map((event) => [view.x(view.layout.times[event]), view.y(view.layout.lane(event))]);
+    view.draw();
+    const along = (part) => [one[0] + (other[0] - one[0]) * part, one[1] + (other[1] - one[1]) * part];
+    const parts = Array.from({ length: 41 }, (_, place) => along(0.3 + place / 100));
+    const ring = (place) => colourAt(place[0], place[1] - Math.max(6, view.radius * 2.3)).some(isRed);
+    return [parts.filter((place) => colourAt(...place).some(isRed)).length > 20, ring(one), ring(other)];
+  }, events);
+  assert.deepEqual(marked, [true, true, true]);
+}
+
+const HOSTILE = '</script><img src=x onerror="window.wasRead = 1"><script>window.wasRead = 1</script>';
+
+/** What looks like HTML is text in every place of a race, and a row that is none or of another trace is passed over. */
+export async function hostileRaces(tab) {
+  const evil = { ...side(4, HOSTILE, HOSTILE, 11), file: HOSTILE, function: HOSTILE, text: [HOSTILE, HOSTILE] };
+  const right = race(HOSTILE, [evil, side(7, "bob", "write", 12)], { made: HOSTILE, why: HOSTILE });
+  const others = [{ event: 12 }, { event: 0 }, { event: 1.5 }, { text: [1] }, { text: Array(41).fill("") }].map((more) => ({ ...evil, ...more }));
+  const wrong = [...[null, ...others].map((other) => ({ ...right, sides: [evil, other] })), { ...right, sides: [evil] },
+    { ...right, times: "1" }, { ...right, thing: null }, [], null, 1, "x"];
+  const path = pictureOfRaces("hostile_races", LOST_UPDATE, [...wrong, right]);
+  await opened(tab, path);
+  assert.equal(await tab.run(() => page.races.length), 1);
+  await press(tab, "#races li button");
+  assert.equal(await chosen(tab), "Events 4 and 7");
+  assert.ok((await text(tab, "#races li strong")).startsWith(HOSTILE));
+  assert.ok((await text(tab, "#chosen figure pre")).includes(HOSTILE));
+  assert.deepEqual(await tab.run(() => [document.querySelectorAll("img").length, window.wasRead ?? "nothing"]), [0, "nothing"]);
+  await opened(tab, pictureOf("spoilt_races.html", exportOf(LOST_UPDATE), ["--races", file("spoilt.races", '{"thing":\n\u0000\n')]));
+  assert.deepEqual(await tab.run(() => [page.races.length, document.getElementById("races").hidden]), [0, true]);
+}
+
+const journalRow = (event, task, kind, label, more = {}) =>
+  ({ event, task, thing: null, kind, file: "shop.py", line: event, label, ...more });
+
+/** With a journal, a lock that nobody took again is no message that nobody received, and a process that ended is no task that did
+ * not end. */
+export async function ends(tab) {
+  const reports = [...WITH_LOCK, "send bob stock_2", "send bob letter"], lock = { lock: "#1 stock" };
+  const journal = [journalRow(2, "root", "spawn", "start process alice"), journalRow(6, "alice", "send", "release stock", lock),
+    { end: true },
+    journalRow(3, "root", "spawn", "start process bob"), journalRow(10, "bob", "send", "release stock", lock),
+    journalRow(11, "bob", "send", "put letter")];
+  const shown = async (more) => {
+    const words = ["--labels", file("ends.journal", rows([...journal, ...more]))];
+    await opened(tab, pictureOf("ends.html", exportOf(reports), words));
+    await tab.until(() => page.labels.size === 5);
+    return tab.run(() => ["unread", "free", "open"].map((id) => [...document.getElementById(id)?.querySelectorAll("summary, li") ?? []]
+      .map((part) => part.textContent)));
+  };
+  const whole = { end: true, task: null };
+  const [unread, free, open] = await shown([whole]);
+  assert.deepEqual([unread[0], free[0]], ["Messages that nobody received: 1", "Locks that nobody took again: 1"]);
+  assert.match(open[0], /: 2$/);
+  assert.deepEqual(await tab.run(() => page.tasks().filter(({ isOver }) => isOver).map(({ name }) => name)), ["alice"]);
+  const [, , all] = await shown([{ end: true }, whole]);
+  assert.deepEqual(all, ["Tasks that did not end: 0"]);
+  assert.ok(await tab.run(() => page.view.layout.to.every((to) => to !== Infinity)), "each lane ends");
+  const [, , named] = await shown([{ end: true, task: "bob" }]);
+  assert.deepEqual(named, ["Tasks that did not end: 0"]);
+}

@@ -1,0 +1,105 @@
+// The checks of why two events are ordered or not.
+import assert from "node:assert/strict";
+import { answers, inWork, lists } from "./program.mjs";
+import { opened } from "./tab.mjs";
+import { BUSY, seeded } from "./traces.mjs";
+
+const PAIRS = 120;
+
+/** What the program answers about the events: the kind, the task and the predecessors of each. */
+function eventsOf(reports) {
+  const told = answers(reports, reports.map((_, place) => `event ${place + 1}`));
+  return [null, ...told.map((reply) => {
+    const [, kind, task, name, , ...preds] = reply.split(" ");
+    return { kind, task, name, preds: preds.map(Number) };
+  })];
+}
+
+/** How many edges a shortest way from the earlier event to the later one has; Infinity if there is none. */
+function distance(events, earlier, later) {
+  const far = new Map([[later, 0]]), waiting = [later];
+  for (const event of waiting) {
+    for (const pred of events[event].preds) {
+      if (far.has(pred)) continue;
+      far.set(pred, far.get(event) + 1);
+      waiting.push(pred);
+    }
+  }
+  return far.get(earlier) ?? Infinity;
+}
+
+/** The event in these that is nearest by number, or what stands for none. */
+const nearest = (list, none) => list.length > 0 ? list[0] : none;
+
+function freedomOf(events, past, one, other) {
+  const told = [one, other].flatMap((event) => {
+    const { task } = events[event], all = [...events.keys()].slice(1);
+    const isOwn = (at) => events[at].task === task && events[at].kind !== "local";
+    const start = all.filter((at) => events[at].kind === "spawn" && events[at].name === task);
+    return [nearest([...all.filter((at) => at <= event && isOwn(at)).reverse(), ...start], "nothing"),
+      nearest(all.filter((at) => at >= event && isOwn(at)), "nothing more")];
+  });
+  const both = past.get(one).filter((event) => past.get(other).includes(event));
+  return [...told, both.length > 0 ? Math.max(...both) : "nothing happened before both"].map(String);
+}
+
+/** Of two events that are concurrent, the synchronizations around each and the latest event before both; of two that are ordered,
+ * a shortest chain of edges. Both are drawn. */
+export async function why(tab) {
+  await opened(tab, inWork("busy.html"));
+  const events = eventsOf(BUSY), random = seeded(31), some = () => 1 + Math.floor(random() * 500);
+  const pairs = Array.from({ length: PAIRS }, () => [some(), some()]), asked = [...new Set(pairs.flat())];
+  const past = new Map(lists(BUSY, "past", asked).map((list, place) => [asked[place], list])), counts = { free: 0, chains: 0 };
+  const shown = await tab.run((list) => list.map(([one, other]) => {
+    page.chooseNothing();
+    page.chooseNothing();
+    page.choose(one);
+    page.choose(other, { asOther: true });
+    const words = (part) => part.querySelector("button")?.dataset.event ?? part.textContent;
+    const told = (selector) => [...document.querySelectorAll(selector)].map(words);
+    return { freedom: told("#freedom dd"), steps: told("#chain li"), chains: page.view.chains };
+  }), pairs);
+  pairs.forEach(([one, other], place) => {
+    const { freedom, steps, chains } = shown[place], what = `${one} and ${other}`;
+    if (one === other) return;
+    const [earlier, later] = [Math.min(one, other), Math.max(one, other)], edges = distance(events, earlier, later);
+    if (edges === Infinity) {
+      assert.deepEqual([freedom, steps], [freedomOf(events, past, one, other), []], what);
+      assert.deepEqual(chains.map((chain) => chain.includes(one) || chain.includes(other)), [true, true], what);
+      counts.free++;
+      return;
+    }
+    const [chain] = chains;
+    assert.deepEqual([freedom, chain[0], chain.at(-1), chain.length - 1], [[], earlier, later, edges], what);
+    for (let step = 1; step < chain.length; step++) assert.ok(events[chain[step]].preds.includes(chain[step - 1]), `${what}: ${chain}`);
+    assert.deepEqual([steps[0], steps.at(-1)], [String(earlier), String(later)]);
+    assert.ok(steps.every((step) => chain.includes(Number(step))), what);
+    const isLeftOut = (event) => !steps.includes(String(event));
+    assert.ok(chain.filter(isLeftOut).every((event) => events[event].task === events[chain[chain.indexOf(event) + 1]].task), what);
+    counts.chains++;
+  });
+  assert.ok(counts.free > 20 && counts.chains > 20, JSON.stringify(counts));
+  await isDrawn(tab, pairs[shown.findIndex(({ steps }) => steps.length > 2)]);
+  return `${counts.free} concurrent pairs, ${counts.chains} ordered ones`;
+}
+
+/** A broad line leads from event to event of the chain, also in the whole picture. To a task that was started it goes as the lane. */
+async function isDrawn(tab, [one, other]) {
+  const drawn = await tab.run((first, second) => {
+    const { view } = page, lines = [];
+    page.chooseNothing();
+    page.chooseNothing();
+    page.choose(first);
+    page.choose(second, { asOther: true });
+    view.whole();
+    for (const step of ["moveTo", "lineTo"]) view.context[step] = (x, y) => lines.push([x, y].map(Math.round).join(" "));
+    view.drawChains();
+    for (const step of ["moveTo", "lineTo"]) delete view.context[step];
+    const placeOf = (event) => [view.x(view.layout.times[event]), view.y(view.layout.lane(event))].map(Math.round).join(" ");
+    const starts = view.chains[0].filter((event, place, chain) => page.trace.tasks[page.trace.taskOf[event]].started === chain[place - 1]);
+    return [lines, view.chains[0].map(placeOf), starts.length];
+  }, one, other);
+  const [lines, places, starts] = drawn;
+  assert.deepEqual(lines.filter((place) => places.includes(place)), places);
+  assert.equal(lines.length, places.length + starts);
+}

@@ -1,0 +1,104 @@
+"""The page of a picture has the races of the run, with their lines of source, and knows which processes have ended."""
+
+from __future__ import annotations
+
+import base64
+import gzip
+import json
+import re
+import tempfile
+import unittest
+from pathlib import Path
+from typing import Any
+
+from itc_trace import Verdict
+
+from .support import PACKAGE, run_python, run_traced
+from .test_files import CLEAN, RACING
+
+TILL = """
+import itc_trace
+itc_trace.touch("ledger", write=True, across=True)
+"""
+SYSTEM = """
+[process.till]
+command = ["python3", "till.py"]
+[process.stock]
+command = ["python3", "till.py"]
+"""
+
+
+def carried(page: Path, name: str) -> list[dict[str, Any]]:
+    """The rows that the page carries there."""
+    packed = re.search(f'id="{name}">([^<]*)<', page.read_text())
+    assert packed is not None
+    return [json.loads(line) for line in gzip.decompress(base64.b64decode(packed[1])).decode().splitlines()]
+
+
+@unittest.skipUnless((PACKAGE.parent.parent / "picture").exists(), "the command is in the repository")
+class Pictures(unittest.TestCase):
+    def setUp(self) -> None:
+        self.folder = Path(self.enterContext(tempfile.TemporaryDirectory()))
+        self.page, self.export = self.folder / "page.html", self.folder / "trace"
+
+    def program(self, text: str) -> str:
+        (self.folder / "shop.py").write_text(text)
+        return str(self.folder / "shop.py")
+
+    def assert_has_the_race(self, told: str) -> None:
+        (race,) = carried(self.page, "carriedRaces")
+        self.assertEqual((race["why"], race["possible"]), ("nothing orders them", False))
+        events, times = [side["event"] for side in race["sides"]], "once" if race["times"] == 1 else f"{race['times']} times"
+        self.assertIn(f"nothing orders them; {times}, as events {events[0]} and {events[1]}\n", told)
+        self.assertIn(f"{self.page}#event={events[0]}&other={events[1]}", told)
+        for side in race["sides"]:
+            self.assertEqual(side["text"][side["line"] - side["begin"]], '    stock["left"] -= 1')
+            self.assertEqual((side["file"], side["function"]), (str(self.folder / "shop.py"), "sell"))
+            self.assertEqual(len(side["text"]), 7)
+
+    def test_run_and_races_hand_over_each_race(self) -> None:
+        ran = run_traced("--export", str(self.export), "--picture", str(self.page), self.program(RACING))
+        self.assertEqual(ran.returncode, Verdict.RACES, ran.stderr)
+        self.assert_has_the_race(ran.stderr)
+        self.page.unlink()
+        again = run_python("-m", "itc_trace", "races", "--picture", str(self.page), str(self.export), f"{self.export}.journal")
+        self.assertEqual((again.returncode, again.stdout), (Verdict.RACES, ran.stderr))
+        self.assert_has_the_race(again.stdout)
+        self.assertEqual(carried(self.page, "labels")[-2:], [{"end": True}, {"end": True, "task": None}])
+
+    def test_there_is_none_of_a_clean_run(self) -> None:
+        ran = run_traced("--picture", str(self.page), self.program(CLEAN))
+        self.assertEqual(ran.returncode, Verdict.NO_RACE, ran.stderr)
+        self.assertEqual(carried(self.page, "carriedRaces"), [])
+
+    def test_a_page_that_cannot_be_written_is_told_first(self) -> None:
+        run_traced("--export", str(self.export), self.program(CLEAN))
+        ran = run_python("-m", "itc_trace", "races", "--picture", str(self.folder), str(self.export), f"{self.export}.journal")
+        self.assertEqual((ran.returncode, ran.stdout), (2, ""))
+        self.assertIn("it is no regular file", ran.stderr)
+
+    def test_a_source_that_is_shorter_by_now_has_no_lines(self) -> None:
+        program = self.program(RACING)
+        run_traced("--export", str(self.export), program)
+        Path(program).write_text("\n")
+        run_python("-m", "itc_trace", "races", "--picture", str(self.page), str(self.export), f"{self.export}.journal")
+        (race,) = carried(self.page, "carriedRaces")
+        self.assertEqual([(side["begin"], side["text"]) for side in race["sides"]], [(0, [])] * 2)
+
+    def test_a_system_tells_of_each_process_that_it_ended(self) -> None:
+        (self.folder / "till.py").write_text(TILL)
+        (self.folder / "system.toml").write_text(SYSTEM)
+        ran = run_python("-m", "itc_trace", "system", "--picture", str(self.page), str(self.folder / "system.toml"))
+        self.assertEqual(ran.returncode, Verdict.RACES, ran.stderr)
+        (race,) = carried(self.page, "carriedRaces")
+        self.assertEqual(sorted(side["task"] for side in race["sides"]), ["stock", "till"])
+        told = [row["label"] if "label" in row else row for row in carried(self.page, "labels")]
+        end = {"end": True}
+        for process in ("till", "stock"):
+            place = told.index(f"start process {process}")
+            self.assertEqual(told[place : place + 3], [f"start process {process}", "write ledger", end])
+        self.assertEqual(told[-1], {"end": True, "task": None})
+
+
+if __name__ == "__main__":
+    unittest.main()
