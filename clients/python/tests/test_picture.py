@@ -29,10 +29,11 @@ command = ["python3", "till.py"]
 
 
 def carried(page: Path, name: str) -> list[dict[str, Any]]:
-    """The rows that the page carries there."""
+    """The rows that the page carries there. How many lines a process has written is left out."""
     packed = re.search(f'id="{name}">([^<]*)<', page.read_text())
     assert packed is not None
-    return [json.loads(line) for line in gzip.decompress(base64.b64decode(packed[1])).decode().splitlines()]
+    rows = [json.loads(line) for line in gzip.decompress(base64.b64decode(packed[1])).decode().splitlines()]
+    return [{key: value for key, value in row.items() if key != "lines"} if "end" in row else row for row in rows]
 
 
 @unittest.skipUnless((PACKAGE.parent.parent / "picture").exists(), "the command is in the repository")
