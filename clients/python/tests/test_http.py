@@ -94,11 +94,11 @@ class Http(ProgramCase):
         (folder / "system.toml").write_text(text)
         return run_python("-m", "itc_trace", "system", str(folder / "system.toml"))
 
-    def test_a_request_and_a_response_of_one_process_are_messages(self) -> None:
+    def test_what_a_process_asks_itself_gives_no_order(self) -> None:
         program = self.program(BOTH)
-        for words, verdict in (([], Verdict.NO_RACE), (["wrong"], Verdict.RACES)):
+        for words in ([], ["wrong"]):
             ran = run_traced("--watch-nothing", program, "0", *words)
-            self.assertEqual(ran.returncode, verdict, ran.stderr)
+            self.assertEqual(ran.returncode, Verdict.RACES, ran.stderr)
 
     def test_a_server_answers_with_a_message_only_whoever_sent_one(self) -> None:
         ran = run_traced("--watch-nothing", self.program(RAW), "0")

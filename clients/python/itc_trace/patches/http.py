@@ -1,6 +1,7 @@
 """Traces requests and responses of HTTP: each is a message, whose name is in a header that others do not mind.
 
-A request to another machine has the header only if this process reports beside others.
+A request to another machine has the header only if this process reports beside others. What a process asks itself gives no order: a
+test asks its own server one request after another, and nothing else would keep the server's threads apart.
 """
 
 from __future__ import annotations
@@ -19,6 +20,8 @@ LOCAL = frozenset({"localhost", "127.0.0.1", "::1"})
 LIBRARIES = frozenset({"http", "urllib", "urllib3", "requests", "socketserver", "wsgiref", "itc_trace"})
 """Modules that ask and answer for the program."""
 _START_OF_HEADER = f"{HEADER}:".lower().encode()
+_asked_here: set[str] = set()
+"""The messages of requests of this process that have no response yet."""
 
 
 def put(patches: Patches) -> None:
@@ -50,6 +53,8 @@ def _endheaders(original: Any) -> Any:
         if _is_told(self) and not any(line.lower().startswith(_START_OF_HEADER) for line in self._buffer):
             message = _outgoing()
             if message is not None:
+                self.__dict__["_itc_asks"] = message
+                _asked_here.add(message)
                 self.putheader(HEADER, message)
         original(self, *words, **named)
 
@@ -63,7 +68,10 @@ def _is_told(connection: Any) -> bool:
 
 def _getresponse(original: Any) -> Any:
     def getresponse(self: Any) -> Any:
-        response = original(self)
+        try:
+            response = original(self)
+        finally:
+            _asked_here.discard(self.__dict__.pop("_itc_asks", ""))
         incoming_at(response.headers.get(HEADER), _frame())
         return response
 
@@ -81,8 +89,10 @@ def _parse_request(original: Any) -> Any:
         self.__dict__["_itc_asked"] = None
         is_one = bool(original(self))
         if is_one:
-            asked = self.__dict__["_itc_asked"] = self.headers.get(HEADER)
-            incoming_at(asked, _frame())
+            asked = self.headers.get(HEADER)
+            if asked not in _asked_here:
+                self.__dict__["_itc_asked"] = asked
+                incoming_at(asked, _frame())
         return is_one
 
     return parse_request
