@@ -88,6 +88,39 @@ class BothForms(ProgramCase):
                         break
                 self.assertTrue(set.intersection(*found.values()), found)
 
+    def test_they_note_the_same_inside_of_containers(self) -> None:
+        """What the hooks in C leave to those in Python: containers inside of others, and what is looked at deeply."""
+        text = """
+            import copy, threading
+            from collections import ChainMap, UserDict, UserList
+            from dataclasses import dataclass
+            @dataclass
+            class Point:
+                x: int = 0
+            class Lines(list):
+                def append(self, line):
+                    super().append(line)
+            point, nested, bag, items, table, lines = Point(), {"k": [1]}, UserDict(a=1), UserList([1]), {"b": 1}, Lines()
+            def look():
+                str(point), copy.deepcopy(nested), len(bag), bag["a"], bag.get("a"), "a" in bag, len(lines), ChainMap(table)["b"]
+                for one in items:
+                    pass
+            def change():
+                point.x = 1
+                nested["k"].append(2)
+                bag["a"], table["b"], items[0] = 2, 2, 2
+                lines.append("line")
+            for task in look, change:
+                thread = threading.Thread(target=task)
+                thread.start()
+                thread.join()
+        """
+        program = Path(self.program(textwrap.dedent(text)))
+        first, second = (noted(program, form) for form in FORMS)
+        self.assertEqual(first, second)
+        looked_at = {name for name, _, _, _ in first}
+        self.assertEqual({"Point.x", "nested[..]", "bag", "bag['a']", "items", "lines", "table", "table['b']"}, looked_at)
+
     def test_references_stay_as_they_are(self) -> None:
         """A million hooks leave no reference behind: neither to what they look at, nor to what the package itself has."""
         text = """
