@@ -1,4 +1,4 @@
-"""Measures what watching costs: small programs that nobody changed, untraced, with nothing watched and watched, by turns.
+"""Measures what watching costs: programs that nobody changed, untraced, with nothing watched, and watched by both forms of hooks, by turns.
 
 Usage: python3 measure_watched.py [NAME..]
 """
@@ -11,6 +11,7 @@ import tempfile
 from pathlib import Path
 
 TRIES = 5
+PURE = "watched by hooks in Python"
 TIMED = """
 import time as _time
 _start = _time.process_time()
@@ -119,25 +120,27 @@ def main():
 WATCHED = {"difflib": ["difflib"], "flask": ["flask", "werkzeug", "jinja2", "blinker", "itsdangerous", "click"]}
 
 
-def seconds(words: list[str]) -> float:
+def seconds(words: list[str], is_pure: bool) -> float:
     folder = os.path.dirname(os.path.abspath(__file__))
-    ran = subprocess.run([sys.executable, *words], capture_output=True, text=True, env={**os.environ, "PYTHONPATH": folder}, check=False)
+    environment = {**os.environ, "PYTHONPATH": folder, "ITC_TRACE_PURE": "1" if is_pure else ""}
+    ran = subprocess.run([sys.executable, *words], capture_output=True, text=True, env=environment, check=False)
     return float(ran.stdout.split()[0])
 
 
 def measure(name: str, program: str) -> None:
     watched = [word for package in WATCHED.get(name, []) for word in ("--watch", package)]
     traced = ["-m", "itc_trace", "run", "--quiet"]
-    ways = {"untraced": [program], "nothing watched": [*traced, "--watch-nothing", program], "watched": [*traced, *watched, program]}
+    watching = [*traced, *watched, program]
+    ways = {"untraced": [program], "nothing watched": [*traced, "--watch-nothing", program], "watched": watching, PURE: watching}
     times: dict[str, list[float]] = {way: [] for way in ways}
     for _ in range(TRIES):
         for way, words in ways.items():
-            times[way].append(seconds(words))
+            times[way].append(seconds(words, way == PURE))
     best = {way: min(each) for way, each in times.items()}
     middle = {way: statistics.median(each) for way, each in times.items()}
-    told = ", ".join(f"{way} {best[way] * 1000:.1f} ms" for way in ways)
-    ratios = f"{best['watched'] / best['untraced']:.1f} times (of medians {middle['watched'] / middle['untraced']:.1f})"
-    print(f"{name}: {told}: {ratios}", flush=True)
+    for way in list(ways)[1:]:
+        ratios = f"{best[way] / best['untraced']:.1f} times (of medians {middle[way] / middle['untraced']:.1f})"
+        print(f"{name}: untraced {best['untraced'] * 1000:.1f} ms, {way} {best[way] * 1000:.1f} ms: {ratios}", flush=True)
 
 
 if __name__ == "__main__":

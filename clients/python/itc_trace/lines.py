@@ -16,7 +16,7 @@ if TYPE_CHECKING:
     from .touch_rows import TouchEvent
     from .tracer import Tracer
 
-MARK, TAKE, TAKE_END, SPAWN, FINISH, JOIN, TOUCH, GONE, SEND, RECV, STOP, CHILD = range(12)
+MARK, TAKE, TAKE_END, SPAWN, FINISH, JOIN, TOUCH, LATE, GONE, SEND, RECV, STOP, CHILD = range(13)
 
 Note = tuple[Any, ...]
 

@@ -13,7 +13,7 @@ from types import CodeType, FrameType
 from typing import Any
 
 from .conflicts import MAKING, READ, WRITE
-from .lines import MARK, SPAWN, TAKE, TOUCH, Line, Token, What, state
+from .lines import MARK, SPAWN, TAKE, TOUCH, Line, Note, Token, What, state
 from .stretches import STRETCHES, TURNS, Across, Stretch, Touched, leave
 
 local = threading.local()
@@ -229,8 +229,7 @@ def touched(key: Hashable, thing: Any, kind: str, site: Any) -> None:
         return
     stretch = STRETCHES.get(get_ident())
     if stretch is None:
-        stretch = _begin_stretch()
-        note((TOUCH, stretch))
+        stretch = begin_stretch(note)
     stretch[key] = thing, kind, site
 
 
@@ -243,14 +242,15 @@ def touched_all(touches: dict[Hashable, Touched]) -> None:
         return
     stretch = STRETCHES.get(get_ident())
     if stretch is None:
-        stretch = _begin_stretch()
-        note((TOUCH, stretch))
+        stretch = begin_stretch(note)
     stretch.update(touches)
 
 
-def _begin_stretch() -> Stretch:
+def begin_stretch(note: Callable[[Note], object]) -> Stretch:
+    """The stretch of this thread, which begins with the touch that is about to be noted."""
     line, loop, thread = line_of_now(), _get_running_loop(), get_ident()
     turn = 0 if loop is None else TURNS.get(thread, 0)
     line.section = None
     stretch = STRETCHES[thread] = Stretch(line.job or line, 0 if loop is None else id(loop), turn, thread)
+    note((TOUCH, stretch))
     return stretch

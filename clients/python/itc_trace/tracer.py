@@ -12,7 +12,7 @@ import sys
 import threading
 import time
 from collections import defaultdict, deque
-from collections.abc import Callable
+from collections.abc import Callable, Hashable
 from sys import getrefcount
 from types import CodeType
 
@@ -26,7 +26,7 @@ from .lines import END, FINISH, GONE, JOIN, RESULT, SPAWN, STOP, TAKE, TAKE_END,
 from .lock_identity import LockIdentity
 from .noting import enter
 from .shaking import Shaking
-from .stretches import STRETCHES, Stretch
+from .stretches import AT_BORDER, STRETCHES, Stretch, Touched
 from .patches.exits import await_at_exit, await_nobody, take_awaited
 from .touch_rows import TouchEvent, TouchRows, part_text
 from .tracer_parts import Parts
@@ -177,8 +177,8 @@ class Tracer:
         self._is_changing = False
         """Whether the session ends since the trace goes on at another collector."""
         self._handlers: list[Callable[..., None]] = [
-            self._mark, self._take, self._take_end, self._spawn, self._finish, self._join, self._touch, self._gone,
-            self._send_outside, self._receive_outside, self._stop_reporting, self._begin_child,
+            self._mark, self._take, self._take_end, self._spawn, self._finish, self._join, self._touch, self._touch_late,
+            self._gone, self._send_outside, self._receive_outside, self._stop_reporting, self._begin_child,
         ]
         self._tenant, self.port = tenant, port
         self._connect(host, process)
@@ -681,10 +681,30 @@ class Tracer:
             report = self._report(line, "local", "", None, 0, "")
             line.touches = report.touches = TouchEvent(line.name, self.part or 1)
             with self._writing:
-                self._touch_events.append(line.touches)
+                self._await_rows(line.touches)
         with self._writing:
             line.touches.read_stretches()
             line.touches.stretches.append(stretch)
+            stretch.events = (*stretch.events, line.touches)
+
+    def _touch_late(self, listed: list[tuple[Stretch, dict[Hashable, Touched]]]) -> None:
+        """What one task alone had touched is listed after all: each touch belongs to the events of its stretch.
+
+        A stretch of another session is left out. A forked child knows those of its parent, which has other memory.
+        """
+        with self._writing:
+            for stretch, touches in listed:
+                line = stretch.line
+                if (line.line if isinstance(line, LateJob) else line).tracer is not self:
+                    continue
+                for event in stretch.events:
+                    event.add(stretch, touches.items())
+                    self._await_rows(event)
+
+    def _await_rows(self, event: TouchEvent) -> None:
+        if not event.is_waiting:
+            event.is_waiting = True
+            self._touch_events.append(event)
 
     def _end_touches(self, line: Line) -> None:
         """Before any other event of the line. What a stretch that goes on had touched by now is on both sides of the event."""
@@ -710,7 +730,8 @@ class Tracer:
                     event.read_stretches(is_whole)
                 if event.event:
                     rows.append(self._touch_rows.rows(event, is_last or not event.is_open))
-                if event.is_open or not event.event:
+                event.is_waiting = event.is_open or not event.event
+                if event.is_waiting:
                     unwritten.append(event)
             self._touch_events = unwritten
             if is_whole and all(event.event for event in unwritten):
@@ -778,6 +799,8 @@ class Tracer:
             self._put(report, None, 0, GOES_ON, parts.lock_of(report))
         with self._writing:
             self._touch_rows.keep_last()
+            for shorten in AT_BORDER:
+                shorten()
             self._touch_texts.forget()
         if parts.is_full:
             self._give_up(Cause.FULL, "the trace is full: too much that may still give order goes on from one part of it to the next")

@@ -26,7 +26,7 @@ from unittest import mock
 
 from itc_trace import tracing
 from itc_trace.stretches import STRETCHES, Stretch
-from itc_trace.watch import hooks, things
+from itc_trace.watch import hooks, late, things
 from itc_trace.watch.rewrite import rewritten
 
 from .support import PACKAGE, ProgramCase, fresh_tenant, run_python, run_traced
@@ -63,8 +63,13 @@ def run_of(code: types.CodeType, **names: Any) -> tuple[str, dict[str, Any]]:
 
 def touches() -> list[tuple[str, str]]:
     """What this thread has touched in this stretch: names of things, and kinds."""
-    stretch = STRETCHES.get(threading.get_ident(), {})
-    return [(thing.name, kind) for thing, kind, _ in stretch.values() if kind != "making"]
+    stretch = STRETCHES.get(threading.get_ident())
+    noted = {} if stretch is None else dict(stretch)
+    for owner in list(things.OWNERS.values()):
+        for seen in owner.history:
+            if stretch is not None and seen.stretch is stretch:
+                noted |= late.touches_of(owner, seen.items(), None)
+    return [(thing.name, kind) for thing, kind, _ in noted.values() if kind != "making"]
 
 
 SAME = {
@@ -280,7 +285,8 @@ class TheProgramDoesWhatItDid(unittest.TestCase):
         def fail(*_: object) -> None:
             raise LookupError("planted")
 
-        for name in ("_touch_field", "_touch_whole", "_touch_keyed", "_touch_method", "_stepping", "_touch_cell", "_note"):
+        places = "_touch_field", "_touch_whole", "_touch_keyed", "_touch_method", "_stepping", "_touch_cell", "_touch_variable", "saw", "_what_of"
+        for name in places:
             for text in SAME.values():
                 plain = run_of(compile(textwrap.dedent(text), "<watched_module>", "exec", dont_inherit=True))[0]
                 with self.subTest(name=name), contextlib.redirect_stderr(io.StringIO()), noting(), mock.patch.object(hooks, name, fail):

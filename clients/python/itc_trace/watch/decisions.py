@@ -13,6 +13,7 @@ from builtins import any, id, issubclass, len, next, str, type
 from collections import ChainMap, Counter, OrderedDict, UserDict, UserList, defaultdict, deque
 from typing import Any
 
+from .helper import quick
 from .kinds import DEQUE, DICT, LIST, SET
 from .places import SKIPPED, Access
 
@@ -78,6 +79,8 @@ def forget_decisions() -> None:
     _own_methods.clear()
     for skipped in SKIPPED:
         skipped.clear()
+    if quick is not None:
+        quick.forget()
 
 
 def name_of(kind: type) -> str:

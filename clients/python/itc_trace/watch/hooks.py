@@ -9,40 +9,45 @@ from __future__ import annotations
 import builtins
 import types
 from array import array
-from builtins import hash, id, issubclass, len, map, next, setattr, type
+from builtins import id, issubclass, len, map, next, setattr, type
 from _thread import get_ident
 from collections import defaultdict
 from collections.abc import Callable, Iterable
 from sys import _getframe, getrefcount
 from typing import Any
 
-from ..conflicts import ADDITION, ITERATION, KEYS, LENGTH, LOOKUP, MAKING, READ, REMOVAL, REPLACEMENT, REWRITE, WRITE
+from ..conflicts import ADDITION, ITERATION, KEYS, LENGTH, READ, REMOVAL, REPLACEMENT, REWRITE, WRITE
 from ..handed_on import HANDED, Calling, is_of_container
-from ..noting import failed, touched, touched_all
+from ..lines import state
+from ..noting import begin_stretch, failed, touched_all
 from ..stretches import STRETCHES
 from .decisions import (
     FIELD, OF_CLASS, OF_MODULE, OF_TYPE, OWN_FIELD, PLAIN, SKIP, WATCHED, class_with, decision, family_of, fields_of,
-    field_inside, has_own_method, has_watched_method, name_of, value_of_field, without_own,
+    field_inside, has_own_method, has_watched_method, is_watched_class, name_of, value_of_field, without_own,
 )
+from .helper import quick
 from .inside import fields_looked_at, inside_of, nested_in
 from .kinds import DEQUE, DICT, KEYED, LIST, SHOWN, STATE, WHOLE
+from .late import LOOKING, NOTHING, READ_ONLY, again, by_kinds, note_shared, saw, share, shorten
+from .late import cell as cell_late
+from .late import index as index_late
+from .late import key as key_late
+from .late import named_field as field_late
+from .late import shape as shape_late
 from .places import ACCESSES, SKIPPED, Access
 from .rewrite import ON, PREFIX
-from .things import (
-    BASES, OWNERS, Owner, element_of, field_of, let_go_of_some, made_by, made_here, owner_of, shape_of, variable_of,
-)
+from .seen import NEVER
+from .things import MADE, OWNERS, Made, Owner, let_go_of_some, made_by, made_here, maker_now, mark_of, owner_of, variable_of
 
 INDEXED = (list, bytearray, array)
 SIMPLE = frozenset({str, int, bytes, float, bool, type(None)})
 MOST_PARTS = 8
-READ_ONLY = "r"
-LOOKING = frozenset(("r", "rw", "c"))
-CHANGING = frozenset(("w", "rw", "d"))
 LOOKED_THROUGH_AT_ONCE = 64
 ANYBODY = 0
 """A limit of references that nothing is within."""
+OF_VARIABLE_IN_C = 2
+"""How many references the helper sees of what only one variable refers to."""
 
-base_of = BASES.get
 owner_at = OWNERS.get
 stretch_of = STRETCHES.get
 
@@ -77,14 +82,13 @@ CONSTRUCTOR = "__init__"
 
 def hook_o(one: Any, site: int) -> Any:
     """Before an attribute is read or written."""
-    base = base_of(id(one))
-    if base is not None:
-        stretch = stretch_of(get_ident())
-        if stretch is not None and base + site in stretch:
+    owner = owner_at(id(one))
+    if owner is not None:
+        seen = owner.seen
+        if site in seen and seen.stretch is stretch_of(get_ident()):
             return one
-        owner = owner_at(id(one))
-        if owner is not None and base + site in owner.recipes:
-            touched_all(owner.recipes[base + site])
+        if site in owner.recipes:
+            again(owner, site, owner.recipes[site])
             return one
     if id(type(one)) not in SKIPPED[site]:
         try:
@@ -95,14 +99,13 @@ def hook_o(one: Any, site: int) -> Any:
 
 
 def hook_o_local(one: Any, site: int) -> Any:
-    base = base_of(id(one))
-    if base is not None:
-        stretch = stretch_of(get_ident())
-        if stretch is not None and base + site in stretch:
+    owner = owner_at(id(one))
+    if owner is not None:
+        seen = owner.seen
+        if site in seen and seen.stretch is stretch_of(get_ident()):
             return one
-        owner = owner_at(id(one))
-        if owner is not None and base + site in owner.recipes:
-            touched_all(owner.recipes[base + site])
+        if site in owner.recipes:
+            again(owner, site, owner.recipes[site])
             return one
     elif getrefcount(one) <= OF_VARIABLE - 1:
         return one
@@ -125,10 +128,10 @@ def hook_w_local(one: Any, site: int) -> Any:
 
 def hook_o_new(one: Any, site: int, constructor: int) -> Any:
     """The same in a constructor. As long as nobody refers to the object who did not when it began, nothing is noted."""
-    base = base_of(id(one))
-    if base is not None:
-        stretch = stretch_of(get_ident())
-        if stretch is not None and base + site in stretch:
+    owner = owner_at(id(one))
+    if owner is not None:
+        seen = owner.seen
+        if site in seen and seen.stretch is stretch_of(get_ident()):
             return one
     elif getrefcount(one) <= BEGUN.get((id(one), constructor), ANYBODY):
         return one
@@ -152,64 +155,58 @@ def hook_A(one: Any, name: Any, site: int) -> Any:
 
 
 def _touch_field(one: Any, site: int, access: Access | None = None) -> None:
-    key = site
-    if access is None:
-        access = ACCESSES[site]
-    else:
-        key = hash((site, access.name)) | 1 << 62
-    kind, name, kinds = type(one), access.name, access.kinds or READ_ONLY
+    """The field of the place, or the one that is named to it."""
+    is_named = access is not None
+    access = access or ACCESSES[site]
+    kind, kinds = type(one), access.kinds or READ_ONLY
     found = decision(kind, access, site)
     if found == SKIP:
         return
-    holder, holder_name = one, ""
+    mark = (site, access.name) if is_named else site
     if found == OF_MODULE:
-        module = fields_of(one).get("__name__")
-        if module in WATCHED:
-            _note(owner_of(one, name).base, key, variable_of(module, name), kinds, site)
-        return
-    if found == OF_TYPE:
-        if kinds == READ_ONLY:
-            holder = class_with(one, name)
-            if holder is None:
-                return
-        holder_name = name_of(holder)
-    elif found == OF_CLASS and kinds == READ_ONLY and name not in fields_of(one):
-        holder = class_with(kind, name)
-        holder_name = name_of(holder)
-    elif found == OWN_FIELD and name not in fields_of(one):
-        return
-    owner = owner_of(holder, "")
-    base = owner.base
-    if holder is not one:
-        own = owner_of(one, "")
-        base = own.base
-        if found == OF_CLASS:  # The object was looked at first, and had none of its own.
-            touched((base, key), field_of(own, name_of(kind), name), READ, site)
-    recipe = _note(base, key, field_of(owner, holder_name or name_of(kind), name), kinds, site)
-    if found == FIELD and not (kinds == "rw" and access.text):
-        owner.recipes[base + key] = recipe
-    if access.what == "field" and access.text and kinds == "rw":
-        _touch_in_place(value_of_field(one, name), access.text, site)
+        _touch_module(one, access.name, kinds, mark, site)
+    elif found == OF_TYPE:
+        _touch_type(one, access.name, kinds, mark, site)
+    elif found == OF_CLASS and kinds == READ_ONLY and access.name not in fields_of(one):
+        _touch_through_object(one, access.name, mark, site)
+    elif found != OWN_FIELD or access.name in fields_of(one):
+        is_in_place = not is_named and kinds == "rw" and access.text != ""
+        late = (field_late, mark, name_of(kind), access.name, kinds, site) if is_named else None
+        saw(owner_of(one, ""), mark, late, found == FIELD and not is_in_place)
+        if is_in_place and access.what == "field":
+            _touch_in_place(value_of_field(one, access.name), access.text, site)
+
+
+def _touch_module(one: Any, name: str, kinds: str, mark: Any, site: int) -> None:
+    module = fields_of(one).get("__name__")
+    if module in WATCHED:
+        owner = owner_of(one, name)
+        touched_all(by_kinds((owner.base, mark), variable_of(module, name), kinds, site))
+        saw(owner, mark, NOTHING)
+
+
+def _touch_type(one: Any, name: str, kinds: str, mark: Any, site: int) -> None:
+    """A class, or the one of its bases where it finds what it has not itself."""
+    holder = class_with(one, name) if kinds == READ_ONLY else one
+    if holder is not None:
+        saw(owner_of(holder, ""), mark, (field_late, mark, name_of(holder), name, kinds, site))
+        if holder is not one:
+            saw(owner_of(one, ""), mark, NOTHING)
+
+
+def _touch_through_object(one: Any, name: str, mark: Any, site: int) -> None:
+    """The object is looked at first, and has none of its own."""
+    kind = type(one)
+    holder = class_with(kind, name)
+    if holder is not None:
+        saw(owner_of(holder, ""), mark, (field_late, mark, name_of(holder), name, READ_ONLY, site))
+    saw(owner_of(one, ""), mark, (field_late, mark, name_of(kind), name, READ_ONLY, site))
 
 
 def _touch_in_place(value: Any, kind: str, site: int) -> None:
     """What an assignment as `+=` does to the container that stands in a field."""
     if family_of(type(value)) is not None:
-        owner = owner_of(value, ACCESSES[site].name)
-        touched(owner.base + site, shape_of(owner), kind, site)
-
-
-def _note(base: int, site_key: int, thing: Any, kinds: str, site: int) -> dict[Any, Any]:
-    """Notes a read, a write or both. The key by which the hook looks comes last."""
-    key = base + site_key
-    if kinds == "r":
-        touches = {key: (thing, READ, site)}
-    elif kinds == "w":
-        touches = {key: (thing, WRITE, site)}
-    else:
-        touches = {-key: (thing, READ, site), key: (thing, WRITE, site)}
-    touched_all(touches)
-    return touches
+        saw(owner_of(value, ACCESSES[site].name), site, (shape_late, site, kind, site))
 
 
 hook_A_local = hook_A
@@ -228,15 +225,19 @@ def hook_g(site: int) -> None:
     """Before a variable of a module is read, or behind where it was written."""
     stretch = stretch_of(get_ident())
     if stretch is None or site not in stretch:
-        access = ACCESSES[site]
         try:
-            _note(0, site, variable_of(access.module, access.name, access.text), access.kinds, site)
+            _touch_variable(site)
         except Exception as fault:
             failed(fault)
 
 
+def _touch_variable(site: int) -> None:
+    access = ACCESSES[site]
+    touched_all(by_kinds(site, variable_of(access.module, access.name, access.text), access.kinds, site))
+
+
 def hook_v(value: Any, site: int) -> Any:
-    hook_g(site)
+    HOOKS["g"](site)
     return value
 
 
@@ -246,10 +247,10 @@ def hook_c(function: Any, site: int) -> None:
     if not closure:
         return
     cell = closure[0]
-    base = base_of(id(cell))
-    if base is not None:
-        stretch = stretch_of(get_ident())
-        if stretch is not None and base + site in stretch:
+    owner = owner_at(id(cell))
+    if owner is not None:
+        seen = owner.seen
+        if site in seen and seen.stretch is stretch_of(get_ident()):
             return
     try:
         _touch_cell(cell, site)
@@ -258,13 +259,7 @@ def hook_c(function: Any, site: int) -> None:
 
 
 def _touch_cell(cell: Any, site: int) -> None:
-    access = ACCESSES[site]
-    owner = owner_of(cell, access.name)
-    thing = owner.things.get(access.name)
-    if thing is None:
-        owner.name, owner.made = access.name, access.text
-        thing = owner.things[access.name] = shape_of(owner)
-    _note(owner.base, site, thing, access.kinds, site)
+    saw(owner_of(cell, ACCESSES[site].name), site, (cell_late, site))
 
 
 # Containers as a whole
@@ -274,10 +269,10 @@ def hook_h(one: Any, site: int) -> Any:
     """Before all of a container, or its length, is looked at."""
     if type(one) in PLAIN:
         return one
-    base = base_of(id(one))
-    if base is not None:
-        stretch = stretch_of(get_ident())
-        if stretch is not None and base + site in stretch:
+    owner = owner_at(id(one))
+    if owner is not None:
+        seen = owner.seen
+        if site in seen and seen.stretch is stretch_of(get_ident()):
             return one
     try:
         _touch_whole(one, site, OF_TEMPORARY)
@@ -289,10 +284,10 @@ def hook_h(one: Any, site: int) -> Any:
 def hook_h_local(one: Any, site: int) -> Any:
     if type(one) in PLAIN:
         return one
-    base = base_of(id(one))
-    if base is not None:
-        stretch = stretch_of(get_ident())
-        if stretch is not None and base + site in stretch:
+    owner = owner_at(id(one))
+    if owner is not None:
+        seen = owner.seen
+        if site in seen and seen.stretch is stretch_of(get_ident()):
             return one
     try:
         _touch_whole(one, site, OF_VARIABLE)
@@ -317,7 +312,7 @@ def _touch_whole(one: Any, site: int, limit: int) -> None:
         if getrefcount(one) <= limit:
             return
         owner = owner_of(one, ACCESSES[site].text)
-    touched(owner.base + site, shape_of(owner), _kind_of(ACCESSES[site].kinds, family), site)
+    saw(owner, site, (shape_late, site, _kind_of(ACCESSES[site].kinds, family), site), True)
     if ACCESSES[site].name in (SHOWN, STATE):
         _touch_nested(one, owner, site)
 
@@ -330,14 +325,14 @@ def _touch_nested(one: Any, owner: Owner, site: int) -> None:
             _touch_fields(part, site)
         else:
             inner = owner_of(part, f"{owner.name}[..]")
-            touched(inner.base + site, shape_of(inner), _kind_of(ACCESSES[site].kinds, family), site)
+            saw(inner, site, (shape_late, site, _kind_of(ACCESSES[site].kinds, family), site), True)
 
 
 def _touch_fields(one: Any, site: int) -> None:
     """All fields of an object that a function looks at by itself."""
     for name in fields_looked_at(one, ACCESSES[site].name):
-        owner = owner_of(one, "")
-        touched((owner.base, site, name), field_of(owner, name_of(type(one)), name), READ, site)
+        mark = site, name
+        saw(owner_of(one, ""), mark, (field_late, mark, name_of(type(one)), name, READ_ONLY, site))
 
 
 def _kind_of(kind: str, family: int | None) -> str:
@@ -347,8 +342,7 @@ def _kind_of(kind: str, family: int | None) -> str:
 
 def _touch_generator(one: Any, site: int) -> None:
     """A step of a generator changes it."""
-    owner = owner_of(one, ACCESSES[site].text or "a generator")
-    touched(owner.base + site, shape_of(owner), WRITE, site)
+    saw(owner_of(one, ACCESSES[site].text or "a generator"), site, (shape_late, site, WRITE, site))
 
 
 def hook_f(one: Any, site: int) -> Any:
@@ -391,13 +385,15 @@ def _stepping(one: Any, site: int, limit: int) -> Any:
 
 
 def _step(owner: Owner, site: int, kind: str) -> Callable[[Any], Any]:
-    key, thing = owner.base + site, shape_of(owner)
-    touched(key, thing, kind, site)
+    late = shape_late, site, kind, site
+    saw(owner, site, late, True)
+    if quick is not None:
+        return quick.Step(owner, site, late)  # type: ignore[no-any-return]
 
     def step(element: Any) -> Any:
-        stretch = stretch_of(get_ident())
-        if stretch is None or key not in stretch:
-            touched(key, thing, kind, site)
+        seen = owner.seen
+        if site not in seen or seen.stretch is not stretch_of(get_ident()):
+            saw(owner, site, late, True)
         return element
 
     return step
@@ -422,15 +418,14 @@ def hook_k(one: Any, key: Any, site: int) -> Any:
     """Before an element is touched, or a method with a key is called. It gives back the container."""
     if type(one) in PLAIN:
         return one
-    base = base_of(id(one))
-    if base is not None and type(key) in SIMPLE:
-        stretch = stretch_of(get_ident())
-        mark = base + site, key
-        if stretch is not None and mark in stretch:
+    owner = owner_at(id(one))
+    if owner is not None and type(key) in SIMPLE:
+        seen = owner.seen
+        mark = site, key
+        if mark in seen and seen.stretch is stretch_of(get_ident()):
             return one
-        owner = owner_at(id(one))
-        if owner is not None and mark in owner.recipes and (type(one) is not dict or key in one):
-            touched_all(owner.recipes[mark])
+        if mark in owner.recipes and (type(one) is not dict or key in one):
+            again(owner, mark, owner.recipes[mark])
             return one
     try:
         _touch_keyed(one, key, site, OF_TEMPORARY)
@@ -442,10 +437,10 @@ def hook_k(one: Any, key: Any, site: int) -> Any:
 def hook_k_local(one: Any, key: Any, site: int) -> Any:
     if type(one) in PLAIN:
         return one
-    base = base_of(id(one))
-    if base is not None and type(key) in SIMPLE:
-        stretch = stretch_of(get_ident())
-        if stretch is not None and (base + site, key) in stretch:
+    owner = owner_at(id(one))
+    if owner is not None and type(key) in SIMPLE:
+        seen = owner.seen
+        if (site, key) in seen and seen.stretch is stretch_of(get_ident()):
             return one
     try:
         _touch_keyed(one, key, site, OF_VARIABLE)
@@ -467,10 +462,10 @@ def hook_K(one: Any, key: Any, site: int) -> Any:
 def hook_K_local(one: Any, key: Any, site: int) -> Any:
     if type(one) in PLAIN:
         return key
-    base = base_of(id(one))
-    if base is not None and type(key) in SIMPLE:
-        stretch = stretch_of(get_ident())
-        if stretch is not None and (base + site, key) in stretch:
+    owner = owner_at(id(one))
+    if owner is not None and type(key) in SIMPLE:
+        seen = owner.seen
+        if (site, key) in seen and seen.stretch is stretch_of(get_ident()):
             return key
     try:
         _touch_keyed(one, key, site, OF_VARIABLE_IN_USE)
@@ -504,12 +499,13 @@ def _touch_keyed(one: Any, key: Any, site: int, limit: int, ways: str | None = N
             return
         owner = owner_of(one, access.text)
     kinds = ways or KEYED.get(access.name, {}).get(family, "")
+    is_repeated = ways is None or ways == access.kinds  # Else it depends on what has the container inside, too.
     if not kinds:
         _touch_shape(owner, WHOLE[family].get(access.name), site)
     elif family == LIST or family == DEQUE:
-        _touch_index(one, owner, key, kinds, family, site)
+        _touch_index(one, owner, key, kinds, family, site, is_repeated)
     else:
-        _touch_key(one, owner, key, kinds, family, site)
+        _touch_key(one, owner, key, kinds, family, site, is_repeated)
 
 
 def _touch_inside(one: Any, key: Any, access: Access, site: int) -> bool:
@@ -527,76 +523,49 @@ def _touch_inside(one: Any, key: Any, access: Access, site: int) -> bool:
     return found
 
 
-def _touch_shape(owner: Owner, kind: str | None, site: int) -> None:
+def _touch_shape(owner: Owner, kind: str | None, site: int, is_repeated: bool = True) -> None:
     if kind is not None:
-        touched(owner.base + site, shape_of(owner), kind, site)
+        saw(owner, site, (shape_late, site, kind, site), is_repeated)
 
 
-def _touch_index(one: Any, owner: Owner, key: Any, kinds: str, family: int, site: int) -> None:
-    shape, whole = shape_of(owner), owner.base + site
+def _touch_index(one: Any, owner: Owner, key: Any, kinds: str, family: int, site: int, is_repeated: bool) -> None:
     if kinds == "c" or type(key) is not int:
-        touched(whole, shape, ITERATION if kinds in LOOKING else REWRITE, site)
+        _touch_shape(owner, ITERATION if kinds in LOOKING else REWRITE, site, is_repeated)
         return
+    mark = site, key
     if family == DEQUE:
-        touched((whole, key), shape, LENGTH if kinds == "r" else REPLACEMENT if kinds in ("w", "rw") else REWRITE, site)
-        return
-    if kinds == "d":
-        touched((whole, REMOVAL), shape, REMOVAL, site)
-        return
-    touches = {}
-    place = key
-    if key < 0:
-        touches[whole, LENGTH] = shape, LENGTH, site
-        place = key + next(base.__len__(one) for base in INDEXED if issubclass(type(one), base))
-    if kinds != "w":
-        touches[whole, LOOKUP] = shape, LOOKUP, site
-    if kinds != "r":
-        touches[whole, REPLACEMENT] = shape, REPLACEMENT, site
-    _add_element(touches, whole, key, element_of(owner, place, True), kinds, site)
-    touched_all(touches)
-    if key >= 0:
-        owner.recipes[whole, key] = touches
+        kind = LENGTH if kinds == "r" else REPLACEMENT if kinds in ("w", "rw") else REWRITE
+        saw(owner, mark, (shape_late, mark, kind, site))
+    elif kinds == "d":
+        saw(owner, mark, (shape_late, (site, REMOVAL), REMOVAL, site))
+    else:
+        place = key if key >= 0 else key + next(base.__len__(one) for base in INDEXED if issubclass(type(one), base))
+        saw(owner, mark, (index_late, key, place, kinds, site), key >= 0 and is_repeated)
 
 
-def _add_element(touches: dict[Any, Any], whole: int, mark: Any, element: Any, kinds: str, site: int) -> None:
-    """The key by which the hook looks comes last."""
-    if kinds == "rw":
-        touches[whole, mark, READ] = element, READ, site
-    touches[whole, mark] = element, READ if kinds == "r" else WRITE, site
-
-
-def _touch_key(one: Any, owner: Owner, key: Any, kinds: str, family: int, site: int) -> None:
+def _touch_key(one: Any, owner: Owner, key: Any, kinds: str, family: int, site: int, is_repeated: bool) -> None:
     is_simple = _is_simple(key)
-    mark = key if is_simple else ("object", id(key))
-    whole, shape, element = owner.base + site, shape_of(owner), element_of(owner, key, is_simple)
     is_there = is_simple and (dict.__contains__(one, key) if family == DICT else set.__contains__(one, key))
     access = ACCESSES[site]
     if kinds == "rw" and access.what != "element" and is_there:
         kinds = "r"
     elif kinds == "r" and not is_there and is_simple and access.what == "element" and issubclass(type(one), defaultdict):
         kinds = "rw"
-    touches = {}
-    if kinds in LOOKING:
-        touches[whole, LOOKUP] = shape, LOOKUP, site
-    if kinds in CHANGING:
-        change = ADDITION if kinds == "d" or not is_there else REPLACEMENT
-        touches[whole, change] = shape, change, site
-        if change is ADDITION and kinds != "d":
-            touches[MAKING, element.number] = element, MAKING, site
-    _add_element(touches, whole, mark, element, {"c": "r", "d": "w"}.get(kinds, kinds), site)
-    touched_all(touches)
-    if is_there and kinds != "d" and type(key) in SIMPLE:
-        owner.recipes[whole, mark] = touches
+    change = ADDITION if kinds == "d" or not is_there else REPLACEMENT
+    is_kept = type(key) in SIMPLE
+    of_key, name = mark_of(key, is_simple)
+    mark = (site, key) if is_kept else (site, of_key)
+    saw(owner, mark, (key_late, of_key, name, kinds, change, site), is_repeated and is_there and kinds != "d" and is_kept)
 
 
 def hook_m(one: Any, site: int) -> Any:
     """Before a method is called that may be one of a container."""
     if type(one) in PLAIN:
         return one
-    base = base_of(id(one))
-    if base is not None:
-        stretch = stretch_of(get_ident())
-        if stretch is not None and base + site in stretch:
+    owner = owner_at(id(one))
+    if owner is not None:
+        seen = owner.seen
+        if site in seen and seen.stretch is stretch_of(get_ident()):
             return one
     if id(type(one)) not in SKIPPED[site]:
         try:
@@ -609,10 +578,10 @@ def hook_m(one: Any, site: int) -> Any:
 def hook_m_local(one: Any, site: int) -> Any:
     if type(one) in PLAIN:
         return one
-    base = base_of(id(one))
-    if base is not None:
-        stretch = stretch_of(get_ident())
-        if stretch is not None and base + site in stretch:
+    owner = owner_at(id(one))
+    if owner is not None:
+        seen = owner.seen
+        if site in seen and seen.stretch is stretch_of(get_ident()):
             return one
     if id(type(one)) not in SKIPPED[site]:
         try:
@@ -636,10 +605,13 @@ def _touch_method(one: Any, site: int, limit: int) -> None:
         if getrefcount(one) <= limit:
             return
         owner = owner_of(one, access.text)
-    kind_of_touch = WHOLE[family].get(access.name)
-    if kind_of_touch is None and access.name in KEYED:
-        kind_of_touch = REMOVAL if KEYED[access.name].get(family) else None
-    _touch_shape(owner, kind_of_touch, site)
+    _touch_shape(owner, _kind_of_method(access.name, family), site)
+
+
+def _kind_of_method(name: str, family: int) -> str | None:
+    """What a method does to the shape of a container."""
+    kind = WHOLE[family].get(name)
+    return REMOVAL if kind is None and KEYED.get(name, {}).get(family) else kind
 
 
 def _touch_method_of_object(one: Any, access: Access, site: int) -> None:
@@ -814,6 +786,104 @@ def hook_d() -> None:
     let_go_of_some(LOOKED_THROUGH_AT_ONCE)
 
 
+# What the helper asks for, if there is one
+
+NO_TOUCH, OF_FIELD, OF_SHAPE, OF_DICT, OF_LIST, OTHER, IF_OWN, OWN_OR_OF_CLASS, OF_STEPS, DEEP, LEFT = range(11)
+What = tuple[int, Any, str, str]
+"""What a place is to a type, what its touch comes to, what an owner is called by it, and the name of a field. The helper has the same numbers."""
+NOT_TOUCHED: What = (NO_TOUCH, None, "", "")
+LEFT_TO_PYTHON: What = (LEFT, None, "", "")
+"""What the object has inside counts, and not how many refer to the object."""
+
+
+def _what_of(hook: str, kind: type, site: int) -> What:
+    """What the place of a hook is to a type, as the hooks above find out step by step."""
+    access = ACCESSES[site]
+    if hook == "o":
+        return _what_of_field(kind, access, site)
+    if kind in PLAIN:
+        return NOT_TOUCHED
+    family = family_of(kind)
+    if hook == "f":
+        return _what_of_steps(kind, family, access, site)
+    if hook == "h":
+        return _what_of_whole(kind, family, access, site)
+    if family is None:
+        return _what_of_object(kind, access, site)
+    if access.what == "method" and has_own_method(kind, access.name):
+        return NOT_TOUCHED
+    return _what_of_method(family, access, site) if hook == "m" else _what_of_key(kind, family, access)
+
+
+def _what_of_object(kind: type, access: Access, site: int) -> What:
+    """A method or an element of what is no container itself."""
+    if field_inside(kind):
+        return LEFT_TO_PYTHON
+    return _what_of_field(kind, access, site) if access.what == "method" else NOT_TOUCHED
+
+
+def _what_of_field(kind: type, access: Access, site: int) -> What:
+    found = decision(kind, access, site)
+    if access.kinds == "rw" and access.text and found != SKIP:
+        return OTHER, None, "", ""
+    what = {SKIP: NO_TOUCH, FIELD: OF_FIELD, OWN_FIELD: IF_OWN, OF_CLASS: OWN_OR_OF_CLASS}.get(found, OTHER)
+    return what, None, "", access.name
+
+
+def _what_of_steps(kind: type, family: int | None, access: Access, site: int) -> What:
+    if kind is types.GeneratorType:
+        return OF_STEPS, (shape_late, site, WRITE, site), access.text, ""
+    if family is None and field_inside(kind):
+        return LEFT_TO_PYTHON
+    if family is None or has_own_method(kind, "__iter__"):
+        return NOT_TOUCHED
+    return OF_STEPS, (shape_late, site, _kind_of(KEYS, family), site), access.text, ""
+
+
+def _what_of_whole(kind: type, family: int | None, access: Access, site: int) -> What:
+    if family is not None:
+        what = DEEP if access.name in (SHOWN, STATE) else OF_SHAPE
+        return what, (shape_late, site, _kind_of(access.kinds, family), site), access.text, ""
+    if field_inside(kind) or access.name and is_watched_class(kind):
+        return LEFT_TO_PYTHON
+    return (OTHER, None, "", "") if kind is types.GeneratorType and access.kinds == KEYS else NOT_TOUCHED
+
+
+def _what_of_method(family: int, access: Access, site: int) -> What:
+    kind = _kind_of_method(access.name, family)
+    return NOT_TOUCHED if kind is None else (OF_SHAPE, (shape_late, site, kind, site), access.text, "")
+
+
+def _what_of_key(kind: type, family: int, access: Access) -> What:
+    is_method = access.what != "element"
+    kinds = KEYED.get(access.name, {}).get(family, "") if is_method else without_own(kind, access.kinds)
+    if not is_method and not kinds:
+        return NOT_TOUCHED
+    if kind is dict and kinds:
+        if_there = "r" if kinds == "rw" and is_method else kinds
+        return OF_DICT, (key_late, kinds, ADDITION if kinds == "d" else REPLACEMENT, if_there, ADDITION), access.text, ""
+    if kind is list and kinds in ("r", "w", "rw"):
+        return OF_LIST, (index_late, kinds), access.text, ""
+    return OTHER, None, access.text, ""
+
+
+def _touch_method_inside(one: Any, site: int) -> None:
+    if id(type(one)) not in SKIPPED[site]:
+        _touch_method(one, site, ANYBODY)
+
+
+def _set_up() -> None:
+    quick.setup(
+        stretches=STRETCHES, state=state, made=MADE, begun=BEGUN, begun_more=OF_VARIABLE - 1 - OF_VARIABLE_IN_C, never=NEVER,
+        owner_type=Owner, made_type=Made, maker=maker_now, begin_stretch=begin_stretch, share=share, shorten=shorten, saw=saw,
+        note_shared=note_shared, what_of=lambda hook, kind, site: _what_of(hook, kind, site), failed=failed,
+        field=lambda one, site: _touch_field(one, site), whole=lambda one, site: _touch_whole(one, site, ANYBODY),
+        method=_touch_method_inside, steps=lambda one, site: _stepping(one, site, ANYBODY),
+        keyed=lambda one, key, site: _touch_keyed(one, key, site, ANYBODY), variable=lambda site: _touch_variable(site),
+        cell=lambda one, site: _touch_cell(one, site),
+    )
+
+
 # Switching
 
 
@@ -837,8 +907,16 @@ HOOKS: dict[str, Callable[..., Any]] = {name[5:]: one for name, one in list(glob
 ALWAYS = frozenset(("n", "N"))
 QUIET: dict[str, Callable[..., Any]] = {
     **dict.fromkeys(HOOKS, _first), **dict.fromkeys(("K", "K_local"), _second), "a": _rest, **dict.fromkeys(("g", "c", "d"), _nothing),
-    **{name: HOOKS[name] for name in ALWAYS},
 }
+
+
+if quick is not None:
+    _set_up()
+    HOOKS.update({name[5:]: one for name, one in vars(quick).items() if name.startswith("hook_")})
+    QUIET.update({name: quick.first for name, one in QUIET.items() if one is _first})
+    QUIET.update({name: quick.second for name, one in QUIET.items() if one is _second})
+    QUIET.update({name: quick.nothing for name, one in QUIET.items() if one is _nothing})
+QUIET.update({name: HOOKS[name] for name in ALWAYS})
 
 
 def are_put() -> bool:
