@@ -3,7 +3,7 @@ use Rattle.std.specs.Cmp.Lexicographic.{pointwise}
 use Rattle.std.specs.Prelude.{nat_eq}
 use Rattle.trace_export.specs.Listing.{listed_of}
 use Rattle.trace_export.proofs.Comparing.{other_preds, row_is, same_preds}
-use Rattle.trace_export.proofs.rebuilt.Rebuilt.is_as_listed.Goals as goal
+use Rattle.trace_export.proofs.follower.Follower.is_as_listed.Goals as goal
 
 pub returns-then-ne : goal.returns-then-ne
 returns-then-ne c = λ row at.

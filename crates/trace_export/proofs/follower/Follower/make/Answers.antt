@@ -6,7 +6,7 @@ use Rattle.trace_export.specs.Listing.{listed_of}
 use Rattle.trace_export.specs.Loading.{IsUnfitAfter}
 use Rattle.trace_export.proofs.Making.{made_next, not_due, refused_next, steps_as}
 use Rattle.trace_export.proofs.Remaking.{answers_report}
-use Rattle.trace_export.proofs.rebuilt.Rebuilt.make.Goals as goal
+use Rattle.trace_export.proofs.follower.Follower.make.Goals as goal
 
 pub unreachable-requires : goal.unreachable-requires
 unreachable-requires g c =

@@ -1,80 +1,24 @@
-//! The tenant that the lines of an export lead to.
-ghost use Rattle.std.specs.Prelude.{suc, ◌≡◌, ◌≢◌, ◌+◌, ◌<◌, ◌≤◌, ◌↔◌, ◌⊎◌, ◌-◌, [], None, Some, IfErr, IfNone, IfOk, IfSome, IsTrue, false, length, slice_get};
+//! The making of the requests of lines that are read.
+ghost use Rattle.std.specs.Prelude.{◌≡◌, ◌≢◌, ◌<◌, ◌≤◌, ◌↔◌, ◌⊎◌, ◌-◌, Some, IfNone, IfOk, IfSome, IsTrue, length, slice_get};
 ghost use Rattle.trace_types.specs.clock.Stamps.{stamp_text_of};
 ghost use Rattle.trace_types.specs.tenant.Rows.{history_of};
 ghost use Rattle.trace_types.specs.declared.row.Row.{Row};
-ghost use Rattle.trace_export.specs.Heading.{IsHeader, IsNoHeader, lines_ahead};
 ghost use Rattle.trace_export.specs.Listing.{listed_of};
-ghost use Rattle.trace_export.specs.Loading.{IsAsListed, IsFaultyAfter, IsUnfitAfter, MayFollow, limits_under};
-ghost use Rattle.trace_export.specs.Rebuilding.{IsBegun, IsEventMade, IsLineMade, IsMade, IsNoFirstLine, IsRejected, IsUnbegun};
+ghost use Rattle.trace_export.specs.Loading.{IsAsListed, IsUnfitAfter, MayFollow};
+ghost use Rattle.trace_export.specs.Rebuilding.{IsBegun, IsEventMade, IsMade, IsRejected};
 
-use crate::add_line::place;
-use crate::event_line::{EventLine, read_listed};
-use crate::following::follow;
-use crate::header::{limits_under, read_header};
+use crate::Reason;
+use crate::event_line::EventLine;
+use crate::follower::Follower;
 use crate::json_line::read_json;
+use crate::placed::place;
+use crate::read_line::{ReadLine, line_of};
 use crate::requests::request_for;
-use crate::{Header, Reason};
 use event_tree::EvTree;
 use std::alloc::Global;
-use tenant_ledger::Ledger;
 use trace_types::{Code, Memory, Reply, Request};
 
-/// What the lines so far lead to, which are right.
-#[derive(Drop)]
-pub(crate) struct Rebuilt {
-    /// The first of the lines, if it is a header.
-    pub(crate) header: Option<Header>,
-    /// What the requests of the others leave.
-    pub(crate) ledger: Ledger,
-}
-
-impl Rebuilt {
-    /// What no line leads to, under the greatest limits.
-    pub(crate) fn new(alloc: Global) -> Result<Rebuilt, Memory>
-        ensures { IfOk result IsUnbegun }
-    {
-        Ok(Rebuilt {
-            header: None,
-            ledger: Ledger::new(alloc, limits_under(&None))?,
-        })
-    }
-
-    /// Whether no line was taken in.
-    pub(crate) fn is_unbegun(&self) -> bool
-        ensures { IsTrue result ↔ (self.now.header ≡ None) × (self.now.ledger.rows ≡ []) }
-    {
-        self.header.is_none() && self.ledger.rows().is_empty()
-    }
-
-    /// Takes in the line if it is the one that is due next, and says whether it is. Else all is as it was. A first line is
-    /// never taken in, since it may be a header.
-    pub(crate) fn follow<T>(self, rt: &T, line: &[u8]) -> (Rebuilt, bool)
-        requires limits { self.ledger.limits ≡ limits_under self.header }
-        requires short { length line.now ≤ 65536 }
-        ensures due { IsTrue result.1 → IsEventMade self result.0 line.now }
-        ensures left { result.1 ≡ false → result.0 ≡ self }
-    {
-        if self.is_unbegun() {
-            return (self, false);
-        }
-        let Rebuilt { header, ledger } = self;
-        let limits = limits_under(&header);
-        let (ledger, is_due) = follow(rt, ledger, &limits, line);
-        (Rebuilt { header, ledger }, is_due)
-    }
-
-    /// The number of the line that comes next.
-    pub(crate) fn next_line(&self) -> u64
-        ensures { result ≡ lines_ahead self.now.header + suc (length self.now.ledger.rows) }
-    {
-        let event = self.ledger.rows().len() as u64 + 1;
-        match self.header {
-            Some(_) => 1 + event,
-            None => event,
-        }
-    }
-
+impl Follower {
     /// Begins under the header that the line is, if it is the first line. Else it makes the request of the event that the
     /// line lists. It gives the reason if the line is faulty.
     pub(crate) fn add<T>(
@@ -87,41 +31,14 @@ impl Rebuilt {
         ensures right { IfOk result (λ fault. IfNone fault (IsBegun self.old self.new line.now ⊎ IsEventMade self.old self.new line.now)) }
         ensures faulty { IfOk result (λ fault. IfSome fault (λ reason. IsRejected reason self.old line.now)) }
     {
-        match self.first_header(alloc, line)? {
-            Some(header) => {
-                self.ledger = Ledger::new(alloc, header.limits)?;
-                self.header = Some(header);
+        let json = read_json(alloc, line)?;
+        match line_of(alloc, &json, self.is_unbegun()) {
+            Err(reason) => Ok(Some(reason)),
+            Ok(ReadLine::Header(header)) => {
+                *self = Follower::new(alloc, &Some(header))?;
                 Ok(None)
             }
-            None => self.add_line(rt, alloc, line),
-        }
-    }
-
-    /// The header that the line is, if it is the first line.
-    fn first_header(&self, alloc: Global, line: &[u8]) -> Result<Option<Header>, Memory>
-        requires short { length line.now ≤ 65536 }
-        ensures header { IfOk result (λ header. IfSome header (λ header. (self.now.header ≡ None) × (self.now.ledger.rows ≡ [])
-            × IsHeader line.now header)) }
-        ensures none { IfOk result (λ header. IfNone header (IsNoFirstLine self.now line.now)) }
-    {
-        if !self.is_unbegun() {
-            return Ok(None);
-        }
-        read_header(alloc, line)
-    }
-
-    /// Makes the request of the event that the line lists. It gives the reason if the line is faulty.
-    fn add_line<T>(&mut self, rt: &T, alloc: Global, line: &[u8]) -> Result<Option<Reason>, Memory>
-        requires short { length line.now ≤ 65536 }
-        ensures right { IfOk result (λ fault. IfNone fault (IsLineMade self.old self.new line.now)) }
-        ensures faulty { IfOk result (λ fault. IfSome fault (λ reason. IsFaultyAfter reason self.old.ledger.limits self.old.ledger.rows line.now)) }
-    {
-        match read_json(alloc, line)? {
-            None => Ok(Some(Reason::NoJson)),
-            Some(json) => match read_listed(alloc, &json) {
-                Some(listed) => self.add_listed(rt, alloc, &listed),
-                None => Ok(Some(Reason::NoEvent)),
-            },
+            Ok(ReadLine::Event(listed)) => self.add_listed(rt, alloc, &listed),
         }
     }
 

@@ -1,6 +1,6 @@
 use Rattle.std.proofs.Common.{ap, arith, length, ◌+◌}
 use Rattle.trace_export.proofs.DueLines.{is_followed_by}
-use Rattle.trace_export.proofs.following.follow.Goals as goal
+use Rattle.trace_export.proofs.follower.report_if_due.Goals as goal
 
 pub returns-in-Ok-clause-due : goal.returns-in-Ok-clause-due
 returns-in-Ok-clause-due g c = λ is.
