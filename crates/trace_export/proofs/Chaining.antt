@@ -1,6 +1,6 @@
 -- Chains of events: of each chain a first part reaches the next event, and what is behind it does not.
-use Rattle.std.proofs.Common.{◌≡◌, ◌≢◌, ◌⊎◌, ℕ, zero, suc, ◌+◌, ◌-◌, ◌<◌, ◌≤◌, List, [], ◌∷◌, ◌++◌, length, slice_index_or, refl, sym, ap, subst, inl, inr, ◌∙◌, arith, length-append}
-use Rattle.std.specs.List.{Contains, All}
+use Rattle.std.proofs.Common.{◌≡◌, ◌⊎◌, ℕ, zero, suc, ◌+◌, ◌-◌, ◌<◌, ◌≤◌, List, [], ◌∷◌, ◌++◌, length, slice_index_or, refl, sym, ap, subst, inl, inr, ◌∙◌, arith, length-append}
+use Rattle.std.specs.List.{Contains}
 use Rattle.std.proofs.lemmas.Bool.{cases_eq, cases_lt}
 use Rattle.std.proofs.lemmas.List.{get_or_append_left, get_or-append-add}
 use Rattle.std.proofs.lemmas.List.Elements.{All-contains}
@@ -8,9 +8,9 @@ use Rattle.trace_types.specs.clock.EventTree.{EventTree}
 use Rattle.trace_export.specs.Bits.{HasBit}
 use Rattle.trace_export.specs.Chains.{AreChains, IsInside, IsOnChain, IsPutBehind, LeadBack, back_by, before_of}
 use Rattle.trace_export.specs.Edges.{Placing, IsPlaced, IsWayBack, IsConnected, listed_preds}
-use Rattle.trace_export.specs.Graph.{AreClosed, AreEarlier, AreReaching, EdgesLeadBack, IsApartFrom, IsApartFromChain, IsFirstMissing, IsGraph}
+use Rattle.trace_export.specs.Graph.{AreClosed, AreReaching, EdgesLeadBack, IsApartFrom, IsApartFromChain, IsFirstMissing, IsGraph}
 use Rattle.trace_export.specs.declared.placed.Placed.{Placed}
-use Rattle.trace_export.proofs.Connecting.{with_next, length-with_next, placed_at-earlier, earlier_pred, connected_by, connected_itself}
+use Rattle.trace_export.proofs.Connecting.{with_next, placed_at-earlier, earlier_pred, connected_by, connected_itself}
 use Rattle.trace_export.proofs.Ordering.{cases_bit}
 
 -- what an event follows reaches all that the event reaches

@@ -13,14 +13,13 @@ use Rattle.line_protocol.specs.Source.{Given}
 use Rattle.line_protocol.proofs.LineReadingLemmas.{HasRead-start, HasRead-line, HasRead-end, HasRead-ended, has_told_end, told_once}
 use Rattle.trace_export.specs.declared.placed.Placed.{Placed}
 use Rattle.trace_export.specs.declared.reason.Reason.{Reason}
-use Rattle.trace_export.specs.declared.collected.Collected.{Collected}
+use Rattle.trace_export.specs.declared.checked.Checked.{Checked}
 use Rattle.trace_export.specs.declared.header.Header.{Header}
 use Rattle.trace_export.specs.declared.verdict.Verdict.{Verdict}
 use Rattle.trace_export.specs.declared.verdict.Verdict.TheVariants.{Yes, No}
 use Rattle.trace_export.specs.Edges.{Placing}
-use Rattle.trace_export.specs.Graph.{IsKeptGraph}
 use Rattle.trace_export.specs.Heading.{AreParts, IsHeader, IsNoHeader, lines_ahead}
-use Rattle.trace_export.specs.Checked.{Judges, HoldsOfFound, IsTextFound, IsJudged, IsJudgedAs, StopsReading}
+use Rattle.trace_export.specs.Checked.{Judges, HoldsOfFound, IsKept, IsNoFirstOf, IsTextFound, IsJudged, IsJudgedAs, StopsReading, header_in, placing_in}
 use Rattle.trace_export.specs.ReadTo.{StopsAtLine, WasReadTo, WasReadToEnd}
 use Rattle.trace_export.specs.Verdict.{AreRightAfter, IsRightNext, IsFaulty}
 
@@ -49,10 +48,6 @@ pub record FoundRight (start given : List ℕ) (held : Held) (header : Option He
   pub parts : AreParts found header events
   pub right : AreRightAfter [] events placing
   pub counted : length events ≡ length placing
-
--- the line may be the first, and is then no header
-abbrev pub IsNoFirstHeader : Option Header → Placing → Text → Type 0
-IsNoFirstHeader header placing line = header ≡ None → placing ≡ [] → IsNoHeader line
 
 -- more lines of events behind those in parts
 pub parts_more : (header : Option Header) (found events : List Text) (line : Text) (rest : List Text) → AreParts found header events → (header ≡ None → events ≡ [] → IsNoHeader line)
@@ -90,7 +85,7 @@ found_none start held none = record { found = []; events = []; read = HasRead-st
 
 found_more : {start given given' : List ℕ} {held held' : Held} {header : Option Header} {placing : Placing} {line : Text} {placed : Placed} → FoundRight start given held header placing
     → GivesLine given given' held.left held'.left held'.is_ended line → (IsTrue held.is_ended → (given' ≡ given) × IsTrue held'.is_ended)
-    → IsNoFirstHeader header placing line → IsRightNext placing line placed → FoundRight start given' held' header (placing ++ placed ∷ [])
+    → IsNoFirstOf header placing line → IsRightNext placing line placed → FoundRight start given' held' header (placing ++ placed ∷ [])
 found_more {header = header} {placing = placing} {line = line} {placed = placed} before gives at_end none next = record {
   found = before.found ++ line ∷ [];
   events = before.events ++ line ∷ [];
@@ -137,7 +132,7 @@ judges_yes before after held header placing found none told = record {
 -- A line that was read to its end is faulty.
 judges_no : (before after : Given) (given : List ℕ) (held held' : Held) (header : Option Header) (placing : Placing) (line : Text) (reason : Reason) (number : ℕ) → FoundRight before.bytes given held header placing
     → GivesLine given after.bytes held.left held'.left held'.is_ended line → (IsTrue held.is_ended → (after.bytes ≡ given) × IsTrue held'.is_ended)
-    → (IsTrue held'.is_ended → WasReadToEnd before after) → IsNoFirstHeader header placing line → IsFaulty reason placing line → number ≡ lines_ahead header + suc (length placing)
+    → (IsTrue held'.is_ended → WasReadToEnd before after) → IsNoFirstOf header placing line → IsFaulty reason placing line → number ≡ lines_ahead header + suc (length placing)
     → Judges before after (No number reason)
 judges_no before after given held held' header placing line reason number found gives at_end told none faulty counts =
     let read : HasRead before.bytes after.bytes held' (found.found ++ line ∷ []) = HasRead-line found.read gives at_end in
@@ -187,48 +182,48 @@ end_or_line old new TooLong bounds finds holds =
     inr (text.0, text.1, holds text.0 text.2)
 
 -- What was found next: since `before` the lines were right, and of the source and what is held it is known how they went on.
-pub record FindsOn (before middle after : Given) (held held' : Held) (collected : Collected) (found : Line) : Type 0 where
-  pub right : FoundRight before.bytes middle.bytes held collected.header collected.graph.placed.items
+pub record FindsOn (before middle after : Given) (held held' : Held) (checked : Checked) (found : Line) : Type 0 where
+  pub right : FoundRight before.bytes middle.bytes held (header_in checked) (placing_in checked)
   pub bounds : held'.bounds ≡ export_bounds
   pub finds : Finds middle.bytes after.bytes held held' found
   pub at_end : IsTrue held.is_ended → (after.bytes ≡ middle.bytes) × IsTrue held'.is_ended
   pub told : IsTrue held'.is_ended → WasReadToEnd before after
 
-judges_as : {before middle after : Given} {held held' : Held} {old : Collected} {found : Line} (new : Collected) (verdict : Verdict) (text : Text) → FindsOn before middle after held held' old found
+judges_as : {before middle after : Given} {held held' : Held} {old : Checked} {found : Line} (new : Checked) (verdict : Verdict) (text : Text) → FindsOn before middle after held held' old found
     → GivesLine middle.bytes after.bytes held.left held'.left held'.is_ended text → IsJudgedAs (Some verdict) old new text → Judges before after verdict
 judges_as new (Yes count) text on gives judged = absurd judged
 judges_as {before} {middle} {after} {held} {held'} {old} new (No number reason) text on gives judged =
-    judges_no before after middle.bytes held held' old.header old.graph.placed.items text reason number on.right gives on.at_end on.told judged.1.no_header judged.1.faulty judged.0
+    judges_no before after middle.bytes held held' (header_in old) (placing_in old) text reason number on.right gives on.at_end on.told judged.1.no_header judged.1.faulty judged.0
 
 -- the verdict with which a check ends
-pub judges_over : (before middle after : Given) (held held' : Held) (old new : Collected) (found : Line) (verdict : Verdict) → FindsOn before middle after held held' old found
+pub judges_over : (before middle after : Given) (held held' : Held) (old new : Checked) (found : Line) (verdict : Verdict) → FindsOn before middle after held held' old found
     → IsJudged found held'.line (Some verdict) old new → Judges before after verdict
 judges_over before middle after held held' old new found verdict on judged = elim (end_or_line held held' found on.bounds on.finds judged) [
   | inl over ↦
-      let same : verdict ≡ Yes (length old.graph.placed.items) = cc over.1 in
+      let same : verdict ≡ Yes (length (placing_in old)) = cc over.1 in
       subst (Judges before after) (sym same)
-      (judges_yes before after held old.header old.graph.placed.items (subst (λ bytes. FoundRight before.bytes bytes held old.header old.graph.placed.items) (sym over.0.0) on.right) over.0.1 (on.told over.0.3))
+      (judges_yes before after held (header_in old) (placing_in old) (subst (λ bytes. FoundRight before.bytes bytes held (header_in old) (placing_in old)) (sym over.0.0) on.right) over.0.1 (on.told over.0.3))
   | inr line ↦ judges_as new verdict line.0 on line.1 line.2
 ]
 
-right_on : {before middle after : Given} {held held' : Held} {old : Collected} {found : Line} (new : Collected) (text : Text) → FindsOn before middle after held held' old found
+right_on : {before middle after : Given} {held held' : Held} {old : Checked} {found : Line} (new : Checked) (text : Text) → FindsOn before middle after held held' old found
     → GivesLine middle.bytes after.bytes held.left held'.left held'.is_ended text → IsJudgedAs None old new text
-    → FoundRight before.bytes after.bytes held' new.header new.graph.placed.items × IsKeptGraph new.graph
+    → FoundRight before.bytes after.bytes held' (header_in new) (placing_in new) × IsKept new
 right_on {before} {after = after} {held' = held'} new text on gives (inl headed) = (
-  subst (λ (header : Option Header). FoundRight before.bytes after.bytes held' header new.graph.placed.items) (sym headed.headed)
-      (subst (λ (placing : Placing). FoundRight before.bytes after.bytes held' (Some headed.header) placing) (sym headed.none)
-      (found_header headed.header on.right gives on.at_end headed.first.0 headed.first.1 headed.is)),
+  subst (λ (header : Option Header). FoundRight before.bytes after.bytes held' header (placing_in new)) (sym headed.headed)
+      (subst (λ (placing : Placing). FoundRight before.bytes after.bytes held' (Some headed.first) placing) (sym headed.none)
+      (found_header headed.first on.right gives on.at_end headed.begins.0 headed.begins.1 headed.is)),
   headed.kept,
 )
 right_on {before} {after = after} {held' = held'} {old} new text on gives (inr kept) = (
-  subst (λ (header : Option Header). FoundRight before.bytes after.bytes held' header new.graph.placed.items) (sym kept.same)
-      (subst (λ (placing : Placing). FoundRight before.bytes after.bytes held' old.header placing) (sym kept.more) (found_more on.right gives on.at_end kept.no_header kept.right)),
+  subst (λ (header : Option Header). FoundRight before.bytes after.bytes held' header (placing_in new)) (sym kept.same)
+      (subst (λ (placing : Placing). FoundRight before.bytes after.bytes held' (header_in old) placing) (sym kept.more) (found_more on.right gives on.at_end kept.no_header kept.right)),
   kept.kept,
 )
 
 -- the check goes on
-pub judged_right : (before middle after : Given) (held held' : Held) (old new : Collected) (found : Line) → FindsOn before middle after held held' old found
-    → IsJudged found held'.line None old new → FoundRight before.bytes after.bytes held' new.header new.graph.placed.items × IsKeptGraph new.graph
+pub judged_right : (before middle after : Given) (held held' : Held) (old new : Checked) (found : Line) → FindsOn before middle after held held' old found
+    → IsJudged found held'.line None old new → FoundRight before.bytes after.bytes held' (header_in new) (placing_in new) × IsKept new
 judged_right before middle after held held' old new found on judged = elim (end_or_line held held' found on.bounds on.finds judged) [
   | inl over ↦ absurd (cc over.1)
   | inr line ↦ right_on new line.0 on line.1 line.2
@@ -241,37 +236,37 @@ line_count header placing = lines_ahead header + length placing
 pub found_count : {start given : List ℕ} {held : Held} {header : Option Header} {placing : Placing} (right : FoundRight start given held header placing) → length right.found ≡ line_count header placing
 found_count {header = header} right = omega (arith, parts_count header right.found right.events right.parts, right.counted)
 
-counts_as : (old new : Collected) (text : Text) → IsJudgedAs None old new text
-    → line_count new.header new.graph.placed.items ≡ suc (line_count old.header old.graph.placed.items)
+counts_as : (old new : Checked) (text : Text) → IsJudgedAs None old new text
+    → line_count (header_in new) (placing_in new) ≡ suc (line_count (header_in old) (placing_in old))
 counts_as old new text (inl headed) =
-    omega (arith, ap lines_ahead headed.headed, ap length headed.none, ap lines_ahead headed.first.0, ap length headed.first.1)
+    omega (arith, ap lines_ahead headed.headed, ap length headed.none, ap lines_ahead headed.begins.0, ap length headed.begins.1)
 counts_as old new text (inr kept) =
-    omega (arith, ap lines_ahead kept.same, ap length kept.more, length-append old.graph.placed.items (kept.placed ∷ []))
+    omega (arith, ap lines_ahead kept.same, ap length kept.more, length-append (placing_in old) (kept.placed ∷ []))
 
 -- a line that is right is one more
-pub counts_more : (before middle after : Given) (held held' : Held) (old new : Collected) (found : Line) → FindsOn before middle after held held' old found
-    → IsJudged found held'.line None old new → line_count new.header new.graph.placed.items ≡ suc (line_count old.header old.graph.placed.items)
+pub counts_more : (before middle after : Given) (held held' : Held) (old new : Checked) (found : Line) → FindsOn before middle after held held' old found
+    → IsJudged found held'.line None old new → line_count (header_in new) (placing_in new) ≡ suc (line_count (header_in old) (placing_in old))
 counts_more before middle after held held' old new found on judged = elim (end_or_line held held' found on.bounds on.finds judged) [
   | inl over ↦ absurd (cc over.1)
   | inr line ↦ counts_as old new line.0 line.2
 ]
 
-module _ {R : Type 0} (seen : R → Given) (reader reader' : R) (old : Collected) where
+module _ {R : Type 0} (seen : R → Given) (reader reader' : R) (old : Checked) where
   abbrev pub StopsNext : Type 0
-  StopsNext = StopsAtLine seen (suc (line_count old.header old.graph.placed.items)) reader reader'
+  StopsNext = StopsAtLine seen (suc (line_count (header_in old) (placing_in old))) reader reader'
 
-  stops_as : (new : Collected) (verdict : Verdict) (text : Text) → StopsNext → IsJudgedAs (Some verdict) old new text → StopsReading seen reader reader' verdict
+  stops_as : (new : Checked) (verdict : Verdict) (text : Text) → StopsNext → IsJudgedAs (Some verdict) old new text → StopsReading seen reader reader' verdict
   stops_as new (Yes count) text stops judged = absurd judged
   stops_as new (No number reason) text stops judged =
-      let same : suc (line_count old.header old.graph.placed.items) ≡ number = omega (arith, judged.0) in
+      let same : suc (line_count (header_in old) (placing_in old)) ≡ number = omega (arith, judged.0) in
       subst (λ n. StopsAtLine seen n reader reader') same stops
 
   -- a check that ends asks for nothing behind the line
-  pub stops_over : (before middle after : Given) (held held' : Held) (new : Collected) (found : Line) (verdict : Verdict) → StopsNext → FindsOn before middle after held held' old found
+  pub stops_over : (before middle after : Given) (held held' : Held) (new : Checked) (found : Line) (verdict : Verdict) → StopsNext → FindsOn before middle after held held' old found
       → IsJudged found held'.line (Some verdict) old new → StopsReading seen reader reader' verdict
   stops_over before middle after held held' new found verdict stops on judged = elim (end_or_line held held' found on.bounds on.finds judged) [
     | inl over ↦
-        let same : verdict ≡ Yes (length old.graph.placed.items) = cc over.1 in
+        let same : verdict ≡ Yes (length (placing_in old)) = cc over.1 in
         subst (StopsReading seen reader reader') (sym same) tt
     | inr line ↦ stops_as new verdict line.0 stops line.2
   ]

@@ -11,6 +11,7 @@ mod Headings
 pub mod Judging
 pub mod LegalRows
 pub mod Listed
+pub mod ListedRows
 pub mod LoadedEvents
 pub mod LoadedLines
 pub mod LoadedWhole
@@ -32,6 +33,7 @@ pub mod SpelledTrees
 pub mod StampReplies
 pub mod StampTrees
 pub mod Stopping
+pub mod WholeTenants
 pub mod WrittenLines
 pub mod WrittenRequests
 pub mod WrittenRows

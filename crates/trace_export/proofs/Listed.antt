@@ -1,5 +1,5 @@
 -- What is kept of right lines, with one event more that is listed.
-use Rattle.std.proofs.Common.{◌≡◌, ◌+◌, ◌<◌, ◌≤◌, ◌∷◌, [], ◌++◌, ℕ, suc, Vec, Global, length, length-append, sym, ap, subst, arith}
+use Rattle.std.proofs.Common.{◌≡◌, ◌<◌, ◌∷◌, [], ◌++◌, ℕ, suc, Vec, Global, length, length-append, sym, ap, subst, arith}
 use Rattle.std.proofs.lemmas.List.{length-map}
 use Rattle.trace_export.specs.Chains.{AreChains}
 use Rattle.trace_export.specs.Edges.{Placing}

@@ -100,10 +100,10 @@ stamp_text-older : (row : Row) (earlier : History) (event : ℕ) → event ≤ l
 stamp_text-older row earlier event old =
     ap (λ (stamp : Id × EventTree). stamp_text stamp.0 stamp.1) (cond-false (eqb event (suc (length earlier))) _ _ (ne_eqb event (suc (length earlier)) (λ is. omega (arith, is, old))))
 
-row_of-newest : (row : Row) (earlier : History) (event : ℕ) → event ≡ suc (length earlier) → row_of (row ∷ earlier) event ≡ Some row
+pub row_of-newest : (row : Row) (earlier : History) (event : ℕ) → event ≡ suc (length earlier) → row_of (row ∷ earlier) event ≡ Some row
 row_of-newest row earlier event is = cond-true (eqb event (suc (length earlier))) _ _ (eq-eqb event (suc (length earlier)) is)
 
-row_of-older : (row : Row) (earlier : History) (event : ℕ) → ¬ (event ≡ suc (length earlier)) → row_of (row ∷ earlier) event ≡ row_of earlier event
+pub row_of-older : (row : Row) (earlier : History) (event : ℕ) → ¬ (event ≡ suc (length earlier)) → row_of (row ∷ earlier) event ≡ row_of earlier event
 row_of-older row earlier event other = cond-false (eqb event (suc (length earlier))) _ _ (ne_eqb event (suc (length earlier)) other)
 
 -- an event that has a row is there

@@ -20,7 +20,7 @@ use Rattle.trace_export.specs.declared.header.Header.{Header}
 use Rattle.trace_export.specs.declared.loaded.Loaded.{Loaded}
 use Rattle.trace_export.specs.declared.loaded.Loaded.TheVariants.{Done, No}
 use Rattle.trace_export.specs.declared.reason.Reason.{Reason}
-use Rattle.trace_export.specs.declared.rebuilt.Rebuilt.{Rebuilt}
+use Rattle.trace_export.specs.declared.follower.Follower.{Follower}
 use Rattle.trace_export.proofs.Judging.{end_or_line, export_bounds, no_texts, parts_count, parts_more, was_read_to}
 use Rattle.trace_export.proofs.Rerunning.{loaded_count}
 
@@ -146,21 +146,21 @@ loads_no before after given held held' header tenant line reason number rows fou
     }
 
 -- What was found next: since `before` the lines were loaded, and of the source and what is held it is known how they went on.
-pub record LoadsOn (before middle after : Given) (held held' : Held) (rebuilt : Rebuilt) (found : Line) : Type 0 where
-  pub so_far : FoundLoaded before.bytes middle.bytes held rebuilt.header rebuilt.ledger
+pub record LoadsOn (before middle after : Given) (held held' : Held) (follower : Follower) (found : Line) : Type 0 where
+  pub so_far : FoundLoaded before.bytes middle.bytes held follower.header follower.ledger
   pub bounds : held'.bounds ≡ export_bounds
   pub finds : Finds middle.bytes after.bytes held held' found
   pub at_end : IsTrue held.is_ended → (after.bytes ≡ middle.bytes) × IsTrue held'.is_ended
   pub told : IsTrue held'.is_ended → WasReadToEnd before after
 
-answered_as : {before middle after : Given} {held held' : Held} {old : Rebuilt} {found : Line} (new : Rebuilt) (loaded : Loaded) (text : Text) → LoadsOn before middle after held held' old found
+answered_as : {before middle after : Given} {held held' : Held} {old : Follower} {found : Line} (new : Follower) (loaded : Loaded) (text : Text) → LoadsOn before middle after held held' old found
     → GivesLine middle.bytes after.bytes held.left held'.left held'.is_ended text → IsTakenAs (Some loaded) old new text → LoadsAs before after loaded new.ledger.rows
 answered_as new (Done count) text on gives taken = absurd taken
 answered_as {before} {middle} {after} {held} {held'} {old} new (No number reason) text on gives taken =
     loads_no before after middle.bytes held held' old.header old.ledger text reason number new.ledger.rows on.so_far gives on.at_end on.told taken.1.no_header taken.1.faulty taken.0
 
 -- what is answered in the end
-pub answered_over : (before middle after : Given) (held held' : Held) (old new : Rebuilt) (found : Line) (loaded : Loaded) → LoadsOn before middle after held held' old found
+pub answered_over : (before middle after : Given) (held held' : Held) (old new : Follower) (found : Line) (loaded : Loaded) → LoadsOn before middle after held held' old found
     → IsTaken found held'.line (Some loaded) old new → LoadsAs before after loaded new.ledger.rows
 answered_over before middle after held held' old new found loaded on taken = elim (end_or_line held held' found on.bounds on.finds taken) [
   | inl over ↦
@@ -171,7 +171,7 @@ answered_over before middle after held held' old new found loaded on taken = eli
   | inr line ↦ answered_as new loaded line.0 on line.1 line.2
 ]
 
-loaded_on : {before middle after : Given} {held held' : Held} {old : Rebuilt} {found : Line} (new : Rebuilt) (text : Text) → LoadsOn before middle after held held' old found
+loaded_on : {before middle after : Given} {held held' : Held} {old : Follower} {found : Line} (new : Follower) (text : Text) → LoadsOn before middle after held held' old found
     → GivesLine middle.bytes after.bytes held.left held'.left held'.is_ended text → IsTakenAs None old new text
     → FoundLoaded before.bytes after.bytes held' new.header new.ledger
 loaded_on {before} {after = after} {held' = held'} new text on gives (inl begun) =
@@ -184,7 +184,7 @@ loaded_on {before} {after = after} {held' = held'} {old} new text on gives (inr 
     (found_made on.so_far gives on.at_end goes.no_header goes.made.loaded))
 
 -- loading goes on
-pub loaded_so_far : (before middle after : Given) (held held' : Held) (old new : Rebuilt) (found : Line) → LoadsOn before middle after held held' old found
+pub loaded_so_far : (before middle after : Given) (held held' : Held) (old new : Follower) (found : Line) → LoadsOn before middle after held held' old found
     → IsTaken found held'.line None old new → FoundLoaded before.bytes after.bytes held' new.header new.ledger
 loaded_so_far before middle after held held' old new found on taken = elim (end_or_line held held' found on.bounds on.finds taken) [
   | inl over ↦ absurd (cc over.1.0)
@@ -192,9 +192,9 @@ loaded_so_far before middle after held held' old new found on taken = elim (end_
 ]
 
 -- it begins with no line
-pub begins_loading : (start : List ℕ) (held : Held) (rebuilt : Rebuilt) → held.left ≡ [] → IsUnbegun rebuilt → FoundLoaded start start held rebuilt.header rebuilt.ledger
-begins_loading start held rebuilt none unbegun =
-    subst (λ (header : Option Header). FoundLoaded start start held header rebuilt.ledger) (sym unbegun.0)
+pub begins_loading : (start : List ℕ) (held : Held) (follower : Follower) → held.left ≡ [] → IsUnbegun follower → FoundLoaded start start held follower.header follower.ledger
+begins_loading start held follower none unbegun =
+    subst (λ (header : Option Header). FoundLoaded start start held header follower.ledger) (sym unbegun.0)
     (subst (λ (tenant : Tenant). FoundLoaded start start held None tenant) (sym unbegun.1) (found_none_loaded start held none))
 
 -- how many lines were found that lead to this tenant
@@ -204,32 +204,32 @@ lines_loaded header tenant = lines_ahead header + length tenant.rows
 pub found_lines_loaded : {start given : List ℕ} {held : Held} {header : Option Header} {tenant : Tenant} (so_far : FoundLoaded start given held header tenant) → length so_far.found ≡ lines_loaded header tenant
 found_lines_loaded {header = header} so_far = omega (arith, parts_count header so_far.found so_far.events so_far.parts, found_count so_far)
 
-counts_as : (old new : Rebuilt) (text : Text) → IsTakenAs None old new text → lines_loaded new.header new.ledger ≡ suc (lines_loaded old.header old.ledger)
+counts_as : (old new : Follower) (text : Text) → IsTakenAs None old new text → lines_loaded new.header new.ledger ≡ suc (lines_loaded old.header old.ledger)
 counts_as old new text (inl begun) =
     omega (arith, ap lines_ahead begun.headed, ap (λ (tenant : Tenant). length tenant.rows) begun.ledger, ap lines_ahead begun.first.0, ap length begun.first.1)
 counts_as old new text (inr goes) =
     omega (arith, ap lines_ahead goes.made.more.header, ap (λ (tenant : Tenant). length tenant.rows) goes.made.more.ledger, length-append old.ledger.rows (goes.made.row ∷ []))
 
 -- a line that is loaded is one more
-pub counts_more : (before middle after : Given) (held held' : Held) (old new : Rebuilt) (found : Line) → LoadsOn before middle after held held' old found
+pub counts_more : (before middle after : Given) (held held' : Held) (old new : Follower) (found : Line) → LoadsOn before middle after held held' old found
     → IsTaken found held'.line None old new → lines_loaded new.header new.ledger ≡ suc (lines_loaded old.header old.ledger)
 counts_more before middle after held held' old new found on taken = elim (end_or_line held held' found on.bounds on.finds taken) [
   | inl over ↦ absurd (cc over.1.0)
   | inr line ↦ counts_as old new line.0 line.2
 ]
 
-module _ {R : Type 0} (seen : R → Given) (reader reader' : R) (old : Rebuilt) where
+module _ {R : Type 0} (seen : R → Given) (reader reader' : R) (old : Follower) where
   abbrev pub StopsNext : Type 0
   StopsNext = StopsAtLine seen (suc (lines_loaded old.header old.ledger)) reader reader'
 
-  stops_as : (new : Rebuilt) (loaded : Loaded) (text : Text) → StopsNext → IsTakenAs (Some loaded) old new text → StopsLoading seen reader reader' loaded
+  stops_as : (new : Follower) (loaded : Loaded) (text : Text) → StopsNext → IsTakenAs (Some loaded) old new text → StopsLoading seen reader reader' loaded
   stops_as new (Done count) text stops taken = absurd taken
   stops_as new (No number reason) text stops taken =
       let same : suc (lines_loaded old.header old.ledger) ≡ number = omega (arith, taken.0) in
       subst (λ n. StopsAtLine seen n reader reader') same stops
 
   -- loading that ends asks for nothing behind the line
-  pub stops_over : (before middle after : Given) (held held' : Held) (new : Rebuilt) (found : Line) (loaded : Loaded) → StopsNext → LoadsOn before middle after held held' old found
+  pub stops_over : (before middle after : Given) (held held' : Held) (new : Follower) (found : Line) (loaded : Loaded) → StopsNext → LoadsOn before middle after held held' old found
       → IsTaken found held'.line (Some loaded) old new → StopsLoading seen reader reader' loaded
   stops_over before middle after held held' new found loaded stops on taken = elim (end_or_line held held' found on.bounds on.finds taken) [
     | inl over ↦

@@ -14,7 +14,7 @@ use Rattle.trace_export.specs.Listing.{Listed}
 use Rattle.trace_export.specs.Loading.{IsAsListed, IsUnfitAfter, MayFollow, listed_request}
 use Rattle.trace_export.specs.Rebuilding.{IsMade}
 use Rattle.trace_export.specs.declared.reason.Reason.TheVariants.{NotDue, Refused}
-use Rattle.trace_export.specs.declared.rebuilt.Rebuilt.{Rebuilt}
+use Rattle.trace_export.specs.declared.follower.Follower.{Follower}
 use Rattle.trace_export.proofs.Remaking.{AddsOne, accepted_adds, refused_why}
 
 -- the step of the listed request, with what it was answered
@@ -62,7 +62,7 @@ module _ (tenant : Tenant) (listed : Listed) (count : ℕ) (new : Tenant) (steps
   not_due may otherwise = (may, (adds.row, adds.makes, due_or (λ rows event row. ¬ IsAsListed rows event row listed) otherwise))
 
 -- it is the one that is listed
-pub made_next : (old now : Rebuilt) (listed : Listed) (count : ℕ) (new : Tenant) → MayFollow old.ledger.rows listed → Steps old.ledger (listed_request listed) (reply.Accepted count) new
+pub made_next : (old now : Follower) (listed : Listed) (count : ℕ) (new : Tenant) → MayFollow old.ledger.rows listed → Steps old.ledger (listed_request listed) (reply.Accepted count) new
     → OfEvent (λ rows event row. IsAsListed rows event row listed) new.rows count → now.ledger ≡ new → now.header ≡ old.header → IsMade old now listed
 made_next old now listed count new may steps as_listed same header =
     let added = adds old.ledger listed count new steps in

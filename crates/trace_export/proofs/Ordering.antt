@@ -1,9 +1,8 @@
 -- An event that is compared with some of the earlier ones is ordered as the edges say.
-use Rattle.std.proofs.Common.{◌≡◌, ◌↔◌, ◌⊎◌, ℕ, suc, zero, ◌+◌, ◌-◌, ◌*◌, ◌/◌, ◌%◌, ◌<◌, ◌≤◌, List, [], ◌∷◌, ◌++◌, length, slice_index_or, refl, sym, ap, subst, inl, inr, ◌∙◌, arith, length-append}
+use Rattle.std.proofs.Common.{◌≡◌, ◌↔◌, ◌⊎◌, ℕ, suc, zero, ◌+◌, ◌-◌, ◌/◌, ◌%◌, ◌<◌, ◌≤◌, List, [], ◌∷◌, length, slice_index_or, refl, sym, subst, inl, inr, arith}
 use Rattle.std.specs.List.{Contains, All}
 use Rattle.std.specs.Int.{bit_at}
 use Rattle.std.proofs.lemmas.Bool.{cases_eq, cases_lt}
-use Rattle.std.proofs.lemmas.List.{get_or_append_left, get_or-append-add}
 use Rattle.std.proofs.lemmas.List.Elements.{All-contains}
 use Rattle.trace_types.specs.clock.EventTree.{EventTree}
 use Rattle.event_tree.specs.Comparison.{IsBelow}
@@ -13,7 +12,7 @@ use Rattle.trace_export.specs.Edges.{Placing, IsPlaced, listed_preds, listed_tre
 use Rattle.trace_export.specs.Graph.{AreEarlier, AreReaching, reaching_row, IsGraph, IsReachedBy, IsComparedNext, RefutesNext}
 use Rattle.trace_export.specs.Verdict.{IsOrderedNext}
 use Rattle.trace_export.proofs.Alike.{tree_earlier, tree_next}
-use Rattle.trace_export.proofs.Connecting.{with_next, length-with_next, placed_at-earlier, placed_at-next, earlier_pred, connected_before, connected_by, connected_itself, connected-with_next, connected_next, next_connected}
+use Rattle.trace_export.proofs.Connecting.{with_next, earlier_pred, connected_before, connected_by, connected_itself, connected-with_next, connected_next, next_connected}
 
 below_itself : (e : EventTree) → IsBelow e e
 below_itself e point = omega arith

@@ -24,7 +24,7 @@ length-placing [] = refl
 length-placing (row ∷ earlier) = omega (arith, length-with_next (placing_of earlier) (placed_of row earlier), length-placing earlier)
 
 -- the listed edges are the predecessors
-preds_are : (history : History) → AreSound history → (event : ℕ) → IsPlaced (placing_of history) event → listed_preds (placing_of history) event ≡ predecessors_of history event
+pub preds_are : (history : History) → AreSound history → (event : ℕ) → IsPlaced (placing_of history) event → listed_preds (placing_of history) event ≡ predecessors_of history event
 preds_are [] sound event placed = absurd (omega (arith, placed.0, placed.1))
 preds_are (row ∷ earlier) sound event placed =
     let before = placing_of earlier in
@@ -42,7 +42,7 @@ preds_are (row ∷ earlier) sound event placed =
     ]
 
 -- and the listed trees what the events know
-trees_are : (history : History) (event : ℕ) → IsPlaced (placing_of history) event → listed_tree (placing_of history) event ≡ tree_of tree_clock history event
+pub trees_are : (history : History) (event : ℕ) → IsPlaced (placing_of history) event → listed_tree (placing_of history) event ≡ tree_of tree_clock history event
 trees_are [] event placed = absurd (omega (arith, placed.0, placed.1))
 trees_are (row ∷ earlier) event placed =
     let before = placing_of earlier in

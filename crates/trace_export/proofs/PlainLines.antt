@@ -1,10 +1,10 @@
 -- The line of a listed event is read again as it, by the grammar of JSON alone: no call has to read it.
-use Rattle.std.proofs.Common.{◌≡◌, ◌≢◌, ℕ, ◌^◌, ◌<◌, ◌≤◌, ◌==◌, ◌↔◌, Bor, Bool, true, false, IsTrue, List, [], ◌∷◌, ◌++◌, ◌-◌, drop, length, slice_index, take, Option, None, Some, IfSome, MatchOption, option_and_then, refl, subst, sym, ap, ◌∙◌, arith, append_assoc, append-nil, codes, IsUtf8}
+use Rattle.std.proofs.Common.{◌≡◌, ◌≢◌, ℕ, ◌^◌, ◌<◌, ◌≤◌, ◌==◌, ◌↔◌, Bor, Bool, true, false, IsTrue, List, [], ◌∷◌, ◌++◌, ◌-◌, length, Option, None, Some, IfSome, option_and_then, refl, subst, sym, ap, ◌∙◌, arith, append_assoc, append-nil, codes, IsUtf8}
 use Rattle.std.specs.Fmt.{decimal}
 use Rattle.std.specs.List.{All}
 use Rattle.std.proofs.lemmas.Bool.{eqb-true}
 use Rattle.std.proofs.lemmas.Fmt.{IsAscii-decimal}
-use Rattle.std.proofs.lemmas.List.{append_cancel_left, take_all}
+use Rattle.std.proofs.lemmas.List.{append_cancel_left}
 use Rattle.std.proofs.lemmas.List.Elements.{All-head, All-tail}
 use Rattle.std.proofs.lemmas.Str.{IsUtf8-append, IsUtf8-from_ascii, IsUtf8-nil}
 use Rattle.json.specs.Json as json
@@ -30,7 +30,7 @@ use Rattle.trace_types.specs.text.Text.{kind_text, name_text}
 use Rattle.trace_types.specs.declared.row.Kind.{Kind}
 use Rattle.trace_types.specs.declared.row.Kind.TheVariants.{Local, Spawn, Send, Recv, End, Join}
 use Rattle.trace_types.specs.declared.row.Row.{Row}
-use Rattle.trace_export.specs.DueLine.{due_line, due_listed, due_text}
+use Rattle.trace_export.specs.DueLine.{IsSpelled, Strips, StripsOn, due_line, due_listed, due_text}
 use Rattle.trace_export.specs.Listing.{Listed, IsReadAgain, listed_json, numbers_json}
 use Rattle.trace_export.specs.Loading.{request_for}
 use Rattle.trace_export.proofs.GoodStamps.{stamp_is_plain}
@@ -212,10 +212,13 @@ quoted_parts event kind name preds stamp task =
     codes "{\"event\":" ++ (event ++ (codes ",\"kind\":" ++ ((34 ∷ (kind ++ 34 ∷ [])) ++ (codes ",\"name\":" ++ ((34 ∷ (name ++ 34 ∷ [])) ++ (codes ",\"preds\":[" ++ (preds
     ++ (codes ",\"stamp\":" ++ ((34 ∷ (stamp ++ 34 ∷ [])) ++ (codes ",\"task\":" ++ ((34 ∷ (task ++ 34 ∷ [])) ++ codes "}")))))))))))
 
-parts_regrouped : (event kind name preds stamp task : Text)
-    → quoted_parts event kind name preds stamp task
-    ≡ (codes "{\"event\":" ++ (event ++ (codes ",\"kind\":\"" ++ kind)))
-    ++ ((codes "\",\"name\":\"" ++ (name ++ (codes "\",\"preds\":[" ++ preds))) ++ (codes ",\"stamp\":\"" ++ (stamp ++ (codes "\",\"task\":\"" ++ (task ++ codes "\"}")))))
+-- one piece behind the other
+abbrev pub pieces : Text → Text → Text → Text → Text → Text → Text
+pieces event kind name preds stamp task =
+    codes "{\"event\":" ++ event ++ codes ",\"kind\":\"" ++ kind ++ codes "\",\"name\":\"" ++ name ++ codes "\",\"preds\":[" ++ preds
+    ++ codes ",\"stamp\":\"" ++ stamp ++ codes "\",\"task\":\"" ++ task ++ codes "\"}"
+
+parts_regrouped : (event kind name preds stamp task : Text) → quoted_parts event kind name preds stamp task ≡ pieces event kind name preds stamp task
 parts_regrouped event kind name preds stamp task = simp append_assoc
 
 -- what the parts of an event's text are
@@ -225,9 +228,10 @@ parts_quoted : (listed : Listed)
 unfolding escape_byte
 parts_quoted listed = refl
 
--- the text of such an event is its parts, one behind the other
-pub text_of_parts : (listed : Listed) → HasPlainWords listed → compact_text (listed_json listed) ≡ due_text listed.event listed.kind (name_text listed.name) listed.preds listed.stamp listed.task
-text_of_parts listed plain =
+-- the text of such an event is its pieces, one behind the other
+text_of_pieces : (listed : Listed) → HasPlainWords listed
+    → compact_text (listed_json listed) ≡ pieces (decimal listed.event) (kind_text listed.kind) (name_text listed.name) (items_text false (numbers_json listed.preds)) listed.stamp listed.task
+text_of_pieces listed plain =
     let event = decimal listed.event in
     let preds = items_text false (numbers_json listed.preds) in
     parts_quoted listed
@@ -237,25 +241,7 @@ text_of_parts listed plain =
     ∙ ap (λ task. quoted_parts event (kind_text listed.kind) (name_text listed.name) preds listed.stamp task) (escape-plain listed.task plain.task)
     ∙ parts_regrouped event (kind_text listed.kind) (name_text listed.name) preds listed.stamp listed.task
 
--- the first of some numbers, and the others
-abbrev pub others_of : List ℕ → List ℕ
-others_of numbers = take (length numbers - 1) (drop 1 numbers)
-
-pub items_text-first : (later : Bool) (numbers : List ℕ) → 1 ≤ length numbers
-    → items_text later (numbers_json numbers) ≡ comma_if later ++ (decimal (slice_index numbers 0) ++ items_text true (numbers_json (others_of numbers)))
-items_text-first later [] some = absurd (omega arith)
-items_text-first later (n ∷ numbers) some =
-    ap (λ others. comma_if later ++ (decimal n ++ items_text true (numbers_json others))) (sym (take_all (length (n ∷ numbers) - 1) numbers (omega arith)))
-
 -- ---- the line of an event that is due
-
--- The words of the row are names, and the numbers fit 64 bits.
-pub record IsSpelled (event : ℕ) (row : Row) (tree : EventTree) : Type 0 where
-  pub number : event < 2 ^ 64
-  pub name : IfSome row.name (λ name. IsTrue (is_name name))
-  pub preds : All (λ n. n < 2 ^ 64) row.preds
-  pub task : IsTrue (is_name row.task)
-  pub values : maximum tree < 2 ^ 64
 
 name_text_is_plain : (name : Option Text) → IfSome name (λ name. IsTrue (is_name name)) → ArePlain (name_text name)
 name_text_is_plain None named = refl
@@ -265,11 +251,10 @@ name_text_utf8 : (name : Option Text) → IfSome name (λ name. IsTrue (is_name 
 name_text_utf8 None named = IsUtf8-are_ascii (codes "-") refl
 name_text_utf8 (Some name) named = IsUtf8-name name named
 
--- its line is its parts
-due_line_parts : (event : ℕ) (row : Row) (id : Id) (tree : EventTree) → IsSpelled event row tree
-    → due_line event row id tree ≡ due_text event row.kind (name_text row.name) row.preds (stamp_text id tree) row.task
-due_line_parts event row id tree spelled =
-    text_of_parts (due_listed event row id tree)
+-- its line is its pieces
+pub due_line_is : (event : ℕ) (row : Row) (id : Id) (tree : EventTree) → IsSpelled event row tree → due_line event row id tree ≡ due_text event row (stamp_text id tree)
+due_line_is event row id tree spelled =
+    text_of_pieces (due_listed event row id tree)
     (record { name = name_text_is_plain row.name spelled.name; stamp = stamp_is_plain id tree spelled.values; task = (name_is_plain row.task spelled.task).0 })
 
 -- and is read again as the event
@@ -283,58 +268,39 @@ due_is_read event row id tree spelled =
       task = IsUtf8-name row.task spelled.task;
     })
 
--- nothing is left behind a text exactly if it is the whole
-nothing_left : (text front rest : Text) → text ≡ front ++ rest → IsTrue (length rest == 0) ↔ (text ≡ front)
-nothing_left text front [] is = (λ _. is ∙ append-nil front, λ _. refl)
-nothing_left text front (byte ∷ rest) is = (
-  λ none. absurd (omega (arith, eqb-true (length (byte ∷ rest)) 0 none)),
-  λ same. absurd (omega (arith, ap length (append_cancel_left front (byte ∷ rest) [] (sym is ∙ same ∙ sym (append-nil front))))),
+-- ---- looking for pieces at the front of a text, one behind the other
+
+-- the text is what was found exactly if nothing is left behind it
+pub is_whole : (text spelled rest : Text) (empty : Bool) → text ≡ spelled ++ rest → empty ≡ (length rest == 0) → IsTrue empty ↔ (text ≡ spelled)
+is_whole text spelled [] empty begins is = (λ _. begins ∙ append-nil spelled, λ _. rw is refl)
+is_whole text spelled (byte ∷ rest) empty begins is = (
+  λ none. absurd (omega (arith, eqb-true (length (byte ∷ rest)) 0 (sym is ∙ none))),
+  λ same. absurd (omega (arith, ap length (append_cancel_left spelled (byte ∷ rest) [] (sym begins ∙ same ∙ sym (append-nil spelled))))),
 )
 
--- the words that were looked for are those of the row
-pub record AreWordsOf (row : Row) (name : Text) (preds : List ℕ) (task : Text) : Type 0 where
-  pub name_is : name ≡ name_text row.name
-  pub preds_is : preds ≡ row.preds
-  pub task_is : task ≡ row.task
+-- and is not if that is not there
+pub is_other : (text spelled : Text) → ((rest : List ℕ) → text ≢ spelled ++ rest) → IsTrue false ↔ (text ≡ spelled)
+is_other text spelled lacks = (λ wrong. cc, λ same. absurd (lacks [] (same ∙ sym (append-nil spelled))))
 
-looked_for : (event : ℕ) (row : Row) (id : Id) (tree : EventTree) (name : Text) (preds : List ℕ) (task : Text) → IsSpelled event row tree → AreWordsOf row name preds task
-    → due_text event row.kind name preds (stamp_text id tree) task ≡ due_line event row id tree
-looked_for event row id tree name preds task spelled words =
-    let stamp = stamp_text id tree in
-    ap (λ word. due_text event row.kind word preds stamp task) words.name_is ∙ ap (λ numbers. due_text event row.kind (name_text row.name) numbers stamp task) words.preds_is
-    ∙ ap (λ word. due_text event row.kind (name_text row.name) row.preds stamp word) words.task_is ∙ sym (due_line_parts event row id tree spelled)
+-- of no text nothing follows
+pub strips_none : (piece : Text) → StripsOn None piece None
+strips_none piece = record { behind = λ whole front lacks rest same. lacks (piece ++ rest) (same ∙ append_assoc front piece rest) }
 
--- a text with these words at its front is the line exactly if nothing is behind them
-pub is_line_if_empty : (event : ℕ) (row : Row) (id : Id) (tree : EventTree) (name : Text) (preds : List ℕ) (task : Text) → IsSpelled event row tree → AreWordsOf row name preds task
-    → (text rest : Text) (empty : Bool) → text ≡ due_text event row.kind name preds (stamp_text id tree) task ++ rest → empty ≡ (length rest == 0)
-    → IsTrue empty ↔ (text ≡ due_line event row id tree)
-is_line_if_empty event row id tree name preds task spelled words text rest empty begins is =
-    let front = due_text event row.kind name preds (stamp_text id tree) task in
-    subst (λ (all : Text). IsTrue empty ↔ (text ≡ all)) (looked_for event row id tree name preds task spelled words)
-    (subst (λ (answer : Bool). IsTrue answer ↔ (text ≡ front)) (sym is) (nothing_left text front rest begins))
+-- the piece is looked for behind what was found
+pub strips_some : (text : Bor (List ℕ)) (piece : Text) (found : Option (Bor (List ℕ))) → Strips text.now piece found → StripsOn (Some text) piece found
+strips_some text piece None lacks = record {
+  behind = λ whole front begins rest same. lacks rest (append_cancel_left front text.now (piece ++ rest) (sym begins ∙ same ∙ append_assoc front piece rest));
+}
+strips_some text piece (Some rest) follows = record {
+  behind = λ whole front begins. begins ∙ ap (λ bytes. front ++ bytes) follows ∙ sym (append_assoc front piece rest.now);
+}
 
--- and without them it is not
-pub is_no_line : (event : ℕ) (row : Row) (id : Id) (tree : EventTree) (name : Text) (preds : List ℕ) (task : Text) → IsSpelled event row tree → AreWordsOf row name preds task
-    → (text : Text) → ((rest : List ℕ) → text ≢ due_text event row.kind name preds (stamp_text id tree) task ++ rest) → IsTrue false ↔ (text ≡ due_line event row id tree)
-is_no_line event row id tree name preds task spelled words text lacks =
-    let front = due_text event row.kind name preds (stamp_text id tree) task in
-    (λ wrong. cc, λ same. absurd (lacks [] (same ∙ sym (looked_for event row id tree name preds task spelled words) ∙ sym (append-nil front))))
-
--- ---- looking for parts at the front of a text, one behind the other
-
--- what is behind these bytes at the front of the text, or nothing exactly if they are not there
-abbrev pub Strips : Text → Text → Option (Bor (List ℕ)) → Type 0
-Strips text spelled found = MatchOption found ((rest : List ℕ) → text ≢ spelled ++ rest) (λ rest. text ≡ spelled ++ rest.now)
-
--- the first part is not there
-pub lacks_first : (text first others : Text) → ((rest : List ℕ) → text ≢ first ++ rest) → (rest : List ℕ) → text ≢ (first ++ others) ++ rest
-lacks_first text first others lacks = λ rest same. lacks (others ++ rest) (same ∙ append_assoc first others rest)
-
--- the first part is there, and the others are looked for behind it
-pub strips_on : (text first others behind : Text) (found : Option (Bor (List ℕ))) → text ≡ first ++ behind → Strips behind others found → Strips text (first ++ others) found
-strips_on text first others behind None begins lacks =
-    λ rest same. lacks rest (append_cancel_left first behind (others ++ rest) (sym begins ∙ same ∙ append_assoc first others rest))
-strips_on text first others behind (Some rest) begins follows = begins ∙ ap (λ bytes. first ++ bytes) follows ∙ sym (append_assoc first others rest.now)
+-- two pieces are one
+pub strips_both : {text found found' : Option (Bor (List ℕ))} {first second : Text} → StripsOn text first found → StripsOn found second found' → StripsOn text (first ++ second) found'
+strips_both {found' = found'} {first} {second} one two = record {
+  behind = λ whole front begins.
+      subst (λ (spelled : Text). Strips whole spelled found') (append_assoc front first second) (two.behind whole (front ++ first) (one.behind whole front begins));
+}
 
 -- ---- reports
 

@@ -1,5 +1,5 @@
 -- The points of the trees of events, once there is one more, or one less.
-use Rattle.std.proofs.Common.{◌≡◌, ◌⊎◌, ℕ, suc, ◌+◌, ◌-◌, ◌<◌, ◌≤◌, List, [], ◌∷◌, ◌++◌, length, slice_index_or, Option, None, sym, ap, subst, inl, inr, ◌∙◌, arith, length-append, length-set, slice_set}
+use Rattle.std.proofs.Common.{◌≡◌, ℕ, suc, ◌+◌, ◌-◌, ◌<◌, ◌≤◌, List, [], ◌∷◌, ◌++◌, length, slice_index_or, Option, None, sym, ap, subst, inl, inr, ◌∙◌, arith, length-append, length-set, slice_set}
 use Rattle.std.proofs.lemmas.Bool.{cases_eq, cases_lt}
 use Rattle.std.proofs.lemmas.List.{get_or_append_left, get_or-append-add, get_or-set_same, get_or-set_other, get_or_past}
 use Rattle.event_tree.specs.declared.point.RaisedPoint.{RaisedPoint}

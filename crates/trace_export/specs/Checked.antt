@@ -1,16 +1,23 @@
 -- What a check leaves, of what its reader gave before and after.
-use Rattle.std.specs.Prelude.{◌≡◌, ℕ, suc, ◌+◌, ◌<◌, ◌≤◌, ◌⊎◌, IsTrue, List, [], ◌∷◌, ◌++◌, length, Option, Some, None}
+use Rattle.std.specs.Prelude.{◌≡◌, ℕ, suc, ◌+◌, ◌<◌, ◌≤◌, ◌⊎◌, Bool, IsTrue, List, [], ◌∷◌, ◌++◌, length, Option, Some, None, Result, Ok, Err}
+use Rattle.trace_types.specs.tenant.Rows.{history_of}
 use Rattle.trace_types.specs.text.Name.{Text}
 use Rattle.line_protocol.specs.declared.line.Line.{Line}
 use Rattle.line_protocol.specs.declared.line.Line.TheVariants.{Whole, TooLong as TooLongLine, End}
 use Rattle.line_protocol.specs.Source.{Given}
 use Rattle.line_protocol.specs.declared.read_fault.ReadFault.{ReadFault}
 use Rattle.line_protocol.specs.declared.read_fault.ReadFault.TheVariants as read_fault
+use Rattle.trace_export.specs.Edges.{Placing}
+use Rattle.trace_export.specs.Following.{placing_of}
 use Rattle.trace_export.specs.Graph.{IsKeptGraph}
 use Rattle.trace_export.specs.Heading.{IsHeader, IsNoHeader, lines_ahead}
+use Rattle.trace_export.specs.Loading.{limits_under}
 use Rattle.trace_export.specs.ReadTo.{StopsAtLine, WasReadTo, WasReadToEnd}
 use Rattle.trace_export.specs.Verdict.{IsVerdict, IsRightNext, IsFaulty}
-use Rattle.trace_export.specs.declared.collected.Collected.{Collected}
+use Rattle.trace_export.specs.declared.checked.Checked.{Checked}
+use Rattle.trace_export.specs.declared.checked.Checked.TheVariants.{Due, Compared}
+use Rattle.trace_export.specs.declared.follower.Follower.{Follower}
+use Rattle.trace_export.specs.declared.graph.Graph.{Graph}
 use Rattle.trace_export.specs.declared.header.Header.{Header}
 use Rattle.trace_export.specs.declared.placed.Placed.{Placed}
 use Rattle.trace_export.specs.declared.reason.Reason.{Reason}
@@ -52,37 +59,79 @@ abbrev pub HoldsOfFound : Line → Text → (at_end : Type 0) → (of_text : Tex
 HoldsOfFound End line at_end of_text = at_end
 HoldsOfFound found line at_end of_text = (text : Text) → IsTextFound found line text → of_text text
 
--- The first line, which has this text, is this header, and there are no events.
-pub record IsHeaded (old new : Collected) (text : Text) : Type 0 where
-  pub header : Header
-  pub first : (old.header ≡ None) × (old.graph.placed.items ≡ [])
-  pub is : IsHeader text header
-  pub headed : new.header ≡ Some header
-  pub none : new.graph.placed.items ≡ []
-  pub kept : IsKeptGraph new.graph
+-- ---- what is kept of the lines so far
+
+-- the header, if the first line is one
+abbrev pub header_in : Checked → Option Header
+header_in (Due follower graph) = follower.header
+header_in (Compared header graph) = header
+
+-- what the lines of events list
+abbrev pub placing_in : Checked → Placing
+placing_in (Due follower graph) = placing_of (history_of follower.ledger.rows)
+placing_in (Compared header graph) = graph.placed.items
+
+-- The tenant has the limits of the header, and no more events than an export may list. Nothing is in the graph.
+pub record IsFollowing (follower : Follower) (graph : Graph) : Type 0 where
+  pub limits : follower.ledger.limits ≡ limits_under follower.header
+  pub few : length follower.ledger.rows ≤ 16384
+  pub none : graph.placed.items ≡ []
+  pub kept : IsKeptGraph graph
+
+abbrev pub IsKept : Checked → Type 0
+IsKept (Due follower graph) = IsFollowing follower graph
+IsKept (Compared header graph) = IsKeptGraph graph
+
+-- ---- one line more, behind this header and lines that list these events
+
+-- it may be the first, and is then no header
+abbrev pub IsNoFirstOf : Option Header → Placing → Text → Type 0
+IsNoFirstOf header placing text = header ≡ None → placing ≡ [] → IsNoHeader text
+
+-- The line, which has this text, is the first one and this header.
+pub record IsHeaded (header : Option Header) (placing : Placing) (text : Text) (new : Checked) : Type 0 where
+  pub first : Header
+  pub begins : (header ≡ None) × (placing ≡ [])
+  pub is : IsHeader text first
+  pub headed : header_in new ≡ Some first
+  pub none : placing_in new ≡ []
+  pub kept : IsKept new
 
 -- A line with this text is right, and its event is kept. It is no header if it is the first one.
-pub record IsEventKept (old new : Collected) (text : Text) : Type 0 where
+pub record IsEventKept (header : Option Header) (placing : Placing) (text : Text) (new : Checked) : Type 0 where
   pub placed : Placed
-  pub no_header : old.header ≡ None → old.graph.placed.items ≡ [] → IsNoHeader text
-  pub same : new.header ≡ old.header
-  pub right : IsRightNext old.graph.placed.items text placed
-  pub more : new.graph.placed.items ≡ old.graph.placed.items ++ placed ∷ []
-  pub kept : IsKeptGraph new.graph
+  pub no_header : IsNoFirstOf header placing text
+  pub same : header_in new ≡ header
+  pub right : IsRightNext placing text placed
+  pub more : placing_in new ≡ placing ++ placed ∷ []
+  pub kept : IsKept new
+
+-- it is one of both
+abbrev pub IsRightAfter : Option Header → Placing → Text → Checked → Type 0
+IsRightAfter header placing text new = IsHeaded header placing text new ⊎ IsEventKept header placing text new
 
 -- A line with this text is faulty for this reason. It is no header if it is the first one.
-pub record IsRefused (reason : Reason) (old : Collected) (text : Text) : Type 0 where
-  pub no_header : old.header ≡ None → old.graph.placed.items ≡ [] → IsNoHeader text
-  pub faulty : IsFaulty reason old.graph.placed.items text
+pub record IsRefused (reason : Reason) (header : Option Header) (placing : Placing) (text : Text) : Type 0 where
+  pub no_header : IsNoFirstOf header placing text
+  pub faulty : IsFaulty reason placing text
 
--- The line is a header or that of an event, and is kept; or it is faulty, and the verdict says so.
-abbrev pub IsJudgedAs : Option Verdict → Collected → Collected → Text → Type 0
-IsJudgedAs None old new text = IsHeaded old new text ⊎ IsEventKept old new text
+-- The event of the line is added to the graph, or the line is a header or faulty. It is a header only if it may be the first.
+abbrev pub IsAdded : Bool → Text → Graph → Graph → Result (Option Header) Reason → Type 0
+IsAdded is_first text old new (Ok None) =
+    (IsTrue is_first → IsNoHeader text)
+    × ((placed : Placed) × IsRightNext old.placed.items text placed × (new.placed.items ≡ old.placed.items ++ placed ∷ []) × IsKeptGraph new)
+IsAdded is_first text old new (Ok (Some header)) =
+    IsTrue is_first × IsHeader text header × (new.placed.items ≡ old.placed.items) × IsKeptGraph new
+IsAdded is_first text old new (Err reason) = (IsTrue is_first → IsNoHeader text) × IsFaulty reason old.placed.items text
+
+-- the line is right, and is kept; or it is faulty, and the verdict says so
+abbrev pub IsJudgedAs : Option Verdict → Checked → Checked → Text → Type 0
+IsJudgedAs None old new text = IsRightAfter (header_in old) (placing_in old) text new
 IsJudgedAs (Some (Yes count)) old new text = ⊥
 IsJudgedAs (Some (No number reason)) old new text =
-    (number ≡ lines_ahead old.header + suc (length old.graph.placed.items)) × IsRefused reason old text
+    (number ≡ lines_ahead (header_in old) + suc (length (placing_in old))) × IsRefused reason (header_in old) (placing_in old) text
 
 -- What is answered if this was found. At the end it is that all lines were right.
-abbrev pub IsJudged : Line → Text → Option Verdict → Collected → Collected → Type 0
+abbrev pub IsJudged : Line → Text → Option Verdict → Checked → Checked → Type 0
 IsJudged found line verdict old new =
-    HoldsOfFound found line (verdict ≡ Some (Yes (length old.graph.placed.items))) (IsJudgedAs verdict old new)
+    HoldsOfFound found line (verdict ≡ Some (Yes (length (placing_in old)))) (IsJudgedAs verdict old new)

@@ -1,5 +1,5 @@
 -- What is kept of right lines, to compare the next one with.
-use Rattle.std.specs.Prelude.{◌≡◌, ℕ, suc, ◌+◌, ◌-◌, ◌*◌, ◌<◌, ◌≤◌, ◌↔◌, ◌⊎◌, List, [], ◌∷◌, ◌++◌, length, map, All, Contains, Option, None}
+use Rattle.std.specs.Prelude.{◌≡◌, ℕ, suc, ◌+◌, ◌-◌, ◌*◌, ◌<◌, ◌≤◌, ◌↔◌, ◌⊎◌, List, [], length, map, All, Contains, Option, None}
 use Rattle.std.specs.List.{slice_index_or}
 use Rattle.trace_types.specs.clock.EventTree.{EventTree}
 use Rattle.event_tree.specs.Comparison.{IsBelow}
@@ -8,7 +8,6 @@ use Rattle.trace_export.specs.Bits.{HasBit}
 use Rattle.trace_export.specs.Chains.{AreChains, IsOnChain}
 use Rattle.trace_export.specs.Edges.{Placing, IsPlaced, IsConnected, AreOrderedAlike, listed_preds, listed_tree}
 use Rattle.trace_export.specs.Raised.{IsPointOf}
-use Rattle.trace_export.specs.Verdict.{IsOrderedNext}
 use Rattle.trace_export.specs.declared.graph.Graph.{Graph}
 use Rattle.trace_export.specs.declared.placed.Placed.{Placed}
 

@@ -13,6 +13,7 @@ pub mod Loading
 pub mod Loads
 pub mod Rebuilding
 pub mod Raised
+pub mod ReadLine
 pub mod ReadTo
 pub mod Reasons
 pub mod Verdict

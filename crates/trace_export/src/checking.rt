@@ -1,11 +1,9 @@
 //! Checks of exports.
-ghost use Rattle.std.specs.Prelude.{◌≡◌, ◌+◌, ◌<◌, ◌≤◌, ◌↔◌, ◌^◌, IfOk, IsErrOf, OnOk, length};
+ghost use Rattle.std.specs.Prelude.{◌≡◌, ◌+◌, ◌<◌, ◌≤◌, ◌↔◌, ◌^◌, IfOk, IsErrOf, length};
 ghost use Rattle.line_protocol.specs.Source.{StopsAtEnd};
-ghost use Rattle.trace_export.specs.Checked.{Judges, IsJudged, StopsReading};
-ghost use Rattle.trace_export.specs.Following.{KeepsTenant};
-ghost use Rattle.trace_export.specs.Graph.{IsKeptGraph};
+ghost use Rattle.trace_export.specs.Checked.{Judges, IsJudged, IsKept, StopsReading};
 
-use crate::collected::Collected;
+use crate::checked::Checked;
 use crate::{CheckFault, Reason, Verdict};
 use line_protocol::{Buffer, Line, Source};
 use std::alloc::Global;
@@ -41,39 +39,44 @@ pub fn check<R: Source>(alloc: Global, reader: &mut R) -> Result<Verdict, CheckF
     ensures too_long { IsErrOf result CheckFault.TooLong → (R.seen reader.new).reads ≡ (R.seen reader.old).reads + 2 ^ 30 }
 {
     let mut lines = Buffer::with_bounds(alloc, MOST_BYTES, MOST_READS)?;
-    let mut collected = Collected::new(alloc)?;
+    let mut checked = Checked::new(alloc)?;
     let mut stack = Stack::new();
     loop {
         let found = lines.next_line(reader)?;
         stack.make_room(alloc, lines.line().len() / BYTES_OF_LEVEL)?;
-        if let Some(verdict) = judge(&mut collected, alloc, found, lines.line())? {
+        let (next, verdict) = judge(checked, alloc, found, lines.line())?;
+        checked = next;
+        if let Some(verdict) = verdict {
             return Ok(verdict);
         }
     }
 }
 
-/// Keeps what a line lists if the line is right, else gives the verdict. It gives the verdict at the end too. A line that
-/// is too long has no text.
+/// Takes a line if it is right, else gives the verdict. It gives the verdict at the end too. A line that is too long has no
+/// text.
 fn judge(
-    collected: &mut Collected,
+    checked: Checked,
     alloc: Global,
     found: Line,
     line: &[u8],
-) -> Result<Option<Verdict>, Memory>
-    requires graph { IsKeptGraph collected.old.graph }
-    requires tenant { KeepsTenant collected.old }
+) -> Result<(Checked, Option<Verdict>), Memory>
+    requires kept { IsKept checked }
     requires whole { found ≡ Line.Whole → length line.now ≤ 65536 }
-    ensures tenant { OnOk result (KeepsTenant collected.new) }
-    ensures judged { IfOk result (λ verdict. IsJudged found line.now verdict collected.old collected.new) }
+    ensures { IfOk result (λ judged. IsJudged found line.now judged.1 checked judged.0) }
 {
-    let number = collected.len() + 1;
-    let fault = match found {
-        Line::End => return Ok(Some(Verdict::Yes(collected.graph.len() as u64))),
-        Line::Whole => collected.add(alloc, line)?,
-        Line::TooLong => Some(Reason::NoJson),
-    };
-    match fault {
-        Some(reason) => Ok(Some(Verdict::No(number, reason))),
-        None => Ok(None),
+    let number = checked.next_line();
+    match found {
+        Line::End => {
+            let events = checked.events();
+            Ok((checked, Some(Verdict::Yes(events))))
+        }
+        Line::TooLong => Ok((checked, Some(Verdict::No(number, Reason::NoJson)))),
+        Line::Whole => {
+            let (checked, fault) = checked.take(alloc, line)?;
+            match fault {
+                Some(reason) => Ok((checked, Some(Verdict::No(number, reason)))),
+                None => Ok((checked, None)),
+            }
+        }
     }
 }

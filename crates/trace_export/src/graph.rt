@@ -1,7 +1,9 @@
 //! What is kept of right lines, with which the next one is compared.
 ghost use Rattle.std.specs.Prelude.{◌≡◌, ℕ, suc, ◌+◌, ◌*◌, ◌<◌, ◌≤◌, ◌++◌, ◌∷◌, ◌↔◌, ◌⊎◌, ◌-◌, [], IfErr, IfOk, IsTrue, length, vec_len, vec_capacity, All, Contains, OnOk, false};
+ghost use Rattle.trace_types.specs.tenant.Rows.{history_of};
 ghost use Rattle.trace_export.specs.Bits.{HasBit};
 ghost use Rattle.trace_export.specs.Edges.{IsPlaced, AreOrderedAlike, listed_preds, placed_at};
+ghost use Rattle.trace_export.specs.Following.{placing_of};
 ghost use Rattle.trace_export.specs.Graph.{AreEarlier, ArePoints, HaveRoom, IsKeptGraph, IsReachedBy, IsWhole, rows_of, reaching_row};
 ghost use Rattle.trace_export.specs.Raised.{IsPointOf};
 ghost use Rattle.trace_export.specs.Verdict.{IsOrderedNext};
@@ -9,17 +11,19 @@ ghost use Rattle.trace_export.specs.Verdict.{IsOrderedNext};
 use crate::bits::{add_bit, add_bits, no_bits};
 use crate::chains::Chains;
 use crate::hints::Hints;
-use crate::placed::Placed;
+use crate::placed::{Placed, place_all};
 use crate::sides::Sides;
 use event_tree::{EvTree, RaisedPoint};
 use std::alloc::{AllocError, Global};
 use std::mem;
-use trace_types::Preds;
+use tenant_ledger::Ledger;
+use trace_types::{Memory, Preds};
 
+mod listed;
 mod ordering;
 
-/// What is kept of right lines. As long as each line was the one that is due to a tenant, only what they list is kept. The
-/// rest is made before the first event is compared.
+/// What is kept of right lines. Of those that were due to a tenant, no more is kept than what they list. The rest is made
+/// before the first event is compared.
 #[derive(Drop)]
 pub(crate) struct Graph {
     /// What is listed of each event. Event k is at k - 1.
@@ -93,20 +97,26 @@ impl Graph {
         Ok(true)
     }
 
-    /// Adds the event that comes next, of which it is known that its tree and the earlier ones compare as the edges say. No
-    /// more than what is listed of it is kept before another event has to be compared.
-    pub(crate) fn add_ordered(&mut self, placed: Placed) -> Result<(), AllocError>
+    /// Makes room for what so many events list, of which none is there yet.
+    pub(crate) fn make_room_for(&mut self, events: usize) -> Result<(), AllocError>
         requires graph { IsKeptGraph self.old }
-        requires preds { AreEarlier placed.preds (suc (length self.old.placed.items)) }
-        requires few { length self.old.placed.items < 16384 }
-        requires ordered { IsOrderedNext self.old.placed.items placed }
-        ensures placed { OnOk result (self.new.placed.items ≡ self.old.placed.items ++ placed ∷ []) }
         ensures graph { IsKeptGraph self.new }
-        ensures memory { IfErr result (λ _. self.new.placed.items ≡ self.old.placed.items) }
+        ensures same { self.new.placed.items ≡ self.old.placed.items }
     {
-        self.placed.reserve(1)?;
-        self.placed.push_reserved(placed);
-        Ok(())
+        self.placed.reserve(events)
+    }
+
+    /// Lists all events of the tenant, whose trees compare as its edges say, and gives the rest of the tenant back. No more than
+    /// what is listed of them is kept before another event has to be compared.
+    pub(crate) fn list(&mut self, alloc: Global, ledger: Ledger) -> Result<(), Memory>
+        requires graph { IsKeptGraph self.old }
+        requires none { self.old.placed.items ≡ [] }
+        requires few { length ledger.rows ≤ 16384 }
+        ensures placed { OnOk result (self.new.placed.items ≡ placing_of (history_of ledger.rows)) }
+        ensures graph { OnOk result (IsKeptGraph self.new) }
+    {
+        let _ = ledger.rows();
+        place_all(&mut self.placed, alloc, &ledger)
     }
 
     /// Gives back what is kept for speed alone, and keeps none of it from now on. It says whether there was anything.

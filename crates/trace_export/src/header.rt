@@ -1,15 +1,13 @@
 //! Headers of exports.
-ghost use Rattle.std.specs.Prelude.{◌≡◌, ◌≤◌, IfOk, IsTrue, MatchOption, length};
+ghost use Rattle.std.specs.Prelude.{◌≡◌, MatchOption};
 ghost use Rattle.serde_json.specs.View.{view};
-ghost use Rattle.trace_export.specs.Heading.{IsHeader, IsHeaderJson, IsNoHeader};
+ghost use Rattle.trace_export.specs.Heading.{IsHeaderJson};
 ghost use Rattle.trace_export.specs.Loading.{limits_under};
 ghost use Rattle.trace_export.specs.declared.header.Header.{Header as Listed};
 
-use crate::json_line::read_json;
 use crate::member::value_of;
 use serde_json::Value;
-use std::alloc::Global;
-use trace_types::{Limits, Memory, Name};
+use trace_types::{Limits, Name};
 
 /// The first line of an export of version 2: whose export it is, and under which limits the tenant was.
 #[derive(Clone, Copy, Debug)]
@@ -23,19 +21,8 @@ pub struct Header {
 /// The version of exports that have a header.
 pub(crate) const VERSION: u64 = 2;
 
-/// The header that the line is, or `None` exactly if it is none. Returns `Memory` if it runs out of memory.
-pub(crate) fn read_header(alloc: Global, line: &[u8]) -> Result<Option<Header>, Memory>
-    requires short { length line.now ≤ 65536 }
-    ensures { IfOk result (λ header. MatchOption header (IsNoHeader line.now) (IsHeader line.now)) }
-{
-    match read_json(alloc, line)? {
-        Some(json) => Ok(header_of(&json)),
-        None => Ok(None),
-    }
-}
-
 /// The header that the JSON is, or `None` exactly if it is none.
-fn header_of(json: &Value) -> Option<Header>
+pub(crate) fn header_of(json: &Value) -> Option<Header>
     ensures { MatchOption result ((header : Listed) → ¬ IsHeaderJson (view json.now) header)
         (λ header. IsHeaderJson (view json.now) header) }
 {

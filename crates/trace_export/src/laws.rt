@@ -1,10 +1,16 @@
 //! What the definitions of this crate mean. Each law is the contract of a function that does nothing.
-ghost use Rattle.std.specs.Prelude.{◌≡◌, ◌↔◌, ℕ, List, length};
+ghost use Rattle.std.specs.Prelude.{◌≡◌, ◌++◌, ◌↔◌, ℕ, List, codes, length};
+ghost use Rattle.trace_types.specs.clock.EventTree.{EventTree};
+ghost use Rattle.trace_types.specs.clock.Id.{Id};
 ghost use Rattle.trace_types.specs.text.Lines.{lines};
+ghost use Rattle.trace_types.specs.text.StampText.{stamp_text};
 ghost use Rattle.trace_types.specs.declared.row.Row.{Row};
+ghost use Rattle.trace_export.specs.DueLine.{IsSpelled, due_line, due_text};
 ghost use Rattle.trace_export.specs.Edges.{Placing};
+ghost use Rattle.trace_export.specs.Export.{listed_row};
 ghost use Rattle.trace_export.specs.Heading.{BeginsWithNoHeader};
 ghost use Rattle.trace_export.specs.Laws.{IsGoodExport, TellsVersion};
+ghost use Rattle.trace_export.specs.Listing.{listed_line};
 ghost use Rattle.trace_export.specs.Loading.{IsLoaded};
 ghost use Rattle.trace_export.specs.Loads.{IsExportOfRun};
 ghost use Rattle.trace_export.specs.declared.loaded.Loaded.TheVariants.{Done};
@@ -39,4 +45,13 @@ pub fn spoilt_header()
 /// bytes says yes.
 pub fn loaded()
     ensures { (bytes : List ℕ) (count : ℕ) (rows : List Row) → IsLoaded bytes (Done count) rows → IsExportOfRun bytes count rows }
+{}
+
+/// The line of an event is written as JSON, and a line is compared with it piece by piece. Both are the same bytes, but for
+/// the end of the line, if the words of the event are names and its numbers fit 64 bits.
+pub fn line_of_event()
+    ensures written { (event : ℕ) (row : Row) (id : Id) (tree : EventTree)
+        → listed_line (listed_row event row (stamp_text id tree)) ≡ due_line event row id tree ++ codes "\n" }
+    ensures compared { (event : ℕ) (row : Row) (id : Id) (tree : EventTree) → IsSpelled event row tree
+        → due_line event row id tree ≡ due_text event row (stamp_text id tree) }
 {}

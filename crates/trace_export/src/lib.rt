@@ -23,28 +23,26 @@
 //! ```
 #![tactic(auto)]
 
-mod add_line;
 mod bits;
 mod chains;
 mod check_fault;
+mod checked;
 mod checking;
-mod collected;
-mod due_line;
 mod event_line;
 mod export_fault;
 mod exporting;
-mod following;
+mod follower;
 mod graph;
 mod header;
 mod hints;
-mod json_line;
 pub mod laws;
+mod line_text;
 mod loaded;
 mod loading;
 mod member;
 mod placed;
+mod read_line;
 mod reason;
-mod rebuilt;
 mod requests;
 mod sides;
 mod stamp_texts;

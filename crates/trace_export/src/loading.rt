@@ -7,7 +7,7 @@ ghost use Rattle.trace_export.specs.Loads.{BreaksLoading, Loads, LoadsAs, StopsL
 ghost use Rattle.trace_export.specs.Rebuilding.{IsTaken, IsUnbegun};
 
 use crate::checking::{BYTES_OF_LEVEL, MOST_BYTES, MOST_READS};
-use crate::rebuilt::Rebuilt;
+use crate::follower::Follower;
 use crate::requests::write_requests;
 use crate::{LoadFault, Loaded, Reason};
 use line_protocol::{Buffer, Line, Sink, Source};
@@ -43,10 +43,10 @@ pub fn load<T, R: Source, W: Sink>(
     // When each fault comes. A failed read or write is never passed over.
     ensures faults { PassesNoFaultOver (R.seen reader.old) (R.seen reader.new) (W.seen writer.old) (W.seen writer.new) result }
 {
-    let (rebuilt, loaded) = take_in(rt, alloc, Rebuilt::new(alloc)?, reader)?;
+    let (follower, loaded) = take_in(rt, alloc, Follower::new(alloc, &None)?, reader)?;
     match loaded {
         Loaded::Done(events) => {
-            write_requests(alloc, tenant, rebuilt.ledger.rows(), writer)?;
+            write_requests(alloc, tenant, follower.ledger.rows(), writer)?;
             Ok(Loaded::Done(events))
         }
         Loaded::No(line, reason) => Ok(Loaded::No(line, reason)),
@@ -57,10 +57,10 @@ pub fn load<T, R: Source, W: Sink>(
 fn take_in<T, R: Source>(
     rt: &T,
     alloc: Global,
-    mut rebuilt: Rebuilt,
+    mut follower: Follower,
     reader: &mut R,
-) -> Result<(Rebuilt, Loaded), LoadFault>
-    requires { IsUnbegun rebuilt }
+) -> Result<(Follower, Loaded), LoadFault>
+    requires { IsUnbegun follower }
     ensures loads { IfOk result (λ done. LoadsAs (R.seen reader.old) (R.seen reader.new) done.1 done.0.ledger.rows) }
     ensures reads { (R.seen reader.new).reads ≤ (R.seen reader.old).reads + 2 ^ 30 }
     ensures ends { StopsAtEnd (R.seen reader.old) (R.seen reader.new) }
@@ -75,57 +75,56 @@ fn take_in<T, R: Source>(
     loop {
         let found = lines.next_line(reader)?;
         stack.make_room(alloc, lines.line().len() / BYTES_OF_LEVEL)?;
-        let (next, loaded) = take(rt, rebuilt, alloc, found, lines.line(), &mut follows)?;
-        rebuilt = next;
+        let (next, loaded) = take(rt, follower, alloc, found, lines.line(), &mut follows)?;
+        follower = next;
         if let Some(loaded) = loaded {
-            return Ok((rebuilt, loaded));
+            return Ok((follower, loaded));
         }
     }
 }
 
 /// Takes in a line if it is right, else gives what loading answers. It looks first whether the line is the one that is due
-/// next, as long as each line behind the first was. So at most one report is made for nothing.
+/// next, as long as each line of an event was. So at most one report is made for nothing.
 fn take<T>(
     rt: &T,
-    rebuilt: Rebuilt,
+    follower: Follower,
     alloc: Global,
     found: Line,
     line: &[u8],
     follows: &mut bool,
-) -> Result<(Rebuilt, Option<Loaded>), Memory>
-    requires limits { rebuilt.ledger.limits ≡ limits_under rebuilt.header }
+) -> Result<(Follower, Option<Loaded>), Memory>
+    requires limits { follower.ledger.limits ≡ limits_under follower.header }
     requires whole { found ≡ Line.Whole → length line.now ≤ 65536 }
-    ensures { IfOk result (λ taken. IsTaken found line.now taken.1 rebuilt taken.0) }
+    ensures { IfOk result (λ taken. IsTaken found line.now taken.1 follower taken.0) }
 {
-    let is_first = rebuilt.is_unbegun();
-    let (mut rebuilt, is_due) = match found {
-        Line::Whole if *follows => rebuilt.follow(rt, line),
-        Line::Whole | Line::End | Line::TooLong => (rebuilt, false),
+    let (mut follower, is_due) = match found {
+        Line::Whole if *follows => follower.follow(rt, line),
+        Line::Whole | Line::End | Line::TooLong => (follower, false),
     };
     if is_due {
-        return Ok((rebuilt, None));
+        return Ok((follower, None));
     }
-    *follows = *follows && is_first;
-    let loaded = judge(rt, &mut rebuilt, alloc, found, line)?;
-    Ok((rebuilt, loaded))
+    let loaded = judge(rt, &mut follower, alloc, found, line)?;
+    *follows = *follows && follower.ledger.rows().is_empty();
+    Ok((follower, loaded))
 }
 
 /// Takes in a line if it is right, else gives what loading answers. It gives that at the end too. A line that is too long
 /// has no text.
 fn judge<T>(
     rt: &T,
-    rebuilt: &mut Rebuilt,
+    follower: &mut Follower,
     alloc: Global,
     found: Line,
     line: &[u8],
 ) -> Result<Option<Loaded>, Memory>
     requires whole { found ≡ Line.Whole → length line.now ≤ 65536 }
-    ensures { IfOk result (λ loaded. IsTaken found line.now loaded rebuilt.old rebuilt.new) }
+    ensures { IfOk result (λ loaded. IsTaken found line.now loaded follower.old follower.new) }
 {
-    let number = rebuilt.next_line();
+    let number = follower.next_line();
     let fault = match found {
-        Line::End => return Ok(Some(Loaded::Done(rebuilt.ledger.rows().len() as u64))),
-        Line::Whole => rebuilt.add(rt, alloc, line)?,
+        Line::End => return Ok(Some(Loaded::Done(follower.ledger.rows().len() as u64))),
+        Line::Whole => follower.add(rt, alloc, line)?,
         Line::TooLong => Some(Reason::NoJson),
     };
     match fault {

@@ -1,4 +1,4 @@
-use Rattle.std.proofs.Common.{◌+◌, ◌<◌, arith}
+use Rattle.std.proofs.Common.{arith}
 use Rattle.trace_export.proofs.BitSets.{run_outside_is}
 use Rattle.trace_export.proofs.bits.run_outside.Goals as goal
 

@@ -18,7 +18,7 @@ reads_so_far g c = Reads-on {failed = 0} c.loop-lines.invariant.reads (λ ended.
 
 -- what was found
 found_on : (g : Over) (c : After-take g)
-    → LoadsOn (g.R.Source.seen c.args.reader.now) (g.R.Source.seen c.loop-lines.reader) (g.R.Source.seen c.next_line.new.source) c.loop-lines.lines c.next_line.new.self c.loop-lines.rebuilt c.in_ok-found.found
+    → LoadsOn (g.R.Source.seen c.args.reader.now) (g.R.Source.seen c.loop-lines.reader) (g.R.Source.seen c.next_line.new.source) c.loop-lines.lines c.next_line.new.self c.loop-lines.follower c.in_ok-found.found
 found_on g c = record {
   so_far = c.loop-lines.invariant.so_far;
   bounds = (reads_so_far g c).bounds;
@@ -29,7 +29,7 @@ found_on g c = record {
 
 -- the line was looked for
 stops_so_far : (g : Over) (c : After-take g)
-    → StopsAtLine g.R.Source.seen (suc (lines_loaded c.loop-lines.rebuilt.header c.loop-lines.rebuilt.ledger)) c.args.reader.now c.next_line.new.source
+    → StopsAtLine g.R.Source.seen (suc (lines_loaded c.loop-lines.follower.header c.loop-lines.follower.ledger)) c.args.reader.now c.next_line.new.source
 stops_so_far g c =
     stops_next g.R.Source.seen c.args.reader.now c.loop-lines.reader c.next_line.new.source _ c.loop-lines.invariant.so_far.read (found_lines_loaded c.loop-lines.invariant.so_far)
     c.loop-lines.invariant.stops c.in_ok-found.ensures.last
@@ -38,7 +38,7 @@ pub loop-lines-init : goal.loop-lines-init
 loop-lines-init g c =
     let held = c.in_ok-lines.ensures in
     record {
-      so_far = begins_loading _ c.in_ok-lines.lines c.args.rebuilt (ap (λ (h : Held). h.left) held) c.requires;
+      so_far = begins_loading _ c.in_ok-lines.lines c.args.follower (ap (λ (h : Held). h.left) held) c.requires;
       reads = rw held (Reads-none _ _);
       stops = inl refl;
       most = rw held (omega arith);
@@ -47,29 +47,29 @@ loop-lines-init g c =
 pub returns-in-Some-clause-loads : goal.returns-in-Some-clause-loads
 returns-in-Some-clause-loads g c =
     let at = goal.at.returns-in-Some-clause-loads g c in
-    answered_over (g.R.Source.seen c.args.reader.now) (g.R.Source.seen c.loop-lines.reader) (g.R.Source.seen c.next_line.new.source) c.loop-lines.lines c.next_line.new.self c.loop-lines.rebuilt c.in_ok-next.next
+    answered_over (g.R.Source.seen c.args.reader.now) (g.R.Source.seen c.loop-lines.reader) (g.R.Source.seen c.next_line.new.source) c.loop-lines.lines c.next_line.new.self c.loop-lines.follower c.in_ok-next.next
     c.in_ok-found.found c.in-Some.loaded (found_on g at.After-take)
-    (subst (λ (line : Text). IsTaken c.in_ok-found.found line (Some c.in-Some.loaded) c.loop-lines.rebuilt c.in_ok-next.next) c.line-in-loop-lines.ensures
-    (subst (λ loaded. IsTaken c.in_ok-found.found c.line-in-loop-lines.result.now loaded c.loop-lines.rebuilt c.in_ok-next.next) c.in-Some.is c.in_ok-next.ensures))
+    (subst (λ (line : Text). IsTaken c.in_ok-found.found line (Some c.in-Some.loaded) c.loop-lines.follower c.in_ok-next.next) c.line-in-loop-lines.ensures
+    (subst (λ loaded. IsTaken c.in_ok-found.found c.line-in-loop-lines.result.now loaded c.loop-lines.follower c.in_ok-next.next) c.in-Some.is c.in_ok-next.ensures))
 
 pub returns-in-Some-clause-stops : goal.returns-in-Some-clause-stops
 returns-in-Some-clause-stops g c =
     let at = goal.at.returns-in-Some-clause-stops g c in
-    stops_over g.R.Source.seen c.args.reader.now c.next_line.new.source c.loop-lines.rebuilt (g.R.Source.seen c.args.reader.now) (g.R.Source.seen c.loop-lines.reader) (g.R.Source.seen c.next_line.new.source) c.loop-lines.lines c.next_line.new.self c.in_ok-next.next
+    stops_over g.R.Source.seen c.args.reader.now c.next_line.new.source c.loop-lines.follower (g.R.Source.seen c.args.reader.now) (g.R.Source.seen c.loop-lines.reader) (g.R.Source.seen c.next_line.new.source) c.loop-lines.lines c.next_line.new.self c.in_ok-next.next
     c.in_ok-found.found c.in-Some.loaded (stops_so_far g at.After-take) (found_on g at.After-take)
-    (subst (λ (line : Text). IsTaken c.in_ok-found.found line (Some c.in-Some.loaded) c.loop-lines.rebuilt c.in_ok-next.next) c.line-in-loop-lines.ensures
-    (subst (λ loaded. IsTaken c.in_ok-found.found c.line-in-loop-lines.result.now loaded c.loop-lines.rebuilt c.in_ok-next.next) c.in-Some.is c.in_ok-next.ensures))
+    (subst (λ (line : Text). IsTaken c.in_ok-found.found line (Some c.in-Some.loaded) c.loop-lines.follower c.in_ok-next.next) c.line-in-loop-lines.ensures
+    (subst (λ loaded. IsTaken c.in_ok-found.found c.line-in-loop-lines.result.now loaded c.loop-lines.follower c.in_ok-next.next) c.in-Some.is c.in_ok-next.ensures))
 
 pub loop-lines-preserved : goal.loop-lines-preserved
 loop-lines-preserved g c =
     let at = goal.at.loop-lines-preserved g c in
     let taken =
-    subst (λ (line : Text). IsTaken c.in_ok-found.found line None c.loop-lines.rebuilt c.in_ok-next.next) c.line-in-loop-lines.ensures
-    (subst (λ loaded. IsTaken c.in_ok-found.found c.line-in-loop-lines.result.now loaded c.loop-lines.rebuilt c.in_ok-next.next) c.in_default.is c.in_ok-next.ensures) in
-    let more = counts_more (g.R.Source.seen c.args.reader.now) (g.R.Source.seen c.loop-lines.reader) (g.R.Source.seen c.next_line.new.source) c.loop-lines.lines c.next_line.new.self c.loop-lines.rebuilt c.in_ok-next.next
+    subst (λ (line : Text). IsTaken c.in_ok-found.found line None c.loop-lines.follower c.in_ok-next.next) c.line-in-loop-lines.ensures
+    (subst (λ loaded. IsTaken c.in_ok-found.found c.line-in-loop-lines.result.now loaded c.loop-lines.follower c.in_ok-next.next) c.in_default.is c.in_ok-next.ensures) in
+    let more = counts_more (g.R.Source.seen c.args.reader.now) (g.R.Source.seen c.loop-lines.reader) (g.R.Source.seen c.next_line.new.source) c.loop-lines.lines c.next_line.new.self c.loop-lines.follower c.in_ok-next.next
     c.in_ok-found.found (found_on g at.After-take) taken in
     record {
-      so_far = loaded_so_far (g.R.Source.seen c.args.reader.now) (g.R.Source.seen c.loop-lines.reader) (g.R.Source.seen c.next_line.new.source) c.loop-lines.lines c.next_line.new.self c.loop-lines.rebuilt c.in_ok-next.next
+      so_far = loaded_so_far (g.R.Source.seen c.args.reader.now) (g.R.Source.seen c.loop-lines.reader) (g.R.Source.seen c.next_line.new.source) c.loop-lines.lines c.next_line.new.self c.loop-lines.follower c.in_ok-next.next
           c.in_ok-found.found (found_on g at.After-take) taken;
       reads = reads_so_far g at.After-take;
       stops = subst (λ n. StopsAtLine g.R.Source.seen n c.args.reader.now c.next_line.new.source) (sym more) (stops_so_far g at.After-take);

@@ -8,9 +8,9 @@ use Rattle.trace_export.proofs.loading.take_in.Given as goal
 
 abbrev pub invariant-loop-lines : goal.invariant-loop-lines
 invariant-loop-lines g l = record {
-  so_far : FoundLoaded (g.R.Source.seen l.fn.reader).bytes (g.R.Source.seen l.reader).bytes l.lines l.rebuilt.header l.rebuilt.ledger;
+  so_far : FoundLoaded (g.R.Source.seen l.fn.reader).bytes (g.R.Source.seen l.reader).bytes l.lines l.follower.header l.follower.ledger;
   reads : Reads (g.R.Source.seen l.fn.reader) (g.R.Source.seen l.reader) (fresh_within export_bounds) l.lines 0;
-  stops : StopsAtLine g.R.Source.seen (lines_loaded l.rebuilt.header l.rebuilt.ledger) l.fn.reader l.reader;
+  stops : StopsAtLine g.R.Source.seen (lines_loaded l.follower.header l.follower.ledger) l.fn.reader l.reader;
   most : l.lines.reads ≤ 2 ^ 30;
 }
 

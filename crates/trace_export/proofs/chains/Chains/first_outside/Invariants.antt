@@ -1,4 +1,4 @@
-use Rattle.std.proofs.Common.{ℕ, ◌-◌, ◌<◌, ◌≤◌}
+use Rattle.std.proofs.Common.{◌-◌, ◌<◌, ◌≤◌}
 use Rattle.trace_export.specs.Bits.{HasBit}
 use Rattle.trace_export.specs.Chains.{IsOnChain}
 use Rattle.trace_export.proofs.chains.Chains.first_outside.Given as goal

@@ -1,4 +1,4 @@
-use Rattle.std.proofs.Common.{◌≡◌, ◌↔◌, ◌+◌, ◌<◌, ◌++◌, ◌∷◌, [], ◌∙◌, ℕ, suc, List, map, Vec, Global, length, length-append, sym, ap, subst, arith}
+use Rattle.std.proofs.Common.{◌≡◌, ◌↔◌, ◌<◌, ◌++◌, ◌∷◌, [], ◌∙◌, ℕ, suc, List, map, Vec, Global, length, length-append, sym, ap, subst, arith}
 use Rattle.std.proofs.lemmas.List.{length-map}
 use Rattle.trace_export.specs.Bits.{HasBit}
 use Rattle.trace_export.specs.Edges.{AreOrderedAlike, IsPlaced, Placing, listed_tree}

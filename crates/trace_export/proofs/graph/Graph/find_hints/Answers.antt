@@ -1,4 +1,4 @@
-use Rattle.std.proofs.Common.{◌≡◌, ◌+◌, ◌<◌, ◌∙◌, suc, length, ap, subst, arith, Vec, Global}
+use Rattle.std.proofs.Common.{◌≡◌, ◌+◌, ◌∙◌, suc, length, ap, subst, arith, Vec, Global}
 use Rattle.trace_export.specs.Edges.{listed_tree}
 use Rattle.trace_export.specs.Raised.{IsPointOf}
 use Rattle.trace_export.specs.declared.placed.Placed.{Placed}

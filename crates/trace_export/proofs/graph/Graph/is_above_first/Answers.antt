@@ -1,4 +1,4 @@
-use Rattle.std.proofs.Common.{◌≡◌, ◌-◌, ◌≤◌, ◌∙◌, ℕ, All, length, sym, ap, subst, arith}
+use Rattle.std.proofs.Common.{◌≡◌, ◌-◌, ◌∙◌, ℕ, All, length, sym, subst, arith}
 use Rattle.std.proofs.lemmas.Bool.{false≢true}
 use Rattle.event_tree.specs.Comparison.{IsBelow}
 use Rattle.trace_export.specs.Bits.{HasBit}
@@ -6,7 +6,7 @@ use Rattle.trace_export.specs.Chains.{IsOnChain}
 use Rattle.trace_export.specs.Edges.{IsPlaced, listed_tree}
 use Rattle.trace_export.specs.Graph.{IsFirstMissing}
 use Rattle.trace_export.specs.declared.placed.Placed.{Placed}
-use Rattle.trace_export.proofs.Chaining.{chains_lead_back, found_first, none_missing}
+use Rattle.trace_export.proofs.Chaining.{found_first, none_missing}
 use Rattle.trace_export.proofs.graph.Graph.is_above_first.Goals as goal
 use Rattle.trace_export.proofs.graph.Graph.is_above_first.Goals.{After-first_outside-first}
 

@@ -1,4 +1,4 @@
-use Rattle.std.proofs.Common.{◌≡◌, ◌↔◌, ◌⊎◌, ◌+◌, ◌*◌, ◌<◌, ◌≤◌, suc, map, ◌∷◌, [], ◌++◌, sym, ap, ◌∙◌, List, ℕ, Vec, Global, Contains, subst, length, arith, length-append}
+use Rattle.std.proofs.Common.{◌≡◌, ◌↔◌, ◌⊎◌, suc, map, ◌∷◌, [], sym, ap, ◌∙◌, List, ℕ, Vec, Global, Contains, subst, length, arith, length-append}
 use Rattle.std.proofs.lemmas.List.{length-map, map-append}
 use Rattle.trace_export.specs.Bits.{HasBit}
 use Rattle.trace_export.specs.Edges.{listed_preds}

@@ -1,0 +1,69 @@
+-- What an export lists of a tenant's events, one by one.
+use Rattle.std.proofs.Common.{◌≡◌, ℕ, suc, ◌+◌, ◌-◌, ◌<◌, ◌≤◌, true, List, [], ◌∷◌, ◌++◌, length, take, Some, inl, inr, sym, ap, ◌∙◌, arith}
+use Rattle.std.specs.List.{slice_index_or}
+use Rattle.std.proofs.Math.Seq.{take-suc}
+use Rattle.std.proofs.lemmas.Bool.{cases_eq}
+use Rattle.std.proofs.lemmas.List.{length-reverse, take_all}
+use Rattle.std.proofs.lemmas.Option.{same_Some}
+use Rattle.trace_types.specs.clock.Clock.{tree_clock}
+use Rattle.trace_types.specs.clock.EventTree.{EventTree, Leaf}
+use Rattle.trace_types.specs.clock.Stamps.{tree_of}
+use Rattle.trace_types.specs.tenant.Rows.{History, history_of, is_event, row_of}
+use Rattle.trace_types.specs.declared.row.Row.{Row}
+use Rattle.tenant_ledger.proofs.keeping.Told.{row_is_kept}
+use Rattle.trace_export.specs.Edges.{IsPlaced, Placing, listed_preds, placed_at}
+use Rattle.trace_export.specs.Following.{placed_of, placing_of}
+use Rattle.trace_export.specs.declared.placed.Placed.{Placed}
+use Rattle.trace_export.proofs.Connecting.{length-with_next, placed_at-earlier, placed_at-next, with_next}
+use Rattle.trace_export.proofs.LoadedEvents.{row_of-newest, row_of-older}
+use Rattle.trace_export.proofs.Placings.{length-placing, trees_are}
+
+-- as many events are listed as there are rows
+pub counted : (rows : List Row) → length (placing_of (history_of rows)) ≡ length rows
+counted rows = length-placing (history_of rows) ∙ length-reverse rows
+
+-- the listed edges are those of the rows
+preds_listed : (history : History) (event : ℕ) (row : Row) → IsPlaced (placing_of history) event → row_of history event ≡ Some row → listed_preds (placing_of history) event ≡ row.preds
+preds_listed [] event row placed is = absurd (omega (arith, placed.0, placed.1))
+preds_listed (newest ∷ earlier) event row placed is =
+    let before = placing_of earlier in
+    let this = placed_of newest earlier in
+    let len = length-placing earlier in
+    elim (cases_eq event (suc (length earlier))) [
+      | inl new ↦
+          let at : event ≡ suc (length before) = omega (arith, new, len) in
+          let same : newest ≡ row = same_Some newest row (sym (row_of-newest newest earlier event new) ∙ is) in
+          ap (λ number. listed_preds (with_next before this) number) at ∙ ap (λ (found : Placed). found.preds) (placed_at-next before this) ∙ ap (λ (found : Row). found.preds) same
+      | inr old ↦
+          let within : IsPlaced before event = (placed.0, omega (arith, placed.1, old, len, length-with_next before this)) in
+          ap (λ (found : Placed). found.preds) (placed_at-earlier before this event within) ∙ preds_listed earlier event row within (sym (row_of-older newest earlier event old) ∙ is)
+    ]
+
+-- the event at a place is listed with the predecessors of the row there, and with what the event knows
+pub placed_is : (rows : List Row) (place event : ℕ) (row : Row) (preds : List ℕ) (tree : EventTree) → place < length rows → event ≡ suc place → is_event (history_of rows) event ≡ true
+    → row ≡ slice_index_or rows place row → preds ≡ row.preds → tree ≡ tree_of tree_clock (history_of rows) event
+    → (let this : Placed = record { preds = preds; tree = tree } in this) ≡ placed_at (placing_of (history_of rows)) (suc place)
+placed_is rows place event row preds tree within at there row_is preds_are tree_is =
+    let all = placing_of (history_of rows) in
+    let placed : IsPlaced all (suc place) = (omega arith, omega (arith, within, counted rows)) in
+    let here : place ≡ suc place - 1 = omega arith in
+    let is : row_of (history_of rows) (suc place) ≡ Some row =
+    row_is_kept rows (suc place) row (ap (is_event (history_of rows)) (sym at) ∙ there) (row_is ∙ ap (λ k. slice_index_or rows k row) here) in
+    ap (λ (found : List ℕ). let this : Placed = record { preds = found; tree = tree } in this) (preds_are ∙ sym (preds_listed (history_of rows) (suc place) row placed is))
+    ∙ ap (λ (found : EventTree). let this : Placed = record { preds = listed_preds all (suc place); tree = found } in this)
+    (tree_is ∙ ap (tree_of tree_clock (history_of rows)) at ∙ sym (trees_are (history_of rows) (suc place) placed))
+
+-- one event more is listed
+pub one_more : (all items items' : Placing) (place : ℕ) (placed : Placed) → place < length all → items ≡ take place all → items' ≡ items ++ placed ∷ [] → placed ≡ placed_at all (suc place)
+    → items' ≡ take (place + 1) all
+one_more all items items' place placed within so_far pushed is =
+    let none : Placed = record { preds = []; tree = Leaf 0 } in
+    let at : suc place - 1 ≡ place = omega arith in
+    let here : placed ≡ slice_index_or all place none = is ∙ ap (λ k. slice_index_or all k none) at in
+    let next : suc place ≡ place + 1 = omega arith in
+    pushed ∙ ap (λ (before : Placing). before ++ placed ∷ []) so_far ∙ ap (λ (last : Placed). take place all ++ last ∷ []) here ∙ sym (take-suc all place none within)
+    ∙ ap (λ k. take k all) next
+
+-- all are
+pub all_listed : (rows : List Row) (count : ℕ) → length rows ≤ count → take count (placing_of (history_of rows)) ≡ placing_of (history_of rows)
+all_listed rows count whole = take_all count (placing_of (history_of rows)) (omega (arith, whole, counted rows))
