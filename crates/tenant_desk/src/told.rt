@@ -1,11 +1,13 @@
-//! What desks tell.
+//! What desks and views tell.
+ghost use Rattle.std.specs.Prelude.{◌≡◌, ◌<◌, length, MatchBool};
+ghost use mathlib.Core.List.{IsPrefix};
 
 use crate::front::Front;
 use std::marker::Model;
 
-/// The rows that a desk had when it told of them. A clause sees the rows, and which log has them.
+/// The rows that a desk had, or that a view knew of, when it told of them. A clause sees the rows, and which log has them.
 ///
-/// It is the number of the rows, and takes no memory.
+/// It is the number of the rows, and takes no memory. Only a log that has reached these rows can be told of so.
 #[derive(Drop)]
 pub struct Told {
     pub(crate) front: Front,
@@ -17,4 +19,16 @@ impl Model for Told {
     ghost Value = { Line };
 
     ghost view = { λ told. told.front };
+}
+
+impl Told {
+    /// Whether the other, of the same log, tells of no more rows than this one. Then these rows begin with the other's, else
+    /// the other's begin with these.
+    pub fn covers(&self, other: &Told) -> bool
+        requires { other.now.book ≡ self.now.book }
+        ensures { MatchBool result (IsPrefix other.now.rows self.now.rows)
+            (IsPrefix self.now.rows other.now.rows × (length self.now.rows < length other.now.rows)) }
+    {
+        self.front.covers(&other.front)
+    }
 }

@@ -18,6 +18,7 @@ use Rattle.trace_session.specs.Lent.{AsksView, IsSoundDesk, IsSoundView, TakesRe
 use Rattle.trace_session.specs.Openings.{opening_in}
 use Rattle.trace_session.specs.Sessions.{Session}
 use Rattle.trace_session.specs.State.{State}
+use Rattle.trace_session.specs.Witnesses.{IsWitnessed, Witness}
 use Rattle.trace_session.specs.Written.{WritesAll, WritesLinesInPart}
 use Rattle.trace_session.specs.declared.conversation.Lending.{Lending}
 use Rattle.trace_session.specs.declared.conversation.Lending.TheVariants as lending
@@ -41,45 +42,49 @@ TurnsAway code before after (Err Write) = WritesLinesInPart before after (reply.
 TurnsAway code before after (Err Gate) = WritesAll before after []
 TurnsAway code before after (Err fault) = ⊥
 
--- The session was refused with this code, and read nothing more.
-pub record IsTurnedAway (code : Code) (before after : State) (result : Result SessionEnd SessionFault) : Type 0 where
+-- The session was refused with this code, and read nothing more. There is no witness.
+pub record IsTurnedAway (code : Code) (witness : Option Witness) (before after : State) (result : Result SessionEnd SessionFault) : Type 0 where
   pub refuses : TurnsAway code before.taken after.taken result
   pub same_given : after.given ≡ before.given
   pub same_held : after.held ≡ before.held
+  pub unwitnessed : witness ≡ None
 
--- What was lent belongs to this tenant, and what the session left of it does. The session was held with it.
-pub record IsHeld {S : Type 0} (IsSound : S → Type 0) (tenant_of : S → Tenant) (book_of : S → Book) (Does : S → Request → Reply → S → Type 0) (owner : Owner) (before after : State) (result : Result SessionEnd SessionFault) : Type 0 where
+-- What was lent belongs to this tenant, and what the session left of it does. The session was held with it. The witness is
+-- of the rows of both, which the tenant's log has reached.
+pub record IsHeld {S : Type 0} (IsSound : S → Type 0) (tenant_of : S → Tenant) (book_of : S → Book) (Does : S → Request → Reply → S → Type 0) (owner : Owner) (witness : Option Witness) (before after : State) (result : Result SessionEnd SessionFault) : Type 0 where
   pub lent : S
   pub left : S
   pub lent_belongs : Belongs IsSound tenant_of book_of owner lent
   pub left_belongs : Belongs IsSound tenant_of book_of owner left
+  pub witnessed : IsWitnessed tenant_of book_of lent left witness
   pub session : Session Does lent left before after result
 
 -- It was not there to be lent, and the session was refused with this code; or the session was held with it.
-abbrev pub Lends : {S : Type 0} → (S → Type 0) → (S → Tenant) → (S → Book) → (S → Request → Reply → S → Type 0) → Code → Owner → State → State → Result SessionEnd SessionFault → Type 0
-Lends IsSound tenant_of book_of Does code owner before after result = IsTurnedAway code before after result ⊎ IsHeld IsSound tenant_of book_of Does owner before after result
+abbrev pub Lends : {S : Type 0} → (S → Type 0) → (S → Tenant) → (S → Book) → (S → Request → Reply → S → Type 0) → Code → Owner → Option Witness → State → State → Result SessionEnd SessionFault → Type 0
+Lends IsSound tenant_of book_of Does code owner witness before after result = IsTurnedAway code witness before after result ⊎ IsHeld IsSound tenant_of book_of Does owner witness before after result
 
 -- The session asked for the desk of this tenant, or for a view.
-abbrev pub LendsTo : Lending → Owner → State → State → Result SessionEnd SessionFault → Type 0
-LendsTo lending.Desk owner before after result = Lends IsSoundDesk (λ desk. desk.tenant) (λ desk. desk.book) TakesRequest DeskTaken owner before after result
-LendsTo lending.View owner before after result = Lends IsSoundView tenant_seen (λ view. view.book) AsksView NoPlace owner before after result
+abbrev pub LendsTo : Lending → Owner → Option Witness → State → State → Result SessionEnd SessionFault → Type 0
+LendsTo lending.Desk owner witness before after result = Lends IsSoundDesk (λ desk. desk.tenant) (λ desk. desk.book) TakesRequest DeskTaken owner witness before after result
+LendsTo lending.View owner witness before after result = Lends IsSoundView tenant_seen (λ view. view.book) AsksView NoPlace owner witness before after result
 
 -- What came of the first line on this hub: one that opens nothing is refused, one that names no tenant is, and else what it
 -- asks for is lent of the tenant that it names, if it is there.
-abbrev pub Opens : Hub → Option Opening → State → State → Result SessionEnd SessionFault → Type 0
-Opens hub None before after result = IsTurnedAway Line before after result
-Opens hub (Some opening) before after result =
-    MatchOption (tenant_named opening.tenant hub) (IsTurnedAway NoTenant before after result) (λ tenant. LendsTo opening.lending tenant before after result)
+abbrev pub Opens : Hub → Option Opening → Option Witness → State → State → Result SessionEnd SessionFault → Type 0
+Opens hub None witness before after result = IsTurnedAway Line witness before after result
+Opens hub (Some opening) witness before after result =
+    MatchOption (tenant_named opening.tenant hub) (IsTurnedAway NoTenant witness before after result) (λ tenant. LendsTo opening.lending tenant witness before after result)
 
 -- The first line was read, and this came of it.
-pub record OpensBy (hub : Hub) (before after : State) (result : Result SessionEnd SessionFault) : Type 0 where
+pub record OpensBy (hub : Hub) (witness : Option Witness) (before after : State) (result : Result SessionEnd SessionFault) : Type 0 where
   pub text : Text
   pub between : State
   pub gives : GivesLine before.given.bytes between.given.bytes before.held.left between.held.left between.held.is_ended text
   pub bounds : between.held.bounds ≡ before.held.bounds
   pub nothing_written : between.taken ≡ before.taken
-  pub opens : Opens hub (opening_in before.held.bounds.bytes text) between after result
+  pub opens : Opens hub (opening_in before.held.bounds.bytes text) witness between after result
 
--- A session on this hub: it found no first line, and wrote nothing; or its first line opened it, or was refused.
-abbrev pub Converses : Hub → State → State → Result SessionEnd SessionFault → Type 0
-Converses hub before after result = (FindsNoLine result before after × (after.taken ≡ before.taken)) ⊎ OpensBy hub before after result
+-- A session on this hub: it found no first line, and wrote nothing, and there is no witness; or its first line opened it, or
+-- was refused.
+abbrev pub Converses : Hub → Option Witness → State → State → Result SessionEnd SessionFault → Type 0
+Converses hub witness before after result = (FindsNoLine result before after × (after.taken ≡ before.taken) × (witness ≡ None)) ⊎ OpensBy hub witness before after result

@@ -15,4 +15,5 @@ pub mod Serving
 pub mod Sessions
 pub mod Shelves
 pub mod State
+pub mod Witnesses
 pub mod Written

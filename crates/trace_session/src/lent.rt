@@ -1,8 +1,9 @@
 //! What sessions borrow.
 ghost use Rattle.std.specs.Prelude.{◌≡◌};
+ghost use Rattle.trace_session.specs.Witnesses.{told_of};
 
 use std::sync::Wait;
-use tenant_desk::{Desk, View};
+use tenant_desk::{Desk, Told, View};
 use trace_types::{Code, Reply, Request};
 
 /// What is lent to a session, and answers its requests.
@@ -37,6 +38,10 @@ pub(crate) trait Lent: Sized {
         ensures sound { is_sound self.old → is_sound self.new }
         ensures limits { (tenant_of self.new).limits ≡ (tenant_of self.old).limits }
         ensures book { book_of self.new ≡ book_of self.old };
+
+    /// Tells of the rows that it knows of.
+    fn tell(&self) -> Told
+        ensures { result ≡ told_of tenant_of book_of self.now };
 }
 
 impl Lent for Desk {
@@ -58,6 +63,10 @@ impl Lent for Desk {
     fn answer<T: Wait>(&mut self, rt: &T, request: &Request, reply: &mut Reply) {
         self.call_into(rt, request, reply);
     }
+
+    fn tell(&self) -> Told {
+        Desk::tell(self)
+    }
 }
 
 impl Lent for View {
@@ -78,5 +87,9 @@ impl Lent for View {
 
     fn answer<T: Wait>(&mut self, rt: &T, request: &Request, reply: &mut Reply) {
         self.ask_cached_into(rt, request, reply);
+    }
+
+    fn tell(&self) -> Told {
+        View::tell(self)
     }
 }

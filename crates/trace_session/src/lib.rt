@@ -7,7 +7,8 @@
 //! as the desk takes its request or as the view answers it. Exactly these replies are written, a line each, or a prefix
 //! of them at a fault. [`laws::reports_run`] says that a session that reports gives the replies of a run from the rows of
 //! its desk. [`session`] is held with a desk or a view of the tenant that its first line names. The rows of all that a
-//! tenant lends stand in one log, which the hub keeps for that tenant.
+//! tenant lends stand in one log, which the hub keeps for that tenant. [`witnessed_session`] also gives a [`Witness`] of the
+//! rows of that log with which the session began, and of those with which it ended.
 //!
 //! ```
 //! use line_protocol::{FromReader, IntoWriter};
@@ -41,11 +42,13 @@ mod resting;
 mod serving;
 mod shelf;
 mod tenant;
+mod witness;
 
-pub use conversation::{Connection, session};
+pub use conversation::{Connection, session, witnessed_session};
 pub use door::{Door, DoorFault};
 pub use end::{SessionEnd, SessionFault};
 pub use gate::{Gate, OpenGate};
 pub use hub::Hub;
 pub use lines::{report_lines, view_lines};
 pub use serving::{ServeCounts, ServeFault, serve};
+pub use witness::Witness;

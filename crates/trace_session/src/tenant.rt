@@ -1,6 +1,7 @@
 //! Tenants, which lend what no session has.
 ghost use Rattle.std.specs.Prelude.{◌≡◌, IfOk, IfSome};
 ghost use Rattle.trace_session.specs.Belonging.{Belongs};
+ghost use Rattle.trace_session.specs.Witnesses.{told_of};
 
 use crate::lendable::Lendable;
 use crate::owner::Owner;
@@ -9,6 +10,7 @@ use crate::shelf::Shelf;
 use std::alloc::Global;
 use std::marker::Model;
 use std::sync::{Arc, Wait};
+use tenant_desk::Told;
 use tenant_ledger::Shared;
 use trace_types::{Limits, Memory, Name};
 
@@ -72,11 +74,14 @@ impl Tenant {
         self.shelf.lend(rt)
     }
 
-    /// Takes back what was lent of this tenant.
-    pub(crate) fn take_back<L: Lendable, R: Wait>(&self, rt: &R, lent: L)
+    /// Takes back what was lent of this tenant, and tells of it.
+    pub(crate) fn take_back<L: Lendable, R: Wait>(&self, rt: &R, lent: L) -> Told
         requires { Belongs L.is_sound L.tenant_of L.book_of self.now lent }
+        ensures { result ≡ told_of L.tenant_of L.book_of lent }
     {
+        let told = lent.tell();
         self.shelf.take_back(rt, lent);
+        told
     }
 
     /// Ends the desk. It waits for views that still read.

@@ -10,7 +10,7 @@ use Rattle.trace_session.proofs.output.Output.converse.Goals.{After-open}
 
 -- the first line was found
 finds : (g : Over) (c : After-open g) → FindsNext (g.R.Source.seen c.args.lines.now.source.now) (g.R.Source.seen c.next.new.self.source.now) c.args.lines.now.buffer c.next.new.self.buffer (Ok c.in_ok-found.found)
-finds g c = IfNone-from _ c.args.lines.now.fault c.requires c.in_ok-found.ensures.finds
+finds g c = IfNone-from _ c.args.lines.now.fault c.requires.fault c.in_ok-found.ensures.finds
 
 pub returns : goal.returns
 returns g c =
@@ -23,7 +23,7 @@ returns g c =
       same = opened.same;
       goes = record {
         did =
-            Converses-opened c.args.hub.now before between after c.in_ok-found.found c.in-Some.opening c.open.result (finds g c).line (finds g c).reads.reads.bounds refl
+            Converses-opened c.args.hub.now c.open.new.witness before between after c.in_ok-found.found c.in-Some.opening c.open.result (finds g c).line (finds g c).reads.reads.bounds refl
             (ap (opening_at c.in_ok-found.found) (sym c.line.ensures) ∙ sym c.opening_at.ensures ∙ c.in-Some.is) opened.goes.did;
         reads = Reads-on (finds g c).reads.reads (λ ended. ap g.R.Source.seen (opened.goes.at_end ended).0) opened.goes.reads;
         fault = opened.goes.fault;

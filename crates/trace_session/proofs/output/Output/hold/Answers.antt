@@ -5,7 +5,7 @@ use Rattle.trace_session.proofs.output.Output.hold.Goals as goal
 pub returns : goal.returns
 returns g c =
     let belongs = c.in-Some.ensures in
-    let on = IfNone-from _ c.args.lines.now.fault c.requires c.answer_lines-result.ensures.goes in
+    let on = IfNone-from _ c.args.lines.now.fault c.requires.fault c.answer_lines-result.ensures.goes in
     record {
       same_source = on.same_source;
       same = on.same;
@@ -20,6 +20,7 @@ returns g c =
                 limits = c.answer_lines-result.ensures.limits ∙ belongs.limits;
                 book = c.answer_lines-result.ensures.book ∙ belongs.book;
               };
+              witnessed = (c.tell-began.ensures, c.take_back-ended.ensures);
               session = on.goes.did;
             });
         reads = on.goes.reads;

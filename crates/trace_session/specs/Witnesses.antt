@@ -1,0 +1,19 @@
+-- What shows with which rows a session was held.
+use Rattle.std.specs.Prelude.{◌≡◌, Option, IsSomeAnd}
+use Rattle.logbook.specs.Pages.{Book}
+use Rattle.trace_types.specs.tenant.Tenant.{Tenant}
+use Rattle.tenant_desk.specs.Histories.{Line}
+
+-- the rows with which a session began, those which it left, and which log has reached them
+pub record Witness : Type 0 where
+  pub began : Line
+  pub ended : Line
+
+-- what is told of a desk or a view: the rows that it knows of, and its log
+abbrev pub told_of : {S : Type 0} → (S → Tenant) → (S → Book) → S → Line
+told_of tenant_of book_of lent = record { rows = (tenant_of lent).rows; book = book_of lent }
+
+-- There is a witness of what was lent and of what was left of it.
+abbrev pub IsWitnessed : {S : Type 0} → (S → Tenant) → (S → Book) → S → S → Option Witness → Type 0
+IsWitnessed tenant_of book_of lent left witness =
+    IsSomeAnd witness (λ one. (one.began ≡ told_of tenant_of book_of lent) × (one.ended ≡ told_of tenant_of book_of left))
