@@ -13,6 +13,7 @@ import re
 import subprocess
 import sys
 import tempfile
+from concurrent.futures import ThreadPoolExecutor
 from pathlib import Path
 
 CLIENTS = Path(__file__).resolve().parent
@@ -47,7 +48,7 @@ def faults_of(language: str) -> str:
         ran = subprocess.run(
             ["sh", "-c", script], cwd=folder, env={**os.environ, **WITHOUT_NETWORK}, capture_output=True, text=True, timeout=MOST_SECONDS)
     told = ran.stdout + ran.stderr
-    lines = [re.sub(r" at \S*/", " at ", line) for line in told.splitlines()]
+    lines = [re.sub(r" at [^:]*/", " at ", line) for line in told.splitlines()]
     missing = [line for line in due if not any(has(one, line) for one in lines)]
     races = 66
     if not due or missing or ran.returncode != races:
@@ -61,7 +62,8 @@ def has(line: str, due: str) -> bool:
 
 
 def main() -> int:
-    faults = list(filter(None, map(faults_of, sys.argv[1:])))
+    with ThreadPoolExecutor() as pool:
+        faults = list(filter(None, pool.map(faults_of, sys.argv[1:])))
     for fault in faults:
         print(f"clients: wrong: {fault}")
     print(f"readmes: {len(sys.argv) - 1 - len(faults)} passed")

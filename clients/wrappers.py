@@ -1,7 +1,8 @@
 """Runs the small programs of the clients, each for one order that is reported by itself, and looks which of their lines race.
 
-Each program is of Java, Rust or Go, and is run as a process of a system. A line that races says so in a comment of the source, as in
-`race: lost_update`, and one that races possibly as in `possible: lucky_lock`. Exactly these lines have to be listed.
+Each program is of Java, Rust or Go, and is run as a process of a system, in which there may be others. A line that races says so in a
+comment of the source, as in `race: lost_update`, and one that races possibly as in `possible: lucky_lock`. Exactly these lines have
+to be listed for the process of the program.
 
 Usage: clients/wrappers.py FOLDER LANGUAGE.., with the built programs in FOLDER. The last line is 'wrappers: N passed'.
 """
@@ -17,23 +18,37 @@ import sys
 import tempfile
 import threading
 import time
+from collections.abc import Callable, Iterator
 from concurrent.futures import ThreadPoolExecutor
 from pathlib import Path
+from typing import Any, NamedTuple
+
+sys.path.insert(0, str(Path(__file__).resolve().parent / "python"))
+from itc_trace import Collector, Session
 
 CLIENTS = Path(__file__).resolve().parent
+PAGE = CLIENTS.parent / "docs" / "clients.md"
 SOURCES = {"java": CLIENTS / "java/examples/Wrappers.java", "rust": CLIENTS / "rust/wrappers.rs", "go": CLIENTS / "go/wrappers/main.go"}
 NO_RACE, RACES, INCOMPLETE = 0, 66, 67
-AT_ONCE = max(2, os.cpu_count() or 1)
+AT_ONCE = max(2, len(os.sched_getaffinity(0)))
+OF_A_SYSTEM = 5
+"""So many programs at most are processes of one system."""
+ALONE = ("many", "filling", "contended")
+"""Programs that need most of a trace for themselves."""
 MOST_SECONDS = 300
+SLOW = 0.3
+ODD_THING = '"na\u00efve"\t\\ \U0001f600'
 COMMON = {
     "lost_update": RACES, "plain_threads": RACES, "locked": NO_RACE, "lucky_lock": NO_RACE, "hand_off": NO_RACE, "after_hand_off": RACES,
-    "before_end": RACES, "condition": NO_RACE, "many": NO_RACE, "filling": INCOMPLETE,
+    "before_end": RACES, "condition": NO_RACE, "read_lock": NO_RACE, "read_first": NO_RACE, "read_lock_race": RACES, "writer_goes_on": RACES,
+    "contended": NO_RACE, "tried_lock": NO_RACE, "odd_names": NO_RACE, "other_calls": NO_RACE, "many": NO_RACE, "filling": INCOMPLETE,
 }
 OWN = {
-    "java": {"read_lock": NO_RACE, "read_first": NO_RACE, "read_lock_race": RACES, "executor": NO_RACE, "before_future": RACES, "two_jobs": RACES, "cancelled_job": RACES, "future": NO_RACE, "callback_too_early": RACES},
-    "rust": {"scope": NO_RACE, "read_lock": NO_RACE, "read_first": NO_RACE, "read_lock_race": RACES, "rendezvous": NO_RACE},
-    "go": {"read_lock": NO_RACE, "read_first": NO_RACE, "read_lock_race": RACES, "wait_group": NO_RACE, "rendezvous": NO_RACE, "full_channel": NO_RACE,
-           "closed_channel": NO_RACE, "context": NO_RACE, "http": NO_RACE, "http_race": RACES},
+    "java": {"executor": NO_RACE, "before_future": RACES, "two_jobs": RACES, "cancelled_job": RACES, "future": NO_RACE,
+             "future_calls": NO_RACE, "callback_too_early": RACES},
+    "rust": {"scope": NO_RACE, "rendezvous": NO_RACE},
+    "go": {"wait_group": NO_RACE, "rendezvous": NO_RACE, "full_channel": NO_RACE, "closed_channel": NO_RACE, "context": NO_RACE,
+           "http": NO_RACE, "http_race": RACES},
 }
 PYTHON = """import itc_trace
 itc_trace.touch("row", across=True)  # race: across
@@ -64,10 +79,11 @@ def marked(source: Path, word: str, name: str) -> set[str]:
     return {f"{source.name}:{number}" for number, found in enumerate(names, 1) if found and name in found[1].split()}
 
 
-def listed(told: str, word: str) -> set[str]:
-    """The lines of the races, or of the possible races, that were listed."""
-    races = re.findall(rf"^itc_trace: {word} on .*\n((?: .*\n)+)", told, re.M)
-    return {f"{Path(file).name}:{line}" for race in races for file, line in re.findall(r" at (\S+):(\d+)", race)}
+def listed(told: str, word: str, process: str | None = None) -> set[str]:
+    """The lines of the races, or of the possible races, that were listed; of those on the things of a process, if one is named."""
+    races = re.findall(rf"^itc_trace: {word} on (.*)\n((?: .*\n)+)", told, re.M)
+    lines = "".join(lines for thing, lines in races if process is None or thing.endswith(f" of {process}"))
+    return {f"{Path(file).name}:{line}" for file, line in re.findall(r" at (.+?):(\d+)", lines)}
 
 
 class Programs:
@@ -94,24 +110,34 @@ def run_system(folder: Path, options: list[str] | None = None, **processes: list
 
 
 def check(ran: "subprocess.CompletedProcess[str]", status: int, races: set[str], possible: set[str]) -> None:
-    told = f"{ran.stdout}{ran.stderr}"
-    for what, found, due in (
-        ("status", ran.returncode, status), ("lines that race", listed(ran.stderr, "race"), races),
-        ("lines that race possibly", listed(ran.stderr, "possible race"), possible),
-    ):
-        if found != due:
-            raise Wrong(f"{what}: {found} in place of {due}\n{told}")
+    found = ran.returncode, listed(ran.stderr, "race"), listed(ran.stderr, "possible race")
+    if found != (status, races, possible):
+        raise Wrong(f"{found} in place of {(status, races, possible)}\n{ran.stdout}{ran.stderr}")
 
 
-def check_order(programs: Programs, name: str, status: int) -> None:
+def check_orders(programs: Programs, statuses: dict[str, int]) -> None:
+    """Each of these programs has the races that are due to it, in a system of them all."""
+    processes = {f"p{number}": name for number, name in enumerate(statuses, 1)}
     with tempfile.TemporaryDirectory() as folder:
-        ran = run_system(Path(folder), one=programs.words(name))
-    check(ran, status, marked(programs.source, "race", name), marked(programs.source, "possible", name))
-    if "one | done" not in ran.stdout:
-        raise Wrong(f"the program did not go on to its end\n{ran.stdout}{ran.stderr}")
+        ran = run_system(Path(folder), **{process: programs.words(name) for process, name in processes.items()})
+    wrong = [f"{name}: {fault}" for process, name in processes.items() for fault in faults_of(ran, programs, process, name)]
+    if wrong:
+        raise Wrong("\n".join([*wrong, ran.stdout, ran.stderr]))
+    races, possible = (set().union(*(marked(programs.source, word, name) for name in statuses)) for word in ("race", "possible"))
+    check(ran, max(statuses.values()), races, possible)
     stops = ran.stderr.count("tracing stops: the trace is full")
-    if stops != (status == INCOMPLETE):
+    if stops != list(statuses.values()).count(INCOMPLETE):
         raise Wrong(f"{stops} lines say that the trace is full\n{ran.stderr}")
+
+
+def faults_of(ran: "subprocess.CompletedProcess[str]", programs: Programs, process: str, name: str) -> Iterator[str]:
+    """What is otherwise of this process than is due to its program."""
+    for word, due in (("race", marked(programs.source, "race", name)), ("possible race", marked(programs.source, "possible", name))):
+        found = listed(ran.stderr, word, process)
+        if found != due:
+            yield f"lines of a {word}: {found} in place of {due}"
+    if f"{process} | done\n" not in ran.stdout:
+        yield "it did not go on to its end"
 
 
 def written(folder: str, name: str, text: str) -> Path:
@@ -141,46 +167,153 @@ def check_without_collector(programs: Programs) -> None:
             raise Wrong(f"with port '{port}' the program writes {ran.stdout}{ran.stderr}")
 
 
-def check_gone_collector(programs: Programs) -> None:
-    """The program goes on if the collector ends the session in the middle, and the journal says so."""
+Reply = Callable[[str], "str | None"]
+"""What a collector that is none answers to a line. It ends the session at a line without an answer."""
+
+
+def run_beside(programs: Programs, reply: Reply, *words: str) -> "tuple[subprocess.CompletedProcess[str], list[str]]":
+    """Runs a program beside a collector that answers so. Gives the lines of its journal, too."""
     with socket.create_server(("127.0.0.1", 0)) as door, tempfile.TemporaryDirectory() as folder:
-        threading.Thread(target=begin_and_leave, args=(door,), daemon=True).start()
+        threading.Thread(target=answer, args=(door, reply), daemon=True).start()
         journal = Path(folder) / "journal"
         environment = {**os.environ, "ITC_TRACE_PORT": str(door.getsockname()[1]), "ITC_TRACE_JOURNAL": str(journal)}
-        ran = subprocess.run(programs.words("many"), env=environment, capture_output=True, text=True, timeout=MOST_SECONDS)
-        if (ran.returncode, ran.stdout, ran.stderr) != (0, "done\n", "itc_trace: tracing stops: the collector is gone\n"):
-            raise Wrong(f"status {ran.returncode} without a collector\n{ran.stdout}{ran.stderr}")
-        last = journal.read_text().splitlines()[-1]
-        if json.loads(last) != {"unseen": "collector", "text": "the collector is gone"}:
-            raise Wrong(f"the journal ends with {last}")
+        ran = subprocess.run(programs.words(*words), env=environment, capture_output=True, text=True, timeout=MOST_SECONDS)
+        if (ran.returncode, ran.stdout) != (0, "done\n"):
+            raise Wrong(f"status {ran.returncode}: {ran.stdout}{ran.stderr}")
+        return ran, journal.read_text().splitlines()
 
 
-def begin_and_leave(door: socket.socket) -> None:
-    """Answers the beginning of a session and the spawn of the process, and then no more."""
+def answer(door: socket.socket, reply: Reply) -> None:
     connection, _ = door.accept()
     with connection, connection.makefile("r", newline="\n") as lines:
-        for reply in (b"", b"200 0 1 0\n", b"201 1\n", b"201 2\n"):
-            lines.readline()
-            connection.sendall(reply)
+        lines.readline()  # The opening has no reply of its own.
+        for line in lines:
+            told = "200 0 1 0" if line == "count\n" else reply(line)
+            if told is None:
+                return
+            connection.sendall(told.encode() + b"\n")
+
+
+def check_gone_collector(programs: Programs) -> None:
+    """The program goes on if the collector ends the session in the middle, and the journal says so."""
+    check_stop(programs, lambda line: "201 1" if line.startswith("spawn") else None, "collector", "the collector is gone", "many")
+
+
+def check_refused_report(programs: Programs) -> None:
+    """The program goes on if a report is refused for no good reason. A line says which."""
+    check_stop(programs, lambda line: "201 1" if line.startswith("spawn") else "401 no task", "tracer", "local p: 401 no task", "across")
+
+
+def check_stop(programs: Programs, reply: Reply, cause: str, reason: str, name: str) -> None:
+    ran, journal = run_beside(programs, reply, name)
+    if ran.stderr != f"itc_trace: tracing stops: {reason}\n" or json.loads(journal[-1]) != {"unseen": cause, "text": reason}:
+        raise Wrong(f"{ran.stderr}, and the journal ends with {journal[-1]}")
+
+
+def check_message_is_sent(programs: Programs) -> None:
+    """A message is handed on once the collector has it, and no earlier."""
+    with tempfile.TemporaryDirectory() as folder:
+        file, early = Path(folder) / "message", []
+
+        def reply(line: str) -> str:
+            if line.startswith("send"):
+                time.sleep(SLOW)
+                early.append(file.exists())
+            return "201 1"
+
+        run_beside(programs, reply, "sender", str(file))
+        if early != [False] or not file.exists():
+            raise Wrong(f"the message is there early: {early}")
+
+
+def check_journal(programs: Programs) -> None:
+    """The environment names tenant, process and journal. The journal has each event, with its line and what was touched."""
+    with Collector("shop") as collector, tempfile.TemporaryDirectory() as name:
+        kept = written(name, "journal", "kept")
+        environment = {"ITC_TRACE_TENANT": "shop", "ITC_TRACE_PROCESS": "my-shop_1", "ITC_TRACE_JOURNAL": str(kept)}
+        rows: list[dict[str, Any]] = []
+        for number, process, program, thing in ((2, "mysho", "odd_names", ODD_THING), (3, "mysho2", "hand_off", "stock")):
+            subprocess.run(
+                programs.words(program), env={**os.environ, **environment, "ITC_TRACE_PORT": str(collector.port)}, check=True,
+                capture_output=True, timeout=MOST_SECONDS)
+            *own, last = map(json.loads, Path(f"{kept}.{number}").read_text().splitlines())
+            things = {row["thing"] for row in own if row["thing"] is not None}
+            if last != {"end": True} or things != {f"{thing} of {process}"}:
+                raise Wrong(f"the journal of {process} has {things}, and ends with {last}")
+            rows += own
+        with Session("shop", collector.port, "view") as session:
+            count = session.count()[0]
+        events = sorted(row["event"] for row in rows)
+        if kept.read_text() != "kept" or events != list(range(1, count + 1)):
+            raise Wrong(f"{count} events, and in the journals {events}; the first one is {kept.read_text()}")
+    check_lines(programs, rows)
+
+
+def check_lines(programs: Programs, rows: list[dict[str, Any]]) -> None:
+    """What the program's own lines do has that line. An end has none, and neither has what nobody calls."""
+    source = programs.source.read_text().splitlines()
+    for row in rows:
+        is_called = row["label"] != "end" and not row["label"].startswith("start process") and not row["label"].endswith("_others")
+        if is_called != (row["file"] is not None and Path(row["file"]).name == programs.source.name and 0 < row["line"] <= len(source)):
+            raise Wrong(f"the line of {row}")
+        if row["thing"] is not None and "touch" not in source[row["line"] - 1].lower():
+            raise Wrong(f"no touch at the line of {row}")
+
+
+def check_table() -> None:
+    """The table of what is followed names each program, and no others."""
+    rows = re.findall(r"^\| .* \| ([^|]*) \|$", PAGE.read_text().partition("| What is followed |")[2].partition("\n\n")[0], re.M)
+    named = {name for row in rows for name in re.findall(r"`(\w+)`", row)}
+    due = {*COMMON, *(name for own in OWN.values() for name in own), "across", "sender", "receiver", "web_client", "web_server"}
+    if named != due:
+        raise Wrong(f"{PAGE.name} lacks {sorted(due - named)}, and has {sorted(named - due)}, which nothing runs")
+
+
+class Check(NamedTuple):
+    """A check of one program or of several, by their names, with what it calls, and with what."""
+
+    names: list[str]
+    call: Callable[..., None]
+    words: tuple[Any, ...]
+
+
+def run_all(title: str, checks: list[Check]) -> int:
+    """Makes the checks, some at a time, and tells how many programs passed."""
+    passed = failed = 0
+    with ThreadPoolExecutor(AT_ONCE) as pool:
+        for names, done in [(one.names, pool.submit(one.call, *one.words)) for one in checks]:
+            try:
+                done.result()
+                passed += len(names)
+            except (Wrong, OSError, LookupError, ValueError, subprocess.SubprocessError) as wrong:
+                failed += len(names)
+                print(f"clients: wrong: {', '.join(names)}: {wrong}", flush=True)
+    print(f"{title}: {passed} passed" + (f", {failed} failed" if failed else ""))
+    return 1 if failed else 0
+
+
+def systems_of(statuses: dict[str, int]) -> Iterator[dict[str, int]]:
+    """The programs that are run together. Those that need a trace for themselves take longest, and come first."""
+    yield from ({name: statuses[name]} for name in ALONE)
+    others = [name for name in statuses if name not in ALONE]
+    for first in range(0, len(others), OF_A_SYSTEM):
+        yield {name: statuses[name] for name in others[first:first + OF_A_SYSTEM]}
 
 
 def main() -> int:
-    checks = []
+    checks = [Check(["table"], check_table, ())]
     for language in sys.argv[2:]:
         programs = Programs(language, Path(sys.argv[1]))
-        checks += [(f"{language}: {name}", check_order, (programs, name, status)) for name, status in {**COMMON, **OWN[language]}.items()]
-        checks += [(f"{language}: across", check_across, (programs,)), (f"{language}: no collector", check_without_collector, (programs,)),
-                   (f"{language}: gone collector", check_gone_collector, (programs,))]
-    failed = 0
-    with ThreadPoolExecutor(AT_ONCE) as pool:
-        for (name, _, _), done in [(one, pool.submit(one[1], *one[2])) for one in checks]:
-            try:
-                done.result()
-            except (Wrong, subprocess.TimeoutExpired) as wrong:
-                failed += 1
-                print(f"clients: wrong: {name}: {wrong}", flush=True)
-    print(f"wrappers: {len(checks) - failed} passed" + (f", {failed} failed" if failed else ""))
-    return 1 if failed else 0
+        checks += [
+            Check([f"{language}: {name}" for name in statuses], check_orders, (programs, statuses))
+            for statuses in systems_of({**COMMON, **OWN[language]})
+        ]
+        checks += [
+            Check([f"{language}: {name}"], call, (programs,)) for name, call in (
+                ("across", check_across), ("no collector", check_without_collector), ("gone collector", check_gone_collector),
+                ("refused report", check_refused_report), ("message is sent", check_message_is_sent), ("journal", check_journal))
+        ]
+    return run_all("wrappers", checks)
 
 
 if __name__ == "__main__":

@@ -5,6 +5,7 @@ import (
 	"runtime"
 	"strings"
 	"sync"
+	"time"
 )
 
 // endRow is the last line of a journal whose process reported all that it noted.
@@ -17,9 +18,11 @@ type site struct {
 	Function string  `json:"function,omitempty"`
 }
 
-// row is what the journal says of one event, or of one of the touches that an event stands for. A thing is what was touched.
+// row is what the journal says of one event, or of one of the touches that an event stands for. A thing is what was touched. The time is
+// that of the event, in seconds since 1970. It is 0 if another row tells it.
 type row struct {
 	Event int     `json:"event"`
+	Time  float64 `json:"time,omitempty"`
 	Task  string  `json:"task"`
 	Thing *string `json:"thing"`
 	Kind  string  `json:"kind"`
@@ -28,6 +31,9 @@ type row struct {
 	Held  []string `json:"held,omitempty"`
 	Lock  string   `json:"lock,omitempty"`
 }
+
+// now is the time by the clock of this process, to a microsecond.
+func now() float64 { return float64(time.Now().UnixMicro()) / 1e6 }
 
 func (r row) text() string {
 	text, err := json.Marshal(r)

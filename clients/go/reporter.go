@@ -56,7 +56,7 @@ func (r *Reporter) begin(name string) error {
 			return err
 		}
 		r.Task = tried
-		return r.write(row{Event: event, Task: "root", Kind: "spawn", Label: "start process " + tried})
+		return r.write(row{Event: event, Time: now(), Task: "root", Kind: "spawn", Label: "start process " + tried})
 	}
 }
 
@@ -78,38 +78,44 @@ func (r *Reporter) touch(task, thing string, writes bool) (int, error) {
 	if writes {
 		kind = "write"
 	}
+	told := row{Time: now(), Task: task, Thing: &thing, Kind: kind, Label: kind + " " + thing}
 	event, err := r.session.Local(task)
-	return r.at(event, err, row{Task: task, Thing: &thing, Kind: kind, Label: kind + " " + thing}, 3)
+	return r.at(event, err, told, 3)
 }
 
 // Spawn reports that the task starts another.
 func (r *Reporter) Spawn(task, child string) (int, error) {
+	told := row{Time: now(), Task: task, Kind: "spawn", Label: "start " + child}
 	event, err := r.session.Spawn(task, child)
-	return r.at(event, err, row{Task: task, Kind: "spawn", Label: "start " + child}, 2)
+	return r.at(event, err, told, 2)
 }
 
 // Send reports that the task sends a message.
 func (r *Reporter) Send(task, message string) (int, error) {
+	told := row{Time: now(), Task: task, Kind: "send", Label: "send " + message}
 	event, err := r.session.Send(task, message)
-	return r.at(event, err, row{Task: task, Kind: "send", Label: "send " + message}, 2)
+	return r.at(event, err, told, 2)
 }
 
 // Recv reports that the task has received a message.
 func (r *Reporter) Recv(task, message string) (int, error) {
+	told := row{Time: now(), Task: task, Kind: "recv", Label: "receive " + message}
 	event, err := r.session.Recv(task, message)
-	return r.at(event, err, row{Task: task, Kind: "recv", Label: "receive " + message}, 2)
+	return r.at(event, err, told, 2)
 }
 
 // End reports that the task ends.
 func (r *Reporter) End(task string) (int, error) {
+	told := row{Time: now(), Task: task, Kind: "end", Label: "end"}
 	event, err := r.session.End(task)
-	return r.at(event, err, row{Task: task, Kind: "end", Label: "end"}, 2)
+	return r.at(event, err, told, 2)
 }
 
 // Join reports that the task takes in the ended task.
 func (r *Reporter) Join(task, child string) (int, error) {
+	told := row{Time: now(), Task: task, Kind: "join", Label: "join " + child}
 	event, err := r.session.Join(task, child)
-	return r.at(event, err, row{Task: task, Kind: "join", Label: "join " + child}, 2)
+	return r.at(event, err, told, 2)
 }
 
 // Close ends the session. The journal says that all was reported.

@@ -47,6 +47,7 @@ type token struct {
 	task    *task
 	what    what
 	site    site
+	time    float64
 	message *message
 }
 
@@ -141,7 +142,8 @@ func (t *tracer) begin(from *environment) error {
 		}
 		if event := eventOf(reply); event > 0 {
 			t.main, t.prefix = &task{name: tried}, tried+"_"
-			t.unwritten.WriteString(row{Event: event, Task: "root", Kind: "spawn", Label: "start process " + tried}.text())
+			told := row{Event: event, Time: now(), Task: "root", Kind: "spawn", Label: "start process " + tried}
+			t.unwritten.WriteString(told.text())
 		} else if !strings.HasPrefix(reply, "402") {
 			err = fmt.Errorf("spawn root %s: %s", tried, reply)
 		}
@@ -179,11 +181,13 @@ func (t *tracer) touch(of *task, thing string, writes, isAcross bool, at site) {
 	t.mutex.Lock()
 	defer t.mutex.Unlock()
 	t.leave(of)
+	var begun float64 // The first row of the event tells it.
 	if of.touches == nil {
-		begun := &touches{seen: map[touch]bool{}}
-		t.report(of, report{request: "local " + of.name, touches: begun})
-		of.touches = begun
-		t.growing = append(t.growing, begun)
+		made := &touches{seen: map[touch]bool{}}
+		t.report(of, report{request: "local " + of.name, touches: made})
+		of.touches = made
+		t.growing = append(t.growing, made)
+		begun = now()
 	}
 	kind, named := "read", thing
 	if writes {
@@ -197,7 +201,7 @@ func (t *tracer) touch(of *task, thing string, writes, isAcross bool, at site) {
 	if !isAcross {
 		named = thing + " of " + t.main.name
 	}
-	told := row{Task: of.name, Thing: &named, Kind: kind, site: at, Label: kind + " " + thing, Held: of.held}
+	told := row{Time: begun, Task: of.name, Thing: &named, Kind: kind, site: at, Label: kind + " " + thing, Held: of.held}
 	of.touches.fresh = append(of.touches.fresh, told)
 }
 
@@ -209,7 +213,7 @@ func (t *tracer) mark(of *task, called what, at site) *token {
 }
 
 func (t *tracer) marked(of *task, called what, at site) *token {
-	made := &token{task: of, what: called, site: at}
+	made := &token{task: of, what: called, site: at, time: now()}
 	of.pending = append(of.pending, made)
 	return made
 }
@@ -228,8 +232,8 @@ func (t *tracer) taken(by *task, taken *token, at site) {
 		}
 		return
 	}
-	if taken.message == nil {
-		t.send(taken)
+	for taken.message == nil && isAmong(taken.task.pending, taken) {
+		t.send(taken.task.pending[0]) // Those that were made before come first, so that the times of a task increase.
 	}
 	if taken.message != nil && !taken.message.takers[by] {
 		taken.message.takers[by] = true
@@ -237,6 +241,15 @@ func (t *tracer) taken(by *task, taken *token, at site) {
 		told := row{Task: by.name, Kind: "recv", site: at, Label: taken.what.taking, Lock: taken.what.lock}
 		t.report(by, report{request: "recv " + by.name + " " + taken.message.name, row: told})
 	}
+}
+
+func isAmong(tokens []*token, one *token) bool {
+	for _, other := range tokens {
+		if other == one {
+			return true
+		}
+	}
+	return false
 }
 
 func without(tokens []*token, isLeft func(*token) bool) []*token {
@@ -359,7 +372,7 @@ func (t *tracer) send(given *token) {
 	of := given.task
 	t.messages++
 	sent := &message{fmt.Sprintf("%s%s_%d", t.prefix, given.what.hint, t.messages), map[*task]bool{}}
-	told := row{Task: of.name, Kind: "send", site: given.site, Label: given.what.giving, Lock: given.what.lock}
+	told := row{Time: given.time, Task: of.name, Kind: "send", site: given.site, Label: given.what.giving, Lock: given.what.lock}
 	t.report(of, report{request: "send " + of.name + " " + sent.name, row: told})
 	of.pending = without(of.pending, func(other *token) bool {
 		isSame := other.what.lock == given.what.lock
@@ -381,6 +394,9 @@ func (t *tracer) report(of *task, told report) {
 			close(told.answered)
 		}
 		return
+	}
+	if told.row.Time == 0 {
+		told.row.Time = now()
 	}
 	t.unsent.WriteString(told.request + "\n")
 	t.outstanding = append(t.outstanding, told)
@@ -453,6 +469,11 @@ func (t *tracer) waiting() int {
 func (t *tracer) giveUp(cause, reason string) {
 	t.mutex.Lock()
 	defer t.mutex.Unlock()
+	t.giveUpNow(cause, reason)
+}
+
+// giveUpNow is giveUp for whoever holds the mutex.
+func (t *tracer) giveUpNow(cause, reason string) {
 	if t.isOver.Load() {
 		return
 	}
@@ -540,18 +561,17 @@ func (t *tracer) readAll() {
 			t.giveUp("collector", goneMessage)
 			return
 		}
-		if cause, reason := t.replied(strings.TrimSuffix(reply, "\n")); cause != "" {
-			t.giveUp(cause, reason)
-		}
+		t.replied(strings.TrimSuffix(reply, "\n"))
 	}
 }
 
-// replied takes over a reply. It gives the cause and the reason, if tracing stops.
-func (t *tracer) replied(reply string) (cause, reason string) {
+// replied takes over a reply. If it is a refusal, tracing ends before the mutex is free: else the goroutine that sends may take all
+// for answered in between, and end the journal as a whole one.
+func (t *tracer) replied(reply string) {
 	t.mutex.Lock()
 	defer t.mutex.Unlock()
 	if len(t.outstanding) == 0 {
-		return "", ""
+		return
 	}
 	answered := t.outstanding[0]
 	t.outstanding = t.outstanding[1:]
@@ -563,11 +583,11 @@ func (t *tracer) replied(reply string) (cause, reason string) {
 		answered.row.Event = event
 		t.unwritten.WriteString(answered.row.text())
 	case strings.HasPrefix(reply, "413") || strings.HasPrefix(reply, "414") || strings.HasPrefix(reply, "415"):
-		cause, reason = "full", "the trace is full ("+reply+")"
+		t.giveUpNow("full", "the trace is full ("+reply+")")
 	case answered.mayBeRefused && (strings.HasPrefix(reply, "405") || strings.HasPrefix(reply, "407")):
 		// The message of another process was never sent, or this task has it.
 	default:
-		cause, reason = "tracer", answered.request+": "+reply
+		t.giveUpNow("tracer", answered.request+": "+reply)
 	}
 	if answered.answered != nil {
 		close(answered.answered)
@@ -575,5 +595,4 @@ func (t *tracer) replied(reply string) (cause, reason string) {
 	if len(t.outstanding) == 0 && t.isClosing {
 		t.hurry()
 	}
-	return cause, reason
 }

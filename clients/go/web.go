@@ -5,14 +5,17 @@ import "net/http"
 // Header is the header of HTTP that carries a message.
 const Header = "Itc-Trace"
 
-// Handler has each request be a task of its own. Where the one who asks is traced, the request and the response are messages.
+// Handler has each request be a task of its own, which comes after what was done before the call of Handler. Where the one who asks is
+// traced, the request and the response are messages.
 func Handler(handler http.Handler) http.Handler {
+	made := mark(what{hint: "handler", giving: "make handler", taking: "begin request"}, siteOf(1))
 	return http.HandlerFunc(func(response http.ResponseWriter, request *http.Request) {
 		if !isOn() {
 			handler.ServeHTTP(response, request)
 			return
 		}
 		as(tracing.stranger("request"), func() {
+			take(made, site{})
 			Incoming(request.Header.Get(Header))
 			answer := &answering{ResponseWriter: response}
 			handler.ServeHTTP(answer, request)

@@ -11,6 +11,7 @@ pub mod sync;
 pub mod thread;
 mod traced;
 mod tracer;
+pub mod web;
 
 pub use reporter::Reporter;
 pub use session::{Error, Event, Kind, Session};

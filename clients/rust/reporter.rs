@@ -1,7 +1,7 @@
 //! A process that reports by hand where its environment says.
 
 use crate::environment::Environment;
-use crate::journal::{self, Row};
+use crate::journal::{self, Row, Time};
 use crate::session::{Error, Kind, Session};
 use std::fs::File;
 use std::io::Write;
@@ -37,7 +37,10 @@ impl Reporter {
             let tried = if number == 1 { name.to_string() } else { format!("{name}{number}") };
             match self.session.spawn("root", &tried) {
                 Err(Error::Refused { code: TASK_EXISTS, .. }) => continue,
-                told => self.write(told?, &Row::new("root", "spawn", None, &format!("start process {tried}")))?,
+                told => {
+                    let row = Row::new("root", "spawn", None, &format!("start process {tried}"));
+                    self.write(told?, &Row { time: journal::now(), ..row })?;
+                }
             }
             self.task = tried;
             break;
@@ -60,32 +63,32 @@ impl Reporter {
     #[track_caller]
     pub fn touch_across(&self, task: &str, thing: &str, writes: bool) -> Result<u64, Error> {
         let kind = if writes { "write" } else { "read" };
-        self.at(self.session.local(task), task, kind, Some(thing), &format!("{kind} {thing}"))
+        self.at(journal::now(), self.session.local(task), task, kind, Some(thing), &format!("{kind} {thing}"))
     }
 
     #[track_caller]
     pub fn spawn(&self, task: &str, child: &str) -> Result<u64, Error> {
-        self.at(self.session.spawn(task, child), task, "spawn", None, &format!("start {child}"))
+        self.at(journal::now(), self.session.spawn(task, child), task, "spawn", None, &format!("start {child}"))
     }
 
     #[track_caller]
     pub fn send(&self, task: &str, message: &str) -> Result<u64, Error> {
-        self.at(self.session.send(task, message), task, "send", None, &format!("send {message}"))
+        self.at(journal::now(), self.session.send(task, message), task, "send", None, &format!("send {message}"))
     }
 
     #[track_caller]
     pub fn recv(&self, task: &str, message: &str) -> Result<u64, Error> {
-        self.at(self.session.recv(task, message), task, "recv", None, &format!("receive {message}"))
+        self.at(journal::now(), self.session.recv(task, message), task, "recv", None, &format!("receive {message}"))
     }
 
     #[track_caller]
     pub fn end(&self, task: &str) -> Result<u64, Error> {
-        self.at(self.session.end(task), task, "end", None, "end")
+        self.at(journal::now(), self.session.end(task), task, "end", None, "end")
     }
 
     #[track_caller]
     pub fn join(&self, task: &str, child: &str) -> Result<u64, Error> {
-        self.at(self.session.join(task, child), task, "join", None, &format!("join {child}"))
+        self.at(journal::now(), self.session.join(task, child), task, "join", None, &format!("join {child}"))
     }
 
     /// Ends the session. The journal says that all was reported.
@@ -96,10 +99,11 @@ impl Reporter {
         }
     }
 
+    /// Writes the row of an event, by what the collector has answered after this time.
     #[track_caller]
-    fn at(&self, told: Result<u64, Error>, task: &str, kind: &str, thing: Option<&str>, label: &str) -> Result<u64, Error> {
+    fn at(&self, time: Time, told: Result<u64, Error>, task: &str, kind: &str, thing: Option<&str>, label: &str) -> Result<u64, Error> {
         let event = told?;
-        let row = Row { thing: thing.map(String::from), ..Row::new(task, kind, Some(Location::caller()), label) };
+        let row = Row { thing: thing.map(String::from), time, ..Row::new(task, kind, Some(Location::caller()), label) };
         self.write(event, &row)?;
         Ok(event)
     }

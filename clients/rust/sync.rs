@@ -100,23 +100,23 @@ impl<T> Mutex<T> {
 impl<T: ?Sized> Mutex<T> {
     #[track_caller]
     pub fn lock(&self) -> LockResult<MutexGuard<'_, T>> {
-        let site = Some(Location::caller());
-        match self.mutex.lock() {
-            Ok(guard) => Ok(MutexGuard::new(&self.hand, guard, site)),
-            Err(poisoned) => Err(PoisonError::new(MutexGuard::new(&self.hand, poisoned.into_inner(), site))),
-        }
+        let guarded = self.guarded(Some(Location::caller()));
+        self.mutex.lock().map(&guarded).map_err(|poisoned| PoisonError::new(guarded(poisoned.into_inner())))
+    }
+
+    /// Whether a thread has panicked while it held the lock.
+    pub fn is_poisoned(&self) -> bool {
+        self.mutex.is_poisoned()
     }
 
     #[track_caller]
     pub fn try_lock(&self) -> TryLockResult<MutexGuard<'_, T>> {
-        let site = Some(Location::caller());
-        match self.mutex.try_lock() {
-            Ok(guard) => Ok(MutexGuard::new(&self.hand, guard, site)),
-            Err(TryLockError::WouldBlock) => Err(TryLockError::WouldBlock),
-            Err(TryLockError::Poisoned(poisoned)) => {
-                Err(TryLockError::Poisoned(PoisonError::new(MutexGuard::new(&self.hand, poisoned.into_inner(), site))))
-            }
-        }
+        let guarded = self.guarded(Some(Location::caller()));
+        self.mutex.try_lock().map(&guarded).map_err(|failed| try_failed(failed, guarded))
+    }
+
+    fn guarded<'a>(&'a self, site: Site) -> impl Fn(sync::MutexGuard<'a, T>) -> MutexGuard<'a, T> {
+        move |guard| MutexGuard::new(&self.hand, guard, site)
     }
 }
 
@@ -191,22 +191,53 @@ impl<T> RwLock<T> {
 impl<T: ?Sized> RwLock<T> {
     #[track_caller]
     pub fn read(&self) -> LockResult<RwLockReadGuard<'_, T>> {
-        let (hand, site) = (&self.hand, Some(Location::caller()));
-        let guarded = |guard| {
-            hand.acquired(false, site);
-            RwLockReadGuard { hand, site, guard }
-        };
-        self.lock.read().map(guarded).map_err(|poisoned| PoisonError::new(guarded(poisoned.into_inner())))
+        let guarded = self.guarded_read(Some(Location::caller()));
+        self.lock.read().map(&guarded).map_err(|poisoned| PoisonError::new(guarded(poisoned.into_inner())))
+    }
+
+    #[track_caller]
+    pub fn try_read(&self) -> TryLockResult<RwLockReadGuard<'_, T>> {
+        let guarded = self.guarded_read(Some(Location::caller()));
+        self.lock.try_read().map(&guarded).map_err(|failed| try_failed(failed, guarded))
     }
 
     #[track_caller]
     pub fn write(&self) -> LockResult<RwLockWriteGuard<'_, T>> {
-        let (hand, site) = (&self.hand, Some(Location::caller()));
-        let guarded = |guard| {
-            hand.acquired(true, site);
-            RwLockWriteGuard { hand, site, guard }
-        };
-        self.lock.write().map(guarded).map_err(|poisoned| PoisonError::new(guarded(poisoned.into_inner())))
+        let guarded = self.guarded_write(Some(Location::caller()));
+        self.lock.write().map(&guarded).map_err(|poisoned| PoisonError::new(guarded(poisoned.into_inner())))
+    }
+
+    #[track_caller]
+    pub fn try_write(&self) -> TryLockResult<RwLockWriteGuard<'_, T>> {
+        let guarded = self.guarded_write(Some(Location::caller()));
+        self.lock.try_write().map(&guarded).map_err(|failed| try_failed(failed, guarded))
+    }
+
+    /// Whether a thread has panicked while it held the lock for writing.
+    pub fn is_poisoned(&self) -> bool {
+        self.lock.is_poisoned()
+    }
+
+    fn guarded_read<'a>(&'a self, site: Site) -> impl Fn(sync::RwLockReadGuard<'a, T>) -> RwLockReadGuard<'a, T> {
+        move |guard| {
+            self.hand.acquired(false, site);
+            RwLockReadGuard { hand: &self.hand, site, guard }
+        }
+    }
+
+    fn guarded_write<'a>(&'a self, site: Site) -> impl Fn(sync::RwLockWriteGuard<'a, T>) -> RwLockWriteGuard<'a, T> {
+        move |guard| {
+            self.hand.acquired(true, site);
+            RwLockWriteGuard { hand: &self.hand, site, guard }
+        }
+    }
+}
+
+/// The same failure, with the guard of this crate.
+fn try_failed<T, U>(failed: TryLockError<T>, guarded: impl Fn(T) -> U) -> TryLockError<U> {
+    match failed {
+        TryLockError::WouldBlock => TryLockError::WouldBlock,
+        TryLockError::Poisoned(poisoned) => TryLockError::Poisoned(PoisonError::new(guarded(poisoned.into_inner()))),
     }
 }
 
@@ -244,6 +275,24 @@ impl<T: ?Sized> Drop for RwLockWriteGuard<'_, T> {
     }
 }
 
+impl<T: ?Sized + Debug> Debug for MutexGuard<'_, T> {
+    fn fmt(&self, f: &mut fmt::Formatter<'_>) -> fmt::Result {
+        (**self).fmt(f)
+    }
+}
+
+impl<T: ?Sized + Debug> Debug for RwLockReadGuard<'_, T> {
+    fn fmt(&self, f: &mut fmt::Formatter<'_>) -> fmt::Result {
+        (**self).fmt(f)
+    }
+}
+
+impl<T: ?Sized + Debug> Debug for RwLockWriteGuard<'_, T> {
+    fn fmt(&self, f: &mut fmt::Formatter<'_>) -> fmt::Result {
+        (**self).fmt(f)
+    }
+}
+
 /// A condition. Whoever waits releases the lock, and acquires it from the one who has notified or from a later one.
 #[derive(Debug, Default)]
 pub struct Condvar {
@@ -263,6 +312,19 @@ impl Condvar {
             Ok(guard) => Ok(MutexGuard::new(hand, guard, site)),
             Err(poisoned) => Err(PoisonError::new(MutexGuard::new(hand, poisoned.into_inner(), site))),
         }
+    }
+
+    /// Waits as long as the condition holds.
+    #[track_caller]
+    pub fn wait_while<'a, T>(
+        &self,
+        mut guard: MutexGuard<'a, T>,
+        mut condition: impl FnMut(&mut T) -> bool,
+    ) -> LockResult<MutexGuard<'a, T>> {
+        while condition(&mut guard) {
+            guard = self.wait(guard)?;
+        }
+        Ok(guard)
     }
 
     #[track_caller]

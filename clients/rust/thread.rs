@@ -17,10 +17,7 @@ pub struct JoinHandle<T> {
 impl<T> JoinHandle<T> {
     #[track_caller]
     pub fn join(self) -> Result<T> {
-        let site = Some(Location::caller());
-        let value = self.handle.join();
-        traced::join(self.task, site);
-        value
+        joined(self.handle.join(), self.task, Some(Location::caller()))
     }
 
     /// Whether it has ended. To see that is no order, other than to join.
@@ -31,6 +28,12 @@ impl<T> JoinHandle<T> {
     pub fn thread(&self) -> &Thread {
         self.handle.thread()
     }
+}
+
+/// This thread comes after the end of the one that it has waited for.
+fn joined<T>(value: Result<T>, task: Option<Task>, site: Site) -> Result<T> {
+    traced::join(task, site);
+    value
 }
 
 /// Starts a thread.
@@ -72,10 +75,7 @@ pub struct ScopedJoinHandle<'scope, T> {
 impl<T> ScopedJoinHandle<'_, T> {
     #[track_caller]
     pub fn join(self) -> Result<T> {
-        let site = Some(Location::caller());
-        let value = self.handle.join();
-        traced::join(self.task, site);
-        value
+        joined(self.handle.join(), self.task, Some(Location::caller()))
     }
 
     pub fn thread(&self) -> &Thread {

@@ -72,9 +72,13 @@ pub fn outgoing() -> Option<String> {
 /// From now on this thread comes after the place where the message was sent. What is no message is passed over.
 #[track_caller]
 pub fn incoming(message: &str) {
+    receive(message, Some(Location::caller()));
+}
+
+pub(crate) fn receive(message: &str, site: Site) {
     let is_name = (1..=24).contains(&message.len()) && message.bytes().all(|next| next.is_ascii_alphanumeric() || next == b'_');
     if let Some(tracer) = on().filter(|_| is_name) {
-        tracer.incoming(current(tracer), message, Some(Location::caller()));
+        tracer.incoming(current(tracer), message, site);
     }
 }
 
@@ -134,17 +138,20 @@ pub(crate) fn join(child: Option<Task>, site: Site) {
     }
 }
 
-/// Does this as the task of this thread, which ends with it, also by a panic.
+/// Does this as the task, which ends with it, also by a panic. Then this thread is the task before again.
 pub(crate) fn run<T>(task: Option<Task>, body: impl FnOnce() -> T) -> T {
-    struct Ending(Option<Task>);
+    struct Ending {
+        task: Option<Task>,
+        before: Option<Task>,
+    }
     impl Drop for Ending {
         fn drop(&mut self) {
-            if let (Some(tracer), Some(task)) = (on(), self.0) {
+            if let (Some(tracer), Some(task)) = (on(), self.task) {
                 tracer.end(task);
             }
+            CURRENT.set(self.before);
         }
     }
-    CURRENT.set(task);
-    let _ending = Ending(task);
+    let _ending = Ending { task, before: CURRENT.replace(task) };
     body()
 }

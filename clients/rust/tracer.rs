@@ -2,7 +2,7 @@
 //! it and writes the journal, and another one reads the replies.
 
 use crate::environment::Environment;
-use crate::journal::{self, Row, Site};
+use crate::journal::{self, Row, Site, Time};
 use std::collections::{HashMap, HashSet, VecDeque};
 use std::fs::File;
 use std::io::{self, BufRead, BufReader, Write};
@@ -50,6 +50,7 @@ pub(crate) struct Token {
     task: Task,
     what: What,
     site: Site,
+    time: Time,
     message: OnceLock<Arc<Message>>,
 }
 
@@ -115,7 +116,8 @@ pub(crate) struct Tracer {
     changed: Condvar,
     is_over: AtomicBool,
     stream: TcpStream,
-    sender: Mutex<Option<JoinHandle<()>>>,
+    /// The one that sends, and the one that reads.
+    threads: Mutex<Vec<JoinHandle<()>>>,
 }
 
 /// The task of this process, and the one that starts the tasks of threads that nobody was seen to start.
@@ -137,12 +139,12 @@ impl Tracer {
         let journal = environment.fresh_journal()?;
         state.spawn(MAIN, "others", None);
         let sending = stream.try_clone()?;
-        let (changed, is_over, sender) = (Condvar::new(), AtomicBool::new(false), Mutex::new(None));
-        let tracer = Arc::new(Tracer { state: Mutex::new(state), changed, is_over, stream, sender });
+        let (changed, is_over, threads) = (Condvar::new(), AtomicBool::new(false), Mutex::default());
+        let tracer = Arc::new(Tracer { state: Mutex::new(state), changed, is_over, stream, threads });
         let (sends, reads) = (tracer.clone(), tracer.clone());
-        let thread = thread::Builder::new().name("itc_trace sender".into()).spawn(move || sends.send_all(sending, journal))?;
-        *tracer.sender.lock().unwrap() = Some(thread);
-        thread::Builder::new().name("itc_trace reader".into()).spawn(move || reads.read_all(replies))?;
+        let sender = thread::Builder::new().name("itc_trace sender".into()).spawn(move || sends.send_all(sending, journal))?;
+        let reader = thread::Builder::new().name("itc_trace reader".into()).spawn(move || reads.read_all(replies))?;
+        tracer.threads.lock().unwrap().extend([sender, reader]);
         Ok(tracer)
     }
 
@@ -199,15 +201,15 @@ impl Tracer {
         let message = self.state().send_outside(task, site, answered);
         self.changed.notify_all();
         answer.recv_timeout(ANSWER_WAIT).ok()?;
-        (!self.is_over()).then_some(message)
+        (!self.state().is_over).then_some(message)
     }
 
     pub fn incoming(&self, task: Task, message: &str, site: Site) {
         let mut state = self.state();
         state.leave(task);
         let row = Row::new(&state.tasks[task].name, "recv", site, "receive from another process");
-        let request = format!("recv {} {message}", row.task);
-        state.report(task, Report { request, stands_for: StandsFor::Row(row), may_be_refused: true, answered: None });
+        let (request, stands_for) = (format!("recv {} {message}", row.task), StandsFor::Row(Row { time: journal::now(), ..row }));
+        state.report(task, Report { request, stands_for, may_be_refused: true, answered: None });
     }
 
     /// What tells a lock from others of the same name.
@@ -234,14 +236,17 @@ impl Tracer {
             drop(self.changed.wait_timeout_while(state, END_WAIT, |state| !state.is_over));
         }
         self.give_up("collector", "the collector does not answer");
-        if let Some(sender) = self.sender.lock().unwrap().take() {
-            let _ = sender.join();
+        for thread in self.threads.lock().unwrap().drain(..) {
+            let _ = thread.join();
         }
     }
 
     /// Ends tracing in the middle. The program goes on.
     fn give_up(&self, cause: &str, reason: &str) {
-        let mut state = self.state();
+        self.give_up_in(self.state(), cause, reason);
+    }
+
+    fn give_up_in(&self, mut state: MutexGuard<'_, State>, cause: &str, reason: &str) {
         if state.is_over {
             return;
         }
@@ -294,11 +299,13 @@ impl Tracer {
     fn read_all(&self, replies: BufReader<TcpStream>) {
         for reply in replies.lines() {
             let Ok(reply) = reply else { break };
-            let faulty = self.state().replied(&reply);
-            self.changed.notify_all();
-            if let Some((cause, reason)) = faulty {
-                self.give_up(cause, &reason);
+            let mut state = self.state();
+            match state.replied(&reply) {
+                // The lock is kept: else the sender may take all for answered in between, and end the journal as a whole one.
+                Some((cause, reason)) => self.give_up_in(state, cause, &reason),
+                None => drop(state),
             }
+            self.changed.notify_all();
         }
         self.give_up("collector", GONE);
     }
@@ -321,7 +328,8 @@ impl State {
             let tried = if number == 1 { name.to_string() } else { format!("{name}{number}") };
             let reply = ask(&format!("spawn root {tried}"))?;
             if let Some(event) = reply.strip_prefix("201 ").and_then(|event| event.parse().ok()) {
-                self.unwritten += &Row::new("root", "spawn", None, &format!("start process {tried}")).text(event);
+                let row = Row::new("root", "spawn", None, &format!("start process {tried}"));
+                self.unwritten += &Row { time: journal::now(), ..row }.text(event);
                 self.prefix = format!("{tried}_");
                 self.tasks.push(Known { name: tried, ..Known::default() });
                 break;
@@ -339,13 +347,13 @@ impl State {
 
     fn touch(&mut self, task: Task, row: Row) {
         self.leave(task);
-        let number = match self.tasks[task].touches {
-            Some(number) => number,
-            None => self.begin_touches(task),
+        let (number, time) = match self.tasks[task].touches {
+            Some(number) => (number, None),
+            None => (self.begin_touches(task), journal::now()),
         };
         if let Some(touches) = self.touches.get_mut(&number) {
             if touches.seen.insert(row.clone()) {
-                touches.fresh.push(row);
+                touches.fresh.push(Row { time, ..row });
             }
         }
     }
@@ -361,7 +369,7 @@ impl State {
     }
 
     fn mark(&mut self, task: Task, what: &What, site: Site) -> Arc<Token> {
-        let token = Arc::new(Token { task, what: what.clone(), site, message: OnceLock::new() });
+        let token = Arc::new(Token { task, what: what.clone(), site, time: journal::now(), message: OnceLock::new() });
         self.tasks[task].pending.push(token.clone());
         token
     }
@@ -373,8 +381,9 @@ impl State {
             }
             return;
         }
-        if token.message.get().is_none() {
-            self.send(token);
+        while token.message.get().is_none() && self.tasks[token.task].pending.iter().any(|other| Arc::ptr_eq(other, token)) {
+            let first = self.tasks[token.task].pending[0].clone();
+            self.send(&first); // Those that were made before come first, so that the times of a task increase.
         }
         let Some(message) = token.message.get() else { return };
         if message.takers.lock().unwrap().insert(task) {
@@ -423,8 +432,8 @@ impl State {
         self.messages += 1;
         let message = format!("{}out_{}", self.prefix, self.messages);
         let row = Row::new(&self.tasks[task].name, "send", site, "send to another process");
-        let request = format!("send {} {message}", row.task);
-        self.report(task, Report { request, stands_for: StandsFor::Row(row), may_be_refused: false, answered: Some(answered) });
+        let (request, stands_for) = (format!("send {} {message}", row.task), StandsFor::Row(Row { time: journal::now(), ..row }));
+        self.report(task, Report { request, stands_for, may_be_refused: false, answered: Some(answered) });
         message
     }
 
@@ -440,7 +449,8 @@ impl State {
         self.messages += 1;
         let message = Arc::new(Message { name: format!("{}{}_{}", self.prefix, token.what.hint, self.messages), takers: Mutex::default() });
         let row = Row::new(&self.tasks[token.task].name, "send", token.site, &token.what.giving);
-        self.tell(token.task, format!("send {} {}", row.task, message.name), Row { lock: token.what.lock.clone(), ..row });
+        let (request, lock) = (format!("send {} {}", row.task, message.name), token.what.lock.clone());
+        self.tell(token.task, request, Row { lock, time: token.time, ..row });
         let pending = std::mem::take(&mut self.tasks[token.task].pending);
         let (same, others) = pending.into_iter().partition(|other| other.what.lock == token.what.lock);
         self.tasks[token.task].pending = others;
@@ -449,8 +459,10 @@ impl State {
         }
     }
 
+    /// Reports an event, which is now if its row tells no other time.
     fn tell(&mut self, task: Task, request: String, row: Row) {
-        self.report(task, Report { request, stands_for: StandsFor::Row(row), may_be_refused: false, answered: None });
+        let stands_for = StandsFor::Row(Row { time: row.time.or_else(journal::now), ..row });
+        self.report(task, Report { request, stands_for, may_be_refused: false, answered: None });
     }
 
     fn report(&mut self, task: Task, report: Report) {

@@ -1,19 +1,26 @@
 //! Small programs, each for one order that is reported by itself. A line that races says so in a comment, with the name of its program:
 //! clients/wrappers.py looks whether these lines are listed, and no others.
 //!
-//! Usage: cargo run --example wrappers NAME [FILE]
+//! Usage: cargo run --example wrappers NAME [WORDS]..
+
+mod web_programs;
 
 use itc_trace::sync::mpsc::{channel, sync_channel, Receiver, Sender};
 use itc_trace::sync::{Condvar, Mutex, RwLock};
-use itc_trace::{incoming, outgoing, thread, touch, touch_across};
-use std::path::Path;
+use itc_trace::{incoming, outgoing, thread, touch, touch_across, Error, Reporter};
 use std::collections::HashMap;
+use std::path::Path;
 use std::sync::{self as plain_sync, mpsc as plain_mpsc, Arc};
-use std::time::{Duration, Instant};
-use std::{fs, thread as plain};
+use std::time::Duration;
+use std::{fs, iter, panic, thread as plain};
 
 const MANY: usize = 100_000;
 const FEW: usize = 3_000;
+const SOME: usize = 1_000;
+/// Names of tasks: too long, the same again, without letters, and those of tasks that are there already.
+const ODD: [&str; 7] = [LONG, LONG, "", "_", "ü 1-2", "root", "others"];
+const LONG: &str = "aaaaaaaaaaaaaaaaaaaaaaaaaaaaaaaaaaaaaaaaaaaaaaaaaaaaaaaaaaaa";
+const ODD_THING: &str = "\"naïve\"\t\\ 😀";
 
 fn read_stock() {
     touch("stock", false); // race: after_hand_off before_end
@@ -49,6 +56,103 @@ fn locked() {
         let _held = lock.lock().unwrap();
         sell();
     });
+}
+
+/// Two threads acquire one lock by turns.
+fn contended() {
+    let lock = Mutex::new(());
+    in_two_threads(move || {
+        for _ in 0..SOME {
+            let _held = lock.lock().unwrap();
+            touch("stock", true);
+        }
+    });
+}
+
+fn tried_lock() {
+    let lock = Mutex::new(());
+    in_two_threads(move || {
+        let _held = iter::repeat_with(|| lock.try_lock()).find_map(Result::ok);
+        touch("stock", true);
+    });
+}
+
+fn odd_names() {
+    for name in ODD {
+        thread::spawn_named(name, || touch(ODD_THING, true)).unwrap().join().unwrap();
+    }
+}
+
+/// Each other way to receive, and to wait.
+fn other_calls() {
+    let ways: [fn(&Receiver<usize>); 3] = [
+        |receiver| while receiver.try_recv().is_err() {},
+        |receiver| assert_eq!(receiver.recv_timeout(Duration::from_secs(60)), Ok(1)),
+        |receiver| assert_eq!(receiver.iter().next(), Some(1)),
+    ];
+    for (way, (sender, receiver)) in ways.into_iter().map(|way| (way, sync_channel(1))) {
+        let taker = thread::spawn(move || {
+            way(&receiver);
+            read_stock();
+        });
+        write_stock();
+        sender.try_send(1).unwrap();
+        taker.join().unwrap();
+    }
+    poisoned();
+    timed_out();
+    tried_to_read();
+}
+
+/// Who reads comes after who has written, by whichever call.
+fn tried_to_read() {
+    let lock = Arc::new(RwLock::new(1));
+    let other = lock.clone();
+    let mut written = lock.try_write().unwrap();
+    let reading = thread::spawn(move || {
+        let tried = iter::repeat_with(|| other.try_read());
+        let _held = tried.filter_map(Result::ok).find(|value| **value == 2);
+        read_stock();
+    });
+    write_stock();
+    *written = 2;
+    drop(written);
+    reading.join().unwrap();
+}
+
+/// A thread that panics ends, and releases its lock.
+fn poisoned() {
+    let lock = Arc::new(Mutex::new(1));
+    let other = lock.clone();
+    let panicking = thread::spawn(move || {
+        let _held = other.lock();
+        write_stock();
+        panic::resume_unwind(Box::new("a lock is poisoned on purpose"));
+    });
+    while !lock.is_poisoned() {
+        plain::sleep(Duration::from_millis(1));
+    }
+    let held = lock.lock().unwrap_err().into_inner();
+    read_stock();
+    drop(held);
+    panicking.join().unwrap_err();
+}
+
+fn timed_out() {
+    let shared = Arc::new((Mutex::new(false), Condvar::new()));
+    let other = shared.clone();
+    let waiting = thread::spawn(move || {
+        let mut is_ready = other.0.lock().unwrap();
+        while !*is_ready {
+            is_ready = other.1.wait_timeout(is_ready, Duration::from_millis(10)).unwrap().0;
+        }
+        read_stock();
+    });
+    let mut is_ready = shared.0.lock().unwrap();
+    write_stock();
+    *is_ready = true;
+    drop(is_ready);
+    waiting.join().unwrap();
 }
 
 /// One thread is done with the stock before it acquires the lock, and the other one had it before.
@@ -164,6 +268,23 @@ fn read_first() {
     write_stock();
 }
 
+/// One thread writes and reads under the lock, and then touches the stock. Who reads under the lock comes after the writing, and not after
+/// what the writer does next.
+fn writer_goes_on() {
+    let lock = Arc::new(RwLock::new(()));
+    let other = lock.clone();
+    thread::spawn(move || {
+        drop(other.write().unwrap());
+        drop(other.read().unwrap());
+        touch("stock", true); // race: writer_goes_on
+    });
+    while Arc::strong_count(&lock) > 1 {
+        plain::sleep(Duration::from_millis(1));
+    }
+    let _held = lock.read().unwrap();
+    touch("stock", false); // race: writer_goes_on
+}
+
 fn many() {
     in_two_threads(|| (0..MANY).for_each(|_| touch(&format!("own {:?}", plain::current().id()), true)));
 }
@@ -178,32 +299,72 @@ fn filling() {
 }
 
 fn lock_turns() {
-    let (lock, began) = (Mutex::new(()), Instant::now());
+    let lock = Mutex::new(());
     for _ in 0..MANY {
         let _held = lock.lock().unwrap();
         touch("stock", true);
     }
-    tell_turns(MANY, began);
+}
+
+/// Two threads acquire one lock by turns. What hands the turns on is no order that is reported.
+fn lock_handed() {
+    let lock = Arc::new(Mutex::new(()));
+    let (first, second) = (plain_mpsc::channel(), plain_mpsc::channel());
+    first.0.send(()).unwrap();
+    let threads = [(first.1, second.0), (second.1, first.0)].map(|(own, others)| {
+        let lock = lock.clone();
+        thread::spawn(move || {
+            for _ in 0..FEW / 2 {
+                own.recv().unwrap();
+                let held = lock.lock().unwrap();
+                touch("stock", true);
+                drop(held);
+                let _ = others.send(()); // The last turn is handed to nobody.
+            }
+        })
+    });
+    threads.into_iter().for_each(|thread| thread.join().unwrap());
 }
 
 fn channel_turns() {
     let (sender, receiver) = channel();
-    let taker = thread::spawn(move || receiver.iter().for_each(|_: usize| touch("stock", true)));
-    let began = Instant::now();
-    (0..FEW).for_each(|turn| sender.send(turn).unwrap());
+    let (done, is_done) = plain_mpsc::channel();
+    let taker = thread::spawn(move || {
+        receiver.iter().for_each(|_: usize| {
+            touch("stock", true);
+            done.send(()).unwrap();
+        });
+    });
+    for turn in 0..FEW {
+        touch("item", true);
+        sender.send(turn).unwrap();
+        is_done.recv().unwrap();
+    }
     drop(sender);
     taker.join().unwrap();
-    tell_turns(FEW, began);
-}
-
-fn tell_turns(turns: usize, began: Instant) {
-    println!("nanoseconds a turn: {}", began.elapsed().as_nanos() / turns as u128);
 }
 
 fn across() {
     touch_across("row", false); // race: across
     touch_across("row", true); // race: across
     touch("own \"row\"", true);
+}
+
+/// A second task of this process, and what both do.
+fn by_hand() -> Result<(), Error> {
+    let reporter = Reporter::from_environment()?.unwrap();
+    let (own, child, message) = (reporter.task.clone(), reporter.name("child"), reporter.name("message"));
+    reporter.spawn(&own, &child)?;
+    reporter.touch(&child, "stock", true)?; // race: by_hand
+    reporter.touch(&own, "stock", false)?; // race: by_hand
+    reporter.touch_across(&own, "row", true)?;
+    reporter.send(&own, &message)?;
+    reporter.recv(&child, &message)?;
+    reporter.touch_across(&child, "row", true)?;
+    reporter.end(&child)?;
+    reporter.join(&own, &child)?;
+    reporter.touch(&own, "stock", true)?;
+    reporter.close()
 }
 
 /// The steps of a file are done one after the other, each in its own thread. What hands them on is no order that is reported.
@@ -298,6 +459,7 @@ impl Shared {
         let kind = operation.trim_end_matches("unlock").trim_end_matches("lock");
         let key = format!("{kind}{place}");
         match operation {
+            "wait" => plain::sleep(Duration::from_millis(place as u64)),
             "lock" => drop(held.insert(key, Box::new(self.locks[place].lock().unwrap()))),
             "write_lock" => drop(held.insert(key, Box::new(self.read_locks[place].write().unwrap()))),
             "read_lock" => drop(held.insert(key, Box::new(self.read_locks[place].read().unwrap()))),
@@ -333,6 +495,10 @@ fn main() {
         "plain_threads" => plain_threads(),
         "locked" => locked(),
         "lucky_lock" => lucky_lock(),
+        "contended" => contended(),
+        "tried_lock" => tried_lock(),
+        "odd_names" => odd_names(),
+        "other_calls" => other_calls(),
         "condition" => condition(),
         "hand_off" => hand_off(false),
         "after_hand_off" => hand_off(true),
@@ -342,14 +508,19 @@ fn main() {
         "read_lock" => read_lock(false),
         "read_first" => read_first(),
         "read_lock_race" => read_lock(true),
+        "writer_goes_on" => writer_goes_on(),
         "many" => many(),
         "filling" => filling(),
         "lock_turns" => lock_turns(),
+        "lock_handed" => lock_handed(),
         "channel_turns" => channel_turns(),
         "across" => across(),
+        "by_hand" => by_hand().unwrap(),
         "steps" => Steps::default().run(file()),
         "receiver" => receiver(file()),
         "sender" => sender(file()),
+        "web_server" => web_programs::serve(file(), words[3].parse().unwrap(), &words[4]),
+        "web_client" => web_programs::ask(file(), &words[3]),
         other => panic!("there is no program {other}"),
     }
     println!("done");

@@ -1,7 +1,7 @@
 // Small programs, each for one order that is reported by itself. A line that races says so in a comment, with the name of its program:
 // clients/wrappers.py looks whether these lines are listed, and no others.
 //
-// Usage: go run ./wrappers NAME [FILE]
+// Usage: go run ./wrappers NAME [WORDS]..
 package main
 
 import (
@@ -10,6 +10,7 @@ import (
 	"net/http"
 	"net/http/httptest"
 	"os"
+	"runtime"
 	"strconv"
 	"strings"
 	"time"
@@ -20,7 +21,13 @@ import (
 const (
 	many = 100_000
 	few  = 3_000
+	some = 1_000
 )
+
+// odd are names of tasks: too long, the same again, without letters, and those of tasks that are there already.
+var odd = []string{strings.Repeat("a", 60), strings.Repeat("a", 60), "", "_", "ü 1-2", "root", "others"}
+
+const oddThing = "\"naïve\"\t\\ 😀"
 
 func readStock() {
 	itctrace.Touch("stock", false) // race: after_hand_off before_end http_race
@@ -68,6 +75,35 @@ func locked() {
 		defer lock.Unlock()
 		sell()
 	})
+}
+
+// contended has two goroutines acquire one lock by turns.
+func contended() {
+	var lock itctrace.Mutex
+	inTwoGoroutines(func() {
+		for turn := 0; turn < some; turn++ {
+			lock.Lock()
+			itctrace.Touch("stock", true)
+			lock.Unlock()
+		}
+	})
+}
+
+func triedLock() {
+	var lock itctrace.Mutex
+	inTwoGoroutines(func() {
+		for !lock.TryLock() {
+			runtime.Gosched()
+		}
+		itctrace.Touch("stock", true)
+		lock.Unlock()
+	})
+}
+
+func oddNames() {
+	for _, name := range odd {
+		itctrace.Go(itctrace.Named(context.Background(), name), func(context.Context) { itctrace.Touch(oddThing, true) }).Wait()
+	}
 }
 
 // luckyLock has one goroutine done with the stock before it acquires the lock, and the other one had it before.
@@ -119,6 +155,35 @@ func handOff(isTouchedAfter bool) {
 		writeStock()
 	}
 	taker.Wait()
+}
+
+// otherCalls receives in each other way.
+func otherCalls() {
+	for _, receive := range []func(*itctrace.Chan[int]){
+		func(channel *itctrace.Chan[int]) {
+			for _, isThere := channel.TryReceive(); !isThere; _, isThere = channel.TryReceive() {
+				runtime.Gosched()
+			}
+		},
+		func(channel *itctrace.Chan[int]) { channel.ReceiveOr(context.Background()) },
+	} {
+		channel := itctrace.MakeChan[int](1)
+		taker := start(func() {
+			receive(channel)
+			readStock()
+		})
+		writeStock()
+		channel.Send(1)
+		taker.Wait()
+	}
+	ctx, cancel := itctrace.WithCancel(context.Background())
+	waiting := start(func() {
+		itctrace.MakeChan[int](0).ReceiveOr(ctx)
+		readStock()
+	})
+	writeStock()
+	cancel()
+	waiting.Wait()
 }
 
 // rendezvous: without room in the channel, the sender comes after the receipt.
@@ -220,6 +285,25 @@ func readFirst() {
 	lock.Unlock()
 }
 
+// writerGoesOn has a goroutine write and read under the lock, and then touch the stock. Who reads under the lock comes after the writing,
+// and not after what the writer does next.
+func writerGoesOn() {
+	var lock itctrace.RWMutex
+	done := make(chan bool)
+	start(func() {
+		lock.Lock()
+		lock.Unlock()
+		lock.RLock()
+		lock.RUnlock()
+		itctrace.Touch("stock", true) // race: writer_goes_on
+		close(done)
+	})
+	<-done
+	lock.RLock()
+	itctrace.Touch("stock", false) // race: writer_goes_on
+	lock.RUnlock()
+}
+
 // web asks a server of this process, by a client that is traced or by another one.
 func web(client *http.Client) {
 	server := httptest.NewServer(itctrace.Handler(http.HandlerFunc(func(response http.ResponseWriter, _ *http.Request) {
@@ -264,39 +348,82 @@ func filling() {
 
 func lockTurns() {
 	var lock itctrace.Mutex
-	began := time.Now()
 	for turn := 0; turn < many; turn++ {
 		lock.Lock()
 		itctrace.Touch("stock", true)
 		lock.Unlock()
 	}
-	tellTurns(many, began)
+}
+
+// lockHandOvers has two goroutines acquire one lock by turns. What hands the turns on is no order that is reported.
+func lockHandOvers() {
+	var lock itctrace.Mutex
+	turns := [2]chan bool{make(chan bool, 1), make(chan bool, 1)}
+	work := func(own int) func() {
+		return func() {
+			for turn := 0; turn < few/2; turn++ {
+				<-turns[own]
+				lock.Lock()
+				itctrace.Touch("stock", true)
+				lock.Unlock()
+				turns[1-own] <- true
+			}
+		}
+	}
+	first, second := start(work(0)), start(work(1))
+	turns[0] <- true
+	first.Wait()
+	second.Wait()
 }
 
 func channelTurns() {
-	channel := itctrace.MakeChan[int](few)
+	channel, isDone := itctrace.MakeChan[int](few), make(chan bool)
 	taker := start(func() {
 		for turn := 0; turn < few; turn++ {
 			channel.Receive()
 			itctrace.Touch("stock", true)
+			isDone <- true
 		}
 	})
-	began := time.Now()
 	for turn := 0; turn < few; turn++ {
+		itctrace.Touch("item", true)
 		channel.Send(turn)
+		<-isDone
 	}
 	taker.Wait()
-	tellTurns(few, began)
-}
-
-func tellTurns(turns int, began time.Time) {
-	fmt.Println("nanoseconds a turn:", time.Since(began).Nanoseconds()/int64(turns))
 }
 
 func across() {
 	itctrace.TouchAcross("row", false) // race: across
 	itctrace.TouchAcross("row", true)  // race: across
 	itctrace.Touch("own \"row\"", true)
+}
+
+// byHand has a second task of this process, and reports what both do.
+func byHand() {
+	reporter := must(itctrace.FromEnvironment())
+	own, child, message := reporter.Task, reporter.Name("child"), reporter.Name("message")
+	must(reporter.Spawn(own, child))
+	must(reporter.Touch(child, "stock", true)) // race: by_hand
+	must(reporter.Touch(own, "stock", false))  // race: by_hand
+	must(reporter.TouchAcross(own, "row", true))
+	must(reporter.Send(own, message))
+	must(reporter.Recv(child, message))
+	must(reporter.TouchAcross(child, "row", true))
+	must(reporter.End(child))
+	must(reporter.Join(own, child))
+	must(reporter.Touch(own, "stock", true))
+	if err := reporter.Close(); err != nil {
+		panic(err)
+	}
+}
+
+// must gives the value; the program ends if there is none.
+func must[T any](value T, err error) T {
+	if err != nil {
+		panic(err)
+	}
+	return value
 }
 
 // steps does the steps of a file one after the other, each in its own goroutine. What hands them on is no order that is reported.
@@ -345,12 +472,10 @@ func (s *steps) step(operation, word string) {
 		})
 	case "join":
 		s.routines[word].Wait()
+	case "wait":
+		time.Sleep(must(time.ParseDuration(word + "ms")))
 	default:
-		place, err := strconv.Atoi(word)
-		if err != nil {
-			panic(err)
-		}
-		s.stepAt(operation, place)
+		s.stepAt(operation, must(strconv.Atoi(word)))
 	}
 }
 
@@ -368,24 +493,13 @@ func (s *steps) stepAt(operation string, place int) {
 }
 
 func receiver(file string) {
-	for {
-		if text, err := os.ReadFile(file); err == nil {
-			itctrace.Incoming(strings.TrimSpace(string(text)))
-			break
-		}
-		time.Sleep(10 * time.Millisecond)
-	}
+	itctrace.Incoming(waitFor(file))
 	itctrace.TouchAcross("row", true)
 }
 
 func sender(file string) {
 	itctrace.TouchAcross("row", true)
-	if err := os.WriteFile(file+".new", []byte(itctrace.Outgoing()), 0o666); err != nil {
-		panic(err)
-	}
-	if err := os.Rename(file+".new", file); err != nil {
-		panic(err)
-	}
+	tell(file, itctrace.Outgoing())
 }
 
 func main() {
@@ -395,6 +509,10 @@ func main() {
 		"plain_threads":  plainGoroutines,
 		"locked":         locked,
 		"lucky_lock":     luckyLock,
+		"contended":      contended,
+		"tried_lock":     triedLock,
+		"odd_names":      oddNames,
+		"other_calls":    otherCalls,
 		"condition":      condition,
 		"hand_off":       func() { handOff(false) },
 		"after_hand_off": func() { handOff(true) },
@@ -406,17 +524,22 @@ func main() {
 		"read_lock":      func() { readLock(false) },
 		"read_first":     readFirst,
 		"read_lock_race": func() { readLock(true) },
+		"writer_goes_on": writerGoesOn,
 		"http":           func() { web(&http.Client{Transport: itctrace.Transport{}}) },
 		"http_race":      func() { web(http.DefaultClient) },
 		"before_end":     beforeEnd,
 		"many":           touchMany,
 		"filling":        filling,
 		"lock_turns":     lockTurns,
+		"lock_handed":    lockHandOvers,
 		"channel_turns":  channelTurns,
 		"across":         across,
+		"by_hand":        byHand,
 		"steps":          func() { runSteps(os.Args[2]) },
 		"receiver":       func() { receiver(os.Args[2]) },
 		"sender":         func() { sender(os.Args[2]) },
+		"web_server":     func() { serve(os.Args[2], os.Args[3], os.Args[4]) },
+		"web_client":     func() { ask(os.Args[2], os.Args[3]) },
 	}
 	programs[os.Args[1]]()
 	fmt.Println("done")

@@ -1,8 +1,10 @@
+import itctrace.Reporter;
 import itctrace.Traced;
 import itctrace.TracedFuture;
 import itctrace.TracedThread;
 import java.nio.file.Files;
 import java.nio.file.Path;
+import java.util.ArrayList;
 import java.util.HashMap;
 import java.util.List;
 import java.util.Map;
@@ -16,6 +18,7 @@ import java.util.concurrent.Executors;
 import java.util.concurrent.Future;
 import java.util.concurrent.LinkedBlockingQueue;
 import java.util.concurrent.Semaphore;
+import java.util.concurrent.ThreadFactory;
 import java.util.concurrent.TimeUnit;
 import java.util.concurrent.locks.Condition;
 import java.util.concurrent.locks.Lock;
@@ -27,11 +30,15 @@ import java.util.concurrent.locks.ReentrantReadWriteLock;
  * Small programs, each for one order that is reported by itself. A line that races says so in a comment, with the name of its program:
  * clients/wrappers.py looks whether these lines are listed, and no others.
  *
- * <p>Usage: java Wrappers NAME [FILE]
+ * <p>Usage: java Wrappers NAME [WORDS]..
  */
 public final class Wrappers {
     private static final int MANY = 100_000;
     private static final int FEW = 3_000;
+    private static final int SOME = 1_000;
+    /** Names of tasks: too long, the same again, without letters, and those of tasks that are there already. */
+    private static final List<String> ODD = List.of("a".repeat(60), "a".repeat(60), "", "_", "ü 1-2", "root", "others");
+    private static final String ODD_THING = "\"naïve\"\t\\ 😀";
     private static int stock = 2;
 
     private static void readStock() {
@@ -84,6 +91,96 @@ public final class Wrappers {
                         lock.unlock();
                     }
                 });
+    }
+
+    /** Two threads acquire one lock by turns. */
+    private static void contended() throws InterruptedException {
+        Lock lock = Traced.lock(new ReentrantLock());
+        inTwoThreads(
+                () -> {
+                    for (int turn = 0; turn < SOME; turn++) {
+                        lock.lock();
+                        Traced.touch("stock", true);
+                        lock.unlock();
+                    }
+                });
+    }
+
+    private interface Step<T> {
+        void on(T it) throws Exception;
+    }
+
+    private static <T> void doStep(Step<T> step, T it) {
+        try {
+            step.on(it);
+        } catch (Exception failure) {
+            throw new IllegalStateException(failure);
+        }
+    }
+
+    /** Each other way to acquire a lock. */
+    private static void triedLock() throws InterruptedException {
+        List<Step<Lock>> ways = List.of(Wrappers::spin, Lock::lockInterruptibly, lock -> lock.tryLock(1, TimeUnit.MINUTES));
+        for (Step<Lock> way : ways) {
+            Lock lock = Traced.lock(new ReentrantLock());
+            inTwoThreads(
+                    () -> {
+                        doStep(way, lock);
+                        Traced.touch("stock", true);
+                        lock.unlock();
+                    });
+        }
+    }
+
+    private static void spin(Lock lock) {
+        while (!lock.tryLock()) {
+            Thread.onSpinWait();
+        }
+    }
+
+    private static void oddNames() throws InterruptedException {
+        for (String name : ODD) {
+            Traced.start(name, () -> Traced.touch(ODD_THING, true)).join();
+        }
+    }
+
+    /** Each other way to take from a queue, to wait for a thread, and to start one. */
+    private static void otherCalls() throws InterruptedException {
+        List<Step<BlockingQueue<Integer>>> ways =
+                List.of(
+                        BlockingQueue::poll,
+                        queue -> queue.poll(1, TimeUnit.MINUTES),
+                        BlockingQueue::peek,
+                        queue -> queue.drainTo(new ArrayList<>()),
+                        queue -> queue.iterator().next());
+        for (Step<BlockingQueue<Integer>> way : ways) {
+            BlockingQueue<Integer> queue = Traced.queue(new LinkedBlockingQueue<>());
+            CountDownLatch given = new CountDownLatch(1);
+            TracedThread taker =
+                    Traced.start(
+                            "taker",
+                            () -> {
+                                doStep(CountDownLatch::await, given);
+                                doStep(way, queue);
+                                readStock();
+                            },
+                            virtualThreads());
+            writeStock();
+            queue.offer(1);
+            given.countDown();
+            taker.join(TimeUnit.MINUTES.toMillis(1));
+        }
+    }
+
+    /** A factory of virtual threads, where the JDK has them. */
+    private static ThreadFactory virtualThreads() {
+        try {
+            Object builder = Thread.class.getMethod("ofVirtual").invoke(null);
+            Class<?> type = Class.forName("java.lang.Thread$Builder");
+            return (ThreadFactory) type.getMethod("factory").invoke(builder);
+        } catch (ReflectiveOperationException | UnsupportedOperationException none) {
+            return Thread::new;
+        }
     }
 
     /** One thread is done with the stock before it acquires the lock, and the other one had it before. */
@@ -161,6 +258,28 @@ public final class Wrappers {
         lock.writeLock().lock();
         writeStock();
         lock.writeLock().unlock();
+    }
+
+    /**
+     * One thread writes and reads under the lock, and then touches the stock. Who reads under the lock comes after the writing, and not
+     * after what the writer does next.
+     */
+    private static void writerGoesOn() throws InterruptedException {
+        ReadWriteLock lock = Traced.lock(new ReentrantReadWriteLock());
+        TracedThread writer =
+                Traced.start(
+                        "writer",
+                        () -> {
+                            lock.writeLock().lock();
+                            lock.writeLock().unlock();
+                            lock.readLock().lock();
+                            lock.readLock().unlock();
+                            Traced.touch("stock", true); // race: writer_goes_on
+                        });
+        writer.thread().join();
+        lock.readLock().lock();
+        Traced.touch("stock", false); // race: writer_goes_on
+        lock.readLock().unlock();
     }
 
     private static void sleep(long milliseconds) {
@@ -278,6 +397,40 @@ public final class Wrappers {
         readStock();
     }
 
+    /** Each other way to be given a function, and to see that a future is done. */
+    private static void futureCalls() throws Exception {
+        CompletableFuture<Integer> written = TracedFuture.supplyAsync(Wrappers::writeAndGive);
+        CompletableFuture<Integer> handled = written.handle((value, failure) -> writeAndGive());
+        CompletableFuture<Integer> watched = handled.whenComplete((value, failure) -> writeStock());
+        CompletableFuture<Integer> applied = watched.thenApplyAsync(value -> writeAndGive());
+        CompletableFuture<Integer> composed = applied.thenComposeAsync(value -> TracedFuture.supplyAsync(Wrappers::writeAndGive));
+        composed.thenRun(Wrappers::writeStock).get(1, TimeUnit.MINUTES);
+        writeStock();
+        CompletableFuture<Integer> failing = new TracedFuture<>();
+        Traced.start(
+                "failing",
+                () -> {
+                    writeStock();
+                    failing.completeExceptionally(new IllegalStateException());
+                });
+        failing.exceptionally(failure -> writeAndGive()).join();
+        CompletableFuture<Integer> polled = TracedFuture.supplyAsync(Wrappers::writeAndGive);
+        while (polled.getNow(0) == 0) {
+            Thread.onSpinWait();
+        }
+        writeStock();
+        CompletableFuture<Integer> awaited = TracedFuture.supplyAsync(Wrappers::writeAndGive);
+        while (!awaited.isDone()) {
+            Thread.onSpinWait();
+        }
+        writeStock();
+    }
+
+    private static int writeAndGive() {
+        writeStock();
+        return 1;
+    }
+
     private static int readAnd(int value) {
         readStock();
         return value;
@@ -317,46 +470,81 @@ public final class Wrappers {
 
     private static void lockTurns() {
         Lock lock = Traced.lock(new ReentrantLock());
-        long began = System.nanoTime();
         for (int turn = 0; turn < MANY; turn++) {
             lock.lock();
             Traced.touch("stock", true);
             lock.unlock();
         }
-        tellTurns(MANY, began);
+    }
+
+    /** Two threads acquire one lock by turns. What hands the turns on is no order that is reported. */
+    private static void lockHanded() throws InterruptedException {
+        Lock lock = Traced.lock(new ReentrantLock());
+        Semaphore[] turns = {new Semaphore(1), new Semaphore(0)};
+        List<TracedThread> threads = new ArrayList<>();
+        for (int own : new int[] {0, 1}) {
+            threads.add(
+                    Traced.start(
+                            "turns",
+                            () -> {
+                                for (int turn = 0; turn < FEW / 2; turn++) {
+                                    turns[own].acquireUninterruptibly();
+                                    lock.lock();
+                                    Traced.touch("stock", true);
+                                    lock.unlock();
+                                    turns[1 - own].release();
+                                }
+                            }));
+        }
+        for (TracedThread thread : threads) {
+            thread.join();
+        }
     }
 
     private static void channelTurns() throws InterruptedException {
         BlockingQueue<Integer> queue = Traced.queue(new LinkedBlockingQueue<>());
+        Semaphore done = new Semaphore(0);
         TracedThread taker =
                 Traced.start(
                         "taker",
                         () -> {
-                            try {
-                                for (int turn = 0; turn < FEW; turn++) {
-                                    queue.take();
-                                    Traced.touch("stock", true);
-                                }
-                            } catch (InterruptedException interrupted) {
-                                throw new IllegalStateException(interrupted);
+                            for (int turn = 0; turn < FEW; turn++) {
+                                doStep(BlockingQueue::take, queue);
+                                Traced.touch("stock", true);
+                                done.release();
                             }
                         });
-        long began = System.nanoTime();
         for (int turn = 0; turn < FEW; turn++) {
+            Traced.touch("item", true);
             queue.put(turn);
+            done.acquire();
         }
         taker.join();
-        tellTurns(FEW, began);
-    }
-
-    private static void tellTurns(int turns, long began) {
-        System.out.printf("nanoseconds a turn: %d%n", (System.nanoTime() - began) / turns);
     }
 
     private static void across() {
         Traced.touchAcross("row", false); // race: across
         Traced.touchAcross("row", true); // race: across
         Traced.touch("own \"row\"", true);
+    }
+
+    /** A second task of this process, and what both do. */
+    private static void byHand() throws Exception {
+        try (Reporter reporter = Reporter.fromEnvironment().orElseThrow()) {
+            String own = reporter.task;
+            String child = reporter.name("child");
+            String message = reporter.name("message");
+            reporter.spawn(own, child);
+            reporter.touch(child, "stock", true); // race: by_hand
+            reporter.touch(own, "stock", false); // race: by_hand
+            reporter.touchAcross(own, "row", true);
+            reporter.send(own, message);
+            reporter.recv(child, message);
+            reporter.touchAcross(child, "row", true);
+            reporter.end(child);
+            reporter.join(own, child);
+            reporter.touch(own, "stock", true);
+        }
     }
 
     /** Does the steps of a file one after the other, each in its own thread. What hands them to the threads is no order that is reported. */
@@ -421,6 +609,7 @@ public final class Wrappers {
 
         private void step(String operation, int place) {
             switch (operation) {
+                case "wait" -> sleep(place);
                 case "lock" -> locks[place].lock();
                 case "unlock" -> locks[place].unlock();
                 case "write_lock" -> readLocks[place].writeLock().lock();
@@ -455,10 +644,16 @@ public final class Wrappers {
             case "plain_threads" -> plainThreads();
             case "locked" -> locked();
             case "lucky_lock" -> luckyLock();
+            case "contended" -> contended();
+            case "tried_lock" -> triedLock();
+            case "odd_names" -> oddNames();
+            case "other_calls" -> otherCalls();
+            case "future_calls" -> futureCalls();
             case "condition" -> condition();
             case "read_lock" -> readLock(false);
             case "read_first" -> readFirst();
             case "read_lock_race" -> readLock(true);
+            case "writer_goes_on" -> writerGoesOn();
             case "hand_off" -> handOff(false);
             case "after_hand_off" -> handOff(true);
             case "executor" -> executor(false);
@@ -471,11 +666,15 @@ public final class Wrappers {
             case "many" -> many();
             case "filling" -> filling();
             case "lock_turns" -> lockTurns();
+            case "lock_handed" -> lockHanded();
             case "channel_turns" -> channelTurns();
             case "across" -> across();
+            case "by_hand" -> byHand();
             case "steps" -> new Steps().run(Path.of(words[1]));
             case "receiver" -> receiver(Path.of(words[1]));
             case "sender" -> sender(Path.of(words[1]));
+            case "web_server" -> WebPrograms.serve(Path.of(words[1]), Integer.parseInt(words[2]), words[3]);
+            case "web_client" -> WebPrograms.ask(Path.of(words[1]), words[2]);
             default -> throw new IllegalArgumentException(words[0]);
         }
         System.out.println("done");

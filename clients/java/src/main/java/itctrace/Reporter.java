@@ -95,9 +95,10 @@ public final class Reporter implements AutoCloseable {
     }
 
     private int at(String request, String task, String kind, String thing, String label) throws IOException {
+        long time = Row.now();
         Row.Site site = Row.Site.ofCaller().withoutFunction();
         int event = Integer.parseInt(session.request(request).get(0));
-        write(event, new Row(task, thing, kind, site, label, List.of(), null));
+        write(event, new Row(task, thing, kind, site, label, List.of(), null, time));
         return event;
     }
 

@@ -1,12 +1,21 @@
 package itctrace;
 
+import java.math.BigDecimal;
+import java.time.Instant;
 import java.util.List;
 import java.util.stream.Collectors;
 
-/** What a journal says of one event, or of one of the touches that an event stands for. A thing is what was touched, else null. */
-record Row(String task, String thing, String kind, Site site, String label, List<String> held, String lock) {
+/**
+ * What a journal says of one event, or of one of the touches that an event stands for. A thing is what was touched, else null. The time
+ * is that of the event, in microseconds since 1970. It is 0 if another row tells it.
+ */
+record Row(String task, String thing, String kind, Site site, String label, List<String> held, String lock, long time) {
     /** The last line of a journal whose process reported all that it noted. */
     static final String END = "{\"end\":true}\n";
+
+    private static final long MICROSECONDS = 1_000_000;
+    private static final int DIGITS = 6;
+    private static final int NANOSECONDS = 1_000;
 
     /** A line of the program. */
     record Site(String file, int line, String function) {
@@ -31,14 +40,28 @@ record Row(String task, String thing, String kind, Site site, String label, List
         }
     }
 
-    /** The row of an event that touches nothing. */
+    /** The row of an event that touches nothing, and is now. */
     static Row of(String task, String kind, Site site, String label, String lock) {
-        return new Row(task, null, kind, site, label, List.of(), lock);
+        return at(now(), task, kind, site, label, lock);
+    }
+
+    /** The row of an event that touched nothing, and was then. */
+    static Row at(long time, String task, String kind, Site site, String label, String lock) {
+        return new Row(task, null, kind, site, label, List.of(), lock, time);
+    }
+
+    /** By the clock of this process. */
+    static long now() {
+        Instant now = Instant.now();
+        return now.getEpochSecond() * MICROSECONDS + now.getNano() / NANOSECONDS;
     }
 
     String text(int event) {
-        StringBuilder text = new StringBuilder("{\"event\":").append(event).append(",\"task\":").append(quoted(task));
-        text.append(",\"thing\":").append(quoted(thing)).append(",\"kind\":").append(quoted(kind));
+        StringBuilder text = new StringBuilder("{\"event\":").append(event);
+        if (time > 0) {
+            text.append(",\"time\":").append(BigDecimal.valueOf(time, DIGITS));
+        }
+        text.append(",\"task\":").append(quoted(task)).append(",\"thing\":").append(quoted(thing)).append(",\"kind\":").append(quoted(kind));
         text.append(",\"file\":").append(quoted(site.file)).append(",\"line\":").append(site.line).append(",\"label\":").append(quoted(label));
         if (thing != null && !site.function.isEmpty()) {
             text.append(",\"function\":").append(quoted(site.function));

@@ -43,6 +43,7 @@ final class Task {
         final Task task;
         final What what;
         final Row.Site site;
+        final long time = Row.now();
         Message message;
 
         Token(Task task, What what, Row.Site site) {

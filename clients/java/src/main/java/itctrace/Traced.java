@@ -6,12 +6,12 @@ import itctrace.Task.What;
 import java.io.IOException;
 import java.util.Optional;
 import java.util.concurrent.BlockingQueue;
+import java.util.concurrent.ExecutionException;
 import java.util.concurrent.ExecutorService;
 import java.util.concurrent.ThreadFactory;
 import java.util.concurrent.locks.Lock;
 import java.util.concurrent.locks.ReadWriteLock;
 import java.util.concurrent.locks.ReentrantReadWriteLock;
-import java.util.function.Supplier;
 
 /**
  * What a program marks and wraps, so that its order and its touches are reported behind its back. It reports where the environment
@@ -105,6 +105,17 @@ public final class Traced {
         }
     }
 
+    /**
+     * Has this thread answer a request of another process, as a task of its own, up to the end of what this gives. The task comes after
+     * what the thread did before as itself, and not after its other requests. What the request brings may be null. A response that is to be a message, too, needs {@code outgoing} before its head is sent. {@link TracedWeb}
+     * does both for the server of the JDK.
+     */
+    public static TracedRequest request(String message) {
+        TracedRequest request = new TracedRequest(spawn("request", site()));
+        incoming(message);
+        return request;
+    }
+
     /** The header of HTTP that carries a message. */
     public static final String HEADER = "Itc-Trace";
 
@@ -142,17 +153,33 @@ public final class Traced {
         return isOn() ? TRACER.spawn(current(), hint, site) : null;
     }
 
-    /** Does this as the task, which ends with it. */
-    static <T> T call(Task task, Supplier<T> body) {
+    /** This thread is the task from now on. Gives the task that it was. */
+    static Task become(Task task) {
         Task before = CURRENT.get();
         CURRENT.set(task);
+        return before;
+    }
+
+    /** The task of this thread ends, and the thread is the one before again. */
+    static void end(Task task, Task before) {
+        if (task != null && isOn()) {
+            TRACER.end(task);
+        }
+        CURRENT.set(before);
+    }
+
+    /** What is done as a task, and what it may throw. */
+    interface Body<T, X extends Exception> {
+        T run() throws X;
+    }
+
+    /** Does this as the task, which ends with it. */
+    static <T, X extends Exception> T call(Task task, Body<T, X> body) throws X {
+        Task before = become(task);
         try {
-            return body.get();
+            return body.run();
         } finally {
-            if (task != null && isOn()) {
-                TRACER.end(task);
-            }
-            CURRENT.set(before);
+            end(task, before);
         }
     }
 
@@ -163,6 +190,20 @@ public final class Traced {
                     body.run();
                     return null;
                 });
+    }
+
+    /** A wait for a value, and what tells that it took too long. */
+    interface Wait<T, X extends Exception> {
+        T value() throws InterruptedException, ExecutionException, X;
+    }
+
+    /** Waits for the value. However that ends, this thread has seen then what it saw of the value. */
+    static <T, X extends Exception> T waited(Wait<T, X> wait, Runnable seen) throws InterruptedException, ExecutionException, X {
+        try {
+            return wait.value();
+        } finally {
+            seen.run();
+        }
     }
 
     static void join(Task child, Site site) {

@@ -12,7 +12,6 @@ import java.util.concurrent.FutureTask;
 import java.util.concurrent.RunnableFuture;
 import java.util.concurrent.TimeUnit;
 import java.util.concurrent.TimeoutException;
-import java.util.concurrent.atomic.AtomicReference;
 
 /** An executor each of whose jobs is a task of its own: it follows its submission, and not the job that the thread did before. */
 final class TracedExecutor extends AbstractExecutorService {
@@ -28,46 +27,18 @@ final class TracedExecutor extends AbstractExecutorService {
         private final Task task;
 
         Job(Task task, Callable<T> body) {
-            super(() -> called(task, body));
+            super(() -> Traced.call(task, body::call)); // The task ends before the result is there to be taken.
             this.task = task;
-        }
-
-        /** The task ends before the result is there to be taken. */
-        private static <T> T called(Task task, Callable<T> body) throws Exception {
-            AtomicReference<Exception> thrown = new AtomicReference<>();
-            T value =
-                    Traced.call(
-                            task,
-                            () -> {
-                                try {
-                                    return body.call();
-                                } catch (Exception failure) {
-                                    thrown.set(failure);
-                                    return null;
-                                }
-                            });
-            if (thrown.get() != null) {
-                throw thrown.get();
-            }
-            return value;
         }
 
         @Override
         public T get() throws InterruptedException, ExecutionException {
-            try {
-                return super.get();
-            } finally {
-                taken();
-            }
+            return Traced.waited(super::get, this::taken);
         }
 
         @Override
         public T get(long time, TimeUnit unit) throws InterruptedException, ExecutionException, TimeoutException {
-            try {
-                return super.get(time, unit);
-            } finally {
-                taken();
-            }
+            return Traced.waited(() -> super.get(time, unit), this::taken);
         }
 
         @Override

@@ -114,6 +114,37 @@ public final class TracedFuture<T> extends CompletableFuture<T> {
         return all;
     }
 
+    /** Completes as the other one does, once this was done with its value as a task of its own. To cancel it cancels the other one. */
+    static <T> CompletableFuture<T> following(CompletableFuture<T> other, Consumer<? super T> body) {
+        TracedFuture<T> future = new TracedFuture<>();
+        Origin origin = new Origin("response");
+        origin.of(future);
+        future.cancelAlso(other);
+        other.whenComplete(
+                (value, failure) -> {
+                    if (failure == null) {
+                        future.completeBy(origin, () -> after(body, value));
+                    } else {
+                        future.completeAs(null, failure);
+                    }
+                });
+        return future;
+    }
+
+    private static <T> T after(Consumer<? super T> body, T value) {
+        body.accept(value);
+        return value;
+    }
+
+    private void cancelAlso(CompletableFuture<T> other) {
+        super.whenComplete(
+                (value, failure) -> {
+                    if (isCancelled()) {
+                        other.cancel(true);
+                    }
+                });
+    }
+
     private void completeAs(T value, Throwable failure) {
         if (failure == null) {
             super.complete(value);
@@ -173,20 +204,12 @@ public final class TracedFuture<T> extends CompletableFuture<T> {
 
     @Override
     public T get() throws InterruptedException, ExecutionException {
-        try {
-            return super.get();
-        } finally {
-            takenIfDone();
-        }
+        return Traced.waited(super::get, this::takenIfDone);
     }
 
     @Override
     public T get(long time, TimeUnit unit) throws InterruptedException, ExecutionException, TimeoutException {
-        try {
-            return super.get(time, unit);
-        } finally {
-            takenIfDone();
-        }
+        return Traced.waited(() -> super.get(time, unit), this::takenIfDone);
     }
 
     @Override

@@ -2,11 +2,8 @@ package itctrace;
 
 import itctrace.Row.Site;
 import itctrace.Task.Token;
-import itctrace.Task.What;
 import java.util.ArrayList;
 import java.util.List;
-import java.util.concurrent.TimeUnit;
-import java.util.concurrent.locks.Condition;
 import java.util.concurrent.locks.Lock;
 import java.util.concurrent.locks.ReadWriteLock;
 import java.util.concurrent.locks.ReentrantReadWriteLock;
@@ -16,8 +13,7 @@ import java.util.function.BooleanSupplier;
 final class TracedReadWriteLock implements ReadWriteLock {
     private final Lock reading;
     private final Lock writing;
-    private final Site made = Traced.site();
-    private String name;
+    private final ReportingLock.Name name = new ReportingLock.Name();
     private Token byWriter;
     private List<Token> byReaders = new ArrayList<>();
     private boolean isSignal;
@@ -46,23 +42,15 @@ final class TracedReadWriteLock implements ReadWriteLock {
             byReaders.forEach(token -> Traced.take(token, site));
             byReaders = new ArrayList<>();
         }
-        Task task = Traced.current();
-        List<String> held = new ArrayList<>(task.held);
-        held.add(name());
-        task.held = List.copyOf(held);
+        name.hold(Traced.current());
     }
 
     private synchronized void releasing(boolean isWriter, Site site) {
         if (!Traced.isOn()) {
             return;
         }
-        Task task = Traced.current();
-        List<String> held = new ArrayList<>(task.held);
-        held.remove(name());
-        task.held = List.copyOf(held);
-        String told = "lock (" + made + ")";
-        What what = new What("lock" + made.line(), "release " + told, "acquire " + told, isSignal ? null : name(), !isWriter);
-        Token token = Traced.mark(what, site);
+        isSignal |= name.letGo(Traced.current()); // As with other locks.
+        Token token = Traced.mark(name.release(isSignal, !isWriter), site);
         if (isWriter) {
             byWriter = token;
         } else if (token != null) {
@@ -70,79 +58,45 @@ final class TracedReadWriteLock implements ReadWriteLock {
         }
     }
 
-    private String name() {
-        if (name == null) {
-            name = Traced.lockName(made);
-        }
-        return name;
-    }
-
     private synchronized void becomeSignal() {
         isSignal = true;
     }
 
     /** The lock of those who read, or of those who write. */
-    private final class Side implements Lock {
-        private final Lock lock;
+    private final class Side extends ReportingLock {
         private final boolean isWriter;
         private final BooleanSupplier isHeld;
 
         Side(Lock lock, boolean isWriter, BooleanSupplier isHeld) {
-            this.lock = lock;
+            super(lock);
             this.isWriter = isWriter;
             this.isHeld = isHeld;
         }
 
         @Override
-        public void lock() {
-            lock.lock();
-            acquired(isWriter, Traced.site());
+        void acquired(Site site) {
+            TracedReadWriteLock.this.acquired(isWriter, site);
         }
 
         @Override
-        public void lockInterruptibly() throws InterruptedException {
-            lock.lockInterruptibly();
-            acquired(isWriter, Traced.site());
-        }
-
-        @Override
-        public boolean tryLock() {
-            return acquiredIf(lock.tryLock());
-        }
-
-        @Override
-        public boolean tryLock(long time, TimeUnit unit) throws InterruptedException {
-            return acquiredIf(lock.tryLock(time, unit));
-        }
-
-        private boolean acquiredIf(boolean isAcquired) {
-            if (isAcquired) {
-                acquired(isWriter, Traced.site());
+        void releasing(Site site) {
+            if (isHeld.getAsBoolean()) {
+                TracedReadWriteLock.this.releasing(isWriter, site);
             }
-            return isAcquired;
         }
 
         @Override
-        public void unlock() {
-            if (isHeld.getAsBoolean()) { // Else the lock itself says what is wrong.
-                releasing(isWriter, Traced.site());
-            }
-            lock.unlock();
+        void becomeSignal() {
+            TracedReadWriteLock.this.becomeSignal();
         }
 
         @Override
-        public Condition newCondition() {
-            Condition condition = lock.newCondition();
-            becomeSignal();
-            return new TracedCondition(condition, this::lend);
-        }
-
-        private Runnable lend(Site site) {
+        Runnable lend(Site site) {
             if (!isHeld.getAsBoolean()) {
                 return () -> {};
             }
-            releasing(isWriter, site);
-            return () -> acquired(isWriter, site);
+            releasing(site);
+            return () -> acquired(site);
         }
     }
 }

@@ -120,16 +120,18 @@ final class Tracer {
     /** The task reads or writes the thing, which is of this process if it is not one across all. */
     synchronized void touch(Task task, String thing, boolean writes, boolean isAcross, Row.Site site) {
         leave(task);
+        long time = 0; // The first row of the event tells it.
         if (task.touches == null) {
             Task.Touches touches = new Task.Touches();
             report("local " + task.name, task, null, touches, false, null);
             task.touches = touches;
             growing.add(touches);
+            time = Row.now();
         }
         if (task.touches.isNew(new Task.Touch(thing, writes, isAcross, site, task.held))) {
             String kind = writes ? "write" : "read";
             String named = isAcross ? thing : thing + " of " + main.name;
-            task.touches.add(new Row(task.name, named, kind, site, kind + " " + thing, task.held, null));
+            task.touches.add(new Row(task.name, named, kind, site, kind + " " + thing, task.held, null, time));
         }
     }
 
@@ -151,8 +153,8 @@ final class Tracer {
             }
             return;
         }
-        if (token.message == null) {
-            send(token);
+        for (List<Task.Token> pending = token.task.pending; token.message == null && pending.contains(token); ) {
+            send(pending.get(0)); // Those that were made before come first, so that the times of a task increase.
         }
         if (token.message != null && token.message.takers().add(task)) {
             leave(task);
@@ -236,7 +238,7 @@ final class Tracer {
     private void send(Task.Token token) {
         Task.What what = token.what;
         Task.Message message = new Task.Message(prefix + what.hint() + "_" + ++messages);
-        Row row = Row.of(token.task.name, "send", token.site, what.giving(), what.lock());
+        Row row = Row.at(token.time, token.task.name, "send", token.site, what.giving(), what.lock());
         report("send " + token.task.name + " " + message.name(), token.task, row);
         token.task.pending.removeIf(
                 other -> {
