@@ -4,6 +4,7 @@
 queues, pools and asyncio do; `shared` and `touch` say what is shared; `races` finds what nothing orders.
 """
 
+from . import own_path  # Before anything else is imported.
 from .children import watch_as_child
 from .collector import Collector, NoCollector
 from .noting import touch
@@ -12,10 +13,11 @@ from .session import Refused, Session
 from .shared import shared
 from .tracing import Tracing, install, tracing, uninstall
 from .verdict import Cause, Unseen, Verdict
-from .web import Middleware, Opener, incoming, opener, outgoing
+from .web import AsgiMiddleware, Middleware, Opener, incoming, opener, outgoing
 
 __all__ = [
-    "Cause", "Collector", "Middleware", "NoCollector", "Opener", "Race", "Races", "Refused", "Session", "Tracing", "Unseen", "Verdict",
+    "AsgiMiddleware", "Cause", "Collector", "Middleware", "NoCollector", "Opener", "Race", "Races", "Refused", "Session", "Tracing",
+    "Unseen", "Verdict",
     "find_races", "incoming", "install", "opener", "outgoing", "shared", "touch", "tracing", "uninstall",
 ]
 

@@ -10,6 +10,7 @@ from __future__ import annotations
 from collections import defaultdict
 from collections.abc import Iterable, Iterator
 from dataclasses import dataclass, field
+from typing import Protocol
 
 from .bit_matrix import transposed
 from .conflicts import CHANGING, CONFLICTING, MAKING
@@ -20,6 +21,13 @@ from .trace import Events, Trace
 
 _Known = tuple[str, str, "str | None", int, str, int, Events]
 """What is the same of touches that are kept as one: thing, kind, file, line, function, loop and the positions that know them."""
+
+
+class Knowing(Protocol):
+    """A trace, or what of its order is meant."""
+
+    @property
+    def before(self) -> list[Events]: ...
 
 
 @dataclass
@@ -56,7 +64,11 @@ class AcrossParts:
         """Whether a task of a loop may still write back what it read."""
         return bool(self._reads)
 
-    def races(self, touches: Iterable[Row], trace: Trace) -> Iterator[Pairing]:
+    def copy(self) -> AcrossParts:
+        """What is kept now, which goes on by itself."""
+        return AcrossParts(self.is_strict, {thing: list(kept) for thing, kept in self._kept.items()}, dict(self._reads))
+
+    def races(self, touches: Iterable[Row], trace: Knowing) -> Iterator[Pairing]:
         """The pairs of an earlier part's touch and one of these, which are of this part."""
         positions = _union(kept.known for things in self._kept.values() for kept in things)
         groups: dict[tuple[object, ...], list[Row]] = defaultdict(list)
@@ -105,7 +117,7 @@ class AcrossParts:
         takes_turns = first.loop and first.loop == second.loop and self._takes_turns(second)
         return first.kind in CONFLICTING[second.kind] and not takes_turns
 
-    def move_on(self, touches: Iterable[Row], trace: Trace, border: Border) -> None:
+    def move_on(self, touches: Iterable[Row], trace: Knowing, border: Border) -> None:
         """Takes over the touches of this part, and leaves all with the positions of the next one."""
         live = _union(1 << event for event in border.tasks)
         at = [(position, trace.before[event] | 1 << event) for event, position in border.positions]

@@ -5,12 +5,12 @@ from __future__ import annotations
 import contextlib
 import os
 import select
-import sys
 from collections.abc import Callable
-from types import FrameType
 from typing import Any
 
 from . import watch
+from .file_names import name_of_file
+from .following import not_traced, place_of_start
 from .journal import line_of
 from .journal_file import JournalFile
 from .lines import state
@@ -21,10 +21,6 @@ from .verdict import Cause, Unseen
 
 VARIABLE = "ITC_TRACE_CHILD_OF"
 """Names the journal of a traced process to those that it starts."""
-
-STARTING = frozenset({"multiprocessing", "concurrent", "subprocess", "os", "pty", "asyncio", "itc_trace"})
-OWN_FOLDER = os.path.dirname(os.path.abspath(__file__)) + os.sep
-"""Modules that start processes for the program."""
 
 LEFT_CHILD = Unseen(Cause.CHILD, "a child process goes on after its parent, and was not traced")
 UNKNOWN_CHILDREN = Unseen(Cause.CHILD, "the program has closed a file of the package, so a child process may go on that was not traced")
@@ -54,7 +50,7 @@ def _place(site: Any) -> str:
     if isinstance(site, int):
         return f"{SITES[site].file}:{SITES[site].line}"
     code, instruction, _ = site
-    return f"{code.co_filename}:{line_of(code, instruction)}" if code is not None else "?"
+    return f"{name_of_file(code.co_filename)}:{line_of(code, instruction)}" if code is not None else "?"
 
 
 _is_told_of_processes = False
@@ -80,8 +76,10 @@ def _wrap_start(kind: Any, tell: Callable[[Unseen], None]) -> None:
 
     def start(self: Any) -> None:
         original(self)
+        if self.__dict__.get("_itc_line") is not None:
+            return  # It is traced.
         method = getattr(self._popen, "method", "fork")
-        tell(Unseen(Cause.CHILD, f"a child process was not traced: it was started by {method} at {_starting_place()}"))
+        tell(not_traced(method, 1))
 
     kind.start = like(original, start)
 
@@ -92,10 +90,12 @@ def _wrap_command(owner: Any, name: str, place: int, tell: Callable[[Unseen], No
 
     def run(*words: Any, **named: Any) -> Any:
         told = original(*words, **named)
+        if words and hasattr(words[0], "_itc_line"):
+            return told  # It is traced.
         command = words[place] if len(words) > place else named.get("args", named.get("argv", named.get("command", "")))
         program = watch.program_of(command, os.fspath(named.get("cwd") or os.getcwd()))
         if program is not None:
-            tell(Unseen(Cause.CHILD, f"a child process was not traced: {program}, which was started at {_starting_place()}"))
+            tell(Unseen(Cause.CHILD, f"a child process was not traced: {program}, which was started at {place_of_start(1)}"))
         return told
 
     setattr(owner, name, like(original, run))
@@ -108,7 +108,7 @@ def _wrap_replacement(name: str, tell: Callable[[Unseen], None]) -> None:
     def replace(path: Any, words: Any, *environment: Any) -> Any:
         program = watch.program_of(words, os.getcwd()) if _can_be_run(path) else None
         if program is not None:
-            tell(Unseen(Cause.CHILD, f"a child process was not traced: {program}, which was started at {_starting_place()}"))
+            tell(Unseen(Cause.CHILD, f"a child process was not traced: {program}, which was started at {place_of_start(1)}"))
         return original(path, words, *environment)
 
     setattr(os, name, like(original, replace))
@@ -120,18 +120,6 @@ def _can_be_run(path: Any) -> bool:
         return os.access(path, os.X_OK)
     except (TypeError, ValueError):
         return True  # A file that is open already.
-
-
-def _starting_place() -> str:
-    frame: FrameType | None = sys._getframe(2)
-    while frame is not None and _starts_processes(frame):
-        frame = frame.f_back
-    return "?" if frame is None else f"{frame.f_code.co_filename}:{frame.f_lineno}"
-
-
-def _starts_processes(frame: FrameType) -> bool:
-    """Whether a frame is of a module that starts processes for the program."""
-    return str(frame.f_globals.get("__name__")).partition(".")[0] in STARTING or frame.f_code.co_filename.startswith(OWN_FOLDER)
 
 
 class Announced:

@@ -12,6 +12,8 @@ from collections.abc import Iterator
 from pathlib import Path
 from types import TracebackType
 
+from .own_threads import with_signals
+
 HOST = "127.0.0.1"
 MOST_EVENTS = 16384
 MOST_TASKS = 2048
@@ -56,7 +58,7 @@ def free_port() -> int:
         return port
 
 
-BESIDE = '"$@" & collector=$!; exec >&- 2>/dev/null; read -r _; kill "$collector"; wait "$collector"'
+BESIDE = '"$@" & collector=$!; exec >&- 2>/dev/null; read -r _; kill -9 "$collector"; wait "$collector"'
 """Runs the collector until the standard input ends: so it ends with its owner, however that one ends."""
 
 
@@ -115,10 +117,10 @@ if hasattr(os, "register_at_fork"):
 
 def _run_beside(words: list[str]) -> subprocess.Popen[bytes]:
     """Runs a command that no key of the terminal reaches."""
-    return subprocess.Popen(
+    return with_signals(lambda: subprocess.Popen(
         ["/bin/sh", "-c", BESIDE, "sh", *words], stdin=subprocess.PIPE, stdout=subprocess.PIPE, stderr=sys.__stderr__,
         start_new_session=True,
-    )
+    ))
 
 
 def _end(process: subprocess.Popen[bytes]) -> None:

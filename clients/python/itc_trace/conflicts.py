@@ -8,6 +8,9 @@ ADDITION, REMOVAL, REPLACEMENT, REWRITE = "addition", "removal", "replacement", 
 MAKING = "making"
 """The thing is made here. It conflicts with nothing, and tells whose the thing was at first."""
 
+STEP = "step"
+"""A loop through the thing goes on, which looked at it in an earlier turn of its event loop. It conflicts with nothing by itself."""
+
 _PAIRS = (
     (WRITE, WRITE), (WRITE, READ), (WRITE, LOOKUP), (WRITE, LENGTH), (WRITE, ITERATION), (WRITE, ADDITION), (WRITE, REWRITE),
     (REWRITE, REWRITE), (REWRITE, READ), (REWRITE, LOOKUP), (REWRITE, LENGTH), (REWRITE, ITERATION), (REWRITE, ADDITION),
@@ -19,7 +22,7 @@ _PAIRS = (
 
 CONFLICTING: dict[str, frozenset[str]] = {
     kind: frozenset({one for pair in _PAIRS if kind in pair for one in pair if one != kind or pair == (kind, kind)})
-    for kind in (READ, WRITE, LOOKUP, LENGTH, KEYS, ITERATION, ADDITION, REMOVAL, REPLACEMENT, REWRITE, MAKING)
+    for kind in (READ, WRITE, LOOKUP, LENGTH, KEYS, ITERATION, ADDITION, REMOVAL, REPLACEMENT, REWRITE, MAKING, STEP)
 }
 """Of each kind those that conflict with it."""
 

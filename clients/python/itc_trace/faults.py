@@ -5,7 +5,7 @@ from __future__ import annotations
 import socket
 
 from .collector import HOST
-from .session import Refused, Session
+from .session import LONGEST_ANSWER, Refused, Session
 
 WORDS_REFUSED = 2
 """The status of a command that could not do its work."""
@@ -63,7 +63,7 @@ def look_for_collector(port: int, host: str = HOST) -> None:
 def look(tenant: str, port: int, host: str = HOST) -> None:
     """Makes sure that the collector has this tenant, before anything is run."""
     try:
-        Session(tenant, port, "view", host).close()
+        Session(tenant, port, "view", host, LONGEST_ANSWER).close()
     except ConnectionRefusedError as refused:
         raise Fault(nobody_listens(port)) from refused
     except Refused as refused:

@@ -5,9 +5,11 @@ Whoever is about to call such a method says so here. The touch is told with the 
 
 from __future__ import annotations
 
+import builtins
 import functools
+import operator
 import types
-from collections.abc import Callable
+from collections.abc import Callable, Iterator
 from contextvars import Context
 from types import CodeType, FrameType
 from typing import Any, NamedTuple
@@ -17,9 +19,19 @@ from .noting import failed, frame_at, is_internal
 BOUND = (types.BuiltinMethodType, types.MethodWrapperType)
 UNBOUND = (types.MethodDescriptorType, types.WrapperDescriptorType)
 NAMED = frozenset((*BOUND, *UNBOUND))
-HANDED = frozenset((*NAMED, functools.partial))
+GETTERS = (operator.itemgetter, operator.attrgetter, operator.methodcaller)
+HANDED = frozenset((*NAMED, *GETTERS, functools.partial, type))
 """Types of what may stand for a method of a container."""
-OPERATORS = {"setitem": "__setitem__", "getitem": "__getitem__", "delitem": "__delitem__"}
+OPERATORS = {
+    **{name: f"__{name}__" for name in "setitem getitem delitem contains iadd imul ior iand isub ixor eq ne lt le gt ge add mul sub xor".split()},
+    "concat": "__add__", "iconcat": "__iadd__", "countOf": "count", "indexOf": "index", "or_": "__or__", "and_": "__and__",
+    "truth": "__len__", "not_": "__len__", "length_hint": "__len__",
+}
+"""Functions of `operator` that do what a method of their first argument does."""
+CLASSES = (list, tuple, set, frozenset, dict)
+ATTRGETTER = "operator.attrgetter"
+TEXTS = frozenset((str, bytes, int, float, complex, tuple, frozenset, range))
+"""Types whose methods look at nothing that could change."""
 MOST_WRAPPED = 8
 _LIBRARY = frozenset(("multiprocessing", "multiprocessing.pool", "multiprocessing.dummy"))
 
@@ -27,7 +39,7 @@ Place = tuple[CodeType, int]
 
 
 class Method(NamedTuple):
-    """A method of what may be a container, and the words that it is called with."""
+    """A method of what may be a container, and the words that it is called with. A function has the name of its module before its own."""
 
     container: Any
     name: str
@@ -40,6 +52,7 @@ class Watcher(NamedTuple):
     touch: Callable[[Method, Place], None]
     files: set[str]
     names: frozenset[str]
+    """Those of functions of the language are among them, as `builtins.setattr`."""
 
 
 _watcher: Watcher | None = None
@@ -67,7 +80,22 @@ def is_of_container(function: Any) -> bool:
         if type(inner) is not functools.partial:
             break
         inner = inner.args[0] if _runs_another(inner.func) and inner.args else inner.func
-    return _watcher is not None and type(inner) in NAMED and (inner.__name__ in _watcher.names or inner.__name__ in OPERATORS)
+    return _watcher is not None and (type(inner) in GETTERS or _touches(inner, _watcher.names))
+
+
+def _touches(function: Any, names: frozenset[str]) -> bool:
+    kind = type(function)
+    if kind is type:
+        return any(function is one for one in CLASSES)
+    if kind not in NAMED:
+        return False
+    name = function.__name__
+    if kind in UNBOUND:
+        return name in names and function.__objclass__ not in TEXTS
+    owner = function.__self__
+    if type(owner) is types.ModuleType:
+        return f"builtins.{name}" in names if owner is builtins else owner.__name__ == "_operator" and name in OPERATORS
+    return name in names and type(owner) not in TEXTS
 
 
 def _runs_another(function: Any) -> bool:
@@ -85,14 +113,13 @@ def called(function: Any, words: tuple[Any, ...], place: Place | None) -> None:
     if place is None or _watcher is None or type(function) not in HANDED:
         return
     try:
-        method = _method_of(function, words)
-        if method is not None:
+        for method in _methods_of(function, words):
             _watcher.touch(method, place)
     except Exception as fault:
         failed(fault)
 
 
-def _method_of(function: Any, words: tuple[Any, ...]) -> Method | None:
+def _methods_of(function: Any, words: tuple[Any, ...]) -> Iterator[Method]:
     kind = type(function)
     for _ in range(MOST_WRAPPED):
         if kind is functools.partial:
@@ -103,17 +130,35 @@ def _method_of(function: Any, words: tuple[Any, ...]) -> Method | None:
             break
         kind = type(function)
     if kind in BOUND:
-        return _bound(function.__self__, function.__name__, words)
-    if kind in UNBOUND and words:
-        return Method(words[0], function.__name__, words[1:])
-    return None
+        yield from _bound(function.__self__, function.__name__, words)
+    elif words and kind in UNBOUND:
+        yield Method(words[0], function.__name__, words[1:])
+    elif words and kind in GETTERS:
+        yield from _of_getter(function, words[0])
+    elif words and kind is type:
+        yield Method(words[0], f"builtins.{function.__name__}", words[1:])
 
 
-def _bound(owner: Any, name: str, words: tuple[Any, ...]) -> Method | None:
+def _bound(owner: Any, name: str, words: tuple[Any, ...]) -> Iterator[Method]:
     if type(owner) is not types.ModuleType:
-        return Method(owner, name, words)
-    is_operator = owner.__name__ == "_operator" and name in OPERATORS and bool(words)
-    return Method(words[0], OPERATORS[name], words[1:]) if is_operator else None
+        yield Method(owner, name, words)
+    elif words and owner is builtins:
+        yield Method(words[0], f"builtins.{name}", words[1:])
+    elif words and owner.__name__ == "_operator" and name in OPERATORS:
+        yield Method(words[0], OPERATORS[name], words[1:])
+
+
+def _of_getter(function: Any, one: Any) -> Iterator[Method]:
+    """What `itemgetter`, `attrgetter` and `methodcaller` do. They tell what they were made of."""
+    made, words = function.__reduce__()
+    if type(function) is operator.itemgetter:
+        yield from (Method(one, "__getitem__", (key,)) for key in words)
+    elif type(function) is operator.attrgetter:
+        yield from (Method(one, ATTRGETTER, (name,)) for name in words)
+    elif type(made) is functools.partial:
+        yield Method(one, made.args[0], words)
+    else:
+        yield Method(one, words[0], words[1:])
 
 
 class Calling:

@@ -10,6 +10,7 @@ from typing import TYPE_CHECKING, Any, NamedTuple
 
 from .conflicts import CHANGING
 from .dividing import Border
+from .file_names import name_of_file
 from .stretches import SITES, Across
 from .verdict import BREAKS_OFF, Cause, PassedOver, Unseen
 
@@ -42,6 +43,8 @@ class Row(NamedTuple):
     part: int = 1
     of: str = ""
     """The task or the message that the report names. It is told of runs that may be divided into parts."""
+    time: float = 0.0
+    """When the event was, in seconds since 1970 by the clock of its process. One row of the event tells it, if any does."""
 
     @property
     def is_touch(self) -> bool:
@@ -83,6 +86,7 @@ def read_whole(lines: Iterable[str]) -> Journal:
     rows: list[Row] = []
     unseen: list[Unseen] = []
     passed_over: list[PassedOver] = []
+    children = Children()
     count = Count()
     for number, line in enumerate(lines, 1):
         if not line.endswith("\n"):
@@ -95,6 +99,8 @@ def read_whole(lines: Iterable[str]) -> Journal:
             unseen.append(read)
         elif isinstance(read, PassedOver):
             passed_over.append(read)
+        elif isinstance(read, ChildTold):
+            children.add(read)
         elif isinstance(read, End):
             pass
         elif read is not None and number > 1:
@@ -103,6 +109,7 @@ def read_whole(lines: Iterable[str]) -> Journal:
             raise NoJournal("its first line is none of a journal")
         else:
             unseen.append(Unseen(Cause.JOURNAL, f"line {number} of the journal is none"))
+    unseen += children.unseen()
     missing = count.missing(unseen)
     return Journal(rows, [*unseen, *missing], missing, passed_over)
 
@@ -115,11 +122,13 @@ class End(NamedTuple):
 
 @dataclass
 class Count:
-    """The lines of a journal, which are compared with the number at its end."""
+    """The lines of a journal, which are compared with the numbers at the ends of its processes."""
 
     told: int = 0
     """Lines that say what was not seen. A child process may have added some."""
     others: int = 0
+    of_children: int = 0
+    """How many lines the child processes say that they have written."""
     end: End | None = None
 
     def add(self, read: Read | None) -> None:
@@ -129,15 +138,47 @@ class Count:
             self.told += 1
         elif read is not None:
             self.others += 1
+        if isinstance(read, ChildTold):
+            self.of_children += read.lines
 
     def missing(self, unseen: list[Unseen]) -> list[Unseen]:
         """What is not seen of the run besides. Without an end the journal breaks off, if nothing else says why no more was told."""
         if self.end is None:
             return [] if any(one.cause not in GOING_ON for one in unseen) else [BREAKS_OFF]
-        written = self.end.lines
-        if written is None or self.others <= written <= self.others + self.told:
+        if self.end.lines is None:
+            return []
+        written = self.end.lines + self.of_children
+        if self.others <= written <= self.others + self.told:
             return []
         return [Unseen(Cause.JOURNAL, f"the journal has {self.others + self.told} lines where {written} were written")]
+
+
+class ChildTold(NamedTuple):
+    """A child process of this tag has begun in some way, or has ended."""
+
+    tag: str
+    begun: str | None
+    lines: int = 0
+    """How many lines it has written, this one too, if it has ended."""
+
+
+class Children:
+    """The child processes of which a journal tells."""
+
+    def __init__(self) -> None:
+        self._begun: dict[str, str] = {}
+        self._ended: set[str] = set()
+
+    def add(self, told: ChildTold) -> None:
+        if told.begun is None:
+            self._ended.add(told.tag)
+        else:
+            self._begun[told.tag] = told.begun
+
+    def unseen(self) -> list[Unseen]:
+        """Those whose end nobody has told of."""
+        left = [how for tag, how in self._begun.items() if tag not in self._ended]
+        return [Unseen(Cause.CHILD, f"a child process was not traced to its end: it was started by {how}") for how in left]
 
 
 BORDER = '{"border":'
@@ -153,6 +194,8 @@ def read_line(line: str) -> Read | None:
             return _row_of(read)
         if "border" in read:
             return border_of(read)
+        if "child" in read:
+            return ChildTold(str(read["child"]), str(read["begun"]) if "begun" in read else None, int(read.get("lines", 0)))
         if "unseen" in read:
             return Unseen(Cause(read["unseen"]), str(read["text"]))
         if "passed_over" in read:
@@ -187,7 +230,7 @@ class Begun(NamedTuple):
     border: Border
 
 
-Read = Row | Unseen | PassedOver | Begun | End
+Read = Row | Unseen | PassedOver | ChildTold | Begun | End
 """What a line of a journal says."""
 
 
@@ -230,9 +273,10 @@ class Touch(NamedTuple):
 class TouchTexts:
     """The rows of touches, behind the number and the task of their event. Each thing and each site is told once."""
 
-    def __init__(self, places: Places, prefix: str) -> None:
+    def __init__(self, places: Places, prefix: str, owner: str = "") -> None:
         self._places = places
         self._prefix = prefix
+        self._owner = owner or prefix.rstrip("_")
         self._things: dict[int, str] = {}
         self._sites: dict[int, str] = {}
         self._locks: dict[int, str] = {}
@@ -251,7 +295,7 @@ class TouchTexts:
 
     def _name(self, thing: str) -> str:
         """The name of a thing, which is of this process if it is not one across all."""
-        return thing if not self._prefix or isinstance(thing, Across) else f"{thing} of {self._prefix.rstrip('_')}"
+        return thing if not self._prefix or isinstance(thing, Across) else f"{thing} of {self._owner}"
 
     def forget(self) -> None:
         """Forgets the texts of things and locks, which may be no more."""
@@ -284,7 +328,7 @@ class TouchTexts:
 def _text(code: CodeType | None, instruction: int) -> str:
     if code is None:
         return '"file":null,"line":0'
-    return f'"file":{json.dumps(code.co_filename)},"line":{line_of(code, instruction)}'
+    return f'"file":{json.dumps(name_of_file(code.co_filename))},"line":{line_of(code, instruction)}'
 
 
 def line_of(code: CodeType, instruction: int) -> int:

@@ -6,6 +6,9 @@ import contextlib
 import os
 from _thread import get_ident
 
+_write = os.write
+"""As it is before any program is traced."""
+
 
 class JournalFile:
     """Adds whole lines to the file. Nothing is kept in between, so that a forked child has nothing to write twice.
@@ -29,7 +32,7 @@ class JournalFile:
         self._lines[thread] = self._lines.get(thread, 0) + text.count("\n")
         left = text.encode("utf-8", "backslashreplace")
         while left and self._file is not None:
-            left = left[os.write(self._file, left):]
+            left = left[_write(self._file, left):]
 
     def close(self) -> None:
         file, self._file = self._file, None

@@ -17,6 +17,7 @@ import threading
 import types
 from collections.abc import Callable
 from functools import partial
+from importlib.machinery import SourceFileLoader
 from pathlib import Path
 from types import FrameType
 from typing import Any, NoReturn
@@ -24,8 +25,14 @@ from typing import Any, NoReturn
 from . import watch
 from .dividing import LEAVE
 from .faults import WORDS_REFUSED
-from .part_collectors import ask_for_port
+from .file_names import call
+from .following import ChildProcess, follow, is_beginning
+from .following import end as end_following
+from .journal_file import JournalFile
+from .own_path import leave_to_program
+from .part_collectors import SHARED, ask_for_port
 from .patches.base import like
+from .patches.process_pools import take_done
 from .shaking import Shaking
 from .tracer_parts import Parts
 from .tracing import Tracing
@@ -43,29 +50,25 @@ def main() -> None:
     configuration = json.loads(sys.argv[1])
     tell = Path(configuration.pop("told")).write_text
     seed = configuration.pop("seed")
+    child = configuration.pop("child", None)
     words = sys.argv[2:]
     packages = configuration.pop("watched")
     asked_at, events = configuration.pop("parts", (None, None))
-    parts = None if asked_at is None else Parts(partial(ask_for_port, asked_at), LEAVE._replace(events=events))
+    parts = None if asked_at is None else _parts(asked_at, events)
+    folders = [_folder_of(words)]
     if packages is not None:
-        watch.watch_loaded([_folder_of(words)], packages)
+        watch.watch_loaded(folders, packages)
     shaking = None if seed is None else Shaking(seed)
     try:
-        traced = Tracing(**configuration, shaking=shaking, parts=parts).start()
+        traced = Tracing(**configuration, shaking=shaking, parts=parts, child=None if child is None else ChildProcess(*child)).start()
     except OSError as fault:  # Another session reports, say.
         _refuse(tell, str(fault))
-    ending = Ending(traced)
-    atexit.register(ending.finish)
+    Ending(traced).begin(folders, packages)
     try:
-        if words[0] == "-m":
-            _run_module(words[1], words[1:])
-        else:
-            _run_file(words[0], words)
+        error = _error_of(_run_module if words[0] == "-m" else _run_file, words)
     except _NotRun as fault:
         _refuse(tell, str(fault))
-    except SystemExit:
-        raise
-    except BaseException as error:
+    if error is not None:
         tell(RAISED)
         if isinstance(error, KeyboardInterrupt):
             traced.tell(_ended_by(signal.SIGINT))
@@ -73,11 +76,43 @@ def main() -> None:
         sys.exit(INTERRUPTED if isinstance(error, KeyboardInterrupt) else 1)
 
 
+def _error_of(run: Callable[[list[str]], object], words: list[str]) -> BaseException | None:
+    """What the program raises, but for an exit that it asks for."""
+    try:
+        run(words)
+    except (_NotRun, SystemExit):
+        raise
+    except BaseException as error:
+        return error
+    return None
+
+
 def _refuse(tell: Callable[[str], object], text: str) -> NoReturn:
     tell(REFUSED)
     if sys.stderr is not None:
         print(f"itc_trace: {text}", file=sys.stderr)
     sys.exit(WORDS_REFUSED)
+
+
+def _parts(asked_at: int, events: int) -> Parts:
+    return Parts(partial(ask_for_port, asked_at), LEAVE._replace(events=events), partial(ask_for_port, asked_at, SHARED))
+
+
+def begin_as_child(process: ChildProcess) -> None:
+    """In a process that `multiprocessing` has started anew, before it imports the program: from here on it is traced."""
+    if process.packages is not None:
+        watch.watch_loaded(process.folders, process.packages)
+    traced = _tracing_of(process)
+    try:
+        traced.start()
+    except OSError:
+        return  # The journal of its parent has no end of it.
+    Ending(traced).begin(process.folders, process.packages, process.names)
+    watch.watch_path_runs()
+
+
+def _tracing_of(process: ChildProcess) -> Tracing:
+    return Tracing(process.port, process.tenant, process.journal, host=process.host, child=process)
 
 
 class _NotRun(Exception):
@@ -101,10 +136,32 @@ class Ending:
         if hasattr(os, "register_at_fork"):
             os.register_at_fork(before=self._hold_signals, after_in_parent=self._let_signals, after_in_child=self._in_child)
 
+    def begin(self, folders: list[str], packages: list[str] | None, names: str | None = None) -> None:
+        """From here on the end of this process is looked after, and its children are traced."""
+        atexit.register(self.finish)
+        follow(self._traced, folders, packages, self._go_on_as, names)
+
+    def _go_on_as(self, process: ChildProcess) -> None:
+        """In a forked child, which is traced as its parent."""
+        traced = _tracing_of(process)
+        try:
+            traced.start()
+        except OSError:
+            self._let_signals()
+            return  # The journal of its parent has no end of it.
+        self._traced, self._process, self._waiting_signal = traced, os.getpid(), None
+        follow(traced, process.folders, process.packages, self._go_on_as, process.names)
+        for number in ENDING_SIGNALS:
+            if signal.getsignal(number) == signal.SIG_DFL:
+                signal.signal(number, self._end_by)
+        self._let_signals()
+
     def finish(self) -> None:
         if os.getpid() == self._process:
             self._traced.tell_of_children()
+            take_done()
             self._traced.stop()
+            end_following()
             if self._waiting_signal is not None:
                 self._die(self._waiting_signal)
 
@@ -121,9 +178,17 @@ class Ending:
         original = getattr(os, name)
 
         def replace(*words: Any, **named: Any) -> Any:
-            self._traced.tell(ANOTHER_PROGRAM)
+            if os.getpid() != self._process or words and not os.access(words[0], os.X_OK):
+                return original(*words, **named)
+            if not self._traced.is_child or watch.program_of(words[1] if len(words) > 1 else (), os.getcwd()) is not None:
+                self._traced.tell(ANOTHER_PROGRAM)
+            journal = self._traced.journal
             self.finish()
-            return original(*words, **named)
+            try:
+                return original(*words, **named)
+            except BaseException:
+                JournalFile(journal, adds=True).write(ANOTHER_PROGRAM.row())
+                raise
 
         setattr(os, name, like(original, replace))
 
@@ -138,14 +203,16 @@ class Ending:
         for number in ENDING_SIGNALS:
             if signal.getsignal(number) == self._end_by:
                 signal.signal(number, signal.SIG_DFL)
-        self._let_signals()
+        if not is_beginning():
+            self._let_signals()
 
     def _end_by(self, number: int, _: FrameType | None) -> None:
         """Reports what was noted, before the signal ends the process as it would untraced."""
         if self._waiting_signal is not None:
             return
         self._waiting_signal = number
-        self._traced.tell(_ended_by(number))
+        if not self._traced.is_child:  # What ends a child is part of the program.
+            self._traced.tell(_ended_by(number))
         if not self._traced.is_stopping:  # Else whoever stops it looks for the signal.
             self._traced.stop()
             self._die(number)
@@ -159,9 +226,11 @@ def _ended_by(number: int) -> Unseen:
     return Unseen(Cause.KILLED, f"the program was ended by {signal.Signals(number).name}")
 
 
-def _run_module(name: str, words: list[str]) -> None:
-    sys.argv = words
+def _run_module(words: list[str]) -> None:
+    name = words[1]
+    sys.argv = words[1:]
     sys.path[0] = os.getcwd()
+    leave_to_program(sys.path[0])
     try:
         runpy.run_module(name, run_name="__main__", alter_sys=True)
     except ImportError as error:
@@ -178,25 +247,46 @@ def _folder_of(words: list[str]) -> str:
     return program if os.path.isdir(program) else os.path.dirname(program)
 
 
-def _run_file(program: str, words: list[str]) -> None:
+def _run_file(words: list[str]) -> None:
+    program = words[0]
     sys.argv = words
     module = sys.modules["__main__"] = types.ModuleType("__main__")
-    if pkgutil.get_importer(program) is not None:  # A folder or an archive, with a module __main__ in it.
+    importer = pkgutil.get_importer(program)
+    if importer is not None:  # A folder or an archive, with a module __main__ in it.
+        if importer.find_spec("__main__") is None:
+            raise _NotRun(f"there is no __main__ in {program} to run: name a file")
         sys.path[0] = program
+        leave_to_program(program)
         runpy._run_module_as_main("__main__", alter_argv=False)  # type: ignore[attr-defined]
         return
     sys.path[0] = os.path.dirname(os.path.realpath(program))
-    with open(program, "rb") as file:
+    leave_to_program(sys.path[0])
+    path = os.path.join(os.getcwd(), program)  # As the language does it.
+    call(path, program)
+    with open(path, "rb") as file:
         source = file.read()
-    module.__dict__.update(__file__=program, __builtins__=builtins, __cached__=None)
-    plain = compile(source, program, "exec", dont_inherit=True)
-    exec(watch.code_of(source, program, plain), module.__dict__)
+    module.__dict__.update(__file__=path, __builtins__=builtins, __cached__=None, __loader__=SourceFileLoader("__main__", path))
+    plain = compile(source, path, "exec", dont_inherit=True)
+    exec(watch.code_of(source, path, plain), module.__dict__)
 
 
 def _show(error: BaseException) -> None:
-    """An error of the program, without the frames of this package."""
+    """Shows an error of the program, without the frames of this package. If the program's own hook fails, both errors are shown."""
     trace = _own_trace(error)
-    sys.excepthook(type(error), error.with_traceback(trace), trace)
+    try:
+        sys.excepthook(type(error), error.with_traceback(trace), trace)
+    except SystemExit:
+        raise
+    except BaseException as fault:
+        _write("Error in sys.excepthook:")
+        sys.__excepthook__(type(fault), fault.with_traceback(_own_trace(fault)), fault.__traceback__)
+        _write("\nOriginal exception was:")
+        sys.__excepthook__(type(error), error, trace)
+
+
+def _write(text: str) -> None:
+    if sys.stderr is not None:
+        print(text, file=sys.stderr)
 
 
 def _own_trace(error: BaseException) -> types.TracebackType | None:

@@ -16,7 +16,7 @@ if TYPE_CHECKING:
     from .touch_rows import TouchEvent
     from .tracer import Tracer
 
-MARK, TAKE, TAKE_END, SPAWN, FINISH, JOIN, TOUCH, GONE, SEND, RECV, STOP = range(11)
+MARK, TAKE, TAKE_END, SPAWN, FINISH, JOIN, TOUCH, LATE, GONE, SEND, RECV, STOP, CHILD = range(13)
 
 Note = tuple[Any, ...]
 
@@ -65,7 +65,7 @@ class Line:
         "tracer", "hint", "waiting", "reference", "must_finish", "held", "section", "job",
         "name", "count", "message", "lock", "sent", "pending", "known", "known_by_locks", "parent", "parent_count", "touches",
         "end_token", "is_finished", "has_ended", "is_gone", "joined_by", "joined_at", "joined", "first_taker",
-        "is_forgotten",
+        "is_forgotten", "is_process",
     )
 
     def __init__(self, tracer: Tracer | None, hint: str) -> None:
@@ -102,6 +102,8 @@ class Line:
         self.first_taker: Line | None = None
         self.is_forgotten = False
         """Whether it ended in an earlier part of the run, and is no more known to the collector."""
+        self.is_process = False
+        """Whether it is a child process, which reports for itself."""
         state.lines += 1
 
     def watch(self, thing: object) -> None:
@@ -136,7 +138,7 @@ class Token:
     `lock` says which of them only luck puts in order.
     """
 
-    __slots__ = ("line", "what", "code", "instruction", "count", "message", "__weakref__")
+    __slots__ = ("line", "what", "code", "instruction", "count", "message", "time", "__weakref__")
 
     def __init__(self, line: Line, what: What | LockIdentity | Signal, code: CodeType | None, instruction: int) -> None:
         self.line = line
@@ -145,6 +147,8 @@ class Token:
         self.instruction = instruction
         self.count = 0
         self.message: str | None = None
+        self.time = 0.0
+        """When it was noted, in seconds since 1970, once the note is looked at."""
 
 
 class Section:

@@ -6,6 +6,7 @@ import dis
 import itertools
 from types import CodeType, FrameType
 
+from .file_names import name_of_file
 from .journal import line_of
 from .noting import is_internal
 
@@ -15,6 +16,9 @@ _LOADS = {f"LOAD_{one}" for one in (*_VARIABLES, "ATTR")}
 
 _numbers: dict[tuple[str, int, int], itertools.count[int]] = {}
 _serials = itertools.count(1)
+
+REQUEST, ANSWER = "the request at ", "an answer"
+"""So begin the names of orders that are told of as locks, and are none."""
 
 
 class LockIdentity:
@@ -52,7 +56,7 @@ class LockIdentity:
     @property
     def place(self) -> str:
         """The file and line that made it."""
-        return f"{self.code.co_filename}:{self.line}" if self.code is not None else "?"
+        return f"{name_of_file(self.code.co_filename)}:{self.line}" if self.code is not None else "?"
 
     @property
     def line(self) -> int:
@@ -62,7 +66,7 @@ class LockIdentity:
     def name(self) -> str:
         """As `lock L (shop.py:12)`, or `stock_lock (shop.py:12)`. A later one of the same line has its number."""
         if not self._name:
-            variable = None if self.code is None else _variable(self.code, self.instruction)
+            variable = None if self.code is None else variable_of_result(self.code, self.instruction)
             words = [] if variable and "lock" in variable.lower() else ["lock"]
             words += [variable] if variable else []
             words += [str(self.number)] if self.number > 1 else []
@@ -85,6 +89,35 @@ class LockIdentity:
         if self.signal is None:
             self.signal = Signal(self)
         return self.signal
+
+
+class Asking:
+    """The requests that a process makes at one place of its program, and answers itself, or such answers.
+
+    Whoever answers comes after who asked, and the other way round. But what they so know of other answers is luck: the program happened
+    to ask one after another. So it is told of as a lock is, which tasks happen to acquire one after another.
+    """
+
+    __slots__ = ("serial", "name", "hint", "giving", "taking")
+
+    def __init__(self, name: str, hint: str, giving: str, taking: str) -> None:
+        self.serial = next(_serials)
+        self.name = name
+        self.hint = hint
+        self.giving = giving
+        self.taking = taking
+
+    @property
+    def lock(self) -> Asking:
+        return self
+
+    @staticmethod
+    def request(place: str) -> Asking:
+        return Asking(f"{REQUEST}{place}", "request", "ask", "answer")
+
+    @staticmethod
+    def answer() -> Asking:
+        return Asking(ANSWER, "answer", "answer", "take answer")
 
 
 class Signal:
@@ -119,13 +152,10 @@ def _maker(frame: FrameType | None) -> FrameType | None:
     return first
 
 
-def _variable(code: CodeType, instruction: int) -> str | None:
+def variable_of_result(code: CodeType, instruction: int) -> str | None:
     """The name of the variable or attribute that is given the result of the instruction at once."""
     instructions = (one for one in dis.get_instructions(code) if one.opname not in ("CACHE", "COPY"))
-    for one in instructions:
-        if one.offset == instruction:
-            break
-    following = next(instructions, None)
+    following = next((one for one in instructions if one.offset > instruction), None)  # A call may stand at the end of its caches.
     if following is not None and following.opname in _STORES:
         return str(following.argval)
     while following is not None and following.opname in _LOADS:

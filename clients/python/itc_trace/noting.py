@@ -13,7 +13,7 @@ from types import CodeType, FrameType
 from typing import Any
 
 from .conflicts import MAKING, READ, WRITE
-from .lines import MARK, SPAWN, TAKE, TOUCH, Line, Token, What, state
+from .lines import MARK, SPAWN, TAKE, TOUCH, Line, Note, Token, What, state
 from .stretches import STRETCHES, TURNS, Across, Stretch, Touched, leave
 
 local = threading.local()
@@ -23,6 +23,9 @@ INTERNAL = frozenset({
     "threading", "queue", "concurrent", "asyncio", "logging", "functools", "importlib", "_frozen_importlib", "atexit", "itc_trace",
 })
 """Library modules whose own locks and queues are not traced: what they promise is traced as a whole."""
+
+INTERNAL_MODULES = frozenset(f"multiprocessing.{one}" for one in ("queues", "resource_tracker", "forkserver", "util", "heap"))
+"""Modules of a package that is not internal as a whole."""
 
 _internal_names: dict[Any, bool] = {}
 
@@ -52,7 +55,7 @@ def is_internal(frame: FrameType | None) -> bool:
     name = frame.f_globals.get("__name__")
     known = _internal_names.get(name)
     if known is None:
-        known = _internal_names[name] = isinstance(name, str) and name.partition(".")[0] in INTERNAL
+        known = _internal_names[name] = isinstance(name, str) and (name.partition(".")[0] in INTERNAL or name in INTERNAL_MODULES)
     return known
 
 
@@ -182,6 +185,10 @@ def mark(what: What, depth: int = 2) -> Token | None:
 
 def take(token: Token | None, depth: int = 2) -> None:
     """From now on the current task comes after the place of the token."""
+    take_at(token, frame_at(depth))
+
+
+def take_at(token: Token | None, frame: FrameType | None) -> None:
     note = state.note
     if note is None or token is None or token.line.tracer is not state.tracer:
         return
@@ -189,7 +196,7 @@ def take(token: Token | None, depth: int = 2) -> None:
     if line is not token.line:
         leave()
         line.section = None
-        note((TAKE, line, token, *place(frame_at(depth))))
+        note((TAKE, line, token, *place(frame)))
 
 
 def touch(thing: str, write: bool = False, label: str | None = None, across: bool = False) -> None:
@@ -226,8 +233,7 @@ def touched(key: Hashable, thing: Any, kind: str, site: Any) -> None:
         return
     stretch = STRETCHES.get(get_ident())
     if stretch is None:
-        stretch = _begin_stretch()
-        note((TOUCH, stretch))
+        stretch = begin_stretch(note)
     stretch[key] = thing, kind, site
 
 
@@ -240,14 +246,15 @@ def touched_all(touches: dict[Hashable, Touched]) -> None:
         return
     stretch = STRETCHES.get(get_ident())
     if stretch is None:
-        stretch = _begin_stretch()
-        note((TOUCH, stretch))
+        stretch = begin_stretch(note)
     stretch.update(touches)
 
 
-def _begin_stretch() -> Stretch:
+def begin_stretch(note: Callable[[Note], object]) -> Stretch:
+    """The stretch of this thread, which begins with the touch that is about to be noted."""
     line, loop, thread = line_of_now(), _get_running_loop(), get_ident()
     turn = 0 if loop is None else TURNS.get(thread, 0)
     line.section = None
     stretch = STRETCHES[thread] = Stretch(line.job or line, 0 if loop is None else id(loop), turn, thread)
+    note((TOUCH, stretch))
     return stretch

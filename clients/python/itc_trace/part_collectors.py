@@ -1,4 +1,4 @@
-"""Starts a collector for each part of a run, when the process that is traced asks for one."""
+"""Starts a collector for each part of a run, or a relay, when the process that is traced asks for one."""
 
 from __future__ import annotations
 
@@ -9,8 +9,11 @@ from types import TracebackType
 
 from .collector import HOST, Collector, NoCollector
 from .faults import Fault
+from .relay import Relaying
 
 ANSWER_SECONDS = 60.0
+NEXT_PART, SHARED = "part", "shared"
+"""What is asked for: the collector of a further part, or a relay by which several processes report to this part."""
 
 
 class PartCollectors:
@@ -19,6 +22,8 @@ class PartCollectors:
     def __init__(self, tenant: str) -> None:
         self._tenant = tenant
         self._collectors = [Collector(tenant)]
+        self._number = 1
+        self._relay: Relaying | None = None
         self._door = socket.create_server((HOST, 0))
         self.asked_at: int = self._door.getsockname()[1]
         """The port at which a further collector is asked for."""
@@ -30,6 +35,10 @@ class PartCollectors:
         """Where the part that began last is reported."""
         return self._collectors[-1].port
 
+    def port_of(self, part: int) -> int:
+        """Where the last part is reported that the journal tells of. A further one may have begun when the program was killed."""
+        return self._collectors[-1 if part >= self._number else -2].port
+
     def _serve(self) -> None:
         while True:
             try:
@@ -37,7 +46,9 @@ class PartCollectors:
             except OSError:
                 return  # It is closed.
             with connection, contextlib.suppress(OSError):
-                connection.sendall(f"{self._next()}\n".encode())
+                asked = connection.makefile("r").readline().strip()
+                reply = self._next() if asked == NEXT_PART else self._shared()
+                connection.sendall(f"{reply}\n".encode())
 
     def _next(self) -> str:
         for collector in self._collectors[:-1]:
@@ -47,13 +58,24 @@ class PartCollectors:
             self._collectors.append(Collector(self._tenant))
         except (NoCollector, OSError) as fault:
             return f"no collector: {fault}"
+        self._number += 1
         return str(self.port)
+
+    def _shared(self) -> str:
+        try:
+            if self._relay is None:
+                self._relay = Relaying(self.port)
+        except OSError as fault:
+            return f"no relay: {fault}"
+        return str(self._relay.port)
 
     def close(self) -> None:
         with contextlib.suppress(OSError):
             self._door.shutdown(socket.SHUT_RDWR)
         self._door.close()
         self._thread.join()
+        if self._relay is not None:
+            self._relay.close()
         for collector in self._collectors:
             collector.close()
 
@@ -66,9 +88,10 @@ class PartCollectors:
         self.close()
 
 
-def ask_for_port(asked_at: int) -> int:
-    """The port of a further collector."""
+def ask_for_port(asked_at: int, what: str = NEXT_PART) -> int:
+    """The port of a further collector, or of a relay."""
     with socket.create_connection((HOST, asked_at), ANSWER_SECONDS) as connection:
+        connection.sendall(f"{what}\n".encode())
         reply = connection.makefile("r").readline().strip()
     if not reply.isdigit():
         raise Fault(reply or "no collector")

@@ -16,16 +16,18 @@ from .benign import Looking
 from .collector import Collector, NoCollector
 from .conflicts import MAKING
 from .dividing import Border, Report
-from .journal import BORDER, Begun, Count, End, Row, read_line
+from .journal import BORDER, Begun, Children, ChildTold, Count, End, Row, read_line
+from .lock_identity import ANSWER, REQUEST
 from .progress import Bar, Shown
-from .races import Races, add_race, find_in, in_order, list_pair
-from .session import Refused, Session
+from .races import Race, Races, add_race, events_of_lock, find_in, in_order, list_pair, sides_of
+from .session import LONGEST_ANSWER, Refused, Session
 from .snapshot import write_export
-from .trace import Asked, Trace
+from .trace import Asked, Steps, Told, Trace, told_by_signals
 from .verdict import Cause, PassedOver, Unseen, end_row
 
 TENANT = "trace"
 UNSEEN_TURNS = "a task of a loop read {} in one part of the trace and wrote it back in the next, at {}: who came in between was not looked at"
+BY_REQUESTS = "ordered in this run only by requests of the process to itself"
 Opened = Callable[[list[str]], AbstractContextManager[Asked]]
 """Gives a view of a tenant to which these requests were reported."""
 
@@ -65,7 +67,7 @@ def find_in_parts(
     parts: Iterable[Part], found: Races, is_strict: bool, opened: Opened = collected, bar: Bar | None = None, keep: Kept | None = None
 ) -> None:
     """Adds the races of all parts to what was found, those across parts too. Each part may be kept."""
-    across = AcrossParts(is_strict)
+    across, lucky = AcrossParts(is_strict), _Requests()
     listed: dict[object, Any] = {}
     possible: dict[object, Any] = {}
     ahead = iter(parts)
@@ -84,7 +86,7 @@ def find_in_parts(
                 add_race(race, possible)
             found.questions += own.questions
             found.unseen += own.unseen
-            if len(across) or across.has_reads or touches and following is not None:
+            if len(across) or across.has_reads or len(lucky) or touches and following is not None:
                 trace = Trace(asked, events)
                 found.questions += events
                 turns = {row.name: row.place for row in across.unseen_turns(touches, trace)}
@@ -92,11 +94,54 @@ def find_in_parts(
                 for pairing in across.races(touches, trace):
                     if list_pair(pairing.pair, listed):
                         _confirm(pairing, asked)
+                lucky.look_at(part, trace, across)
+                for race in lucky.races(touches):
+                    add_race(race, possible)
         if following is not None and trace is not None and following.border is not None:
             across.move_on(touches, trace, following.border)
+            lucky.move_on(touches, following.border)
         part = following
     found.races = in_order(listed)
     found.possible = in_order({key: race for key, race in possible.items() if key not in listed})
+
+
+class _Requests:
+    """Looks for touches of several parts that only the requests of the process to itself put in order.
+
+    Whoever asks comes after the answers, and was meant to. So touches of tasks that ask are left out.
+    """
+
+    def __init__(self) -> None:
+        self._across: AcrossParts | None = None
+        self._told: Told | None = None
+        self._askers: set[str] = set()
+
+    def __len__(self) -> int:
+        return 0 if self._across is None else len(self._across)
+
+    def look_at(self, part: Part, trace: Trace, across: AcrossParts) -> None:
+        """The next part, before its touches are compared. From the first request on, another order is kept than that across parts.
+
+        In that order a lock hands on what a request does. Touches that only locks keep in order are not looked for.
+        """
+        locks = {row.event: row.lock for row in part.rows if row.lock is not None}
+        answers = events_of_lock(locks, ANSWER)
+        if self._across is None and events_of_lock(locks, REQUEST):
+            self._across = across.copy()
+        self._told = None if self._across is None else told_by_signals(trace, Steps(set(locks), set(locks) - answers, answers))
+        self._askers |= {row.task for row in part.rows if row.event in answers and row.kind == "recv"}
+
+    def races(self, touches: list[Row]) -> Iterator[Race]:
+        if self._across is None or self._told is None:
+            return
+        for pairing in self._across.races(touches, self._told):
+            first, second, times = pairing.pair
+            if self._askers.isdisjoint((first.task, second.task)):
+                yield Race(first.name or first.thing or "", sides_of(first, second), (first, second), times, BY_REQUESTS, True)
+
+    def move_on(self, touches: list[Row], border: Border) -> None:
+        if self._across is not None and self._told is not None:
+            self._across.move_on(touches, self._told, border)
 
 
 @contextlib.contextmanager
@@ -104,7 +149,7 @@ def _opened(part: Part, opened: Opened) -> Iterator[tuple[Asked, int]]:
     """A view of the part's tenant, and how many events that has."""
     if part.last is not None:
         tenant, port = part.last
-        with Session(tenant, port, "view") as view:
+        with Session(tenant, port, "view", answer_wait=LONGEST_ANSWER) as view:
             yield view, view.count()[0]
     else:
         requests = part.requests()
@@ -126,8 +171,13 @@ def _confirm(pairing: Pairing, view: Asked) -> None:
 
 def is_in_parts(journal: str) -> bool:
     """Whether a journal is of a run that was divided."""
+    return number_of_parts(journal) > 1
+
+
+def number_of_parts(journal: str) -> int:
+    """Of how many parts the journal tells."""
     with open(journal, encoding="utf-8", errors="replace") as lines:
-        return any(line.startswith(BORDER) for line in lines)
+        return 1 + sum(line.startswith(BORDER) for line in lines)
 
 
 def races_of_parts(
@@ -178,6 +228,7 @@ class _Divided:
         self._borders: dict[int, Border] = {}
         self.unseen: list[Unseen] = []
         self.passed_over: list[PassedOver] = []
+        children = Children()
         count = Count()
         with contextlib.closing(_Files(self.file)) as files, open(journal, encoding="utf-8", errors="replace") as lines:
             for number, line in enumerate(lines, 1):
@@ -189,12 +240,15 @@ class _Divided:
                     files.add(read.part, line)
                 elif isinstance(read, Unseen):
                     self.unseen.append(read)
+                elif isinstance(read, ChildTold):
+                    children.add(read)
                 elif isinstance(read, Begun):
                     self._borders[read.part] = read.border
                 elif isinstance(read, PassedOver):
                     self.passed_over.append(read)
                 elif not isinstance(read, End):
                     self.unseen.append(Unseen(Cause.JOURNAL, f"line {number} of the journal is none"))
+        self.unseen += children.unseen()
         self.unseen += count.missing(self.unseen)
 
     def file(self, part: int) -> str:

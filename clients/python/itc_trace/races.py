@@ -20,11 +20,12 @@ from .collector import HOST, NoCollector
 from .conflicts import CONFLICTING, MAKING, WRITE
 from .fast_track import deciding_pairs
 from .journal import Row, read_whole
+from .lock_identity import ANSWER, REQUEST
 from .order import Order
 from .progress import Bar, Shown
 from .racing_pairs import Pair, racing_pairs
-from .session import Refused, Session
-from .trace import Asked, Events, Trace, Unordered, lock_events, lock_that_tells, told_by_signals
+from .session import LONGEST_ANSWER, Refused, Session
+from .trace import Asked, Events, Steps, Trace, Unordered, lock_events, lock_that_tells, told_by_signals
 from .verdict import Cause, PassedOver, Unseen, Verdict, listed, verdict_of
 from .without_locks import WithoutLocks
 
@@ -180,7 +181,7 @@ def find_races(
     found.things = len({row.thing for row in touches})
     things = [thing for thing in _things_of(rows) if thing.may_race]
     if things:
-        with Session(tenant, port, "view", host) as view:
+        with Session(tenant, port, "view", host, LONGEST_ANSWER) as view:
             events = view.count()[0]
             if bar is None:
                 _Finder(view, events, rows, found, strict).find(things)
@@ -261,7 +262,7 @@ class _Finder:
             return
         trace = self._trace
         locks = lock_events(trace, self._locks)
-        told = told_by_signals(trace, locks)
+        told = told_by_signals(trace, Steps(locks, events_of_lock(self._locks, REQUEST), events_of_lock(self._locks, ANSWER))).known
         races = {_key(race.example) for race in self._found.races}
         listed: dict[object, Race] = {}
         for thing in things:
@@ -286,9 +287,17 @@ class _Finder:
         lock = self._locks.get(receipt) if receipt is not None else None
         if lock is None:
             return "ordered in this run only by locks"
+        name = lock.partition(" ")[2]
+        if name.startswith(REQUEST):
+            return f"ordered in this run only by {name}"
         lacks = [lock not in touch.held for touch in (first, second)]
         who = "neither holds" if all(lacks) else "the first does not hold" if lacks[0] else "the second does not hold"
-        return f"ordered in this run only by {lock.partition(' ')[2]}, which {who}"
+        return f"ordered in this run only by {name}, which {who}"
+
+
+def events_of_lock(locks: dict[int, str], start: str) -> set[int]:
+    """The events of locks whose names begin so."""
+    return {event for event, lock in locks.items() if lock.partition(" ")[2].startswith(start)}
 
 
 class _Confirms(Protocol):
@@ -379,7 +388,7 @@ def _key(example: tuple[Row, Row]) -> object:
 def list_pair(pair: Pair, listed: dict[object, Race]) -> bool:
     """Adds a pair to the races that are listed. Says whether it is the example of one."""
     first, second, times = pair
-    return add_race(Race(first.name or first.thing or "", _sides(first, second), (first, second), times), listed)
+    return add_race(Race(first.name or first.thing or "", sides_of(first, second), (first, second), times), listed)
 
 
 def add_race(race: Race, listed: dict[object, Race]) -> bool:
@@ -394,7 +403,7 @@ def add_race(race: Race, listed: dict[object, Race]) -> bool:
     return tells_more
 
 
-def _sides(first: Row, second: Row) -> tuple[Side, Side]:
+def sides_of(first: Row, second: Row) -> tuple[Side, Side]:
     return Side(first.kind, first.place, first.function), Side(second.kind, second.place, second.function)
 
 

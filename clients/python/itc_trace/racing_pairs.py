@@ -5,13 +5,14 @@ Sets of touches are sets of their events, as the bits of numbers. So a touch is 
 
 from __future__ import annotations
 
+from bisect import bisect_left
 from collections import defaultdict
 from collections.abc import Iterable, Iterator
 from itertools import count
 from typing import NamedTuple
 
 from .bit_matrix import transposed
-from .conflicts import CHANGING, CONFLICTING
+from .conflicts import CHANGING, CONFLICTING, ITERATION, KEYS, STEP
 from .journal import Row
 from .trace import Events, Unordered, lowest
 
@@ -104,7 +105,7 @@ def racing_pairs(
 
 
 class _Split(NamedTuple):
-    """Reads in one turn of a loop, and a change in a later one that goes back to them."""
+    """Reads in one turn of a loop, and what goes back to them in a later one: a change, or the next step of an iteration."""
 
     reads: list[Row]
     change: Row
@@ -120,15 +121,35 @@ def _tasks_by_loop(touches: list[Row]) -> Iterable[dict[str, list[Row]]]:
 
 def _splits(rows: list[Row]) -> Iterator[_Split]:
     """Each change by a task that has no read of its own turn before it, with the last reads of an earlier turn."""
+    yield from _iterations(rows)
     reads: list[Row] = []
     for row in rows:
         if row.kind in CHANGING:
             if reads and reads[-1].turn < row.turn:
                 yield _Split(reads, row)
+        elif row.kind == STEP:
+            pass
         elif reads and reads[-1].turn == row.turn:
             reads.append(row)
         else:
             reads = [row]
+
+
+def _iterations(rows: list[Row]) -> Iterator[_Split]:
+    """Each step of an iteration that goes on in a later turn, with the look before it."""
+    looks: dict[str, list[Row]] = defaultdict(list)
+    for row in rows:
+        if row.kind in (KEYS, ITERATION):
+            looks[row.place].append(row)
+    for row in rows:
+        if row.kind == STEP:
+            before = bisect_left(looks[row.place], row.turn, key=_turn)
+            if before:
+                yield _Split([looks[row.place][before - 1]], row)
+
+
+def _turn(row: Row) -> int:
+    return row.turn
 
 
 class _SplitPairs:

@@ -8,8 +8,10 @@ from __future__ import annotations
 
 import selectors
 import socket
+import threading
 import time
 from collections import deque
+from types import TracebackType
 
 from .collector import HOST
 
@@ -334,9 +336,11 @@ class Upstream(Pipe):
 class Relay:
     """Listens, and passes lines and replies on, in one thread."""
 
-    def __init__(self, listen: int, port: int, host: str = HOST) -> None:
+    def __init__(self, listen: int, port: int, host: str = HOST, tries: int = 0) -> None:
+        """A tenant to which another session still reports is tried again so often."""
         self.selector = selectors.DefaultSelector()
         self._target = (host, port)
+        self._tries = tries
         self._door = socket.create_server((HOST, listen), backlog=512)
         self._door.setblocking(False)
         self.port: int = self._door.getsockname()[1]
@@ -388,7 +392,7 @@ class Relay:
     def upstream(self, tenant: bytes) -> Upstream:
         found = self._upstreams.get(tenant)
         if found is None:
-            found = self._upstreams[tenant] = Upstream(self, tenant, self._connect())
+            found = self._upstreams[tenant] = Upstream(self, tenant, self._connect(), self._tries)
         return found
 
     def drop(self, upstream: Upstream) -> None:
@@ -452,6 +456,29 @@ class Relay:
             self.held_back.pop(pipe, None)
             if pipe.upstream is not None:
                 pipe.upstream.left(pipe)
+
+
+class Relaying:
+    """A relay to a collector, in a thread of its own."""
+
+    def __init__(self, port: int) -> None:
+        self._relay = Relay(0, port, tries=TRIES)
+        self.port: int = self._relay.port
+        self._thread = threading.Thread(target=self._relay.serve, daemon=True)
+        self._thread.start()
+
+    def close(self) -> None:
+        self._relay.stop()
+        self._thread.join()
+        self._relay.close()
+
+    def __enter__(self) -> Relaying:
+        return self
+
+    def __exit__(
+        self, kind: type[BaseException] | None, error: BaseException | None, trace: TracebackType | None
+    ) -> None:
+        self.close()
 
 
 def relay(listen: int, port: int, host: str = HOST) -> None:

@@ -26,7 +26,7 @@ from .faults import WORDS_REFUSED, Fault, look
 from .launch import RAISED, REFUSED
 from .merging import Merged
 from .part_collectors import PartCollectors
-from .parts import is_in_parts, races_of_parts
+from .parts import number_of_parts, races_of_parts
 from .progress import Bar
 from .race_rows import race_rows
 from .races import Race, Races
@@ -134,7 +134,8 @@ def _check_syntax(program: str) -> None:
     try:
         compile(source, program, "exec", dont_inherit=True)
     except SyntaxError as error:
-        raise Fault(f"{program} cannot be run: {error.msg} at line {error.lineno}: mend it first") from error
+        where = "" if error.lineno is None else f" at line {error.lineno}"
+        raise Fault(f"{program} cannot be run: {error.msg}{where}: mend it first") from error
     except (ValueError, RecursionError, MemoryError) as error:
         raise Fault(f"{program} cannot be run: {error}: name a program of Python") from error
 
@@ -198,8 +199,8 @@ def _outcome(asked: Run, seed: int | None) -> Outcome | None:
         child = _run_program(asked, collectors, journal, os.path.join(work, "told"), seed)
         if child.told == REFUSED:
             return None
-        port = _port(asked, collectors)
-        is_divided = collectors is not None and os.path.exists(journal) and is_in_parts(journal)
+        number = number_of_parts(journal) if collectors is not None and os.path.exists(journal) else 1
+        port, is_divided = _port(asked, collectors, number), number > 1
         if is_divided:
             races = races_of_parts(journal, asked.looking, Bar(sys.stderr), (asked.tenant, port), asked.export)
         else:
@@ -236,8 +237,8 @@ def _collectors(asked: Run) -> Iterator[PartCollectors | None]:
         yield collectors
 
 
-def _port(asked: Run, collectors: PartCollectors | None) -> int:
-    return collectors.port if collectors is not None else asked.port or 0
+def _port(asked: Run, collectors: PartCollectors | None, part: int = 1) -> int:
+    return collectors.port_of(part) if collectors is not None else asked.port or 0
 
 
 def _run_program(asked: Run, collectors: PartCollectors | None, journal: str, told: str, seed: int | None) -> Child:
@@ -286,7 +287,10 @@ def draw(export: str, journal: str, picture: str, races: Races) -> bool:
         rows.flush()
         words = [command, "--labels", journal, "--races", rows.name]
         with open(export, "rb") as given, open(picture, "wb") as page:
-            return subprocess.run(words, stdin=given, stdout=page, check=False).returncode == 0
+            drawn = subprocess.run(words, stdin=given, stdout=page, stderr=subprocess.PIPE, text=True, errors="replace", check=False)
+    if drawn.returncode:
+        _say(f"itc_trace: no picture: {(drawn.stderr.splitlines() or [words[0]])[-1]}")
+    return drawn.returncode == 0
 
 
 def draw_tenant(tenant: str, port: int, host: str, lines: Iterable[str], picture: str, races: Races) -> bool:

@@ -9,7 +9,7 @@ from .collector import HOST
 from .journal import Journal, NoJournal, read_whole
 from .progress import Bar
 from .races import Races, find_races
-from .session import Refused, Session
+from .session import LONGEST_ANSWER, Refused, Session
 from .verdict import END_OF_ALL, Cause, Unseen
 
 MOST_LOOKED_AT = 64
@@ -32,7 +32,7 @@ def check_trace(tenant: str, port: int, lines: Iterable[str], host: str = HOST, 
     """Makes sure that a journal is of the trace that this tenant has, by some of its events and the last one."""
     rows = sorted(read_whole(lines).rows, key=lambda row: row.event)
     some = [*rows[:: max(1, len(rows) // MOST_LOOKED_AT)], *rows[-1:]]
-    with Session(tenant, port, "view", host) as view:
+    with Session(tenant, port, "view", host, LONGEST_ANSWER) as view:
         for row, reply in zip(some, view.ask(f"event {row.event}" for row in some)):
             words = reply.split()
             if words[0] != "200" or words[2] != row.task or words[1] != ("local" if row.is_touch else row.kind):

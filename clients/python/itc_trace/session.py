@@ -13,6 +13,8 @@ from typing import TextIO
 
 ACCEPTED = ("200", "201")
 QUESTIONS_AT_ONCE = 512
+LONGEST_ANSWER = 120.0
+"""So many seconds whoever lists races waits for a reply."""
 
 
 class Refused(Exception):
@@ -27,10 +29,13 @@ class Refused(Exception):
 class Session:
     """A connection to one tenant. Any thread may use it; a request waits until the one before it is answered."""
 
-    def __init__(self, tenant: str, port: int, kind: str = "report", host: str = "127.0.0.1") -> None:
-        """With the kind "report" it reports and asks, and is the only one that does; with "view" it asks."""
+    def __init__(self, tenant: str, port: int, kind: str = "report", host: str = "127.0.0.1", answer_wait: float | None = None) -> None:
+        """With the kind "report" it reports and asks, and is the only one that does; with "view" it asks.
+
+        A reply that takes more seconds than `answer_wait` is a TimeoutError. With None it waits for ever.
+        """
         self._lock = threading.Lock()
-        self._socket = socket.create_connection((host, port))
+        self._socket = socket.create_connection((host, port), answer_wait)
         self._socket.setsockopt(socket.IPPROTO_TCP, socket.TCP_NODELAY, 1)
         self._replies: TextIO = self._socket.makefile("r", encoding="ascii", newline="\n")
         try:

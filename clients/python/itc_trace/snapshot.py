@@ -7,7 +7,7 @@ from collections.abc import Iterator
 from typing import TextIO
 
 from .collector import HOST, MOST_EVENTS, MOST_MESSAGES, MOST_TASKS
-from .session import Refused, Session
+from .session import LONGEST_ANSWER, Refused, Session
 from .trace import Asked
 
 EVENTS_AT_ONCE = 256
@@ -18,7 +18,7 @@ NO_PLACE, NO_MEMORY = "422", "507"
 
 def snapshot(tenant: str, port: int, output: TextIO, host: str = HOST) -> int:
     """Writes as many events as there are now, and gives their number. The header has the greatest limits, which hold any trace."""
-    with Session(tenant, port, "view", host) as view:
+    with Session(tenant, port, "view", host, LONGEST_ANSWER) as view:
         events = int(_asked(view, ["count"])[0].split()[1])
         write_export(view, events, tenant, output)
     return events

@@ -7,11 +7,12 @@ share one event, which a thread of the package reports.
 from __future__ import annotations
 
 from _thread import get_ident
-from collections.abc import Hashable
+from collections.abc import Callable, Hashable
 from typing import TYPE_CHECKING, Any, NamedTuple
 
 if TYPE_CHECKING:
     from .lines import LateJob, Line
+    from .touch_rows import TouchEvent
 
 
 class Site(NamedTuple):
@@ -24,6 +25,7 @@ class Site(NamedTuple):
 
 SITES: list[Site] = []
 """The places that are told by their index."""
+
 
 class Across(str):
     """The name of a thing that several processes share. Any other name is of a thing of its own process."""
@@ -38,7 +40,7 @@ Touched = tuple[Any, str, Any]
 class Stretch(dict[Hashable, Touched]):
     """The touches of a task between two synchronizations, by any key that is the same for the same touch."""
 
-    __slots__ = ("line", "held", "loop", "turn", "thread", "read")
+    __slots__ = ("line", "held", "loop", "turn", "thread", "read", "events")
 
     def __init__(self, line: Line | LateJob, loop: int, turn: int, thread: int) -> None:
         self.line = line
@@ -47,6 +49,8 @@ class Stretch(dict[Hashable, Touched]):
         self.turn = turn
         self.thread = thread
         self.read = 0
+        self.events: tuple[TouchEvent, ...] = ()
+        """Those that stand for it, for the thread that reports."""
 
 
 STRETCHES: dict[int, Stretch] = {}
@@ -59,3 +63,7 @@ TURNS: dict[int, int] = {}
 def leave() -> None:
     """Ends the stretch of this thread: what comes next is behind a synchronization."""
     STRETCHES.pop(get_ident(), None)
+
+
+AT_BORDER: list[Callable[[], None]] = []
+"""What is called at the end of each part of a run: what is kept of touches is made shorter."""

@@ -29,7 +29,7 @@ from .journal import NoJournal, read_whole
 from .launch import REFUSED
 from .progress import Bar
 from .races import Races
-from .relay import Relay
+from .relay import Relaying
 from .run import check_writable, draw, environment_of_package, told
 from .seeing import races_seen
 from .session import Refused
@@ -45,6 +45,12 @@ FLAGS_WITH_A_WORD = ("-X", "-W", "--check-hash-based-pycs")
 SIGNALS = [getattr(signal, name) for name in ("SIGINT", "SIGTERM", "SIGHUP") if hasattr(signal, name)]
 
 
+def _write_line(line: str, output: IO[str]) -> None:
+    """Writes a line with its end in one piece: the lines of other threads come before it or behind it."""
+    output.write(f"{line}\n")
+    output.flush()
+
+
 class Process:
     """A process of the system, from its start to its end. What it writes is handed on with its name before each line."""
 
@@ -55,6 +61,7 @@ class Process:
         self.is_ended_by_us = False
         self._told = told
         self._ready = threading.Event()
+        self._is_told = threading.Event()
         try:
             self._process = subprocess.Popen(
                 words, cwd=described.directory, env=environment, stdin=subprocess.DEVNULL, stdout=subprocess.PIPE,
@@ -76,7 +83,7 @@ class Process:
             if self.described.ready is not None and self.described.ready in text:
                 self._ready.set()
             with contextlib.suppress(OSError, ValueError):
-                print(f"{self.name} | {text}", file=output, flush=True)
+                _write_line(f"{self.name} | {text}", output)
 
     def _wait(self, readers: list[threading.Thread]) -> None:
         status = self._process.wait()
@@ -84,10 +91,12 @@ class Process:
             reader.join(1)  # A process that it left behind may hold its output open.
         self.status = status
         self._told.put(self)
+        self._is_told.set()
 
     @property
     def is_running(self) -> bool:
-        return self.status is None
+        """Whether its end is not told yet."""
+        return not self._is_told.is_set()
 
     def is_ready(self) -> bool:
         """Whether it has written the line, or listens at the port, that those who come after it wait for."""
@@ -132,7 +141,7 @@ class Running:
                     self._next()
             finally:
                 self._end_all()
-                while self._are_running():
+                while self._are_running() or not self._told.empty():  # Several may have ended at once.
                     self._next()
 
     def _are_running(self) -> bool:
@@ -202,7 +211,7 @@ class Running:
         status = process.status or 0
         if status and not process.is_ended_by_us:
             how = f"was ended by {name_of(-status)}" if status < 0 else f"ended with status {status}"
-            print(f"itc_trace: process {process.name} {how}", file=sys.stderr, flush=True)
+            _write_line(f"itc_trace: process {process.name} {how}", sys.stderr)
             self.status = self.status or (status if status > 0 else 128 - status)
         if status < 0 and not process.is_ended_by_us:
             self._miss(Cause.KILLED, f"process {process.name} was ended by {name_of(-status)}")
@@ -282,28 +291,14 @@ class Running:
 ENDED_AS_A_SERVICE = Unseen(Cause.KILLED, "the program was ended by SIGTERM").row()
 
 
-@contextlib.contextmanager
-def _relayed(collector: Collector) -> Iterator[int]:
-    """The port of a relay to the collector."""
-    relay = Relay(0, collector.port)
-    thread = threading.Thread(target=relay.serve, daemon=True)
-    thread.start()
-    try:
-        yield relay.port
-    finally:
-        relay.stop()
-        thread.join()
-        relay.close()
-
-
 def run_system(system: System, looking: Looking, fail_on_possible: bool = False) -> int:
     """The verdict's status, and where that is 0 the first status of a process that was not 0."""
     for file in (system.export, system.picture):
         if file is not None:
             check_writable(file)
     with tempfile.TemporaryDirectory(prefix="itc_trace_") as folder, Collector(system.tenant) as collector:
-        with _relayed(collector) as port:
-            running = Running(system, port, folder)
+        with Relaying(collector.port) as relay:
+            running = Running(system, relay.port, folder)
             running.run()
         lines = running.lines()
         races = races_seen(system.tenant, collector.port, lines, HOST, looking, Bar(sys.stderr))

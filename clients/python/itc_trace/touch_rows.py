@@ -2,14 +2,15 @@
 
 from __future__ import annotations
 
-from collections.abc import Hashable
+from collections.abc import Hashable, Iterable
+from itertools import islice
 from typing import Any
 
 from .conflicts import CHANGING
 from .journal import Touch, TouchTexts
 from .lines import LateJob
 from .many_jobs import ManyJobs
-from .stretches import Stretch
+from .stretches import Stretch, Touched
 
 MOST_PRIVATE = 10000
 
@@ -19,14 +20,20 @@ def part_text(part: int) -> str:
     return f'"part":{part},' if part > 1 else ""
 
 
+def time_text(time: float) -> str:
+    """How a row tells when its event was, in seconds since 1970 by the clock of its process. Without a time it does not tell."""
+    return f'"time":{time:.6f},' if time else ""
+
+
 class TouchEvent:
     """An event that stands for what a task touches, up to the next event of this task."""
 
-    __slots__ = ("task", "part", "event", "stretches", "touches", "looked_at", "has_row", "is_open")
+    __slots__ = ("task", "part", "time", "event", "stretches", "touches", "looked_at", "has_row", "is_open", "is_waiting")
 
-    def __init__(self, task: str, part: int = 1) -> None:
+    def __init__(self, task: str, part: int = 1, time: float = 0.0) -> None:
         self.task = task
         self.part = part
+        self.time = time
         self.event = 0
         """Its number, once the collector has answered."""
         self.stretches: list[Stretch] = []
@@ -34,23 +41,29 @@ class TouchEvent:
         self.looked_at = 0
         self.has_row = False
         self.is_open = True
+        self.is_waiting = False
+        """Whether it waits for its rows to be written."""
 
     def read_stretches(self, is_whole: bool = True) -> None:
         """Takes over what was noted in its stretches. Of those but the last nothing more is to come.
 
         If it need not be whole, the last one is read only once it has twice as much as before.
         """
-        touches = self.touches
         for stretch in self.stretches:
             if not is_whole and len(stretch) < 2 * stretch.read:
                 continue
-            held, loop, turn = stretch.held, stretch.loop, stretch.turn
-            read = list(stretch.copy().items())  # A copy is made at once. The program may add more while a list is made.
-            job = stretch.line.number if isinstance(stretch.line, LateJob) else 0
-            for key, touched in read[stretch.read:] if stretch.read else read:
-                touches[key, held, loop, turn, job] = Touch(*touched, held, loop, turn, job)
+            read = stretch.copy()  # A copy is made at once. The program may add more while it is gone through.
+            self.add(stretch, islice(read.items(), stretch.read, None))
             stretch.read = len(read)
         del self.stretches[:-1]
+
+    def add(self, stretch: Stretch, touches: Iterable[tuple[Hashable, Touched]]) -> None:
+        """Takes over what was touched in one of its stretches."""
+        held, loop, turn = stretch.held, stretch.loop, stretch.turn
+        job = stretch.line.number if isinstance(stretch.line, LateJob) else 0
+        when = held, loop, turn, job
+        for key, (thing, kind, site) in touches:
+            self.touches[key, when] = Touch(thing, kind, site, held, loop, turn, job)
 
 
 class _Alone:
@@ -89,8 +102,7 @@ class TouchRows:
             else:
                 self._add(event, touch, rows)
         if is_last and not event.has_row:
-            event.has_row = True
-            rows.append(f'{{"event":{event.event},{part_text(event.part)}"task":"{event.task}","thing":null,"kind":"local","file":null,"line":0,"label":"touch"}}\n')
+            rows.append(f'{self._begin(event)}"thing":null,"kind":"local","file":null,"line":0,"label":"touch"}}\n')
         return "".join(rows)
 
     def _add(self, event: TouchEvent, touch: Touch, rows: list[str]) -> None:
@@ -109,8 +121,13 @@ class TouchRows:
             self._alone[number] = None
 
     def _row(self, event: TouchEvent, touch: Touch) -> str:
+        return f"{self._begin(event)}{self._texts.text(touch)}"
+
+    def _begin(self, event: TouchEvent) -> str:
+        """How a row of the event begins. The first one tells when the event was."""
+        time = "" if event.has_row else time_text(event.time)
         event.has_row = True
-        return f'{{"event":{event.event},{part_text(event.part)}"task":"{event.task}",{self._texts.text(touch)}'
+        return f'{{"event":{event.event},{part_text(event.part)}{time}"task":"{event.task}",'
 
     def keep_last(self) -> None:
         """At the end of a part: of what one task alone has touched at one place, the last touch stands for all."""

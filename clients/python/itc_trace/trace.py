@@ -87,22 +87,45 @@ def lock_events(trace: Trace, numbers: Iterable[int]) -> set[int]:
     return {event.number for event in trace.events if event.kind in ("send", "recv") and event.name in messages}
 
 
-def told_by_signals(trace: Trace, locks: set[int]) -> list[Events]:
+class Steps(NamedTuple):
+    """The receipts by which a task comes to know of others in another way than by what was meant to put them in order."""
+
+    locks: set[int]
+    requests: set[int]
+    """Those of what the process asks itself. They are among the locks, as the answers are."""
+    answers: set[int]
+
+
+class Told(NamedTuple):
+    """What the task of each event knows by what was meant to tell it, and what of that it hands on by a request."""
+
+    known: list[Events]
+    before: list[Events]
+    """What is not known by an answer alone."""
+
+
+def told_by_signals(trace: Trace, steps: Steps) -> Told:
     """Of each event what its task knows by anything but a lock: by what the last step of the way to it was.
 
     A lock may have had its part before. If the last of many workers, by a count under a lock, sets an event, whoever waits for the
-    event comes after all of them, and was meant to.
+    event comes after all of them, and was meant to. A request tells of what whoever asks knows but by answers.
     """
-    told = [0]
+    told, by_no_answer = [0], [0]
     for event in trace.events:
-        source, known = trace.source(event), 0
+        source, known, handed_on = trace.source(event), 0, 0
         for one in event.follows:
             if source is None or one != source.number:
                 known |= told[one] | 1 << one
-            elif event.number not in locks:
+                handed_on |= by_no_answer[one] | 1 << one
+            elif event.number in steps.answers:
                 known |= trace.before[one] | 1 << one
+            elif event.number in steps.requests or event.number not in steps.locks:
+                met = (by_no_answer[one] if event.number in steps.requests else trace.before[one]) | 1 << one
+                known |= met
+                handed_on |= met
         told.append(known)
-    return told
+        by_no_answer.append(handed_on)
+    return Told(told, by_no_answer)
 
 
 def lock_that_tells(trace: Trace, locks: set[int], first: int, second: int) -> int | None:

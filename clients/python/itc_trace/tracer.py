@@ -12,24 +12,26 @@ import sys
 import threading
 import time
 from collections import defaultdict, deque
-from collections.abc import Callable
+from collections.abc import Callable, Hashable
 from sys import getrefcount
 from types import CodeType
 
 from .collector import HOST, MOST_TASKS
 from .dividing import Report
 from .faults import FULL, Fault, nobody_listens, refusal
+from .following import ChildProcess
 from .journal import Places, TouchTexts, border_row
 from .journal_file import JournalFile
-from .lines import END, GONE, JOIN, RESULT, SPAWN, STOP, TAKE, TAKE_END, TOUCH, LateJob, Line, Note, Token, state
+from .lines import END, FINISH, GONE, JOIN, RESULT, SPAWN, STOP, TAKE, TAKE_END, TOUCH, LateJob, Line, Note, Token, state
 from .lock_identity import LockIdentity
 from .noting import enter
+from .own_threads import start_thread
 from .shaking import Shaking
-from .stretches import STRETCHES, Stretch
-from .patches.exits import await_at_exit, take_awaited
-from .touch_rows import TouchEvent, TouchRows, part_text
+from .stretches import AT_BORDER, STRETCHES, Stretch, Touched
+from .patches.exits import await_at_exit, await_nobody, take_awaited
+from .touch_rows import TouchEvent, TouchRows, part_text, time_text
 from .tracer_parts import Parts
-from .verdict import Cause, Unseen, end_row
+from .verdict import Cause, Unseen, child_ended_row, end_row
 
 NOTES_AT_ONCE = 1024
 MOST_WAITING = 200_000
@@ -49,7 +51,7 @@ MANY_JOBS = Unseen(
 GOES_ON = "goes on"
 KEEPER = "ended threads"
 """What the task is called that comes after the threads that nobody joins."""
-_start_thread = _thread.start_new_thread
+_now = time.time
 """As it is before any program is traced."""
 
 
@@ -63,8 +65,8 @@ def _references_of_nobody() -> int:
 
 REFERENCES_OF_NOBODY = _references_of_nobody()
 
-NOT_MINE = {405, 407}
-"""What a message of another process may be refused for: it was never sent, or this task has it."""
+NOT_MINE = {405, 407, 408, 409}
+"""What a message of another process may be refused for: it was never sent, or this task has it. A process was killed, or joined before."""
 
 
 def _clean(hint: str, room: int) -> str:
@@ -95,10 +97,10 @@ class Names:
 class Outstanding:
     """A report that is on its way."""
 
-    __slots__ = ("text", "task", "kind", "name", "code", "instruction", "label", "lock", "touches", "waiter", "may_be_refused")
+    __slots__ = ("text", "task", "kind", "name", "code", "instruction", "label", "lock", "time", "touches", "waiter", "may_be_refused")
 
     def __init__(self, text: str, task: str, kind: str, name: str, code: CodeType | None, instruction: int, label: str,
-                 lock: LockIdentity | None = None) -> None:
+                 lock: LockIdentity | None = None, time: float = 0.0) -> None:
         self.text = text
         self.task = task
         self.kind = kind
@@ -107,6 +109,7 @@ class Outstanding:
         self.instruction = instruction
         self.label = label
         self.lock = lock
+        self.time = time
         self.touches: TouchEvent | None = None
         self.waiter: Waiter | None = None
         self.may_be_refused = False
@@ -142,15 +145,19 @@ class Tracer:
     """Reports for one process to one tenant, from `start` to `stop`."""
 
     def __init__(self, port: int, tenant: str, journal: JournalFile, process: str | None = None, host: str = HOST,
-                 shaking: Shaking | None = None, parts: Parts | None = None) -> None:
-        """With parts, a trace that is nearly full goes on at another collector."""
-        self.notes: deque[Note] = deque()
+                 shaking: Shaking | None = None, parts: Parts | None = None, child: ChildProcess | None = None) -> None:
+        """With parts, a trace that is nearly full goes on at another collector. A child process has its task already."""
+        self.notes: deque[tuple[float, Note]] = deque()
+        """Each with the time at which it was taken."""
+        self._time = 0.0
+        """That of the note which is looked at."""
         self.lines_made = 0
         self.most_lines = MOST_TASKS // 2
         self._journal = journal
         self._parts = parts
+        self._child = child
         self._shaking = shaking
-        self._note: Callable[[Note], object] = self.notes.append if shaking is None else self._note_shaken
+        self._note: Callable[[Note], object] = self._note_now if shaking is None else self._note_shaken
         self._places = Places()
         self._outstanding: deque[Outstanding] = deque()
         self._texts: list[str] = []
@@ -175,25 +182,28 @@ class Tracer:
         self._is_changing = False
         """Whether the session ends since the trace goes on at another collector."""
         self._handlers: list[Callable[..., None]] = [
-            self._mark, self._take, self._take_end, self._spawn, self._finish, self._join, self._touch, self._gone,
-            self._send_outside, self._receive_outside, self._stop_reporting,
+            self._mark, self._take, self._take_end, self._spawn, self._finish, self._join, self._touch, self._touch_late,
+            self._gone, self._send_outside, self._receive_outside, self._stop_reporting, self._begin_child,
         ]
-        self._tenant, self._port = tenant, port
+        self._tenant, self.port = tenant, port
         self._connect(host, process)
-        self._touch_texts = TouchTexts(self._places, self.prefix)
+        self._touch_texts = TouchTexts(self._places, self.prefix, child.task if child is not None else "")
         self._touch_rows = TouchRows(self._touch_texts)
 
     # Beginning
 
     def _connect(self, host: str, process: str | None) -> None:
         self._host = host
-        self._events_before = self._open(self._port)
+        self._events_before = self._open(self.port)
         try:
             self.main = Line(self, "root")
             self.main.name = "root"
             self.parent_of_strangers = self.main
             self.prefix = ""
-            if process is not None or self._events_before > 0:
+            if self._child is not None:
+                self.main.name = self.main.hint = self._child.task
+                self.prefix = f"{self._child.tag}_"
+            elif process is not None or self._events_before > 0:
                 self._begin_beside_others(process or ANY_PROCESS)
         except BaseException:
             self._socket.close()
@@ -220,6 +230,13 @@ class Tracer:
             raise
         return int(count.split()[1])
 
+    @property
+    def part(self) -> int:
+        """The number of the part that is reported now. It is 0 if the run is not divided."""
+        if self._parts is not None:
+            return self._parts.number
+        return 0 if self._child is None else self._child.part
+
     def _begin_beside_others(self, process: str) -> None:
         """Takes a task of its own in a trace that others report to as well, and a first part for all its names."""
         base = re.sub(r"[^A-Za-z0-9]+", "", process)[: MOST_TAG - 3] or ANY_PROCESS
@@ -229,11 +246,11 @@ class Tracer:
             if reply.startswith("201 "):
                 self.main.name = self.main.hint = tag
                 self.prefix = f"{tag}_"
-                row = Outstanding("", "root", "spawn", tag, None, 0, f"start process {tag}")
+                row = Outstanding("", "root", "spawn", tag, None, 0, f"start process {tag}", time=_now())
                 self._journal.write(self._row(int(reply[4:]), row))
                 return
             if not reply.startswith("402"):
-                raise Fault(refusal(reply, self._tenant, self._port))
+                raise Fault(refusal(reply, self._tenant, self.port))
 
     def _ask(self, lines: str) -> str:
         self._socket.sendall(f"{lines}\n".encode())
@@ -247,13 +264,14 @@ class Tracer:
 
     def start(self) -> None:
         """From here on notes are taken."""
-        _thread.start_new_thread(self._report_all, ())
-        _thread.start_new_thread(self._read_all, ())
+        start_thread(self._report_all)
+        start_thread(self._read_all)
         STRETCHES.clear()
+        await_nobody()
         enter(self.main)
         if threading.active_count() > 1:
             self.parent_of_strangers = Line(self, "others")
-            self.notes.append((SPAWN, self.main, self.parent_of_strangers, None, 0))
+            self._note_now((SPAWN, self.main, self.parent_of_strangers, None, 0))
         state.tracer = self
         state.note = self._note
         if self._shaking is not None:
@@ -261,14 +279,16 @@ class Tracer:
 
     # Ending
 
-    def stop(self) -> None:
-        """Takes no more notes, and waits until all that were taken are reported and answered."""
+    def stop(self, ends: bool = False) -> None:
+        """Takes no more notes, and waits until all that were taken are reported and answered. The main task may end with it."""
         with self._switch:
             if state.tracer is self:
                 state.note = None
                 state.tracer = None
         if not self._is_over:
-            self.notes.append((STOP,))
+            if ends:
+                self._note_now((FINISH, self.main, True, False))
+            self._note_now((STOP,))
             self.hurry()
             self._await(self._ended)
         self._end_session()
@@ -277,7 +297,8 @@ class Tracer:
             self._socket.close()
         self._write_touches(is_last=True)
         if not self._is_over:
-            self._journal_row(end_row(self._journal.lines))
+            written = self._journal.lines
+            self._journal_row(end_row(written) if self._child is None else child_ended_row(self._child.tag, written + 1))
 
     def _await(self, waiter: Waiter) -> None:
         """Waits for an answer, as long as something is reported or answered meanwhile."""
@@ -364,11 +385,11 @@ class Tracer:
         batch = self._next_notes()
         handlers = self._handlers
         while batch:
-            note = batch.popleft()
+            self._time, note = batch.popleft()
             handlers[note[0]](*note[1:])
             while self._goes_on:
                 self._touch(self._goes_on.pop())
-            if self._parts is not None and self._parts.is_full:
+            if self._parts is not None and self._parts.is_full and not self._all_sent:
                 self._divide(self._parts)
         self._gone_soon.clear()
         self._flush()
@@ -376,16 +397,16 @@ class Tracer:
             self._write_touches()
         self._hold_back(len(self.notes))
 
-    def _next_notes(self) -> deque[Note]:
+    def _next_notes(self) -> deque[tuple[float, Note]]:
         """Some notes, looked through for how often each task is waited for, and which ones nobody can wait for after that."""
-        batch: deque[Note] = deque()
+        batch: deque[tuple[float, Note]] = deque()
         notes, takes = self.notes, self._takes_left
         for _ in range(min(len(notes), NOTES_AT_ONCE)):
             try:
-                note = notes.popleft()
+                batch.append(notes.popleft())
             except IndexError:
                 break
-            batch.append(note)
+            note = batch[-1][1]
             kind = note[0]
             if kind == TAKE:
                 takes[note[2].line] += 1
@@ -419,33 +440,37 @@ class Tracer:
             if state.tracer is self and state.note is not None:
                 state.note = self._note_slowly if waiting > FEW_WAITING else self._note
 
+    def _note_now(self, note: Note) -> None:
+        self.notes.append((_now(), note))
+
     def _note_slowly(self, note: Note) -> None:
         while len(self.notes) > FEW_WAITING and not self._is_over:
             time.sleep(0.001)
-        self.notes.append(note)
+        self._note_now(note)
 
     def _note_shaken(self, note: Note) -> None:
         if note[0] == TOUCH and self._shaking is not None:
             self._shaking.pause()
-        self.notes.append(note)
+        self._note_now(note)
 
     # Reports
 
     def _report(self, line: Line, kind: str, name: str, code: CodeType | None, instruction: int, label: str,
-                lock: LockIdentity | None = None) -> Outstanding:
+                lock: LockIdentity | None = None, time: float = 0.0) -> Outstanding:
         if line.touches is not None:
             self._end_touches(line)
-        report = self._put(Report(kind, line.name, name), code, instruction, label, lock)
+        report = self._put(Report(kind, line.name, name), code, instruction, label, lock, time or self._time)
         if self._parts is not None:
             self._parts.divider.report(Report(kind, line.name, name))
         line.count += 1
         line.message = None
         return report
 
-    def _put(self, told: Report, code: CodeType | None, instruction: int, label: str, lock: LockIdentity | None = None) -> Outstanding:
+    def _put(self, told: Report, code: CodeType | None, instruction: int, label: str, lock: LockIdentity | None = None,
+             time: float = 0.0) -> Outstanding:
         """Has a report sent with the next ones."""
         text = f"{told.request}\n"
-        report = Outstanding(text, told.task, told.kind, told.name, code, instruction, label, lock)
+        report = Outstanding(text, told.task, told.kind, told.name, code, instruction, label, lock, time)
         self._outstanding.append(report)
         self._texts.append(text)
         return report
@@ -457,7 +482,7 @@ class Tracer:
         """
         message = f"{self.prefix}{token.what.hint}_{next(self._message_numbers)}"
         lock = token.what.lock
-        self._report(line, "send", message, token.code, token.instruction, token.what.giving, lock)
+        self._report(line, "send", message, token.code, token.instruction, token.what.giving, lock, token.time)
         self._sent(line, message, lock)
 
     def _sent(self, line: Line, message: str, lock: LockIdentity | None) -> None:
@@ -500,7 +525,7 @@ class Tracer:
 
     def _mark(self, token: Token) -> None:
         line = token.line
-        token.count = line.count
+        token.count, token.time = line.count, self._time
         if line.message is not None and line.lock is token.what.lock:
             token.message = line.message
             if self._parts is not None:
@@ -561,14 +586,28 @@ class Tracer:
             line.is_finished = True
             self._finished.append(line)
 
-    def _spawn(self, parent: Line, child: Line, code: CodeType | None, instruction: int) -> None:
+    def _spawn(self, parent: Line, child: Line, code: CodeType | None, instruction: int) -> Outstanding:
         self._leave(parent)
         child.name = self._names.new(child.hint)
-        self._report(parent, "spawn", child.name, code, instruction, f"start {child.name}")
+        report = self._report(parent, "spawn", child.name, code, instruction, f"start {child.name}")
         if self._parts is not None:
             self._parts.add(child)
         child.parent, child.parent_count = parent, parent.count
         child.known[parent] = parent.count
+        return report
+
+    def _begin_child(self, parent: Line, child: Line, waiter: Waiter, code: CodeType | None, instruction: int) -> None:
+        """A child process is about to start. From now on others report to this part of the trace, too."""
+        try:
+            if self._parts is not None and not self._parts.is_shared:
+                self._share(self._parts)
+        except BaseException:
+            waiter.answer(False)
+            raise
+        if self._is_over:
+            waiter.answer(False)
+        else:
+            self._spawn(parent, child, code, instruction).waiter = waiter
 
     def _finish(self, line: Line, ends: bool, is_awaited: bool) -> None:
         """The task does nothing more. A thread ends at once, where several wait for it with a message for all of them."""
@@ -600,6 +639,8 @@ class Tracer:
 
     def _join(self, line: Line, child: Line, code: CodeType | None, instruction: int) -> None:
         self._is_waited_for(child)
+        if child.is_process:
+            child.has_ended, child.count = True, 1
         if not child.has_ended or child is line or self._knows(line, child, max(child.count, 1)):
             return
         if child.joined_by is not None and child.end_token is not None:
@@ -609,7 +650,8 @@ class Tracer:
 
     def _join_now(self, line: Line, child: Line, code: CodeType | None, instruction: int, label: str) -> None:
         self._leave(line)
-        self._report(line, "join", child.name, code, instruction, label)
+        report = self._report(line, "join", child.name, code, instruction, label)
+        report.may_be_refused = child.is_process
         child.joined_by, child.joined_at = line, line.count
         line.joined.append(child)
         line.known[child] = child.count
@@ -646,12 +688,32 @@ class Tracer:
         self._leave(line)
         if line.touches is None:
             report = self._report(line, "local", "", None, 0, "")
-            line.touches = report.touches = TouchEvent(line.name, 1 if self._parts is None else self._parts.number)
+            line.touches = report.touches = TouchEvent(line.name, self.part or 1, self._time)
             with self._writing:
-                self._touch_events.append(line.touches)
+                self._await_rows(line.touches)
         with self._writing:
             line.touches.read_stretches()
             line.touches.stretches.append(stretch)
+            stretch.events = (*stretch.events, line.touches)
+
+    def _touch_late(self, listed: list[tuple[Stretch, dict[Hashable, Touched]]]) -> None:
+        """What one task alone had touched is listed after all: each touch belongs to the events of its stretch.
+
+        A stretch of another session is left out. A forked child knows those of its parent, which has other memory.
+        """
+        with self._writing:
+            for stretch, touches in listed:
+                line = stretch.line
+                if (line.line if isinstance(line, LateJob) else line).tracer is not self:
+                    continue
+                for event in stretch.events:
+                    event.add(stretch, touches.items())
+                    self._await_rows(event)
+
+    def _await_rows(self, event: TouchEvent) -> None:
+        if not event.is_waiting:
+            event.is_waiting = True
+            self._touch_events.append(event)
 
     def _end_touches(self, line: Line) -> None:
         """Before any other event of the line. What a stretch that goes on had touched by now is on both sides of the event."""
@@ -677,7 +739,8 @@ class Tracer:
                     event.read_stretches(is_whole)
                 if event.event:
                     rows.append(self._touch_rows.rows(event, is_last or not event.is_open))
-                if event.is_open or not event.event:
+                event.is_waiting = event.is_open or not event.event
+                if event.is_waiting:
                     unwritten.append(event)
             self._touch_events = unwritten
             if is_whole and all(event.event for event in unwritten):
@@ -704,9 +767,9 @@ class Tracer:
     def _send_outside(self, line: Line, message: str, waiter: Waiter, code: CodeType | None, instruction: int) -> None:
         report = self._report(line, "send", message, code, instruction, "send to another process")
         report.waiter = waiter
+        self._sent(line, message, None)
         if self._parts is not None:
             self._parts.sent_outside(message)
-        self._sent(line, message, None)
 
     def _receive_outside(self, line: Line, message: str, code: CodeType | None, instruction: int) -> None:
         self._leave(line)
@@ -732,11 +795,7 @@ class Tracer:
             if line.touches is not None:
                 self._end_touches(line)
         del line
-        answered = self._put(Report("count", ""), None, 0, "")
-        answered.text, self._texts[-1] = "count\n", "count\n"
-        answered.waiter = Waiter()
-        self._flush()
-        self._await(answered.waiter)
+        self._await_answers()
         if self._is_over:
             return
         self._write_touches()
@@ -749,9 +808,28 @@ class Tracer:
             self._put(report, None, 0, GOES_ON, parts.lock_of(report))
         with self._writing:
             self._touch_rows.keep_last()
+            for shorten in AT_BORDER:
+                shorten()
             self._touch_texts.forget()
         if parts.is_full:
             self._give_up(Cause.FULL, "the trace is full: too much that may still give order goes on from one part of it to the next")
+
+    def _await_answers(self) -> None:
+        """Waits until all that was reported is answered."""
+        answered = self._put(Report("count", ""), None, 0, "")
+        answered.text, self._texts[-1] = "count\n", "count\n"
+        answered.waiter = Waiter()
+        self._flush()
+        self._await(answered.waiter)
+
+    def _share(self, parts: Parts) -> None:
+        """Goes on in the same trace beside other processes, by a relay. It is not divided any more."""
+        self._await_answers()
+        if self._is_over:
+            return
+        self.port = parts.shared_port()
+        parts.is_shared = True
+        self._change_collector(self.port)
 
     def _keep_ended(self) -> None:
         """Has a task of its own take the ends of those that the end of the program waits for, in place of all of them."""
@@ -772,7 +850,7 @@ class Tracer:
         self._socket.close()
         self._open(port)
         self._reader_ended, self._is_changing = Waiter(), False
-        _start_thread(self._read_all, ())
+        start_thread(self._read_all)
 
     # The thread that reads replies
 
@@ -832,7 +910,7 @@ class Tracer:
         if code in FULL:
             self._give_up(Cause.FULL, f"the trace is full ({reply}){self._kept()}")
         else:
-            self._give_up(Cause.TRACER, f"{report.text.strip()}: {refusal(reply, self._tenant, self._port)}")
+            self._give_up(Cause.TRACER, f"{report.text.strip()}: {refusal(reply, self._tenant, self.port)}")
 
     def _kept(self) -> str:
         """What filled the trace besides this run, and what to do about it."""
@@ -846,9 +924,9 @@ class Tracer:
         place = self._places.text(report.code, report.instruction)
         lock = "" if report.lock is None else f',"lock":{self._touch_texts.lock(report.lock)}'
         part = of = ""
-        if self._parts is not None:
-            part, of = part_text(self._parts.number), f',"of":"{report.name}"' if report.name else ""
+        if self.part:
+            part, of = part_text(self.part), f',"of":"{report.name}"' if report.name else ""
         return (
-            f'{{"event":{event},{part}"task":"{report.task}","thing":null,"kind":"{report.kind}",{place},'
+            f'{{"event":{event},{part}{time_text(report.time)}"task":"{report.task}","thing":null,"kind":"{report.kind}",{place},'
             f'"label":{json.dumps(report.label)}{lock}{of}}}\n'
         )

@@ -8,6 +8,7 @@ from dataclasses import dataclass, field
 from sys import getrefcount
 
 from .dividing import LEAVE, ROOT, Border, Divider, Limits, Report
+from .faults import Fault
 from .lines import Line, Token
 from .lock_identity import LockIdentity
 
@@ -42,8 +43,11 @@ class _Message:
 class Parts:
     """The parts of a run. Each has a collector of its own, whose port is asked for."""
 
-    def __init__(self, next_port: Callable[[], int], limits: Limits = LEAVE) -> None:
+    def __init__(self, next_port: Callable[[], int], limits: Limits = LEAVE, shared_port: Callable[[], int] | None = None) -> None:
         self.next_port = next_port
+        self._shared_port = shared_port
+        self.is_shared = False
+        """Whether other processes report to this part too. Then there is no further one."""
         self.number = 1
         self.divider = Divider()
         self._limits = limits
@@ -53,7 +57,13 @@ class Parts:
 
     @property
     def is_full(self) -> bool:
-        return self.divider.is_full(self._limits) or self.divider.has_many_new_tasks
+        return not self.is_shared and (self.divider.is_full(self._limits) or self.divider.has_many_new_tasks)
+
+    def shared_port(self) -> int:
+        """Where several processes may report to this part."""
+        if self._shared_port is None:
+            raise Fault("no port for child processes")
+        return self._shared_port()
 
     @property
     def lines(self) -> list[Line]:

@@ -15,6 +15,7 @@ from .benign import Looking
 from .collector import HOST, Collector
 from .environment import OWN_TENANT, PORT, reporting
 from .faults import Fault
+from .following import ChildProcess
 from .journal_file import JournalFile
 from .lines import state
 from .patches import put_all
@@ -32,7 +33,7 @@ class Tracing:
     def __init__(
         self, port: int | None = None, tenant: str = OWN_TENANT, journal: str | os.PathLike[str] | None = None,
         process: str | None = None, host: str = HOST, shaking: Shaking | None = None, looking: Looking | None = None,
-        parts: Parts | None = None,
+        parts: Parts | None = None, child: ChildProcess | None = None,
     ) -> None:
         """Without a port it reports where the environment says, else to a collector of its own that is started.
 
@@ -47,6 +48,7 @@ class Tracing:
         self._shaking = shaking
         self._looking = looking
         self._parts = parts
+        self._child = child
         self.port = 0 if port is None else port
         self._has_own_collector = port is None
         self._collector: Collector | None = None
@@ -79,8 +81,8 @@ class Tracing:
         if self._is_temporary:
             handle, self.journal = tempfile.mkstemp(suffix=".journal", prefix="itc_trace_")
             os.close(handle)
-        self._file = JournalFile(self.journal)
-        self._tracer = Tracer(self.port, self.tenant, self._file, self.process, self.host, self._shaking, self._parts)
+        self._file = JournalFile(self.journal, adds=self.is_child)
+        self._tracer = Tracer(self.port, self.tenant, self._file, self.process, self.host, self._shaking, self._parts, self._child)
         self._children = ForkedChildren()
         self._announced = Announced(self.journal)
         state.witness = None
@@ -104,7 +106,7 @@ class Tracing:
             _active.discard(self)
             if tracer is not None:
                 watch.end()
-                tracer.stop()
+                tracer.stop(self.is_child)
             for one in (file, children, announced):
                 if one is not None:
                     one.close()
@@ -112,13 +114,22 @@ class Tracing:
 
     def tell(self, unseen: Unseen | PassedOver) -> None:
         """Says in the journal what of the run is not seen. If that cannot be written, tracing stops, and the journal breaks off."""
+        self.write(unseen.row())
+
+    def write(self, row: str) -> None:
+        """Adds a line to the journal."""
         if self._file is None:
             return
         try:
-            self._file.write(unseen.row())
+            self._file.write(row)
         except OSError as fault:
             if self._tracer is not None:
                 self._tracer.fail(fault)
+
+    @property
+    def is_child(self) -> bool:
+        """Whether the process that is traced is the child of one that is traced, too."""
+        return self._child is not None
 
     def tell_of_children(self) -> None:
         """Before the process ends: says in the journal that the program goes on in a forked child, where it does."""

@@ -71,6 +71,16 @@ def end_row(lines: int) -> str:
     return json.dumps({"end": True, "lines": lines}, separators=(",", ":")) + "\n"
 
 
+def child_begun_row(tag: str, how: str) -> str:
+    """The line that says that a child process has begun, and how and at which place."""
+    return json.dumps({"child": tag, "begun": how}, separators=(",", ":")) + "\n"
+
+
+def child_ended_row(tag: str, lines: int = 0) -> str:
+    """The last line of a child process that reported all that it noted, and how many lines it has written with this one."""
+    return json.dumps({"child": tag, "ended": True, "lines": lines}, separators=(",", ":")) + "\n"
+
+
 END_OF_ALL = '{"end":true,"task":null}\n'
 """The last line of several journals put together. Which of the processes have ended is told by the lines before it."""
 

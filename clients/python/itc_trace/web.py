@@ -7,6 +7,7 @@ import sys
 import urllib.request
 from collections.abc import Callable, Iterable
 from http.client import HTTPResponse
+from types import FrameType
 from typing import Any
 
 from .lines import RECV, SEND, state
@@ -15,6 +16,8 @@ from .tracer import ANSWER_WAIT, Waiter
 
 HEADER = "Itc-Trace"
 VARIABLE = "HTTP_ITC_TRACE"
+ASGI_HEADER = HEADER.lower().encode()
+STARTS_OF_RESPONSES = ("http.response.start", "websocket.accept")
 NAME = re.compile(r"[A-Za-z0-9_]{1,24}")
 
 
@@ -23,20 +26,41 @@ def outgoing() -> str | None:
 
     It returns once the collector has the message, so that no receipt can come before. It is None where tracing is off.
     """
-    note, tracer = state.note, state.tracer
-    if note is None or tracer is None:
-        return None
-    message, waiter = tracer.fresh_message(), Waiter()
-    note((SEND, current(), message, waiter, *place(sys._getframe(1))))
-    tracer.hurry()
-    return message if waiter.wait(ANSWER_WAIT) else None
+    sending = Sending.begin(sys._getframe(1))
+    return None if sending is None else sending.name()
+
+
+class Sending:
+    """A message that is on its way to the collector. Its name is handed on once the collector has it."""
+
+    def __init__(self, message: str, waiter: Waiter) -> None:
+        self._message = message
+        self._waiter = waiter
+
+    @staticmethod
+    def begin(frame: FrameType | None) -> Sending | None:
+        """Sends a message from here. None where tracing is off."""
+        note, tracer = state.note, state.tracer
+        if note is None or tracer is None:
+            return None
+        message, waiter = tracer.fresh_message(), Waiter()
+        note((SEND, current(), message, waiter, *place(frame)))
+        tracer.hurry()
+        return Sending(message, waiter)
+
+    def name(self) -> str | None:
+        return self._message if self._waiter.wait(ANSWER_WAIT) else None
 
 
 def incoming(message: str | None) -> None:
     """From now on the current task comes after the place where this message was sent. What is no message is passed over."""
+    incoming_at(message, sys._getframe(1))
+
+
+def incoming_at(message: str | None, frame: FrameType | None) -> None:
     note = state.note
     if note is not None and message is not None and NAME.fullmatch(message):
-        note((RECV, current(), message, *place(sys._getframe(1))))
+        note((RECV, current(), message, *place(frame)))
 
 
 class Opener(urllib.request.BaseHandler):
@@ -79,3 +103,27 @@ class Middleware:
             return start_response(status, [*headers, *named], *error)
 
         return self._application(environ, start_traced)
+
+
+AsgiApplication = Callable[[dict[str, Any], Callable[..., Any], Callable[..., Any]], Any]
+
+
+class AsgiMiddleware:
+    """An ASGI application whose requests and responses are messages."""
+
+    def __init__(self, application: AsgiApplication) -> None:
+        self._application = application
+
+    async def __call__(self, scope: dict[str, Any], receive: Callable[..., Any], send: Callable[..., Any]) -> None:
+        for name, value in scope.get("headers", ()):
+            if name.lower() == ASGI_HEADER:
+                incoming(value.decode("ascii", "replace"))
+
+        async def send_traced(event: dict[str, Any]) -> None:
+            if event["type"] in STARTS_OF_RESPONSES:
+                message = outgoing()
+                named = [] if message is None else [(ASGI_HEADER, message.encode())]
+                event = {**event, "headers": [*event.get("headers", ()), *named]}
+            await send(event)
+
+        await self._application(scope, receive, send_traced)

@@ -29,7 +29,7 @@ from ..lock_identity import LockIdentity
 from ..noting import current, frame_at, is_internal, mark, place, take
 from ..stretches import TURNS, leave
 from .base import Patches, like
-from .futures import take_any
+from .futures import is_settled_by_source, take_any
 from .locks import gave, is_of_condition, took
 from .queues import has_few_places, items_of, note_done, room_of, take_done
 from .waiters import Waiters
@@ -237,7 +237,7 @@ class TracedFuture(_PlainFuture, metaclass=_LikePlain):  # type: ignore[misc]
     def cancel(self, msg: Any = None) -> bool:
         token = mark(RESULT)
         is_cancelled = bool(super().cancel(msg))
-        if is_cancelled and not self._itc_sources:
+        if is_cancelled and not is_settled_by_source(self):
             self._itc_token = token
         return is_cancelled
 

@@ -29,6 +29,11 @@ def await_at_exit(line: Line) -> None:
     _awaited.append(line)
 
 
+def await_nobody() -> None:
+    """Where tracing begins: the threads of an earlier tracing have no task in this one."""
+    _awaited.clear()
+
+
 def take_awaited(is_over: Callable[[Line], bool]) -> list[Line]:
     """Takes out those that are over. Others may be added meanwhile."""
     count = len(_awaited)

@@ -15,6 +15,7 @@ from typing import Any
 from ..handed_on import called, handed_at, watched_place
 from ..lines import CALLBACK, FINISH, RESULT, SPAWN, SUBMIT, TAKE_END, WORKER, LateJob, Line, Token, state
 from ..noting import current, enter, frame_at, is_internal, local, mark, place, take
+from ..web import incoming_at
 from .base import Patches, like
 from .exits import await_at_exit
 
@@ -25,6 +26,7 @@ def put(patches: Patches) -> None:
     future = base.Future
     patches.put(future, "_itc_token", None)
     patches.put(future, "_itc_sources", ())
+    patches.put(future, "_itc_message", None)
     for name in ("set_result", "set_exception"):
         patches.wrap(future, name, _set)
     for name in ("result", "exception"):
@@ -42,11 +44,18 @@ def put(patches: Patches) -> None:
 
 def take_result(future: Any, depth: int = 2) -> None:
     """From now on the current task comes after whatever gave the future its result."""
-    if future._itc_sources:
-        for source in future._itc_sources:
-            take_any(source, depth + 1)
+    if getattr(future, "_itc_message", None) is not None:  # It is no future of asyncio.
+        incoming_at(future._itc_message, frame_at(depth))
     elif future._itc_token is not None:
         take(future._itc_token, depth + 1)
+    else:
+        for source in future._itc_sources:
+            take_any(source, depth + 1)
+
+
+def is_settled_by_source(future: Any) -> bool:
+    """Whether one of the futures that this one stands for is done. Else whoever cancels it gives it its result."""
+    return any(source.done() for source in future._itc_sources)
 
 
 def take_any(future: Any, depth: int = 2) -> None:
@@ -73,7 +82,7 @@ def _cancel(original: Any) -> Any:
     def cancel(self: Any) -> bool:
         token = mark(RESULT)
         is_cancelled = bool(original(self))
-        if is_cancelled and self._itc_token is None:
+        if is_cancelled and self._itc_token is None and not is_settled_by_source(self):
             self._itc_token = token
         return is_cancelled
 

@@ -8,7 +8,7 @@ from collections.abc import Callable
 from types import ModuleType
 from typing import Any
 
-_waiting: dict[str, Callable[[ModuleType], None]] = {}
+_waiting: dict[str, list[Callable[[ModuleType], None]]] = {}
 
 
 def once_imported(name: str, put: Callable[[ModuleType], None]) -> None:
@@ -17,7 +17,7 @@ def once_imported(name: str, put: Callable[[ModuleType], None]) -> None:
     if module is not None:
         put(module)
         return
-    _waiting[name] = put
+    _waiting.setdefault(name, []).append(put)
     if _finder not in sys.meta_path:
         sys.meta_path.insert(0, _finder)
 
@@ -32,19 +32,20 @@ class _Finder:
     """Finds a module that is waited for as the others do, and has it patched as soon as it was executed."""
 
     def find_spec(self, name: str, path: Any = None, target: Any = None) -> Any:
-        put = _waiting.pop(name, None)
-        if put is None:
+        waiting = _waiting.pop(name, None)
+        if waiting is None:
             return None
         spec = importlib.util.find_spec(name)
         if spec is not None and spec.loader is not None and hasattr(spec.loader, "exec_module"):
-            spec.loader.exec_module = _then(spec.loader.exec_module, put)  # type: ignore[method-assign]
+            spec.loader.exec_module = _then(spec.loader.exec_module, waiting)  # type: ignore[method-assign]
         return spec
 
 
-def _then(execute: Callable[[ModuleType], None], put: Callable[[ModuleType], None]) -> Callable[[ModuleType], None]:
+def _then(execute: Callable[[ModuleType], None], waiting: list[Callable[[ModuleType], None]]) -> Callable[[ModuleType], None]:
     def exec_module(module: ModuleType) -> None:
         execute(module)
-        put(module)
+        for put in waiting:
+            put(module)
 
     return exec_module
 

@@ -2,21 +2,33 @@
 
 from __future__ import annotations
 
+import contextlib
 import threading
 from collections import deque
+from collections.abc import Iterator
 from types import ModuleType
 from typing import Any
 
+from .. import following
 from ..lines import SEMAPHORE, Line, Token, state
 from ..lock_identity import LockIdentity
 from ..noting import frame_at, is_internal, mark, take
 from .base import Patches
 from .later import forget_all, once_imported
 from .locks import gave, took
+from .shared_locks import has_taken, is_giving, slot_of
 
-_MAKERS = ("multiprocessing.context", "multiprocessing.synchronize", "multiprocessing.sharedctypes")
+_MAKERS = ("multiprocessing.context", "multiprocessing.synchronize", "multiprocessing.sharedctypes", "itc_trace.patches.process_signals")
 """Modules that make locks for the program. Others of `multiprocessing` make them for themselves, and give no order."""
 MOST_PERMITS = 65536
+LOCKS = ("Lock", "RLock")
+
+
+class _Own(threading.local):
+    silent: frozenset[str] = frozenset()
+
+
+_own = _Own()
 _PLAIN_MAKERS = {name: getattr(threading, name) for name in ("Lock", "RLock")}
 
 
@@ -31,6 +43,7 @@ def _put_locks(patches: Patches, module: ModuleType) -> None:
     patches.wrap(kind, "__init__", _begin)
     patches.wrap(kind, "__enter__", _enter)
     patches.wrap(kind, "__exit__", _exit)
+    patches.wrap(kind, "__setstate__", _set_state)
 
 
 def _put_managers(patches: Patches, module: ModuleType) -> None:
@@ -50,6 +63,9 @@ class _Lock:
         self._itc_token: Token | None = None
         self._itc_holder: Line | None = None
         self._itc_identity = LockIdentity(f"multiprocessing.{kind}", frame)
+        self._slot = slot_of(semlock.name)
+        if self._slot is None:
+            following.is_not_followed(kind)
 
     def acquire(self, block: bool = True, timeout: float | None = None) -> bool:
         is_acquired = bool(self._semlock.acquire(block, timeout))
@@ -60,6 +76,7 @@ class _Lock:
     def was_acquired(self) -> None:
         if state.note is not None and self._is_outermost():
             took(self)
+            has_taken(self._slot)
 
     def release(self) -> None:
         self.is_released()
@@ -68,6 +85,7 @@ class _Lock:
     def is_released(self) -> None:
         if state.note is not None and self._is_outermost():
             gave(self)
+            is_giving(self._slot)
 
     def _is_outermost(self) -> bool:
         return not self._is_recursive or self._semlock._count() == 1 and bool(self._semlock._is_mine())
@@ -107,12 +125,46 @@ def _begin(original: Any) -> Any:
         original(self, kind, value, maxvalue, **named)
         frame = _maker(frame_at(1))
         name = type(self).__name__
+        if name in _own.silent:
+            return
+        if frame is not None and name not in LOCKS:
+            following.is_not_followed(name)
         if frame is None or value > MOST_PERMITS:
             return
-        traced = _Lock(self._semlock, name, frame) if name in ("Lock", "RLock") else _Semaphore(self._semlock, value)
+        traced = _Lock(self._semlock, name, frame) if name in LOCKS else _Semaphore(self._semlock, value)
         self._itc_traced, self.acquire, self.release = traced, traced.acquire, traced.release
 
     return __init__
+
+
+def _set_state(original: Any) -> Any:
+    """In a process that was started anew: a lock that it was given. What orders by anything else has kept the process from being traced."""
+
+    def __setstate__(self: Any, told: Any) -> None:
+        original(self, told)
+        name = type(self).__name__
+        if name in LOCKS:
+            traced = _Lock(self._semlock, name, None)
+            self._itc_traced, self.acquire, self.release = traced, traced.acquire, traced.release
+
+    return __setstate__
+
+
+@contextlib.contextmanager
+def silence(*kinds: str) -> Iterator[None]:
+    """What this thread makes of these kinds within the block gives no order by itself."""
+    before = _own.silent
+    _own.silent = before | set(kinds)
+    try:
+        yield
+    finally:
+        _own.silent = before
+
+
+def make_silent(lock: Any) -> None:
+    """From here on this lock gives no order."""
+    lock.__dict__.pop("_itc_traced", None)
+    lock._make_methods()
 
 
 def _maker(frame: Any) -> Any:

@@ -40,7 +40,6 @@ def put(patches: Patches) -> None:
 def _put_threads(patches: Patches) -> None:
     thread = threading.Thread
     patches.wrap(thread, "__init__", _begin_thread)
-    patches.wrap(thread, "run", _run)
     patches.wrap(threading.Timer, "__init__", _begin_timer)
     patches.wrap(threading.Timer, "run", _run_timer)
     patches.wrap(thread, "start", _start)
@@ -63,14 +62,12 @@ def _begin_thread(original: Any) -> Any:
     return __init__
 
 
-def _run(original: Any) -> Any:
-    def run(self: Any) -> None:
-        handed = self.__dict__.get("_itc_handed")
-        if handed is not None:
-            called(self._target, tuple(self._args), handed)
-        original(self)
-
-    return run
+def _tell_of_target(thread: Any) -> None:
+    """Tells of a target that is a method of a container, unless a `run` of the program stands before it and calls no other one."""
+    handed = thread.__dict__.get("_itc_handed")
+    if handed is None or type(thread).run is not threading.Thread.run and "run" not in type(thread).run.__code__.co_names:
+        return
+    called(thread._target, tuple(thread._args), handed)
 
 
 def _begin_timer(original: Any) -> Any:
@@ -119,6 +116,8 @@ def _bootstrap(original: Any) -> Any:
         if line is None:
             return original(self)  # type: ignore[no-any-return]
         enter(line)
+        if not isinstance(self, threading.Timer):
+            _tell_of_target(self)
         try:
             return original(self)  # type: ignore[no-any-return]
         finally:

@@ -5,6 +5,7 @@ from __future__ import annotations
 import importlib.machinery
 import importlib.util
 import os
+import runpy
 import sys
 from collections.abc import Sequence
 from types import CodeType
@@ -20,7 +21,10 @@ from .finder import UNWATCHED, Finder, Selection, with_hooks
 from .loaded import Prepare, folder_of_main, rewrite_loaded
 from .unwatched import files_without_hooks
 
-__all__ = ["Prepare", "begin", "code_of", "end", "program_of", "unwatched", "watch", "watch_loaded", "watch_main"]
+__all__ = ["Prepare", "begin", "code_of", "end", "program_of", "unwatched", "watch", "watch_loaded", "watch_main", "watch_path_runs"]
+
+MAIN_OF_CHILD = "__mp_main__"
+"""The name of the program's main module in a process that `multiprocessing` has started anew."""
 
 _finder: Finder | None = None
 _plain_line_begin: Any = None
@@ -71,6 +75,22 @@ def code_of(source: bytes, program: str, plain: CodeType) -> CodeType:
     if _finder is None or not _finder.selection.has_file("__main__", os.path.abspath(program)):
         return plain
     return with_hooks(source, program, "__main__", _finder.selection, plain)
+
+
+def watch_path_runs() -> None:
+    """What `runpy` runs by its path has hooks, if it is watched. A child of `multiprocessing` so imports the program's main file."""
+    plain = runpy._get_code_from_file  # type: ignore[attr-defined]
+
+    def get_code(*words: Any) -> Any:
+        told = plain(*words)
+        code, path = told[0] if isinstance(told, tuple) else told, os.fsdecode(words[-1])
+        if _finder is None or not _finder.selection.has_file(MAIN_OF_CHILD, os.path.abspath(path)):
+            return told
+        with open(path, "rb") as file:
+            made = with_hooks(file.read(), path, MAIN_OF_CHILD, _finder.selection, code)
+        return (made, *told[1:]) if isinstance(told, tuple) else made
+
+    runpy._get_code_from_file = like(plain, get_code)  # type: ignore[attr-defined]
 
 
 def begin() -> None:

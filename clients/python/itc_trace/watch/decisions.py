@@ -5,45 +5,68 @@ It is decided once for each place and type. Nothing here runs code of the progra
 
 from __future__ import annotations
 
+import io
+import os
 import threading
 import types
 import weakref
 from array import array
-from builtins import any, id, issubclass, len, next, str, type
+from builtins import any, dict, frozenset, id, int, issubclass, iter, len, list, map, next, reversed, set, str, tuple, type
 from collections import ChainMap, Counter, OrderedDict, UserDict, UserList, defaultdict, deque
+from collections.abc import Iterable
 from typing import Any
 
-from .kinds import DEQUE, DICT, LIST, SET
+from .helper import quick
+from .kinds import BUFFER, DEQUE, DICT, LIST, SET
 from .places import SKIPPED, Access
 
-SKIP, FIELD, OWN_FIELD, OF_CLASS, OF_TYPE, OF_MODULE = range(6)
+SKIP, FIELD, OWN_FIELD, OF_CLASS, OF_TYPE, OF_MODULE, AS_KEY = range(7)
 
 WATCHED: set[str] = set()
 """The names of the modules that were rewritten."""
 
-PLAIN = frozenset({
+def ids_of(kinds: Iterable[type]) -> frozenset[int]:
+    """The identities of types of the library. A type itself is no key: its class may be the program's, with a hash of its own."""
+    return frozenset(map(id, kinds))
+
+
+PLAIN = ids_of({
     str, int, float, bool, complex, bytes, tuple, frozenset, range, slice, type(None), type(...), type(NotImplemented), types.FunctionType,
     types.BuiltinFunctionType, types.MethodType, super, types.CodeType,
 })
 """Types whose values cannot change, or are no thing that tasks share by their elements."""
 
-BARE = frozenset({object, types.SimpleNamespace, BaseException})
+BARE = ids_of({object, types.SimpleNamespace, BaseException})
 """Types that find attributes in the usual way, though their own tables name the methods that do so."""
 
-_EXACT: dict[type, int] = {
-    dict: DICT, defaultdict: DICT, OrderedDict: DICT, Counter: DICT, list: LIST, bytearray: LIST, array: LIST, set: SET, deque: DEQUE,
-}
-_BASES = ((dict, DICT), (list, LIST), (bytearray, LIST), (array, LIST), (set, SET), (deque, DEQUE))
+_EXACT: dict[int, int] = {id(kind): family for kind, family in (
+    (dict, DICT), (defaultdict, DICT), (OrderedDict, DICT), (Counter, DICT), (list, LIST), (bytearray, LIST), (array, LIST), (set, SET),
+    (deque, DEQUE), (io.StringIO, BUFFER), (io.BytesIO, BUFFER),
+)}
+_BASES = ((dict, DICT), (list, LIST), (bytearray, LIST), (array, LIST), (set, SET), (deque, DEQUE), (io.StringIO, BUFFER), (io.BytesIO, BUFFER))
 NO_FAMILY = -1
 _METHODS_OF = {"r": "__getitem__", "w": "__setitem__", "d": "__delitem__", "c": "__contains__"}
 """What is called for each way to touch an element."""
 
-DATA, MAPS = "data", "maps"
+DATA, MAPS, VARIABLES, REFERRED = "data", "maps", "_data", "referred"
 _WITH_ONE_INSIDE: tuple[tuple[type, str], ...] = (
     (UserDict, DATA), (UserList, DATA), (weakref.WeakValueDictionary, DATA), (weakref.WeakKeyDictionary, DATA), (weakref.WeakSet, DATA),
-    (ChainMap, MAPS),
+    (ChainMap, MAPS), (type(os.environ), VARIABLES),
 )
 """Containers of the library that are written in Python, and the field in which each has its elements."""
+
+_BY_KEYS = (
+    type({}.keys()), type(OrderedDict().keys()), type(iter({})), type(iter(OrderedDict())), type(reversed({})), types.MappingProxyType,
+)
+_BY_ELEMENTS = (
+    type({}.values()), type({}.items()), type(OrderedDict().values()), type(OrderedDict().items()), type(iter({}.values())),
+    type(iter({}.items())), type(reversed({}.values())), type(reversed({}.items())), type(iter([])), type(reversed([])),
+    type(iter(set())), type(iter(deque())), type(reversed(deque())), type(iter(bytearray())), type(iter(array("b"))),
+)
+BY_ELEMENTS = ids_of(_BY_ELEMENTS)
+"""Views and iterators that look at the elements of a container, and not at the keys of a dictionary alone."""
+VIEWS = ids_of((*_BY_KEYS, *_BY_ELEMENTS))
+"""Types whose objects refer to the one container that they look at."""
 
 _mro_of: Any = vars(type)["__mro__"].__get__
 _vars_of: Any = vars(type)["__dict__"].__get__
@@ -78,6 +101,8 @@ def forget_decisions() -> None:
     _own_methods.clear()
     for skipped in SKIPPED:
         skipped.clear()
+    if quick is not None:
+        quick.forget()
 
 
 def name_of(kind: type) -> str:
@@ -91,7 +116,7 @@ def is_of_the_package(kind: type) -> bool:
 
 def family_of(kind: type) -> int | None:
     """Which kind of container a type is."""
-    family = _EXACT.get(kind)
+    family = _EXACT.get(id(kind))
     if family is not None:
         return family
     family = _families.get(id(kind))
@@ -109,15 +134,20 @@ def class_with(kind: type, name: str) -> Any:
     return next((one for one in _mro_of(kind) if name in _vars_of(one)), None)
 
 
+def is_of(kind: type, base: Any) -> bool:
+    """Whether it is the class or one below, by the classes' own tables."""
+    return any([one is base for one in _mro_of(kind)])
+
+
 def has_own_method(kind: type, name: str) -> bool:
     """Whether a type of the program has such a method of its own, in place of the container's."""
-    if kind in _EXACT:
+    if id(kind) in _EXACT:
         return False
     known = _own_methods.setdefault(id(kind), {})
     if name not in known:
         _remember(kind)
         owner = class_with(kind, name)
-        known[name] = owner is not None and type(_vars_of(owner)[name]) is types.FunctionType and owner not in _EXACT
+        known[name] = owner is not None and type(_vars_of(owner)[name]) is types.FunctionType and id(owner) not in _EXACT
     return known[name]
 
 
@@ -130,9 +160,13 @@ def vars_of(kind: type) -> Any:
     return _vars_of(kind)
 
 
+def mro_of(kind: type) -> Any:
+    return _mro_of(kind)
+
+
 def has_watched_method(kind: type, name: str) -> bool:
     """Whether a class that is watched has such a method of its own."""
-    if kind in _EXACT:
+    if id(kind) in _EXACT:
         return False
     known, key = _own_methods.setdefault(id(kind), {}), f"watched {name}"
     if key not in known:
@@ -142,9 +176,16 @@ def has_watched_method(kind: type, name: str) -> bool:
     return known[key]
 
 
+def is_made(kind: type, name: str) -> bool:
+    """Whether the method was made by `dataclass`, and so has no hooks."""
+    owner = class_with(kind, name)
+    method = None if owner is None else _vars_of(owner)[name]
+    return type(method) is types.FunctionType and method.__code__.co_filename.endswith(("<string>", "dataclasses.py"))
+
+
 def without_own(kind: type, ways: str) -> str:
     """Of the ways in which an element is touched those that no method of the program stands before. Such a method has hooks itself."""
-    if kind in _EXACT:
+    if id(kind) in _EXACT:
         return ways
     return "".join([one for one in ways if not has_watched_method(kind, _METHODS_OF[one])])
 
@@ -154,7 +195,8 @@ def field_inside(kind: type) -> str:
     name = _inside.get(id(kind))
     if name is None:
         _remember(kind)
-        name = _inside[id(kind)] = next((field for base, field in _WITH_ONE_INSIDE if issubclass(kind, base)), "")
+        found = next((field for base, field in _WITH_ONE_INSIDE if is_of(kind, base)), "")
+        name = _inside[id(kind)] = REFERRED if id(kind) in VIEWS else found
     return name
 
 
@@ -191,8 +233,22 @@ def value_of_field(one: Any, name: str) -> Any:
         return None
 
 
+def value_of_element(one: Any, key: Any) -> Any:
+    """What stands in an element of one of the library's own containers. None if nothing does, or if that is not plain to see."""
+    if family_of(type(one)) == DICT and id(type(one)) in _EXACT and (type(key) is str or type(key) is int):
+        return dict.get(one, key)
+    if (type(one) is list or type(one) is tuple) and type(key) is int:
+        return next(iter(one[key:key + 1] if key != -1 else one[-1:]), None)
+    return None
+
+
+def has_setter(value: Any) -> bool:
+    """Whether what a class has is code that stands before a field of this name, and no slot."""
+    return type(value) is not types.MemberDescriptorType and _has(type(value), "__set__")
+
+
 def _has(kind: type, name: str) -> bool:
-    return any(name in _vars_of(one) for one in _mro_of(kind) if one not in BARE)
+    return any(name in _vars_of(one) for one in _mro_of(kind) if id(one) not in BARE)
 
 
 def decision(kind: type, access: Access, site: int) -> int:
@@ -211,7 +267,7 @@ def decision(kind: type, access: Access, site: int) -> int:
 
 
 def _decide(kind: type, name: str, kinds: str) -> int:
-    if kind in PLAIN and kind is not types.FunctionType:
+    if id(kind) in PLAIN and kind is not types.FunctionType:
         return SKIP
     if issubclass(kind, types.ModuleType):
         return OF_MODULE
@@ -219,14 +275,33 @@ def _decide(kind: type, name: str, kinds: str) -> int:
         return OF_TYPE
     if issubclass(kind, threading.local) or is_of_the_package(kind):
         return SKIP
+    owner = class_with(kind, name)
+    if _finds_keys(kind, kinds, owner is None):
+        return AS_KEY
     if _has(kind, "__getattribute__"):
         return OWN_FIELD
-    owner = class_with(kind, name)
     if owner is not None:
         return _decide_of_class(kind, _vars_of(owner)[name], kinds)
     if _has(kind, "__getattr__") or "w" in kinds and _has(kind, "__setattr__"):
         return OWN_FIELD
     return FIELD
+
+
+def _finds_keys(kind: type, kinds: str, is_missing: bool) -> bool:
+    """Whether a dictionary's own methods stand for those of attributes, as in `__getattr__ = dict.__getitem__`."""
+    methods = _KEYS_AS_ATTRIBUTES if is_missing else _KEYS_AS_ATTRIBUTES[1:]
+    needed = [own for way, own, _ in methods if way in kinds]
+    return family_of(kind) == DICT and bool(needed) and all(
+        [_is_of_dictionary(kind, own, its) for way, own, its in methods if way in kinds]
+    )
+
+
+_KEYS_AS_ATTRIBUTES = (("r", "__getattr__", ("__getitem__", "get")), ("w", "__setattr__", ("__setitem__",)))
+
+
+def _is_of_dictionary(kind: type, name: str, methods: tuple[str, ...]) -> bool:
+    owner = class_with(kind, name)
+    return owner is not None and owner is not object and any([_vars_of(owner)[name] is vars(dict)[method] for method in methods])
 
 
 def _decide_of_class(kind: type, value: Any, kinds: str) -> int:

@@ -14,6 +14,7 @@ from ..verdict import Cause, Unseen
 from .decisions import WATCHED
 from .depth import at_any_depth
 from .rewrite import rewritten
+from .stored import imported_by, look_through
 
 OWN_FOLDER = os.path.dirname(os.path.dirname(os.path.abspath(__file__)))
 LIBRARY_FOLDERS = tuple(
@@ -50,6 +51,10 @@ class Selection:
             return False
         return any(_is_within(path, folder) for folder in self.folders)
 
+    def folder_of(self, file: str) -> str:
+        """The watched folder that the file is in, else its own."""
+        return next((folder for folder in self.folders if _is_within(file, folder)), os.path.dirname(os.path.realpath(file)))
+
     def has_import(self, name: str) -> bool:
         """Whether what is imported by this dotted name may be of a module that is watched."""
         first = name.partition(".")[0]
@@ -78,11 +83,13 @@ class Loader(importlib.machinery.SourceFileLoader):
 
 def with_hooks(source: bytes, file: str, module: str, selection: Selection, plain: CodeType) -> CodeType:
     """The code of a module with hooks, else its plain one; then one line says so."""
+    if any(selection.has_import(name) for name in imported_by(source)):
+        look_through(selection.folder_of(file))
     try:
         with warnings.catch_warnings():
             warnings.simplefilter("ignore")
             made = at_any_depth(lambda: rewritten(source, file, module, selection.has_import))
-    except (SyntaxError, ValueError, RecursionError, MemoryError) as fault:
+    except Exception as fault:  # The program's import is not to fail, whatever the fault is.
         tell_unwatched(file, fault)
         return plain
     WATCHED.add(module)
@@ -126,4 +133,5 @@ class Finder:
             source = loader.get_data(loader.path)
         except Exception:
             return None
+        look_through(self.selection.folder_of(loader.path))
         return None if plain is None else with_hooks(source, loader.path, name, self.selection, plain)

@@ -1,37 +1,62 @@
-"""Notes what a method of a container does that the program has handed on."""
+"""Notes what a method of a container does that the program has handed on, and a function that looks at what it is given."""
 
 from __future__ import annotations
 
-from ..handed_on import Method, Place, Watcher, watch_with
+from builtins import id, type
+from typing import Any
+
+from ..handed_on import ATTRGETTER, Method, Place, Watcher, watch_with
 from ..journal import line_of
 from . import hooks
+from .decisions import value_of_field
 from .finder import FILES
-from .kinds import KEYED, METHODS
+from .kinds import KEYED, METHODS, SHOWN
 from .places import NAMES_OF_HANDED, Access, new_site
+from .rewrite import OF_ATTRIBUTES, READERS, SHOWING, STEPPERS
+
+_OF_BUILTINS = "builtins."
+_FIELDS = {**{f"{_OF_BUILTINS}{name}": kinds for name, kinds in OF_ATTRIBUTES.items()}, ATTRGETTER: "r"}
+_WHOLE = {f"{_OF_BUILTINS}{name}": kinds for name, kinds in READERS.items() if name not in STEPPERS}
 
 _sites: dict[tuple[int, int, str], tuple[int, object]] = {}
 """The sites of places, by code, instruction and method. A code is kept, else another one might come to stand at its place."""
 
 
 def _touch(method: Method, place: Place) -> None:
-    if method.name not in METHODS or not hooks.are_put():
+    name, words = method.name, method.words
+    if not hooks.are_put():
         return
-    site = _site_of(place, method.name)
-    if method.name in KEYED and method.words:
-        hooks.hook_k(method.container, method.words[0], site)
-    else:
-        hooks.hook_m(method.container, site)
+    if name in _FIELDS:
+        _touch_field(method, _site_of(place, name, "field", _FIELDS[name]))
+    elif name in _WHOLE:
+        hooks.hook_h(method.container, _site_of(place, name, "whole", _WHOLE[name], SHOWN if name.removeprefix(_OF_BUILTINS) in SHOWING else ""))
+    elif name in METHODS:
+        site = _site_of(place, name, "base", "", name)
+        if name in KEYED and words:
+            hooks.hook_k(method.container, words[0], site)
+        else:
+            hooks.hook_m(method.container, site)
 
 
-def _site_of(place: Place, name: str) -> int:
+def _touch_field(method: Method, site: int) -> None:
+    """A field by its name, which may be one of several parts for `attrgetter`."""
+    name: Any = method.words[0] if method.words else None
+    one = method.container
+    for part in name.split(".") if type(name) is str and method.name == ATTRGETTER else (name,):
+        if one is not None:
+            hooks.hook_A(one, part, site)
+            one = value_of_field(one, part) if type(part) is str else None
+
+
+def _site_of(place: Place, name: str, what: str, kinds: str, of_site: str = "") -> int:
     code, instruction = place
     key = id(code), instruction, name
     known = _sites.get(key)
     if known is None:
         line = line_of(code, instruction)
-        access = Access("base", "", name, NAMES_OF_HANDED.get((code.co_filename, line, name), ""), "")
+        access = Access(what, kinds, of_site, NAMES_OF_HANDED.get((code.co_filename, line, name), ""), "")
         known = _sites[key] = new_site(code.co_filename, line, code.co_qualname, access), code
     return known[0]
 
 
-watch_with(Watcher(_touch, FILES, METHODS))
+watch_with(Watcher(_touch, FILES, METHODS | frozenset(_FIELDS) | frozenset(_WHOLE)))

@@ -7,42 +7,57 @@ of a function refers to is shared with nobody, and is not noted.
 from __future__ import annotations
 
 import builtins
+import os
+import sys
 import types
 from array import array
-from builtins import hash, id, issubclass, len, map, next, setattr, type
+from builtins import id, issubclass, len, map, next, setattr, type, zip
 from _thread import get_ident
 from collections import defaultdict
-from collections.abc import Callable, Iterable
+from collections.abc import Callable, Iterable, Iterator
+from operator import itemgetter
 from sys import _getframe, getrefcount
 from typing import Any
 
-from ..conflicts import ADDITION, ITERATION, KEYS, LENGTH, LOOKUP, MAKING, READ, REMOVAL, REPLACEMENT, REWRITE, WRITE
+from ..conflicts import ADDITION, ITERATION, KEYS, LENGTH, REMOVAL, REPLACEMENT, REWRITE, STEP, WRITE
 from ..handed_on import HANDED, Calling, is_of_container
-from ..noting import failed, touched, touched_all
+from ..lines import state
+from ..noting import begin_stretch, failed, touched_all
 from ..stretches import STRETCHES
 from .decisions import (
-    FIELD, OF_CLASS, OF_MODULE, OF_TYPE, OWN_FIELD, PLAIN, SKIP, WATCHED, class_with, decision, family_of, fields_of,
-    field_inside, has_own_method, has_watched_method, name_of, value_of_field, without_own,
+    AS_KEY, BY_ELEMENTS, FIELD, OF_CLASS, OF_MODULE, OF_TYPE, OWN_FIELD, PLAIN, SKIP, VARIABLES, VIEWS, WATCHED, class_with, decision,
+    family_of, field_inside, fields_of, has_own_method, has_setter, has_watched_method, ids_of, is_watched_class, name_of, value_of_element,
+    value_of_field, vars_of, without_own,
 )
+from .as_fields import FIELDS_OF, keep_fields_of, object_of
+from .helper import quick
 from .inside import fields_looked_at, inside_of, nested_in
-from .kinds import DEQUE, DICT, KEYED, LIST, SHOWN, STATE, WHOLE
-from .places import ACCESSES, SKIPPED, Access
-from .rewrite import ON, PREFIX
-from .things import (
-    BASES, OWNERS, Owner, element_of, field_of, let_go_of_some, made_by, made_here, owner_of, shape_of, variable_of,
-)
+from .keys import SIMPLE, UNKNOWN, tell_of_unknown, value_of
+from .kinds import DEEP as DEEP_SITES
+from .kinds import BUFFER, DEQUE, DICT, EACH, KEYED, LIST, OF_GENERATOR, SHOWN, WHOLE
+from .late import LOOKING, NOTHING, READ_ONLY, again, by_kinds, note_shared, saw, share, shorten
+from .late import cell as cell_late
+from .late import index as index_late
+from .late import key as key_late
+from .late import named_field as field_late
+from .late import shape as shape_late
+from .matching import Matching, Touching
+from .places import ACCESSES, CASES, MADE_HERE, OF_BASE, SKIPPED, Access
+from .rewrite import OF_OBJECT, ON, PREFIX
+from .seen import NEVER
+from .templates import Path, field_paths
+from .things import MADE, OWNERS, Made, Owner, let_go_of_some, made_by, made_here, maker_now, mark_of, owner_of, variable_of
 
 INDEXED = (list, bytearray, array)
-SIMPLE = frozenset({str, int, bytes, float, bool, type(None)})
-MOST_PARTS = 8
-READ_ONLY = "r"
-LOOKING = frozenset(("r", "rw", "c"))
-CHANGING = frozenset(("w", "rw", "d"))
+FLAT = PLAIN - {id(tuple), id(frozenset)}
+"""Types whose values have nothing inside that could change."""
 LOOKED_THROUGH_AT_ONCE = 64
+A_GENERATOR = "a generator"
 ANYBODY = 0
 """A limit of references that nothing is within."""
+OF_VARIABLE_IN_C = 2
+"""How many references the helper sees of what only one variable refers to."""
 
-base_of = BASES.get
 owner_at = OWNERS.get
 stretch_of = STRETCHES.get
 
@@ -77,14 +92,13 @@ CONSTRUCTOR = "__init__"
 
 def hook_o(one: Any, site: int) -> Any:
     """Before an attribute is read or written."""
-    base = base_of(id(one))
-    if base is not None:
-        stretch = stretch_of(get_ident())
-        if stretch is not None and base + site in stretch:
+    owner = owner_at(id(one))
+    if owner is not None:
+        seen = owner.seen
+        if site in seen and seen.stretch is stretch_of(get_ident()):
             return one
-        owner = owner_at(id(one))
-        if owner is not None and base + site in owner.recipes:
-            touched_all(owner.recipes[base + site])
+        if site in owner.recipes:
+            again(owner, site, owner.recipes[site])
             return one
     if id(type(one)) not in SKIPPED[site]:
         try:
@@ -95,14 +109,13 @@ def hook_o(one: Any, site: int) -> Any:
 
 
 def hook_o_local(one: Any, site: int) -> Any:
-    base = base_of(id(one))
-    if base is not None:
-        stretch = stretch_of(get_ident())
-        if stretch is not None and base + site in stretch:
+    owner = owner_at(id(one))
+    if owner is not None:
+        seen = owner.seen
+        if site in seen and seen.stretch is stretch_of(get_ident()):
             return one
-        owner = owner_at(id(one))
-        if owner is not None and base + site in owner.recipes:
-            touched_all(owner.recipes[base + site])
+        if site in owner.recipes:
+            again(owner, site, owner.recipes[site])
             return one
     elif getrefcount(one) <= OF_VARIABLE - 1:
         return one
@@ -125,10 +138,10 @@ def hook_w_local(one: Any, site: int) -> Any:
 
 def hook_o_new(one: Any, site: int, constructor: int) -> Any:
     """The same in a constructor. As long as nobody refers to the object who did not when it began, nothing is noted."""
-    base = base_of(id(one))
-    if base is not None:
-        stretch = stretch_of(get_ident())
-        if stretch is not None and base + site in stretch:
+    owner = owner_at(id(one))
+    if owner is not None:
+        seen = owner.seen
+        if site in seen and seen.stretch is stretch_of(get_ident()):
             return one
     elif getrefcount(one) <= BEGUN.get((id(one), constructor), ANYBODY):
         return one
@@ -145,71 +158,102 @@ def hook_A(one: Any, name: Any, site: int) -> Any:
     if type(name) is str:
         access = ACCESSES[site]
         try:
+            if access.words == OF_BASE:
+                _touch_past_class(one, name, access.kinds, site)
+                return one
             _touch_field(one, site, Access("named", access.kinds, name, "", access.module))
         except Exception as fault:
             failed(fault)
     return one
 
 
+_of_super: Any = vars(super)["__self__"].__get__
+
+
+def _touch_past_class(one: Any, name: str, kinds: str, site: int) -> None:
+    """A field as the language finds it, past the methods that the object's class has for that."""
+    if _is_asked_by_others():
+        return
+    one = _of_super(one) if type(one) is super else one
+    kind = type(one)
+    if id(kind) in PLAIN or issubclass(kind, (type, types.ModuleType)):
+        _touch_field(one, site, Access("named", kinds, name, "", ""))
+    elif "w" in kinds or name in fields_of(one) or value_of_field(one, name) is not None:
+        owner = class_with(kind, name)
+        if owner is None or not has_setter(vars_of(owner)[name]):
+            _touch_by_name(one, name, kinds, site)
+
+
+def _is_asked_by_others() -> bool:
+    """Whether a module that is not watched has touched the field, and so runs the program's own method for that."""
+    frame: Any = _getframe(2)
+    while frame is not None and frame.f_globals is _OWN_VARIABLES:
+        frame = frame.f_back
+    if frame is None or frame.f_code.co_name not in OF_OBJECT:
+        return False
+    return frame.f_back is not None and frame.f_back.f_globals.get("__name__") not in WATCHED
+
+
+_OWN_VARIABLES = globals()
+
+
 def _touch_field(one: Any, site: int, access: Access | None = None) -> None:
-    key = site
-    if access is None:
-        access = ACCESSES[site]
-    else:
-        key = hash((site, access.name)) | 1 << 62
-    kind, name, kinds = type(one), access.name, access.kinds or READ_ONLY
+    """The field of the place, or the one that is named to it."""
+    is_named = access is not None
+    access = access or ACCESSES[site]
+    kind, kinds = type(one), access.kinds or READ_ONLY
     found = decision(kind, access, site)
     if found == SKIP:
         return
-    holder, holder_name = one, ""
-    if found == OF_MODULE:
-        module = fields_of(one).get("__name__")
-        if module in WATCHED:
-            _note(owner_of(one, name).base, key, variable_of(module, name), kinds, site)
-        return
-    if found == OF_TYPE:
-        if kinds == READ_ONLY:
-            holder = class_with(one, name)
-            if holder is None:
-                return
-        holder_name = name_of(holder)
-    elif found == OF_CLASS and kinds == READ_ONLY and name not in fields_of(one):
-        holder = class_with(kind, name)
-        holder_name = name_of(holder)
-    elif found == OWN_FIELD and name not in fields_of(one):
-        return
-    owner = owner_of(holder, "")
-    base = owner.base
-    if holder is not one:
-        own = owner_of(one, "")
-        base = own.base
-        if found == OF_CLASS:  # The object was looked at first, and had none of its own.
-            touched((base, key), field_of(own, name_of(kind), name), READ, site)
-    recipe = _note(base, key, field_of(owner, holder_name or name_of(kind), name), kinds, site)
-    if found == FIELD and not (kinds == "rw" and access.text):
-        owner.recipes[base + key] = recipe
-    if access.what == "field" and access.text and kinds == "rw":
-        _touch_in_place(value_of_field(one, name), access.text, site)
+    mark = (site, access.name) if is_named else site
+    if found == AS_KEY:
+        _touch_key(one, owner_of(one, ""), access.name, kinds, DICT, site, False)
+    elif found == OF_MODULE:
+        _touch_module(one, access.name, kinds, mark, site)
+    elif found == OF_TYPE:
+        _touch_type(one, access.name, kinds, mark, site)
+    elif found == OF_CLASS and kinds == READ_ONLY and access.name not in fields_of(one):
+        _touch_through_object(one, access.name, mark, site)
+    elif found != OWN_FIELD or access.name in fields_of(one):
+        is_in_place = not is_named and kinds == "rw" and access.text != ""
+        late = (field_late, mark, name_of(kind), access.name, kinds, site) if is_named else None
+        saw(owner_of(one, ""), mark, late, found == FIELD and not is_in_place)
+        if is_in_place and access.what == "field":
+            _touch_in_place(value_of_field(one, access.name), access.text, site)
+
+
+def _touch_module(one: Any, name: str, kinds: str, mark: Any, site: int) -> None:
+    module = fields_of(one).get("__name__")
+    if module in WATCHED:
+        owner = owner_of(one, name)
+        touched_all(by_kinds((owner.base, mark), variable_of(module, name), kinds, site))
+        saw(owner, mark, NOTHING)
+    elif type(module) is str:
+        saw(owner_of(one, module), mark, (field_late, mark, module, name, kinds, site))
+
+
+def _touch_type(one: Any, name: str, kinds: str, mark: Any, site: int) -> None:
+    """A class, or the one of its bases where it finds what it has not itself."""
+    holder = class_with(one, name) if kinds == READ_ONLY else one
+    if holder is not None:
+        saw(owner_of(holder, ""), mark, (field_late, mark, name_of(holder), name, kinds, site))
+        if holder is not one:
+            saw(owner_of(one, ""), mark, NOTHING)
+
+
+def _touch_through_object(one: Any, name: str, mark: Any, site: int) -> None:
+    """The object is looked at first, and has none of its own."""
+    kind = type(one)
+    holder = class_with(kind, name)
+    if holder is not None:
+        saw(owner_of(holder, ""), mark, (field_late, mark, name_of(holder), name, READ_ONLY, site))
+    saw(owner_of(one, ""), mark, (field_late, mark, name_of(kind), name, READ_ONLY, site))
 
 
 def _touch_in_place(value: Any, kind: str, site: int) -> None:
     """What an assignment as `+=` does to the container that stands in a field."""
     if family_of(type(value)) is not None:
-        owner = owner_of(value, ACCESSES[site].name)
-        touched(owner.base + site, shape_of(owner), kind, site)
-
-
-def _note(base: int, site_key: int, thing: Any, kinds: str, site: int) -> dict[Any, Any]:
-    """Notes a read, a write or both. The key by which the hook looks comes last."""
-    key = base + site_key
-    if kinds == "r":
-        touches = {key: (thing, READ, site)}
-    elif kinds == "w":
-        touches = {key: (thing, WRITE, site)}
-    else:
-        touches = {-key: (thing, READ, site), key: (thing, WRITE, site)}
-    touched_all(touches)
-    return touches
+        saw(owner_of(value, ACCESSES[site].name), site, (shape_late, site, kind, site))
 
 
 hook_A_local = hook_A
@@ -228,15 +272,19 @@ def hook_g(site: int) -> None:
     """Before a variable of a module is read, or behind where it was written."""
     stretch = stretch_of(get_ident())
     if stretch is None or site not in stretch:
-        access = ACCESSES[site]
         try:
-            _note(0, site, variable_of(access.module, access.name, access.text), access.kinds, site)
+            _touch_variable(site)
         except Exception as fault:
             failed(fault)
 
 
-def hook_v(value: Any, site: int) -> Any:
-    hook_g(site)
+def _touch_variable(site: int) -> None:
+    access = ACCESSES[site]
+    touched_all(by_kinds(site, variable_of(access.module, access.name, access.text), access.kinds, site))
+
+
+def hook_v(value: Any, _: None) -> Any:
+    """The value that is about to be bound, beside what notes so."""
     return value
 
 
@@ -246,10 +294,10 @@ def hook_c(function: Any, site: int) -> None:
     if not closure:
         return
     cell = closure[0]
-    base = base_of(id(cell))
-    if base is not None:
-        stretch = stretch_of(get_ident())
-        if stretch is not None and base + site in stretch:
+    owner = owner_at(id(cell))
+    if owner is not None:
+        seen = owner.seen
+        if site in seen and seen.stretch is stretch_of(get_ident()):
             return
     try:
         _touch_cell(cell, site)
@@ -258,13 +306,7 @@ def hook_c(function: Any, site: int) -> None:
 
 
 def _touch_cell(cell: Any, site: int) -> None:
-    access = ACCESSES[site]
-    owner = owner_of(cell, access.name)
-    thing = owner.things.get(access.name)
-    if thing is None:
-        owner.name, owner.made = access.name, access.text
-        thing = owner.things[access.name] = shape_of(owner)
-    _note(owner.base, site, thing, access.kinds, site)
+    saw(owner_of(cell, ACCESSES[site].name), site, (cell_late, site))
 
 
 # Containers as a whole
@@ -272,12 +314,12 @@ def _touch_cell(cell: Any, site: int) -> None:
 
 def hook_h(one: Any, site: int) -> Any:
     """Before all of a container, or its length, is looked at."""
-    if type(one) in PLAIN:
+    if id(type(one)) in FLAT:
         return one
-    base = base_of(id(one))
-    if base is not None:
-        stretch = stretch_of(get_ident())
-        if stretch is not None and base + site in stretch:
+    owner = owner_at(id(one))
+    if owner is not None:
+        seen = owner.seen
+        if site in seen and seen.stretch is stretch_of(get_ident()):
             return one
     try:
         _touch_whole(one, site, OF_TEMPORARY)
@@ -287,12 +329,12 @@ def hook_h(one: Any, site: int) -> Any:
 
 
 def hook_h_local(one: Any, site: int) -> Any:
-    if type(one) in PLAIN:
+    if id(type(one)) in FLAT:
         return one
-    base = base_of(id(one))
-    if base is not None:
-        stretch = stretch_of(get_ident())
-        if stretch is not None and base + site in stretch:
+    owner = owner_at(id(one))
+    if owner is not None:
+        seen = owner.seen
+        if site in seen and seen.stretch is stretch_of(get_ident()):
             return one
     try:
         _touch_whole(one, site, OF_VARIABLE)
@@ -307,53 +349,233 @@ def _touch_whole(one: Any, site: int, limit: int) -> None:
     if family is None:
         if kind is types.GeneratorType and ACCESSES[site].kinds == KEYS and getrefcount(one) > limit:
             _touch_generator(one, site)
-        for inside in inside_of(one):
-            _touch_whole(inside, site, ANYBODY)
-        if ACCESSES[site].name:
-            _touch_fields(one, site)
+        _touch_whole_inside(one, site)
         return
-    owner = OWNERS.get(id(one))
-    if owner is None:
-        if getrefcount(one) <= limit:
-            return
+    if _is_passed_over(family, ACCESSES[site]):
+        return
+    of_fields = object_of(one) if FIELDS_OF else None
+    if of_fields is not None:
+        _touch_all_fields(of_fields, site, ACCESSES[site].kinds)
+    elif OWNERS.get(id(one)) is not None or getrefcount(one) > limit:
         owner = owner_of(one, ACCESSES[site].text)
-    touched(owner.base + site, shape_of(owner), _kind_of(ACCESSES[site].kinds, family), site)
-    if ACCESSES[site].name in (SHOWN, STATE):
-        _touch_nested(one, owner, site)
+        saw(owner, site, (shape_late, site, _kind_of(ACCESSES[site].kinds, family), site), True)
+    if ACCESSES[site].name in DEEP_SITES:
+        _touch_nested(one, site)
 
 
-def _touch_nested(one: Any, owner: Owner, site: int) -> None:
+def _touch_whole_inside(one: Any, site: int) -> None:
+    """The same of what is no container itself, but may have some inside."""
+    kind, access = type(one), ACCESSES[site]
+    if id(kind) in VIEWS:
+        for container in inside_of(one):
+            _touch_by_view(container, kind, access.kinds, site)
+    else:
+        for container in inside_of(one):
+            _touch_whole(container, site, ANYBODY)
+    if access.name in DEEP_SITES:
+        _touch_nested(one, site)
+    if access.name and access.name != EACH:
+        _touch_fields(one, site)
+
+
+def _touch_by_view(container: Any, view: type, kind: str, site: int) -> None:
+    """A view or an iterator is looked at, and so is its container."""
+    of_fields = object_of(container) if FIELDS_OF else None
+    seen_as = ITERATION if kind == KEYS and id(view) in BY_ELEMENTS else kind
+    if of_fields is not None:
+        _touch_all_fields(of_fields, site, seen_as)
+    elif OWNERS.get(id(container)) is not None or ACCESSES[site].words != MADE_HERE:
+        owner = owner_of(container, ACCESSES[site].text)
+        saw(owner, site, (shape_late, site, _kind_of(seen_as, family_of(type(container))), site))
+
+
+def _touch_nested(one: Any, site: int) -> None:
     """What is inside of a container is looked at, too."""
-    for part in nested_in(one):
+    name, depth = f"{ACCESSES[site].text or name_of(type(one))}[..]", ACCESSES[site].name
+    for part in nested_in(one, depth):
         family = family_of(type(part))
         if family is None:
-            _touch_fields(part, site)
+            if depth != EACH:
+                _touch_fields(part, site)
         else:
-            inner = owner_of(part, f"{owner.name}[..]")
-            touched(inner.base + site, shape_of(inner), _kind_of(ACCESSES[site].kinds, family), site)
+            saw(owner_of(part, name), site, (shape_late, site, _kind_of(ACCESSES[site].kinds, family), site), True)
+
+
+# Fields by way of the dictionary that has them
+
+CHANGING = frozenset((ADDITION, REMOVAL, REPLACEMENT, REWRITE, WRITE))
+_KINDS_OF_WAYS = {"r": "r", "c": "r", "w": "w", "d": "w", "rw": "rw"}
+
+
+def _touch_by_name(one: Any, name: Any, kinds: str, site: int) -> None:
+    """A field of an object or a class, or a variable of a module, whose name is the key of an element."""
+    kind = type(one)
+    if type(name) is not str:
+        return
+    mark = site, name
+    if issubclass(kind, types.ModuleType):
+        _touch_module(one, name, kinds, mark, site)
+    elif issubclass(kind, type):
+        _touch_type(one, name, kinds, mark, site)
+    else:
+        saw(owner_of(one, ""), mark, (field_late, mark, name_of(kind), name, kinds, site))
+
+
+def _touch_all_fields(one: Any, site: int, kind: str | None) -> None:
+    """All fields that an object has. Which of them there are is no thing of its own."""
+    if kind is None or kind in (LENGTH, KEYS):
+        return
+    kinds = "w" if kind in CHANGING else READ_ONLY
+    for name in list(fields_of(one)):
+        _touch_by_name(one, name, kinds, site)
+
+
+def hook_D(one: Any) -> Any:
+    """Before the fields of an object are given as a dictionary."""
+    try:
+        keep_fields_of(one)
+    except Exception as fault:
+        failed(fault)
+    return one
+
+
+def hook_G(variables: Any) -> Any:
+    """Behind where the variables of a module are given as a dictionary."""
+    try:
+        module = sys.modules.get(dict.get(variables, "__name__", ""))
+        if type(module) is types.ModuleType and fields_of(module) is variables:
+            keep_fields_of(module)
+    except Exception as fault:
+        failed(fault)
+    return variables
+
+
+def hook_B(one: Any, site: int) -> Any:
+    """Before an object is given another dictionary of its fields."""
+    try:
+        _touch_all_fields(one, site, WRITE)
+    except Exception as fault:
+        failed(fault)
+    return one
+
+
+def hook_I(name: Any, one: Any, site: int) -> Any:
+    """The name of an attribute, which is given to a method of an object."""
+    hook_A(one, name, site)
+    return name
+
+
+def hook_i(name: Any, place: int) -> Any:
+    """The same, behind the object."""
+    one = PENDING.pop((id(_getframe(1)), place), None)
+    if one is not None:
+        hook_A(one, name, place)
+    return name
+
+
+hook_D_local, hook_B_local = hook_D, hook_B
+
+
+# Patterns and templates
+
+
+def hook_M(one: Any, site: int) -> Any:
+    """Before a subject is looked at by patterns."""
+    try:
+        is_own = _has_few(one, OF_TEMPORARY)
+        _match(one, site, is_own, _getframe(1).f_globals)
+    except Exception as fault:
+        failed(fault)
+    return one
+
+
+def hook_M_local(one: Any, site: int) -> Any:
+    try:
+        is_own = _has_few(one, OF_VARIABLE)
+        _match(one, site, is_own, _getframe(1).f_globals)
+    except Exception as fault:
+        failed(fault)
+    return one
+
+
+def _has_few(one: Any, limit: int) -> bool:
+    return getrefcount(one) <= limit
+
+
+def _match(subject: Any, site: int, is_own: bool, variables: dict[str, Any]) -> None:
+    """Looks at a subject as the patterns do. One that nobody else refers to is not shared, but what is inside may be."""
+
+    def touch_keyed(one: Any, key: Any, site: int) -> None:
+        if not is_own or one is not subject:
+            _touch_keyed(one, key, site, ANYBODY)
+
+    def touch_whole(one: Any, site: int) -> None:
+        if not is_own or one is not subject:
+            _touch_if_any(one, site)
+
+    Matching(Touching(_touch_field, touch_keyed, touch_whole), variables).follow(CASES[site], subject)
+
+
+def _touch_if_any(one: Any, site: int) -> None:
+    if id(type(one)) not in FLAT:
+        _touch_whole(one, site, ANYBODY)
+
+
+def hook_r(value: Any, paths: tuple[Path, ...], site: int) -> Any:
+    """Before a text shows what it is given, as its template says."""
+    try:
+        for path in paths:
+            _touch_path(value, path, site)
+    except Exception as fault:
+        failed(fault)
+    return value
+
+
+def hook_R(value: Any, template: Any, name: int | str, site: int) -> Any:
+    """The same, if the template is known only now."""
+    return hook_r(value, field_paths(template, name), site) if type(template) is str else value
+
+
+def _touch_path(value: Any, path: Path, site: int) -> None:
+    for is_field, key in path:
+        if is_field:
+            _touch_field(value, site, Access("named", READ_ONLY, str(key), "", ""))
+            value = value_of_field(value, str(key))
+        else:
+            _touch_keyed(value, key, site, ANYBODY, READ_ONLY)
+            value = value_of_element(value, key)
+        if value is None:
+            return
+    _touch_if_any(value, site)
 
 
 def _touch_fields(one: Any, site: int) -> None:
     """All fields of an object that a function looks at by itself."""
     for name in fields_looked_at(one, ACCESSES[site].name):
-        owner = owner_of(one, "")
-        touched((owner.base, site, name), field_of(owner, name_of(type(one)), name), READ, site)
+        mark = site, name
+        saw(owner_of(one, ""), mark, (field_late, mark, name_of(type(one)), name, READ_ONLY, site))
 
 
 def _kind_of(kind: str, family: int | None) -> str:
-    """Only what goes through the keys of a dictionary does not look at its values."""
+    """Only what goes through the keys of a dictionary does not look at its values. Who goes through a buffer moves its position."""
+    if family == BUFFER:
+        return REWRITE
     return ITERATION if kind == KEYS and family != DICT else kind
+
+
+def _is_passed_over(family: int, access: Access) -> bool:
+    """Whether it looks at no more of a buffer than that it is there."""
+    return family == BUFFER and (access.kinds == LENGTH or access.name == SHOWN)
 
 
 def _touch_generator(one: Any, site: int) -> None:
     """A step of a generator changes it."""
-    owner = owner_of(one, ACCESSES[site].text or "a generator")
-    touched(owner.base + site, shape_of(owner), WRITE, site)
+    saw(owner_of(one, ACCESSES[site].text or A_GENERATOR), site, (shape_late, site, WRITE, site))
 
 
 def hook_f(one: Any, site: int) -> Any:
     """Before a loop goes through a container: each step looks at it."""
-    if type(one) in PLAIN:
+    if id(type(one)) in PLAIN:
         return one
     try:
         return _stepping(one, site, OF_TEMPORARY)
@@ -363,7 +585,7 @@ def hook_f(one: Any, site: int) -> Any:
 
 
 def hook_f_local(one: Any, site: int) -> Any:
-    if type(one) in PLAIN:
+    if id(type(one)) in PLAIN:
         return one
     try:
         return _stepping(one, site, OF_VARIABLE)
@@ -379,40 +601,68 @@ def _stepping(one: Any, site: int, limit: int) -> Any:
         inside = next(inside_of(one), None)
         if inside is None or has_watched_method(kind, "__iter__"):
             return one
-        return map(_step(owner_of(inside, ACCESSES[site].text), site, _kind_of(KEYS, family_of(type(inside)))), one)
+        if id(kind) in VIEWS:
+            return _stepping_by_view(one, inside, site)
+        return _steps(one, owner_of(inside, ACCESSES[site].text), site, _kind_of(KEYS, family_of(type(inside))))
     if not is_generator and has_own_method(kind, "__iter__"):
+        return one
+    if FIELDS_OF and object_of(one) is not None:
         return one
     owner = OWNERS.get(id(one))
     if owner is None:
         if getrefcount(one) <= limit:
             return one
         owner = owner_of(one, ACCESSES[site].text)
-    return map(_step(owner, site, WRITE if is_generator else _kind_of(KEYS, family)), one)
+    return _steps(one, owner, site, WRITE if is_generator else _kind_of(KEYS, family))
 
 
-def _step(owner: Owner, site: int, kind: str) -> Callable[[Any], Any]:
-    key, thing = owner.base + site, shape_of(owner)
-    touched(key, thing, kind, site)
-
-    def step(element: Any) -> Any:
-        stretch = stretch_of(get_ident())
-        if stretch is None or key not in stretch:
-            touched(key, thing, kind, site)
-        return element
-
-    return step
-
-
-def hook_F(view: Iterable[Any], one: Any, site: int) -> Any:
-    """Before a loop goes through a view of a dictionary."""
-    owner = OWNERS.get(id(one))
-    if owner is None:
+def _stepping_by_view(view: Any, container: Any, site: int) -> Any:
+    """Through a view of a container. One that nobody has kept was made where the container was looked at."""
+    if FIELDS_OF and object_of(container) is not None:
+        _touch_by_view(container, type(view), KEYS, site)
         return view
-    try:
-        return map(_step(owner, site, ACCESSES[site].kinds), view) if family_of(type(one)) == DICT else view
-    except Exception as fault:
-        failed(fault)
+    if OWNERS.get(id(container)) is None and ACCESSES[site].words == MADE_HERE:
         return view
+    kind = ITERATION if id(type(view)) in BY_ELEMENTS else KEYS
+    return _steps(view, owner_of(container, ACCESSES[site].text), site, _kind_of(kind, family_of(type(container))))
+
+
+class _Step:
+    """Goes on for ever, and looks at a container before each step of a loop through it. The last look finds the end."""
+
+    __slots__ = ("_owner", "_site", "_late")
+
+    def __init__(self, owner: Owner, site: int, late: Any) -> None:
+        self._owner, self._site, self._late = owner, site, late
+
+    def __iter__(self) -> _Step:
+        return self
+
+    def __next__(self) -> None:
+        seen = self._owner.seen
+        if self._site not in seen or seen.stretch is not stretch_of(get_ident()):
+            try:
+                saw(self._owner, self._site, self._late, True)
+                _went_on(self._owner, self._site)
+            except Exception as fault:
+                failed(fault)
+
+
+def _steps(one: Iterable[Any], owner: Owner, site: int, kind: str) -> Iterator[Any]:
+    """What a loop goes through, with a look before each step."""
+    late = shape_late, site, kind, site
+    saw(owner, site, late, True)
+    if quick is not None:
+        return map(quick.second, quick.Step(owner, site, late), one)
+    return map(itemgetter(1), zip(_Step(owner, site, late), one))
+
+
+def _went_on(owner: Owner, site: int) -> None:
+    """A loop through a container goes on in another stretch than the one that began it or went on before."""
+    stretch = stretch_of(get_ident())
+    if stretch is not None and stretch.loop:
+        mark = site, STEP
+        saw(owner, mark, (shape_late, mark, STEP, site), True)
 
 
 # Elements and methods
@@ -420,17 +670,16 @@ def hook_F(view: Iterable[Any], one: Any, site: int) -> Any:
 
 def hook_k(one: Any, key: Any, site: int) -> Any:
     """Before an element is touched, or a method with a key is called. It gives back the container."""
-    if type(one) in PLAIN:
+    if id(type(one)) in PLAIN:
         return one
-    base = base_of(id(one))
-    if base is not None and type(key) in SIMPLE:
-        stretch = stretch_of(get_ident())
-        mark = base + site, key
-        if stretch is not None and mark in stretch:
+    owner = owner_at(id(one))
+    if owner is not None and id(type(key)) in SIMPLE:
+        seen = owner.seen
+        mark = site, key
+        if mark in seen and seen.stretch is stretch_of(get_ident()):
             return one
-        owner = owner_at(id(one))
-        if owner is not None and mark in owner.recipes and (type(one) is not dict or key in one):
-            touched_all(owner.recipes[mark])
+        if mark in owner.recipes and (type(one) is not dict or key in one):
+            again(owner, mark, owner.recipes[mark])
             return one
     try:
         _touch_keyed(one, key, site, OF_TEMPORARY)
@@ -440,12 +689,12 @@ def hook_k(one: Any, key: Any, site: int) -> Any:
 
 
 def hook_k_local(one: Any, key: Any, site: int) -> Any:
-    if type(one) in PLAIN:
+    if id(type(one)) in PLAIN:
         return one
-    base = base_of(id(one))
-    if base is not None and type(key) in SIMPLE:
-        stretch = stretch_of(get_ident())
-        if stretch is not None and (base + site, key) in stretch:
+    owner = owner_at(id(one))
+    if owner is not None and id(type(key)) in SIMPLE:
+        seen = owner.seen
+        if (site, key) in seen and seen.stretch is stretch_of(get_ident()):
             return one
     try:
         _touch_keyed(one, key, site, OF_VARIABLE)
@@ -456,7 +705,7 @@ def hook_k_local(one: Any, key: Any, site: int) -> Any:
 
 def hook_K(one: Any, key: Any, site: int) -> Any:
     """The same, but it gives back the key."""
-    if type(one) not in PLAIN:
+    if id(type(one)) not in PLAIN:
         try:
             _touch_keyed(one, key, site, ANYBODY)
         except Exception as fault:
@@ -465,12 +714,12 @@ def hook_K(one: Any, key: Any, site: int) -> Any:
 
 
 def hook_K_local(one: Any, key: Any, site: int) -> Any:
-    if type(one) in PLAIN:
+    if id(type(one)) in PLAIN:
         return key
-    base = base_of(id(one))
-    if base is not None and type(key) in SIMPLE:
-        stretch = stretch_of(get_ident())
-        if stretch is not None and (base + site, key) in stretch:
+    owner = owner_at(id(one))
+    if owner is not None and id(type(key)) in SIMPLE:
+        seen = owner.seen
+        if (site, key) in seen and seen.stretch is stretch_of(get_ident()):
             return key
     try:
         _touch_keyed(one, key, site, OF_VARIABLE_IN_USE)
@@ -479,22 +728,25 @@ def hook_K_local(one: Any, key: Any, site: int) -> Any:
     return key
 
 
-def _is_simple(key: Any) -> bool:
-    """Whether the key can be looked up without any code of the program."""
-    kind = type(key)
-    return kind in SIMPLE or kind is tuple and len(key) <= MOST_PARTS and SIMPLE.issuperset(map(type, key))
-
-
 def _touch_keyed(one: Any, key: Any, site: int, limit: int, ways: str | None = None) -> None:
     kind = type(one)
     if id(kind) in SKIPPED[site]:
         return
     family, access = family_of(kind), ACCESSES[site]
     if family is None:
-        if not _touch_inside(one, key, access, site) and access.what == "method":
+        if kind is types.GeneratorType and access.kinds == "c":
+            _touch_generator(one, site)
+        elif not _touch_inside(one, key, access, site) and access.what == "method":
             _touch_field(one, site)
         return
+    of_fields = object_of(one) if FIELDS_OF and family == DICT else None
+    if of_fields is not None:
+        kinds = ways or (access.kinds if access.what == "element" else KEYED.get(access.name, {}).get(DICT, ""))
+        _touch_by_name(of_fields, key, _KINDS_OF_WAYS.get(kinds, READ_ONLY), site)
+        return
     if access.what == "element":
+        if access.words:
+            _touch_in_place(value_of_element(one, key), access.words, site)
         ways = without_own(kind, access.kinds if ways is None else ways)
     if access.what == "method" and has_own_method(kind, access.name) or access.what == "element" and not ways:
         return
@@ -504,12 +756,13 @@ def _touch_keyed(one: Any, key: Any, site: int, limit: int, ways: str | None = N
             return
         owner = owner_of(one, access.text)
     kinds = ways or KEYED.get(access.name, {}).get(family, "")
-    if not kinds:
-        _touch_shape(owner, WHOLE[family].get(access.name), site)
+    is_repeated = ways is None or ways == access.kinds  # Else it depends on what has the container inside, too.
+    if not kinds or family == BUFFER:
+        _touch_shape(owner, WHOLE[family].get(access.name or "__contains__"), site)
     elif family == LIST or family == DEQUE:
-        _touch_index(one, owner, key, kinds, family, site)
+        _touch_index(one, owner, key, kinds, family, site, is_repeated)
     else:
-        _touch_key(one, owner, key, kinds, family, site)
+        _touch_key(one, owner, key, kinds, family, site, is_repeated)
 
 
 def _touch_inside(one: Any, key: Any, access: Access, site: int) -> bool:
@@ -522,81 +775,79 @@ def _touch_inside(one: Any, key: Any, access: Access, site: int) -> bool:
     if ways == "" or access.what == "method" and has_watched_method(kind, access.name):
         return False
     for inside in inside_of(one, ways or access.name):
-        _touch_keyed(inside, key, site, ANYBODY, ways)
+        if id(kind) in BY_ELEMENTS:
+            _touch_by_view(inside, kind, ITERATION, site)
+        else:
+            _touch_keyed(inside, key, site, ANYBODY, ways)
         found = True
     return found
 
 
-def _touch_shape(owner: Owner, kind: str | None, site: int) -> None:
+def _touch_shape(owner: Owner, kind: str | None, site: int, is_repeated: bool = True) -> None:
     if kind is not None:
-        touched(owner.base + site, shape_of(owner), kind, site)
+        saw(owner, site, (shape_late, site, kind, site), is_repeated)
 
 
-def _touch_index(one: Any, owner: Owner, key: Any, kinds: str, family: int, site: int) -> None:
-    shape, whole = shape_of(owner), owner.base + site
+def _touch_index(one: Any, owner: Owner, key: Any, kinds: str, family: int, site: int, is_repeated: bool) -> None:
     if kinds == "c" or type(key) is not int:
-        touched(whole, shape, ITERATION if kinds in LOOKING else REWRITE, site)
+        _touch_shape(owner, ITERATION if kinds in LOOKING else REWRITE, site, is_repeated)
         return
+    mark = site, key
     if family == DEQUE:
-        touched((whole, key), shape, LENGTH if kinds == "r" else REPLACEMENT if kinds in ("w", "rw") else REWRITE, site)
-        return
-    if kinds == "d":
-        touched((whole, REMOVAL), shape, REMOVAL, site)
-        return
-    touches = {}
-    place = key
-    if key < 0:
-        touches[whole, LENGTH] = shape, LENGTH, site
-        place = key + next(base.__len__(one) for base in INDEXED if issubclass(type(one), base))
-    if kinds != "w":
-        touches[whole, LOOKUP] = shape, LOOKUP, site
-    if kinds != "r":
-        touches[whole, REPLACEMENT] = shape, REPLACEMENT, site
-    _add_element(touches, whole, key, element_of(owner, place, True), kinds, site)
-    touched_all(touches)
-    if key >= 0:
-        owner.recipes[whole, key] = touches
+        kind = LENGTH if kinds == "r" else REPLACEMENT if kinds in ("w", "rw") else REWRITE
+        saw(owner, mark, (shape_late, mark, kind, site))
+    elif kinds == "d":
+        saw(owner, mark, (shape_late, (site, REMOVAL), REMOVAL, site))
+    else:
+        place = key if key >= 0 else key + next(base.__len__(one) for base in INDEXED if issubclass(type(one), base))
+        saw(owner, mark, (index_late, key, place, kinds, site), key >= 0 and is_repeated)
 
 
-def _add_element(touches: dict[Any, Any], whole: int, mark: Any, element: Any, kinds: str, site: int) -> None:
-    """The key by which the hook looks comes last."""
-    if kinds == "rw":
-        touches[whole, mark, READ] = element, READ, site
-    touches[whole, mark] = element, READ if kinds == "r" else WRITE, site
-
-
-def _touch_key(one: Any, owner: Owner, key: Any, kinds: str, family: int, site: int) -> None:
-    is_simple = _is_simple(key)
-    mark = key if is_simple else ("object", id(key))
-    whole, shape, element = owner.base + site, shape_of(owner), element_of(owner, key, is_simple)
-    is_there = is_simple and (dict.__contains__(one, key) if family == DICT else set.__contains__(one, key))
+def _touch_key(one: Any, owner: Owner, key: Any, kinds: str, family: int, site: int, is_repeated: bool) -> None:
+    value = key if id(type(key)) in SIMPLE else value_of(key)
+    is_simple = value is not UNKNOWN
+    is_there = is_simple and (_has_key(one, key) if family == DICT else set.__contains__(one, key))
     access = ACCESSES[site]
     if kinds == "rw" and access.what != "element" and is_there:
         kinds = "r"
     elif kinds == "r" and not is_there and is_simple and access.what == "element" and issubclass(type(one), defaultdict):
         kinds = "rw"
-    touches = {}
-    if kinds in LOOKING:
-        touches[whole, LOOKUP] = shape, LOOKUP, site
-    if kinds in CHANGING:
-        change = ADDITION if kinds == "d" or not is_there else REPLACEMENT
-        touches[whole, change] = shape, change, site
-        if change is ADDITION and kinds != "d":
-            touches[MAKING, element.number] = element, MAKING, site
-    _add_element(touches, whole, mark, element, {"c": "r", "d": "w"}.get(kinds, kinds), site)
-    touched_all(touches)
-    if is_there and kinds != "d" and type(key) in SIMPLE:
-        owner.recipes[whole, mark] = touches
+    change = ADDITION if kinds == "d" or not is_there else REPLACEMENT
+    is_kept = id(type(key)) in SIMPLE
+    of_key, name = mark_of(key, value)
+    if not is_simple:
+        tell_of_unknown(key, site)
+    mark = (site, key) if is_kept else (site, of_key)
+    saw(owner, mark, (key_late, of_key, name, kinds, change, site), is_repeated and is_there and kinds != "d" and is_kept)
+
+
+_VARIABLES_OF_SYSTEM = value_of_field(os.environ, VARIABLES)
+
+
+def _has_key(one: Any, key: Any) -> bool:
+    """Whether a dictionary has the key. That of the system's variables has them as bytes."""
+    if one is _VARIABLES_OF_SYSTEM and type(key) is str:
+        key = os.fsencode(key)
+    return dict.__contains__(one, key)
+
+
+def hook_e(key: Any, site: int) -> Any:
+    """Before a variable of the system is read by its name."""
+    try:
+        _touch_keyed(os.environ, key, site, ANYBODY)
+    except Exception as fault:
+        failed(fault)
+    return key
 
 
 def hook_m(one: Any, site: int) -> Any:
     """Before a method is called that may be one of a container."""
-    if type(one) in PLAIN:
+    if id(type(one)) in PLAIN:
         return one
-    base = base_of(id(one))
-    if base is not None:
-        stretch = stretch_of(get_ident())
-        if stretch is not None and base + site in stretch:
+    owner = owner_at(id(one))
+    if owner is not None:
+        seen = owner.seen
+        if site in seen and seen.stretch is stretch_of(get_ident()):
             return one
     if id(type(one)) not in SKIPPED[site]:
         try:
@@ -607,12 +858,12 @@ def hook_m(one: Any, site: int) -> Any:
 
 
 def hook_m_local(one: Any, site: int) -> Any:
-    if type(one) in PLAIN:
+    if id(type(one)) in PLAIN:
         return one
-    base = base_of(id(one))
-    if base is not None:
-        stretch = stretch_of(get_ident())
-        if stretch is not None and base + site in stretch:
+    owner = owner_at(id(one))
+    if owner is not None:
+        seen = owner.seen
+        if site in seen and seen.stretch is stretch_of(get_ident()):
             return one
     if id(type(one)) not in SKIPPED[site]:
         try:
@@ -631,23 +882,46 @@ def _touch_method(one: Any, site: int, limit: int) -> None:
         return
     if access.what == "method" and has_own_method(kind, access.name):
         return
+    of_fields = object_of(one) if FIELDS_OF and family == DICT else None
+    if of_fields is not None:
+        _touch_fields_by_method(of_fields, access, site)
+        return
     owner = OWNERS.get(id(one))
     if owner is None:
         if getrefcount(one) <= limit:
             return
         owner = owner_of(one, access.text)
-    kind_of_touch = WHOLE[family].get(access.name)
-    if kind_of_touch is None and access.name in KEYED:
-        kind_of_touch = REMOVAL if KEYED[access.name].get(family) else None
-    _touch_shape(owner, kind_of_touch, site)
+    _touch_shape(owner, _kind_of_method(access.name, family), site)
+
+
+def _touch_fields_by_method(one: Any, access: Access, site: int) -> None:
+    """What a method of the dictionary of its fields does to an object. An update may name the fields."""
+    if access.name == "update" and access.words is not None:
+        for name in access.words:
+            _touch_by_name(one, name, "w", site)
+    else:
+        _touch_all_fields(one, site, _kind_of_method(access.name, DICT))
+
+
+def _kind_of_method(name: str, family: int) -> str | None:
+    """What a method does to the shape of a container."""
+    kind = WHOLE[family].get(name)
+    return REMOVAL if kind is None and KEYED.get(name, {}).get(family) else kind
 
 
 def _touch_method_of_object(one: Any, access: Access, site: int) -> None:
     """A method of what is no container itself: it may have one inside, or the name may be that of a field."""
-    is_own = access.what == "method" and has_watched_method(type(one), access.name)
+    kind = type(one)
+    if kind is types.GeneratorType and access.name in OF_GENERATOR:
+        _touch_generator(one, site)
+        return
+    is_own = access.what == "method" and has_watched_method(kind, access.name)
     inside = [] if is_own else [*inside_of(one, access.name)]
     for container in inside:
-        _touch_method(container, site, ANYBODY)
+        if id(kind) in VIEWS and kind is not types.MappingProxyType:
+            _touch_by_view(container, kind, KEYS, site)
+        else:
+            _touch_method(container, site, ANYBODY)
     if access.what == "method" and not inside:
         _touch_field(one, site)
 
@@ -673,7 +947,7 @@ def hook_l_local(value: Any, one: Any, site: int) -> Any:
 
 
 def _touch_late(one: Any, site: int, limit: int) -> None:
-    if type(one) in PLAIN:
+    if id(type(one)) in PLAIN:
         return
     if ACCESSES[site].what == "field":
         _touch_field(one, site)
@@ -683,7 +957,7 @@ def _touch_late(one: Any, site: int, limit: int) -> None:
 
 def hook_L(value: Any, one: Any, key: Any, site: int) -> Any:
     """Behind the value that is about to be stored in an element."""
-    if type(one) not in PLAIN:
+    if id(type(one)) not in PLAIN:
         try:
             _touch_keyed(one, key, site, ANYBODY)
         except Exception as fault:
@@ -710,7 +984,7 @@ def hook_q(key: Any, place: int, site: int, is_kept: bool) -> Any:
     """The key, behind the container."""
     mark = id(_getframe(1)), place
     one = PENDING.pop(mark, None)
-    if one is not None and type(one) not in PLAIN:
+    if one is not None and id(type(one)) not in PLAIN:
         try:
             _touch_keyed(one, key, site, ANYBODY)
         except Exception as fault:
@@ -723,7 +997,7 @@ def hook_q(key: Any, place: int, site: int, is_kept: bool) -> Any:
 def hook_b(one: Any, place: int) -> Any:
     """The container, behind the key that is looked for in it."""
     key = PENDING.pop((id(_getframe(1)), place), None)
-    if type(one) not in PLAIN:
+    if id(type(one)) not in PLAIN:
         try:
             _touch_keyed(one, key, place, ANYBODY)
         except Exception as fault:
@@ -749,9 +1023,12 @@ def hook_z(value: Any, place: int) -> Any:
     return value
 
 
+_HANDED = ids_of(HANDED)
+
+
 def hook_Y(function: Any) -> Any:
     """Before something is called that may be a method of a container."""
-    if type(function) not in HANDED or not is_of_container(function):
+    if id(type(function)) not in _HANDED or not is_of_container(function):
         return function
     frame = _getframe(1)
     return Calling(function, (frame.f_code, frame.f_lasti))
@@ -762,16 +1039,27 @@ hook_Y_local = hook_Y
 
 def hook_x(value: Any, one: Any, site: int) -> Any:
     """What a method is given, which may look at all of it."""
-    if type(value) in PLAIN:
+    if id(type(value)) in PLAIN:
         return value
     try:
         name = ACCESSES[site].name
         if class_with(type(one), name) is None or has_watched_method(type(one), name):
             return value
+        if FIELDS_OF and name == "update":
+            _touch_updated(value, object_of(one), site)
     except Exception as fault:
         failed(fault)
         return value
     return hook_h(value, site)
+
+
+def _touch_updated(value: Any, one: Any, site: int) -> None:
+    """The fields of an object that an update of their dictionary is given."""
+    if one is not None and type(value) is dict:
+        for name in list(value):
+            _touch_by_name(one, name, "w", site)
+    elif one is not None:
+        _touch_all_fields(one, site, WRITE)
 
 
 def hook_X(value: Any, place: int) -> Any:
@@ -814,6 +1102,114 @@ def hook_d() -> None:
     let_go_of_some(LOOKED_THROUGH_AT_ONCE)
 
 
+# What the helper asks for, if there is one
+
+NO_TOUCH, OF_FIELD, OF_SHAPE, OF_DICT, OF_LIST, OTHER, IF_OWN, OWN_OR_OF_CLASS, OF_STEPS, DEEP, LEFT = range(11)
+What = tuple[int, Any, str, str]
+"""What a place is to a type, what its touch comes to, what an owner is called by it, and the name of a field. The helper has the same numbers."""
+NOT_TOUCHED: What = (NO_TOUCH, None, "", "")
+LEFT_TO_PYTHON: What = (LEFT, None, "", "")
+"""What the object has inside counts, and not how many refer to the object."""
+
+
+def _what_of(hook: str, kind: type, site: int) -> What:
+    """What the place of a hook is to a type, as the hooks above find out step by step."""
+    access = ACCESSES[site]
+    if hook == "o":
+        return _what_of_field(kind, access, site)
+    if id(kind) in PLAIN:
+        is_deep = id(kind) not in FLAT and hook == "h" and access.name in DEEP_SITES
+        return LEFT_TO_PYTHON if is_deep else NOT_TOUCHED
+    family = family_of(kind)
+    if hook == "f":
+        return _what_of_steps(kind, family, access, site)
+    if hook == "h":
+        return _what_of_whole(kind, family, access, site)
+    if family is None:
+        return _what_of_object(kind, access, site)
+    if access.what == "method" and has_own_method(kind, access.name):
+        return NOT_TOUCHED
+    return _what_of_method(family, access, site) if hook == "m" else _what_of_key(kind, family, access)
+
+
+def _what_of_object(kind: type, access: Access, site: int) -> What:
+    """A method or an element of what is no container itself."""
+    if field_inside(kind):
+        return LEFT_TO_PYTHON
+    if kind is types.GeneratorType and access.name in OF_GENERATOR:
+        return OF_SHAPE, (shape_late, site, WRITE, site), access.text or A_GENERATOR, ""
+    if kind is types.GeneratorType and access.kinds == "c":
+        return OTHER, None, access.text, ""
+    return _what_of_field(kind, access, site) if access.what == "method" else NOT_TOUCHED
+
+
+def _what_of_field(kind: type, access: Access, site: int) -> What:
+    found = decision(kind, access, site)
+    if access.kinds == "rw" and access.text and found != SKIP:
+        return OTHER, None, "", ""
+    what = {SKIP: NO_TOUCH, FIELD: OF_FIELD, OWN_FIELD: IF_OWN, OF_CLASS: OWN_OR_OF_CLASS}.get(found, OTHER)
+    return what, None, "", access.name
+
+
+def _what_of_steps(kind: type, family: int | None, access: Access, site: int) -> What:
+    if kind is types.GeneratorType:
+        return OF_STEPS, (shape_late, site, WRITE, site), access.text, ""
+    if family is None and field_inside(kind):
+        return LEFT_TO_PYTHON
+    if family is None or has_own_method(kind, "__iter__"):
+        return NOT_TOUCHED
+    return OF_STEPS, (shape_late, site, _kind_of(KEYS, family), site), access.text, ""
+
+
+def _what_of_whole(kind: type, family: int | None, access: Access, site: int) -> What:
+    if family is not None:
+        if _is_passed_over(family, access):
+            return NOT_TOUCHED
+        what = DEEP if access.name in DEEP_SITES else OF_SHAPE
+        return what, (shape_late, site, _kind_of(access.kinds, family), site), access.text, ""
+    if field_inside(kind) or access.name and (is_watched_class(kind) or kind is types.SimpleNamespace):
+        return LEFT_TO_PYTHON
+    return (OTHER, None, "", "") if kind is types.GeneratorType and access.kinds == KEYS else NOT_TOUCHED
+
+
+def _what_of_method(family: int, access: Access, site: int) -> What:
+    kind = _kind_of_method(access.name, family)
+    return NOT_TOUCHED if kind is None else (OF_SHAPE, (shape_late, site, kind, site), access.text, "")
+
+
+def _what_of_key(kind: type, family: int, access: Access) -> What:
+    is_method = access.what != "element"
+    kinds = KEYED.get(access.name, {}).get(family, "") if is_method else without_own(kind, access.kinds)
+    if not is_method and not kinds:
+        return NOT_TOUCHED
+    if not is_method and access.words:
+        return OTHER, None, access.text, ""
+    if kind is dict and kinds:
+        if_there = "r" if kinds == "rw" and is_method else kinds
+        return OF_DICT, (key_late, kinds, ADDITION if kinds == "d" else REPLACEMENT, if_there, ADDITION), access.text, ""
+    if kind is list and kinds in ("r", "w", "rw"):
+        return OF_LIST, (index_late, kinds), access.text, ""
+    return OTHER, None, access.text, ""
+
+
+def _touch_method_inside(one: Any, site: int) -> None:
+    if id(type(one)) not in SKIPPED[site]:
+        _touch_method(one, site, ANYBODY)
+
+
+def _set_up() -> None:
+    quick.setup(
+        stretches=STRETCHES, state=state, made=MADE, begun=BEGUN, begun_more=OF_VARIABLE - 1 - OF_VARIABLE_IN_C, never=NEVER,
+        owner_type=Owner, made_type=Made, maker=maker_now, begin_stretch=begin_stretch, share=share, shorten=shorten, saw=saw,
+        note_shared=note_shared, what_of=lambda hook, kind, site: _what_of(hook, kind, site), failed=failed,
+        field=lambda one, site: _touch_field(one, site), whole=lambda one, site: _touch_whole(one, site, ANYBODY),
+        nested=lambda one, site: _touch_nested(one, site), fields_of=FIELDS_OF, method=_touch_method_inside, steps=lambda one, site: _stepping(one, site, ANYBODY),
+        keyed=lambda one, key, site: _touch_keyed(one, key, site, ANYBODY), variable=lambda site: _touch_variable(site),
+        cell=lambda one, site: _touch_cell(one, site), went_on=lambda owner, site: _went_on(owner, site),
+        second=quick.second,
+    )
+
+
 # Switching
 
 
@@ -837,8 +1233,16 @@ HOOKS: dict[str, Callable[..., Any]] = {name[5:]: one for name, one in list(glob
 ALWAYS = frozenset(("n", "N"))
 QUIET: dict[str, Callable[..., Any]] = {
     **dict.fromkeys(HOOKS, _first), **dict.fromkeys(("K", "K_local"), _second), "a": _rest, **dict.fromkeys(("g", "c", "d"), _nothing),
-    **{name: HOOKS[name] for name in ALWAYS},
 }
+
+
+if quick is not None:
+    _set_up()
+    HOOKS.update({name[5:]: one for name, one in vars(quick).items() if name.startswith("hook_")})
+    QUIET.update({name: quick.first for name, one in QUIET.items() if one is _first})
+    QUIET.update({name: quick.second for name, one in QUIET.items() if one is _second})
+    QUIET.update({name: quick.nothing for name, one in QUIET.items() if one is _nothing})
+QUIET.update({name: HOOKS[name] for name in ALWAYS})
 
 
 def are_put() -> bool:

@@ -10,7 +10,7 @@ import warnings
 from collections.abc import Callable, Iterator
 from types import CodeType, FunctionType, ModuleType
 
-from .decisions import WATCHED
+from .decisions import WATCHED, forget_decisions
 from .depth import at_any_depth
 from .finder import FILES, Selection, tell_unwatched
 from .rewrite import rewritten
@@ -31,6 +31,7 @@ def rewrite_loaded(selection: Selection, prepare: Prepare | None = None) -> None
             _done.add(name)
     codes = {file: _codes_of(file, module, selection, prepare) for file, module in files.items()}
     if codes:
+        forget_decisions()
         for one in gc.get_objects():
             if type(one) is FunctionType and one.__code__.co_filename in codes:
                 _replace(one, codes[one.__code__.co_filename])

@@ -8,8 +8,13 @@ from collections.abc import Callable
 
 from ..verdict import PassedOver
 
-BUILT_IN = frozenset(("exec", "eval", "memoryview", "globals"))
-_FUNCTIONS = frozenset(("operator.attrgetter", "operator.itemgetter", "operator.methodcaller", "mmap.mmap"))
+BUILT_IN = frozenset(("exec", "eval", "memoryview"))
+_FUNCTIONS = frozenset(("mmap.mmap", "weakref.proxy"))
+_CHANGING = frozenset("append appendleft extend extendleft insert add discard remove pop popleft popitem update setdefault clear".split())
+_CALLERS = frozenset("enter enterabs add_signal_handler add_reader add_writer".split())
+"""Methods of the library that call what they are given, and are not followed."""
+_FOLLOWED = ("threading.", "concurrent.futures.", "asyncio.", "multiprocessing.", "functools.", "itertools.", "operator.", "contextlib.")
+_FOLLOWED_ALONE = frozenset(("weakref.finalize", "atexit.register", "_thread.start_new_thread"))
 _MODULES = frozenset(("ctypes", "numpy", "pandas", "multiprocessing.shared_memory"))
 
 found: dict[PassedOver, None] = {}
@@ -22,6 +27,23 @@ def look_at_call(node: ast.Call, file: str, is_builtin: Callable[[str], bool], n
         _keep(node.func.id, file, node.lineno)
     elif name in _FUNCTIONS:
         _keep(str(name).rpartition(".")[2], file, node.lineno)
+
+
+def look_at_handed(node: ast.Call, file: str, is_foreign: bool, name: str | None) -> None:
+    """Keeps a method that changes a container, and that is handed to a function of the library which is not followed."""
+    is_method = isinstance(node.func, ast.Attribute) and node.func.attr in _CALLERS
+    is_followed = name is not None and (name.startswith(_FOLLOWED) or name in _FOLLOWED_ALONE)
+    if is_followed or not is_method and (not is_foreign or name is None):
+        return
+    for one in (*node.args, *(keyword.value for keyword in node.keywords if keyword.arg != "key")):
+        if isinstance(one, ast.Attribute) and one.attr in _CHANGING:
+            _keep(f"{one.attr} as it is handed on", file, one.lineno)
+
+
+def look_at_attribute(node: ast.Attribute, file: str) -> None:
+    """Keeps where an object is given another dictionary of its fields, which it may share with others."""
+    if node.attr == "__dict__" and not isinstance(node.ctx, ast.Load):
+        _keep(node.attr, file, node.lineno)
 
 
 def look_at_import(node: ast.Import | ast.ImportFrom, file: str) -> None:

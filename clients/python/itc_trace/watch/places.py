@@ -4,21 +4,25 @@ from __future__ import annotations
 
 import os
 from _thread import allocate_lock
+from typing import Any
 
+from ..file_names import name_of_file
 from ..stretches import SITES, Site
 
 
 class Access:
     """What a hook is told by its number: what is touched, how, and what was found out about the types that came by."""
 
-    __slots__ = ("what", "kinds", "name", "text", "module", "decided")
+    __slots__ = ("what", "kinds", "name", "text", "module", "words", "decided")
 
-    def __init__(self, what: str, kinds: str, name: str, text: str, module: str) -> None:
+    def __init__(self, what: str, kinds: str, name: str, text: str, module: str, words: Any = None) -> None:
         self.what = what
         self.kinds = kinds
         self.name = name
         self.text = text
         self.module = module
+        self.words = words
+        """What else is known of the place: which fields a method is given, what becomes of what is inside, or whether it is made there."""
         self.decided: dict[int, int] = {}
 
 
@@ -27,6 +31,12 @@ SKIPPED: list[set[int]] = []
 """Of each place the types, by identity, for which there is nothing to note."""
 
 
+MADE_HERE = "made here"
+"""Of a view or an iterator that nobody has kept: what it looks at was looked at where it was made."""
+OF_BASE = "of the base"
+"""Of an attribute by its name that goes past the methods of its class, as `super().__setattr__(name, value)` does."""
+CASES: dict[int, list[Any]] = {}
+"""Of each `match` statement that looks at what tasks may share, its cases."""
 NAMES_OF_HANDED: dict[tuple[str, int, str], str] = {}
 """How the program calls the container, one of whose methods is an argument of a call, by file, line and method."""
 
@@ -38,7 +48,7 @@ if hasattr(os, "register_at_fork"):
 def new_site(file: str, line: int, function: str, access: Access) -> int:
     """The number of a further site. Threads that import modules may want one at a time."""
     with _numbering:
-        SITES.append(Site(file, line, function))
+        SITES.append(Site(name_of_file(file), line, function))
         number = len(SITES) - 1
         while len(SKIPPED) <= number:
             SKIPPED.append(set())

@@ -15,9 +15,13 @@ from typing import Any
 
 from ..conflicts import ADDITION, ITERATION, KEYS, LENGTH, REWRITE
 from . import passed_over
-from .kinds import CONSUMING, KEYED, LATE_METHODS, METHODS, SHOWN, depth_of, known_function
-from .places import NAMES_OF_HANDED, Access, new_site
-from .scopes import CLASS, COMPREHENSION, COMPREHENSIONS, FUNCTION, MODULE, Scope, Scopes
+from .kinds import (
+    CHANGED_ARGUMENT, CONSUMING, EACH, IN_PLACE_FUNCTIONS, KEYED, LATE_METHODS, METHODS, SHOWN, STEPPING, depth_of, known_function,
+)
+from .patterns import Patterns
+from .places import MADE_HERE, NAMES_OF_HANDED, OF_BASE, Access, new_site
+from .scopes import CLASS, COMPREHENSION, COMPREHENSIONS, FUNCTION, MODULE, STORED_FIELDS, Scope, Scopes
+from .templates import field_paths
 
 PREFIX = "_itc_"
 ON = PREFIX + "on"
@@ -41,6 +45,12 @@ OPERATORS = {
     "operator.contains": "__contains__",
 }
 """Functions that do what a method of their first argument does."""
+CALLED_BY_OTHERS = frozenset((*OF_ATTRIBUTES, *"len sum min max any all next iter sorted list tuple set frozenset dict".split()))
+"""Functions of the language that are handed on, as `map(len, rows)` does, and look at what they are called with."""
+OF_SYSTEM = frozenset(("os.environ", "sys.path", "sys.argv", "sys.modules"))
+"""Containers of the library that programs change."""
+GIVERS = frozenset("getattr next vars globals max min iter reversed".split())
+"""Functions of the language that may give what is there already."""
 CONTAINER_CLASSES = frozenset(f"collections.{name}" for name in "deque defaultdict OrderedDict Counter UserDict UserList".split())
 DISPLAYS = (ast.Dict, ast.List, ast.Set, ast.DictComp, ast.ListComp, ast.SetComp)
 VIEWS = frozenset(("items", "keys", "values"))
@@ -48,9 +58,12 @@ SCOPED = (*COMPREHENSIONS, ast.Lambda, ast.Slice)
 """What no choice may stand around: what has variables of its own is compiled once, and a slice is no value."""
 PARTS = (ast.Starred,)
 REACHED = (ast.Name, ast.Attribute, ast.Subscript)
+GIVEN = (*REACHED, ast.Call, ast.IfExp, ast.BoolOp, ast.NamedExpr, ast.Await)
+"""What may give something that others can reach."""
 LATE = (ast.Call, ast.Await, ast.Yield, ast.YieldFrom)
 JOINING = (ast.Add, ast.Sub, ast.BitOr, ast.BitAnd, ast.BitXor)
 """Operators that make a container of two others."""
+NUMBERS = (int, float, complex)
 IN_PLACE = {
     ast.Add: ADDITION, **dict.fromkeys((ast.Mult, ast.BitOr, ast.BitAnd, ast.BitXor, ast.Sub), REWRITE),
 }
@@ -67,7 +80,7 @@ def rewritten(
         prepare(tree, text, file)
         prepare(twin, text, file)
     _pair(tree, twin)
-    rewriter = Rewriter(Scopes(tree), file, module, is_watched)
+    rewriter = Rewriter(Scopes(tree, is_watched), file, module, is_watched)
     return compile(rewriter.module(tree), file, "exec", dont_inherit=True)  # type: ignore[no-any-return]
 
 
@@ -127,6 +140,10 @@ class Rewriter:
         self._is_guarding = False
         self._before: list[ast.stmt] = []
         self._after: list[ast.stmt] = []
+        self._has_texts_of_annotations = "annotations" in scopes.module.imported and scopes.module.imported["annotations"] == (
+            "__future__.annotations"
+        )
+        self._patterns = Patterns(self._site, self._text, lambda name: self._scope.owner(name).kind == MODULE)
 
     def module(self, tree: ast.Module) -> ast.Module:
         tree.body = self._statements(tree.body)
@@ -134,8 +151,9 @@ class Rewriter:
 
     # Sites and hooks
 
-    def _site(self, node: Any, what: str, kinds: str, name: str = "", text: str = "") -> int:
-        return new_site(self._file, node.lineno, self._scope.name or "<module>", Access(what, kinds, name, text, self._module))
+    def _site(self, node: Any, what: str, kinds: str, name: str = "", text: str = "", words: Any = None) -> int:
+        access = Access(what, kinds, name, text, self._module, words)
+        return new_site(self._file, node.lineno, self._scope.name or "<module>", access)
 
     def _hook(self, name: str, node: ast.AST, *words: Any) -> ast.Call:
         self._hooks += 1
@@ -171,10 +189,10 @@ class Rewriter:
         name = "K_local" if self._is_local(owner) else "K"
         return self._hook(name, key, owner.twin, self._child(key), site)
 
-    def _behind(self, hook: str, owner: Any, value: Any, site: int) -> ast.expr:
-        """The value, passed through a hook with the variable that it goes to."""
+    def _behind(self, hook: str, owner: Any, made: Any, site: int) -> ast.expr:
+        """A value that was visited already, passed through a hook with the variable that it goes to."""
         name = hook + "_local" if self._is_local(owner) else hook
-        return self._hook(name, value, self._child(value), owner.twin, site)
+        return self._hook(name, made, made, owner.twin, site)
 
     def _raw(self, node: Any) -> Any:
         before, self._is_guarding = self._is_guarding, False
@@ -226,8 +244,9 @@ class Rewriter:
         if isinstance(node, ast.Attribute):
             base = self._import_of(node.value)
             return None if base is None else f"{base}.{node.attr}"
-        if isinstance(node, ast.Name) and self._scope.owner(node.id).kind == MODULE and self._scopes.module.bound[node.id] == 1:
-            return self._scopes.imported.get(node.id)
+        if isinstance(node, ast.Name):
+            owner = self._scope.owner(node.id)
+            return owner.imported.get(node.id) if owner.bound[node.id] == 1 else None
         return None
 
     def _is_foreign(self, node: Any) -> bool:
@@ -238,6 +257,12 @@ class Rewriter:
             return True
         name = self._import_of(node)
         return name is not None and not name.startswith(".") and not self._is_watched(name)
+
+    def _is_foreign_container(self, node: Any) -> bool:
+        """The same of what is looked at as a container, which a module of the library may well have."""
+        if not self._is_foreign(node):
+            return False
+        return not isinstance(node, ast.Attribute) and self._import_of(node) not in OF_SYSTEM
 
     def _is_builtin(self, name: str) -> bool:
         owner = self._scope.owner(name)
@@ -278,6 +303,13 @@ class Rewriter:
             ast.copy_location(ast.Expr(self._variable(one, one.id, kinds)), node) for target in targets for one in self._bindings(target)
         ]
 
+    def _stored(self, names: list[str], node: ast.AST) -> list[ast.stmt]:
+        """The same for names that are bound by a definition, an import, a handler or a pattern."""
+        made: list[ast.stmt] = [
+            ast.copy_location(ast.Expr(self._variable(node, name, "w")), node) for name in names if self._is_shared(name)
+        ]
+        return self._only_on(made, node)
+
     def _only_on(self, statements: list[ast.stmt], node: ast.AST) -> list[ast.stmt]:
         return [ast.copy_location(ast.If(self._is_on(node), statements, []), node)] if statements else []
 
@@ -289,6 +321,9 @@ class Rewriter:
     def _statement(self, node: Any) -> list[ast.stmt]:
         if isinstance(node, (ast.Import, ast.ImportFrom)):
             passed_over.look_at_import(node, self._file)
+            if isinstance(node, ast.ImportFrom) and node.module == "__future__":
+                return [node]  # No other statement may stand before the next one of these.
+            return [node, *self._stored([one.asname or one.name.partition(".")[0] for one in node.names], node)]
         compound = getattr(self, "_do_" + type(node).__name__, None)
         if compound is not None:
             return compound(node)  # type: ignore[no-any-return]
@@ -313,8 +348,8 @@ class Rewriter:
             self._store_targets(node)
             return node
         node.value = self._made(node.value, node.targets[0])
-        if any(isinstance(target, (ast.Tuple, ast.List)) for target in node.targets) and isinstance(node.value, REACHED):
-            node.value = self._operand(node.value, "h", self._site(node.value, "whole", KEYS, "", self._text(node.value)))
+        if any(isinstance(target, (ast.Tuple, ast.List)) or _is_slice(target) for target in node.targets):
+            node.value = node.value if _is_hook(node.value) else self._whole(node.value, KEYS)
         else:
             node.value = node.value if _is_hook(node.value) else self._child(node.value)
         self._store_targets(node)
@@ -347,54 +382,70 @@ class Rewriter:
             if self._is_shared(target.id):
                 self._before += [ast.copy_location(ast.Expr(self._variable(target, target.id, "r")), node)]
                 self._after += self._stores([target], node)
-            if not isinstance(node.value, (ast.Constant, ast.BinOp)) and type(node.op) in IN_PLACE:
+            if self._is_in_place(node):
                 loaded = ast.copy_location(ast.Name(target.id, ast.Load()), target)
                 site = self._site(node, "whole", IN_PLACE[type(node.op)], "", self._text(target))
-                self._before.append(ast.copy_location(ast.Expr(self._hook("h", node, loaded, site)), node))
-            node.value = self._child(node.value)
+                self._before.append(ast.copy_location(ast.Expr(self._hook(self._named_for("h", target), node, loaded, site)), node))
+            node.value = self._added(node)
         elif isinstance(target, ast.Attribute):
             self._augment_attribute(node, target, is_late)
         elif isinstance(target, ast.Subscript):
             self._augment_subscript(node, target, is_late)
         return node
 
+    @staticmethod
+    def _is_in_place(node: ast.AugAssign) -> bool:
+        """Whether a container may be changed: no number can be added to one, and it can be multiplied by a whole one alone."""
+        value = node.value.value if isinstance(node.value, ast.Constant) else None
+        is_number = type(value) in (NUMBERS[1:] if isinstance(node.op, ast.Mult) else NUMBERS)
+        return type(node.op) in IN_PLACE and not is_number
+
+    def _added(self, node: ast.AugAssign) -> Any:
+        """What an assignment as `+=` adds, which is looked at if it is a container."""
+        return self._whole(node.value, ITERATION) if self._is_in_place(node) else self._child(node.value)
+
     def _augment_attribute(self, node: ast.AugAssign, target: ast.Attribute, is_late: bool) -> None:
         owner: Any = target.value
         name, text = self._mangled(target.attr), self._text(target)
-        in_place = IN_PLACE.get(type(node.op), "") if not isinstance(node.value, ast.Constant) else ""
+        if target.attr == "__dict__":
+            target.value = self._operand(owner, "B", self._site(node, "field", "w"))
+            node.value = self._added(node)
+            return
+        in_place = IN_PLACE[type(node.op)] if self._is_in_place(node) else ""
         if not is_late:
             target.value = self._operand(owner, "o", self._site(node, "field", "rw", name, in_place))
-            node.value = self._child(node.value)
+            node.value = self._added(node)
             return
         reads = self._site(node, "field", "r", name, in_place)
         writes = self._site(node, "field", "w", name, text)
         if isinstance(owner, ast.Name):
             target.value = self._operand(owner, "o", reads)
-            node.value = self._behind("l", owner, node.value, writes)
+            node.value = self._behind("l", owner, self._added(node), writes)
         else:
             target.value = self._operand(owner, "p", writes, reads)
-            node.value = self._hook("z", node.value, self._child(node.value), writes)
+            node.value = self._hook("z", node.value, self._added(node), writes)
 
     def _augment_subscript(self, node: ast.AugAssign, target: ast.Subscript, is_late: bool) -> None:
         owner: Any = target.value
         text = self._text(owner)
         if isinstance(target.slice, ast.Slice):
             target.value = self._operand(owner, "h", self._site(node, "whole", REWRITE, "", text))
-            target.slice, node.value = self._child(target.slice), self._child(node.value)
+            target.slice, node.value = self._child(target.slice), self._added(node)
             return
         if not is_late:
-            self._element(target, self._site(node, "element", "rw", "", text))
-            node.value = self._child(node.value)
+            in_place = IN_PLACE[type(node.op)] if self._is_in_place(node) else ""
+            self._element(target, self._site(node, "element", "rw", "", text, in_place))
+            node.value = self._added(node)
             return
         key: Any = target.slice
         reads, writes = self._site(node, "element", "r", "", text), self._site(node, "element", "w", "", text)
         if isinstance(owner, ast.Name) and self._is_simple(key):
             self._element(target, reads)
-            node.value = self._hook("L", node.value, self._child(node.value), owner.twin, key.twin, writes)  # type: ignore[attr-defined]
+            node.value = self._hook("L", node.value, self._added(node), owner.twin, key.twin, writes)  # type: ignore[attr-defined]
         else:
             target.value = self._operand(owner, "p", writes, 0)
             target.slice = self._hook("q", key, self._child(key), writes, reads, True)
-            node.value = self._hook("z", node.value, self._child(node.value), writes)
+            node.value = self._hook("z", node.value, self._added(node), writes)
 
     def _simple_Delete(self, node: ast.Delete) -> ast.stmt:
         node.targets = [self._child(target) for target in node.targets]
@@ -423,8 +474,9 @@ class Rewriter:
         self._scope = before
 
     def _do_FunctionDef(self, node: Any) -> list[ast.stmt]:
-        node.decorator_list = [self._guarded(one) for one in node.decorator_list]
+        node.decorator_list = [self._guarded(one, self._handed) for one in node.decorator_list]
         self._visit_defaults(node.args)
+        self._visit_annotations(node)
 
         def work() -> None:
             node.body = self._statements(node.body)
@@ -439,7 +491,7 @@ class Rewriter:
         self._in_scope(node, work)
         if is_constructor and first is not None:
             self._note_making(node, first.arg, self._scopes.by_node[node].constructor)
-        return [node]
+        return [node, *self._stored([node.name], node)]
 
     _do_AsyncFunctionDef = _do_FunctionDef
 
@@ -454,12 +506,28 @@ class Rewriter:
         arguments.defaults = [self._guarded(one) for one in arguments.defaults]
         arguments.kw_defaults = [None if one is None else self._guarded(one) for one in arguments.kw_defaults]
 
+    def _visit_annotations(self, node: Any) -> None:
+        """What is written behind arguments is looked at when a function is defined, unless it is kept as a text."""
+        if self._has_texts_of_annotations:
+            return
+        arguments = node.args
+        for one in (*arguments.posonlyargs, *arguments.args, *arguments.kwonlyargs, arguments.vararg, arguments.kwarg):
+            if one is not None and one.annotation is not None:
+                one.annotation = self._guarded(one.annotation)
+        if node.returns is not None:
+            node.returns = self._guarded(node.returns)
+
     def _do_ClassDef(self, node: ast.ClassDef) -> list[ast.stmt]:
+        node.decorator_list = [self._guarded(one, self._handed) for one in node.decorator_list]
+        node.bases = [self._guarded(one) for one in node.bases]
+        for keyword in node.keywords:
+            keyword.value = self._guarded(keyword.value)
+
         def work() -> None:
             node.body = self._statements(node.body)
 
         self._in_scope(node, work)
-        return [node]
+        return [node, *self._stored([node.name], node)]
 
     def _do_If(self, node: Any) -> list[ast.stmt]:
         node.test = self._guarded(node.test, self._truth)
@@ -476,15 +544,18 @@ class Rewriter:
 
     def _bind_and_go_on(self, node: Any, targets: list[Any]) -> list[ast.stmt]:
         """Visits what a compound statement binds, and its bodies."""
-        self._is_guarding = True
         for target in targets:
-            self._visit(target)
-        self._is_guarding = False
+            self._visit_target(target)
         stores = self._only_on(self._stores([target.twin for target in targets], targets[0]) if targets else [], node)
         node.body = [*stores, *self._statements(node.body)]
         if hasattr(node, "orelse"):
             node.orelse = self._statements(node.orelse)
         return [node]
+
+    def _visit_target(self, target: Any) -> None:
+        before, self._is_guarding = self._is_guarding, True
+        self._visit(target)
+        self._is_guarding = before
 
     def _do_With(self, node: Any) -> list[ast.stmt]:
         for item in node.items:
@@ -498,19 +569,31 @@ class Rewriter:
         for handler in node.handlers:
             if handler.type is not None:
                 handler.type = self._guarded(handler.type)
-            handler.body = self._statements(handler.body)
+            bound = self._stored([handler.name], handler) if handler.name else []
+            handler.body = [*bound, *self._statements(handler.body)]
         node.orelse, node.finalbody = self._statements(node.orelse), self._statements(node.finalbody)
         return [node]
 
     _do_TryStar = _do_Try
 
     def _do_Match(self, node: ast.Match) -> list[ast.stmt]:
-        node.subject = self._guarded(node.subject)
+        site = self._patterns.site_of(node)
+        node.subject = self._guarded(node.subject, None if site is None else lambda subject: self._operand(subject, "M", site))
         for case in node.cases:
             if case.guard is not None:
                 case.guard = self._guarded(case.guard, self._truth)
-            case.body = self._statements(case.body)
+            case.body = [*self._bound_by(case), *self._statements(case.body)]
         return [node]
+
+    def _bound_by(self, case: ast.match_case) -> list[ast.stmt]:
+        """Statements that note which variables a pattern has bound. With a guard they are bound before it."""
+        names = [name for one in ast.walk(case.pattern) for name in (getattr(one, "name", None), getattr(one, "rest", None)) if name]
+        if case.guard is None:
+            return self._stored(names, case.body[0])
+        for name in names:
+            if self._is_shared(name):
+                case.guard = ast.copy_location(ast.BoolOp(ast.Or(), [self._variable(case.guard, name, "w"), case.guard]), case.guard)
+        return []
 
     # Expressions
 
@@ -534,11 +617,13 @@ class Rewriter:
             self._keyword(node)
         return node
 
-    def _keyword(self, node: ast.keyword) -> None:
-        if node.arg == "key" and isinstance(node.value, (ast.Name, ast.Attribute)):
+    def _keyword(self, node: ast.keyword, is_of_print: bool = False) -> None:
+        if is_of_print and node.arg == "file" and isinstance(node.value, GIVEN) and not self._is_foreign(node.value):
+            node.value = self._operand(node.value, "m", self._site(node.value, "method", "", "write", self._text(node.value)))
+        elif node.arg == "key" and isinstance(node.value, GIVEN):
             node.value = self._handed(node.value)
-        elif node.arg is None and isinstance(node.value, REACHED):
-            node.value = self._operand(node.value, "h", self._site(node.value, "whole", ITERATION, "", self._text(node.value)))
+        elif node.arg is None:
+            node.value = self._whole(node.value, ITERATION)
         else:
             node.value = self._child(node.value)
 
@@ -551,7 +636,11 @@ class Rewriter:
         return node
 
     def _visit_Attribute(self, node: ast.Attribute) -> ast.expr:
-        if node.attr.startswith("__") and node.attr.endswith("__") or self._is_foreign(node.value):
+        passed_over.look_at_attribute(node, self._file)
+        if node.attr == "__dict__":
+            is_read = isinstance(node.ctx, ast.Load)
+            node.value = self._operand(node.value, "D") if is_read else self._operand(node.value, "B", self._site(node, "field", "w"))
+        elif node.attr.startswith("__") and node.attr.endswith("__") or self._is_foreign(node.value):
             node.value = self._child(node.value)
         else:
             kinds = "r" if isinstance(node.ctx, ast.Load) else "w"
@@ -560,7 +649,7 @@ class Rewriter:
 
     def _visit_Subscript(self, node: ast.Subscript) -> ast.expr:
         kinds = "r" if isinstance(node.ctx, ast.Load) else "d" if isinstance(node.ctx, ast.Del) else "w"
-        if self._is_foreign(node.value):
+        if self._is_foreign_container(node.value):
             return self._generic(node)  # type: ignore[no-any-return]
         if isinstance(node.slice, ast.Slice):
             whole = ITERATION if kinds == "r" else REWRITE
@@ -588,22 +677,34 @@ class Rewriter:
         self._name_handed(node)
         name = self._import_of(node.func)
         passed_over.look_at_call(node, self._file, self._is_builtin, name)
+        passed_over.look_at_handed(node, self._file, self._is_foreign(node.func), name)
+        if name in STEPPING:
+            return self._call_stepping(node)
+        if name == "os.getenv" and node.args and not isinstance(node.args[0], ast.Starred):
+            node.args = [self._child(one) for one in node.args]
+            node.args[0] = self._hook("e", node.args[0], node.args[0], self._site(node, "method", "", "get", "os.environ"))
+            return node
         known = known_function(name)
         if known is not None:
-            return self._call_known(node, known, depth_of(name))
+            return self._call_known(node, known, depth_of(name), str(name))
         if name in OPERATORS and len(node.args) > 1 and not any(isinstance(one, ast.Starred) for one in node.args[:2]):
             node.args = self._given_first(node, OPERATORS[name])
             return node
         if isinstance(node.func, ast.Attribute):
             return self._call_method(node, node.func)
         if isinstance(node.func, ast.Name) and self._is_builtin(node.func.id):
+            if node.func.id == "globals" and not node.args:
+                return self._hook("G", node, node)
             self._arguments_of_builtin(node, node.func.id)
         else:
             node.func = self._handed(node.func)
             node.args = [self._child(one) for one in node.args]
         for keyword in node.keywords:
-            self._keyword(keyword)
+            self._keyword(keyword, self._is_print(node))
         return node
+
+    def _is_print(self, node: ast.Call) -> bool:
+        return isinstance(node.func, ast.Name) and node.func.id == "print" and self._is_builtin("print")
 
     def _name_handed(self, node: ast.Call) -> None:
         """Keeps the names of containers whose methods are arguments."""
@@ -615,19 +716,40 @@ class Rewriter:
         """What is called by its name, or handed to a function that calls it: it may be a method of a container."""
         if isinstance(node, ast.Name):
             owner = self._scope.owner(node.id)
-            is_known = self._is_builtin(node.id) or node.id in owner.defined or owner.kind == MODULE and node.id in self._scopes.imported
-            is_handed = not is_known
+            is_known = node.id in owner.defined or node.id in owner.imported
+            is_handed = node.id in CALLED_BY_OTHERS if self._is_builtin(node.id) else not is_known
+        elif isinstance(node, ast.Attribute):
+            is_handed = node.attr in METHODS or node.attr in STORED_FIELDS
         else:
-            is_handed = isinstance(node, ast.Attribute) and node.attr in METHODS
+            is_handed = isinstance(node, GIVEN)
         return self._operand(node, "Y") if is_handed else self._child(node)
 
-    def _call_known(self, node: ast.Call, kinds: str, depth: str) -> ast.expr:
-        """A function of the library that looks at its first argument, or changes it."""
+    def _call_known(self, node: ast.Call, kinds: str, depth: str, name: str) -> ast.expr:
+        """A function of the library that looks at its arguments, or changes the first one."""
+        changed = CHANGED_ARGUMENT.get(name, 0)
+        others = ITERATION if name in IN_PLACE_FUNCTIONS or changed else "" if kinds == REWRITE else kinds
         for place, one in enumerate(node.args):
-            if place == 0 and not isinstance(one, ast.Starred):
-                node.args[0] = self._operand(one, "h", self._site(node, "whole", kinds, depth, self._text(one)))
+            if place == changed and not isinstance(one, ast.Starred):
+                node.args[place] = self._operand(one, "h", self._site_of_whole(one, kinds, depth))
+            elif place == 0 and name == "functools.reduce":
+                node.args[0] = self._handed(one)
             else:
-                node.args[place] = self._child(one) if kinds == REWRITE else self._whole(one, kinds)
+                node.args[place] = self._whole(one, others) if others else self._child(one)
+        for keyword in node.keywords:
+            self._keyword(keyword)
+        return node
+
+    def _call_stepping(self, node: ast.Call) -> ast.expr:
+        """A function that goes through what it is given as others go through what it gives. It may call some of it."""
+        for place, one in enumerate(node.args):
+            if isinstance(one, ast.Attribute) and one.attr in METHODS:
+                node.args[place] = self._handed(one)
+            elif isinstance(one, ast.Starred):
+                one.value = self._operand(one.value, "h", self._site_of_whole(one.value, KEYS, EACH))
+            elif isinstance(one, GIVEN):
+                node.args[place] = self._operand(one, "f", self._site_of_whole(one, KEYS))
+            else:
+                node.args[place] = self._child(one)
         for keyword in node.keywords:
             self._keyword(keyword)
         return node
@@ -635,17 +757,20 @@ class Rewriter:
     def _arguments_of_builtin(self, node: ast.Call, name: str) -> None:
         if name in OF_ATTRIBUTES and len(node.args) > 1:
             self._attribute_by_name(node, OF_ATTRIBUTES[name])
+        elif name == "vars" and len(node.args) == 1 and not isinstance(node.args[0], ast.Starred):
+            node.args = [self._operand(node.args[0], "D")]
         elif name in READERS or name in STEPPERS:
-            is_called = name in ("map", "filter")
+            is_called = name in ("map", "filter") or name == "iter" and len(node.args) > 1
+            depth = EACH if name == "sum" and len(node.args) > 1 else ""
             node.args = [
-                self._handed(one) if is_called and place == 0 else self._looked_at(one, name) for place, one in enumerate(node.args)
+                self._handed(one) if is_called and place == 0 else self._looked_at(one, name, depth) for place, one in enumerate(node.args)
             ]
         else:
             node.args = [self._child(one) for one in node.args]
 
     def _attribute_by_name(self, node: ast.Call, kinds: str) -> None:
         """The object and the name of its attribute are the first two arguments. A name that is computed is computed once."""
-        site = self._site(node, "field", kinds)
+        site = self._site(node, "field", kinds, words=OF_BASE if isinstance(node.func, ast.Attribute) else None)
         name: Any = node.args[1]
         if self._is_simple(name):
             node.args = [self._operand(node.args[0], "A", name.twin, site), *(self._child(one) for one in node.args[1:])]
@@ -654,12 +779,17 @@ class Rewriter:
         if not any(isinstance(one, ast.Starred) for one in node.args):
             node.args = [ast.copy_location(ast.Starred(self._hook("a", node, ast.Constant(site), *node.args), ast.Load()), node)]
 
-    def _looked_at(self, node: Any, name: str) -> ast.expr:
-        is_new = isinstance(node, ast.Call) and isinstance(node.func, ast.Name) and self._is_builtin(node.func.id)
-        if isinstance(node, ast.Starred) or is_new or not isinstance(node, (*REACHED, ast.Call)):
+    def _is_made(self, node: Any) -> bool:
+        """Whether it is a call of a function of the language that gives something new."""
+        is_builtin = isinstance(node, ast.Call) and isinstance(node.func, ast.Name) and self._is_builtin(node.func.id)
+        return is_builtin and node.func.id not in GIVERS
+
+    def _looked_at(self, node: Any, name: str, depth: str) -> ast.expr:
+        if name in STEPPERS and isinstance(node, GIVEN) and not self._is_made(node):
+            return self._operand(node, "f", self._site_of_whole(node, READERS[name]))
+        if isinstance(node, ast.Starred) or name in STEPPERS:
             return self._child(node)  # type: ignore[no-any-return]
-        hook = "f" if name in STEPPERS else "h"
-        return self._operand(node, hook, self._site(node, "whole", READERS[name], SHOWN if name in SHOWING else "", self._text(node)))
+        return self._whole(node, READERS[name], SHOWN if name in SHOWING else depth)  # type: ignore[no-any-return]
 
     def _call_method(self, node: ast.Call, func: ast.Attribute) -> ast.expr:
         name, owner = func.attr, func.value
@@ -670,9 +800,14 @@ class Rewriter:
             self._call_unbound(node, func)
         elif name in OF_OBJECT and len(node.args) > 1 and isinstance(owner, ast.Name) and owner.id == "object" and self._is_builtin("object"):
             self._attribute_by_name(node, OF_OBJECT[name])
-        elif name not in METHODS or self._is_foreign(owner):
+        elif name in OF_OBJECT and node.args and not isinstance(node.args[0], ast.Starred):
+            self._attribute_of_owner(node, func)
+        elif name in ("format", "format_map") and not self._is_foreign_module(owner):
+            return self._call_format(node, func)
+        elif name not in METHODS or self._is_foreign_container(owner):
             given = node.args
-            node.func = self._called(func)
+            called = self._called(func)
+            node.func = self._hook("Y", func, called) if name in STORED_FIELDS and not self._is_foreign(owner) else called
             node.args = [self._argument(one, func, owner) for one in given]
             self._keep_owner(func, node)
         elif name in KEYED and node.args and not isinstance(node.args[0], ast.Starred):
@@ -680,12 +815,75 @@ class Rewriter:
         elif is_late and name in LATE_METHODS and not isinstance(node.args[-1], ast.Starred):
             self._call_late(node, func, self._site(node, "method", "", name, self._text(owner)))
         else:
-            func.value = self._operand(owner, "m", self._site(node, "method", "", name, self._text(owner)))
+            words = [keyword.arg for keyword in node.keywords] if self._is_of_fields(owner) else None
+            is_known = words is not None and None not in words and len(node.args) < 2
+            func.value = self._operand(owner, "m", self._site(node, "method", "", name, self._text(owner), words if is_known else None))
             node.args = [self._argument(one, func, owner) for one in node.args]
             self._keep_owner(func, node)
         for keyword in node.keywords:
             self._keyword(keyword)
         return node
+
+    def _is_of_fields(self, node: Any) -> bool:
+        """Whether it gives the fields of an object as a dictionary."""
+        if isinstance(node, ast.Attribute):
+            return node.attr == "__dict__"
+        return isinstance(node, ast.Call) and isinstance(node.func, ast.Name) and node.func.id in ("vars", "globals") and (
+            self._is_builtin(node.func.id)
+        )
+
+    def _is_foreign_module(self, node: Any) -> bool:
+        return self._import_of(node) is not None and self._is_foreign(node)
+
+    def _attribute_of_owner(self, node: ast.Call, func: ast.Attribute) -> None:
+        """An attribute by its name, of the object whose method is called: `super().__setattr__(name, value)`."""
+        owner: Any = func.value
+        site = self._site(node, "field", OF_OBJECT[func.attr], words=OF_BASE if self._is_super_of_any(owner) else None)
+        given: list[Any] = node.args
+        node.args = [self._child(one) for one in given]
+        if _is_super(owner) and self._scope.function.first:
+            me: Any = ast.copy_location(ast.Name(self._scope.function.first, ast.Load()), node)
+        elif isinstance(owner, ast.Name):
+            me = owner.twin  # type: ignore[attr-defined]
+        else:
+            func.value = self._operand(owner, "p", site, 0)
+            node.args[0] = self._hook("i", given[0], node.args[0], site)
+            return
+        node.args[0] = self._hook("I", given[0], node.args[0], me, site)
+
+    def _is_super_of_any(self, node: Any) -> bool:
+        return isinstance(node, ast.Call) and isinstance(node.func, ast.Name) and node.func.id == "super"
+
+    def _call_format(self, node: ast.Call, func: ast.Attribute) -> ast.expr:
+        """What a text shows of what it is formatted with: a field of it, an element, or all."""
+        owner: Any = func.value
+        is_known = func.attr == "format" and isinstance(owner, (ast.Constant, ast.Name))
+        template = None if not is_known else owner.value if isinstance(owner, ast.Constant) else owner.twin
+        if not is_known:
+            given = node.args
+            node.func = self._called(func)
+            node.args = [self._argument(one, func, owner) for one in given]
+            self._keep_owner(func, node)
+        elif any(isinstance(one, ast.Starred) for one in node.args):
+            node.args = [self._child(one) for one in node.args]
+        else:
+            node.args = [self._shown(one, template, place) for place, one in enumerate(node.args)]
+        for keyword in node.keywords:
+            if is_known and keyword.arg is not None:
+                keyword.value = self._shown(keyword.value, template, keyword.arg)
+            else:
+                self._keyword(keyword)
+        return node
+
+    def _shown(self, node: Any, template: Any, name: int | str) -> Any:
+        """What a text puts in at a place of its own, or by a name."""
+        if not isinstance(node, (*GIVEN, ast.List, ast.Tuple, ast.Dict)):
+            return self._child(node)
+        site = self._site(node, "whole", ITERATION, SHOWN, self._text(node))
+        if isinstance(template, str):
+            paths = field_paths(template, name)
+            return self._hook("r", node, self._child(node), ast.Constant(paths), site) if paths else self._child(node)
+        return self._hook("R", node, self._child(node), template, name, site)
 
     def _call_of_base(self, node: ast.Call, func: ast.Attribute) -> None:
         """A method of the container that the object itself is, as in `super().append(one)`."""
@@ -726,10 +924,15 @@ class Rewriter:
     def _argument(self, node: Any, func: ast.Attribute, owner: Any) -> Any:
         """What a method is given. Some look at all of it, and a class of the program may have a method of such a name."""
         kinds = CONSUMING.get(func.attr)
-        if kinds is None or not isinstance(node, REACHED) or self._is_foreign(node) or self._import_of(owner) is not None:
+        is_bytes = isinstance(owner, ast.Constant) and type(owner.value) is bytes
+        is_given = isinstance(node, (*GIVEN, ast.Starred)) or is_bytes or func.attr == "update" and self._is_of_fields(owner)
+        if kinds is None or not is_given or self._is_foreign(node) or self._is_made(node) or self._import_of(owner) is not None:
             return self._child(node)
+        if isinstance(node, ast.Starred):
+            node.value = self._operand(node.value, "h", self._site_of_whole(node.value, kinds, EACH))
+            return node
         if isinstance(owner, (ast.Constant, ast.JoinedStr)) or isinstance(owner, ast.Name) and self._is_builtin(owner.id):
-            return self._whole(node, kinds)
+            return self._whole(node, kinds, EACH if is_bytes else "")
         site = self._site(node, "given", kinds, func.attr, self._text(node))
         if isinstance(owner, ast.Name):
             return self._hook("x", node, self._child(node), owner.twin, site)  # type: ignore[attr-defined]
@@ -743,16 +946,26 @@ class Rewriter:
 
     def _whole(self, node: Any, kinds: str, depth: str = "") -> Any:
         """An expression, all of which is looked at if it is a container."""
-        if not isinstance(node, REACHED) or self._is_foreign(node):
-            return self._child(node)
-        return self._operand(node, "h", self._site(node, "whole", kinds, depth, self._text(node)))
+        is_looked_at = isinstance(node, GIVEN) and not self._is_foreign_container(node) and not self._is_made(node)
+        if is_looked_at or depth and isinstance(node, (*DISPLAYS, ast.Tuple)):
+            return self._operand(node, "h", self._site_of_whole(node, kinds, depth))
+        return self._child(node)
+
+    def _site_of_whole(self, node: Any, kinds: str, depth: str = "") -> int:
+        """The site of something that is looked at as a whole. A view that is made there is known by its container."""
+        is_view = isinstance(node, ast.Call) and isinstance(node.func, ast.Attribute) and node.func.attr in VIEWS
+        is_iterator = isinstance(node, ast.Call) and isinstance(node.func, ast.Name) and node.func.id in ("iter", "reversed")
+        text = self._text(node.func.value if is_view else node)
+        return self._site(node, "whole", kinds, depth, text, MADE_HERE if is_view or is_iterator else None)
 
     def _visit_BinOp(self, node: ast.BinOp) -> ast.expr:
         sides: list[Any] = [node.left, node.right]
-        if isinstance(node.op, ast.Mod) and isinstance(node.left, (ast.JoinedStr, ast.Constant)):
+        if isinstance(node.op, ast.Mod) and not _is_number(node.left):
             node.left, node.right = self._child(node.left), self._formatted(node.right)
-        elif isinstance(node.op, JOINING) and not any(isinstance(side, ast.Constant) for side in sides):
-            node.left, node.right = (self._joined(side, node.op) for side in sides)
+        elif isinstance(node.op, JOINING) and not any(_is_number(side) or _is_text(side) for side in sides):
+            node.left, node.right = (self._whole(side, ITERATION) for side in sides)
+        elif isinstance(node.op, ast.Mult) and not any(_is_text(side) or _is_fraction(side) for side in sides):
+            node.left, node.right = (self._whole(side, ITERATION) for side in sides)
         else:
             node.left, node.right = map(self._child, sides)
         return node
@@ -763,11 +976,6 @@ class Rewriter:
             node.elts = [self._whole(one, ITERATION, SHOWN) for one in node.elts]
             return node
         return self._whole(node, ITERATION, SHOWN)
-
-    def _joined(self, node: Any, operator: ast.operator) -> Any:
-        """One side of an operator. Numbers are often subtracted, and a variable of one function is seldom a set that others share."""
-        is_number = isinstance(operator, ast.Sub) and self._is_local(node)
-        return self._child(node) if is_number else self._whole(node, ITERATION)
 
     def _visit_Dict(self, node: ast.Dict) -> ast.expr:
         pairs: list[Any] = [*zip(node.keys, node.values)]
@@ -807,17 +1015,18 @@ class Rewriter:
         rest = [self._child(one) for one in node.args[:-1]]
         if isinstance(owner, ast.Name):
             func.value = self._child(owner)
-            node.args = [*rest, self._behind("l", owner, last, site)]
+            node.args = [*rest, self._behind("l", owner, self._argument(last, func, owner), site)]
         else:
             func.value = self._operand(owner, "p", site, 0)
-            node.args = [*rest, self._hook("z", last, self._child(last), site)]
+            made = self._whole(last, CONSUMING[func.attr]) if func.attr in CONSUMING else self._child(last)
+            node.args = [*rest, self._hook("z", last, made, site)]
 
     def _visit_Compare(self, node: ast.Compare) -> ast.expr:
         if len(node.ops) != 1 or not isinstance(node.ops[0], (ast.In, ast.NotIn)):
             return self._compare_values(node)
         left: Any = node.left
         owner: Any = node.comparators[0]
-        if not isinstance(owner, (*REACHED, ast.Call)):
+        if not isinstance(owner, GIVEN):
             return self._generic(node)  # type: ignore[no-any-return]
         site = self._site(node, "element", "c", "", self._text(owner))
         if self._is_simple(left):
@@ -832,19 +1041,20 @@ class Rewriter:
         return node
 
     def _compare_values(self, node: ast.Compare) -> ast.expr:
+        """A comparison looks at all of both sides, but for one with a text or a number, and `is`."""
         sides: list[Any] = [node.left, *node.comparators]
-        is_plain = any(isinstance(side, ast.Constant) for side in sides) or not isinstance(node.ops[0], (ast.Eq, ast.NotEq))
-        has_new = any(_is_new(side) for side in sides)
-        made = []
-        for side in sides:
-            is_looked_at = not is_plain and (has_new or isinstance(side, ast.Attribute) or not self._is_local(side))
-            made.append(self._whole(side, ITERATION, SHOWN) if is_looked_at else self._child(side))
+        looked_at: set[int] = set()
+        for place, operator in enumerate(node.ops):
+            both = sides[place:place + 2]
+            if not isinstance(operator, (ast.Is, ast.IsNot)) and not any(_is_plain(one) for one in both):
+                looked_at |= {place, place + 1}
+        made = [self._whole(one, ITERATION, SHOWN) if place in looked_at else self._child(one) for place, one in enumerate(sides)]
         node.left, node.comparators = made[0], made[1:]
         return node
 
     def _truth(self, node: Any) -> Any:
         """An expression whose truth is asked for: that of a container is its length."""
-        if isinstance(node, REACHED) and not self._is_foreign(node):
+        if isinstance(node, (*REACHED, ast.Call, ast.NamedExpr)) and not self._is_foreign(node) and not self._is_made(node):
             return self._operand(node, "h", self._site(node, "whole", LENGTH, "", self._text(node)))
         if isinstance(node, ast.BoolOp):
             node.values = [self._part(one, self._truth) for one in node.values]
@@ -868,27 +1078,24 @@ class Rewriter:
         return node
 
     def _visit_FormattedValue(self, node: ast.FormattedValue) -> ast.expr:
-        if isinstance(node.value, (ast.Attribute, ast.Name)):
-            node.value = self._operand(node.value, "h", self._site(node.value, "whole", ITERATION, SHOWN, self._text(node.value)))
-        else:
-            node.value = self._child(node.value)
-        return node  # What it is formatted by is left as it is.
+        node.value = self._whole(node.value, ITERATION, SHOWN)
+        if node.format_spec is not None:
+            self._visit_JoinedStr(node.format_spec)  # type: ignore[arg-type]
+        return node
 
     def _visit_JoinedStr(self, node: ast.JoinedStr) -> ast.expr:
         node.values = [self._visit(one) if isinstance(one, ast.FormattedValue) else one for one in node.values]
         return node
 
     def _visit_Starred(self, node: ast.Starred) -> ast.expr:
-        if isinstance(node.ctx, ast.Load) and isinstance(node.value, REACHED):
-            node.value = self._operand(node.value, "h", self._site(node.value, "whole", KEYS, "", self._text(node.value)))
-        else:
-            node.value = self._child(node.value)
+        is_looked_at = isinstance(node.ctx, ast.Load) and isinstance(node.value, GIVEN)
+        node.value = self._whole(node.value, KEYS) if is_looked_at else self._child(node.value)
         return node
 
     def _visit_NamedExpr(self, node: ast.NamedExpr) -> ast.expr:
         node.value = self._child(node.value)
-        if self._is_shared(node.target.id) and self._scope.owner(node.target.id).kind == MODULE:
-            node.value = self._hook("v", node.value, node.value, self._site(node, "variable", "w", node.target.id))
+        if self._is_shared(node.target.id):
+            node.value = self._hook("v", node.value, node.value, self._variable(node, node.target.id, "w"))
         return node
 
     def _visit_Lambda(self, node: ast.Lambda) -> ast.expr:
@@ -907,6 +1114,8 @@ class Rewriter:
             for place, part in enumerate(node.generators):
                 if place > 0:
                     part.iter = self._iterated(part)
+                if not isinstance(part.target, ast.Name):
+                    self._visit_target(part.target)
                 part.ifs = [self._guarded(one, self._truth) for one in part.ifs]
             for name in ("elt", "key", "value"):
                 if hasattr(node, name):
@@ -922,21 +1131,30 @@ class Rewriter:
 
     def _iteration(self, node: Any) -> Any:
         """What a loop goes through: each step is a look at it."""
-        if isinstance(node, ast.Call) and isinstance(node.func, ast.Name) and self._is_builtin(node.func.id):
-            return self._visit(node)
-        if isinstance(node, ast.Call) and isinstance(node.func, ast.Attribute) and node.func.attr in VIEWS and not node.args:
-            return self._iteration_of_view(node, node.func)
-        if isinstance(node, (*REACHED, ast.Call)) and not self._is_foreign(node):
-            return self._operand(node, "f", self._site(node, "whole", KEYS, "", self._text(node)))
+        if isinstance(node, GIVEN) and not self._is_foreign_container(node) and not self._is_made(node):
+            return self._operand(node, "f", self._site_of_whole(node, KEYS))
         return self._visit(node)
 
-    def _iteration_of_view(self, node: ast.Call, func: ast.Attribute) -> Any:
-        owner: Any = func.value
-        made = self._visit(node)
-        if not isinstance(owner, ast.Name):
-            return made
-        site = self._site(node, "whole", KEYS if func.attr == "keys" else ITERATION, "", self._text(owner))
-        return self._hook("F", node, made, owner.twin, site)  # type: ignore[attr-defined]
+
+def _is_slice(node: Any) -> bool:
+    return isinstance(node, ast.Subscript) and isinstance(node.slice, ast.Slice)
+
+
+def _is_plain(node: Any) -> bool:
+    """Whether it is no container, and equal to none. Bytes may be equal to a `bytearray`."""
+    return isinstance(node, ast.Constant) and type(node.value) is not bytes
+
+
+def _is_number(node: Any) -> bool:
+    return isinstance(node, ast.Constant) and type(node.value) in NUMBERS
+
+
+def _is_fraction(node: Any) -> bool:
+    return isinstance(node, ast.Constant) and type(node.value) in NUMBERS[1:]
+
+
+def _is_text(node: Any) -> bool:
+    return isinstance(node, ast.JoinedStr) or isinstance(node, ast.Constant) and type(node.value) is str
 
 
 def _is_hook(node: Any) -> bool:

@@ -3,8 +3,11 @@
 from __future__ import annotations
 
 import ast
+import builtins
 from collections import Counter
-from collections.abc import Iterator
+from collections.abc import Callable, Iterator
+
+from .kinds import METHODS
 
 FUNCTIONS = (ast.FunctionDef, ast.AsyncFunctionDef, ast.Lambda)
 COMPREHENSIONS = (ast.ListComp, ast.SetComp, ast.DictComp, ast.GeneratorExp)
@@ -16,6 +19,8 @@ FIRST_BINDING, LATER_BINDING = 1, 2
 
 STORED_ELSEWHERE: set[str] = set()
 """Names that some module has stored in another, as `config.debug = True` does. A module that imports is looked at before what it imports."""
+STORED_FIELDS: set[str] = set()
+"""Names of fields that some module stores: what is called by such a name may be anything, and is no method of a class mostly."""
 
 
 class Scope:
@@ -36,6 +41,10 @@ class Scope:
         self.constructor = 0
         self.defined: set[str] = set()
         """Names of functions and classes that are defined there."""
+        self.imported: dict[str, str] = {}
+        """The dotted names of what is imported there."""
+        self.is_open = False
+        """Whether variables of the module may be bound by their names, as `globals()["debug"] = True` does."""
         self.first = ""
         """The variable of a method that has the object it was called for."""
 
@@ -82,10 +91,11 @@ class Scope:
 class Scopes(ast.NodeVisitor):
     """The scopes of a module's syntax tree, by the nodes that open them."""
 
-    def __init__(self, tree: ast.Module) -> None:
+    def __init__(self, tree: ast.Module, is_watched: Callable[[str], bool] = lambda name: False) -> None:
         self.module = Scope(MODULE, None)
+        self._is_watched = is_watched
+        self._starting = _starting_functions(tree)
         self.by_node: dict[ast.AST, Scope] = {tree: self.module}
-        self.imported: dict[str, str] = {}
         self._scope = self.module
         self._loops = 0
         self._is_after_start = False
@@ -109,6 +119,8 @@ class Scopes(ast.NodeVisitor):
         owner = scope.owner(name)
         if owner.kind == MODULE and name in STORED_ELSEWHERE:
             return owner.bound[name] > 0
+        if owner.kind == MODULE and owner.is_open and name not in owner.defined and name not in owner.imported:
+            return owner.bound[name] > 0 or not hasattr(builtins, name)
         return owner.kind in (MODULE, FUNCTION) and name in owner.captured and owner.bound[name] > FIRST_BINDING
 
     def _opened(self, node: ast.AST, kind: str, name: str = "") -> Scope:
@@ -118,6 +130,7 @@ class Scopes(ast.NodeVisitor):
     def _bind(self, name: str) -> None:
         is_late = self._scope is self.module and self._is_after_start
         scope = self._scope.function
+        self._scope.used.add(name)
         if name in scope.nonlocals or name in scope.globals:
             self._outer.append((scope, name))  # Its own scope may bind it further down.
         else:
@@ -130,7 +143,8 @@ class Scopes(ast.NodeVisitor):
             self._scope.bound[node.id] += FIRST_BINDING
         else:
             self._bind(node.id)
-            self._scope.used.add(node.id)
+            if self._scope.kind == CLASS:
+                STORED_FIELDS.add(node.id)
             if node.id not in self._scope.globals | self._scope.nonlocals:
                 self._scope.function.first_lines.setdefault(node.id, node.lineno)
 
@@ -145,14 +159,16 @@ class Scopes(ast.NodeVisitor):
     def visit_Import(self, node: ast.Import) -> None:
         for one in node.names:
             name = one.asname or one.name.partition(".")[0]
-            self.imported[name] = one.name if one.asname else name
-            self._bind(name)
+            self._import(name, one.name if one.asname else name)
 
     def visit_ImportFrom(self, node: ast.ImportFrom) -> None:
         for one in node.names:
-            name = one.asname or one.name
-            self.imported[name] = f"{'.' * node.level}{node.module or ''}.{one.name}"
-            self._bind(name)
+            self._import(one.asname or one.name, f"{'.' * node.level}{node.module or ''}.{one.name}")
+
+    def _import(self, name: str, dotted: str) -> None:
+        scope = self._scope.function
+        (self.module if name in scope.globals else scope).imported[name] = dotted
+        self._bind(name)
 
     def visit_ExceptHandler(self, node: ast.ExceptHandler) -> None:
         if node.name:
@@ -168,15 +184,40 @@ class Scopes(ast.NodeVisitor):
         if node.name:
             self._bind(node.name)
 
+    def visit_MatchMapping(self, node: ast.MatchMapping) -> None:
+        if node.rest:
+            self._bind(node.rest)
+        self.generic_visit(node)
+
     def visit_Attribute(self, node: ast.Attribute) -> None:
-        if not isinstance(node.ctx, ast.Load) and isinstance(node.value, ast.Name) and node.value.id in self.imported:
-            STORED_ELSEWHERE.add(node.attr)
+        if not isinstance(node.ctx, ast.Load):
+            STORED_FIELDS.add(node.attr)
+            if isinstance(node.value, ast.Name) and node.value.id in self._scope.owner(node.value.id).imported:
+                STORED_ELSEWHERE.add(node.attr)
+        elif node.attr == "modules" and isinstance(node.value, ast.Name) and node.value.id == "sys":
+            self.module.is_open = True
         self.visit(node.value)
 
     def visit_Call(self, node: ast.Call) -> None:
-        if isinstance(node.func, ast.Attribute) and node.func.attr in STARTERS and self._scope is self.module:
+        if self._scope is self.module and self._may_start(node.func):
             self._is_after_start = True
+        if isinstance(node.func, ast.Name) and node.func.id == "globals":
+            self.module.is_open = True
+        for keyword in node.keywords:
+            if keyword.arg is not None and isinstance(keyword.value, ast.Attribute) and keyword.value.attr in METHODS:
+                STORED_FIELDS.add(keyword.arg)
         self.generic_visit(node)
+
+    def _may_start(self, function: ast.expr) -> bool:
+        """Whether another task may be there once this was called: by its name, or as it is of another module of the program."""
+        if isinstance(function, ast.Attribute):
+            of_module = isinstance(function.value, ast.Name) and self._is_of_program(function.value.id)
+            return of_module or function.attr in STARTERS or function.attr in self._starting
+        return isinstance(function, ast.Name) and (function.id in self._starting or self._is_of_program(function.id))
+
+    def _is_of_program(self, name: str) -> bool:
+        imported = self.module.imported.get(name)
+        return imported is not None and (imported.startswith(".") or self._is_watched(imported))
 
     def _visit_loop(self, node: ast.AST) -> None:
         self._loops += 1
@@ -237,6 +278,27 @@ class Scopes(ast.NodeVisitor):
         self._scope, self._targets = before
 
     visit_ListComp = visit_SetComp = visit_DictComp = visit_GeneratorExp = _visit_comprehension
+
+
+def _starting_functions(tree: ast.Module) -> set[str]:
+    """The functions, methods and classes of a module that may start a task: by a starter, or by a call of another one of them."""
+    called: dict[str, set[str]] = {}
+    for node in ast.walk(tree):
+        if isinstance(node, (*FUNCTIONS[:2], ast.ClassDef)):
+            called.setdefault(node.name, set()).update(_called_in(node))
+    found = {name for name, names in called.items() if names & STARTERS}
+    more = found
+    while more:
+        more = {name for name, names in called.items() if name not in found and names & found}
+        found |= more
+    return found
+
+
+def _called_in(node: ast.AST) -> Iterator[str]:
+    """The last names of what is called in a function or a class."""
+    for one in ast.walk(node):
+        if isinstance(one, ast.Call) and isinstance(one.func, (ast.Name, ast.Attribute)):
+            yield one.func.id if isinstance(one.func, ast.Name) else one.func.attr
 
 
 def _defaults(arguments: ast.arguments) -> Iterator[ast.expr]:

@@ -10,6 +10,7 @@ import os
 import weakref
 from builtins import id, len, min, next, repr, type
 from collections import deque
+from collections.abc import Callable
 from sys import getrefcount
 from types import CodeType
 from typing import Any, NamedTuple
@@ -17,15 +18,18 @@ from typing import Any, NamedTuple
 from ..conflicts import MAKING
 from ..journal import line_of
 from ..lines import Line, state
-from ..noting import line_of_now, touched
+from ..noting import line_of_now
 from ..stretches import SITES, Touched
 from .decisions import name_of
+from .helper import quick
+from .keys import UNKNOWN
 from .places import ACCESSES
+from .seen import NEVER
 
 FIRST_NUMBER_OF_OWNERS = 1 << 32
 """The keys of touches are numbers: that of the owner, which is a multiple of this, and that of the place."""
 MOST_HELD = 20_000
-LOOKED_THROUGH = 4
+LOOKED_THROUGH = 2
 MOST_MADE = 500_000
 LONGEST_KEY = 30
 
@@ -77,28 +81,6 @@ class KeyOfType(str):
     __slots__ = ()
 
 
-class Owner:
-    """An object, a class, a module or a cell, with the things of it that were touched."""
-
-    __slots__ = ("base", "name", "made", "maker", "site", "things", "recipes", "reference")
-
-    def __init__(self, base: int, name: str, made: str, maker: Line | None, site: int, reference: Any) -> None:
-        self.base = base
-        self.name = name
-        self.made = made
-        self.maker = maker
-        self.site = site
-        self.things: dict[Any, Thing | Element] = {}
-        self.recipes: dict[Any, dict[Any, Touched]] = {}
-        """What is noted where a place touches it once more, in another stretch."""
-        self.reference = reference
-
-    def leave(self) -> None:
-        """Nobody can touch its things any more."""
-        for thing in self.things.values():
-            thing.is_gone = True
-
-
 class Made(NamedTuple):
     """Where a container or an object was made, and by whom."""
 
@@ -107,10 +89,81 @@ class Made(NamedTuple):
     place: int
     maker: Line | None
 
+    def told(self) -> str:
+        """The same for a person."""
+        if self.code is not None:
+            file, line = self.code.co_filename, line_of(self.code, self.place)
+        else:
+            file, line = SITES[self.place][:2]
+        return f"{_with_article(self.kind)} made at {os.path.basename(file)}:{line}"
 
-BASES: dict[int, int] = {}
-"""Of each object that is known, by its identity, the first part of the keys of its touches."""
-OWNERS: dict[int, Owner] = {}
+
+class OwnerFields:
+    """What is known of an owner. The helper in C has the same."""
+
+    __slots__ = (
+        "base", "class_name", "maker", "site", "seen", "history", "is_sharing", "is_shared", "things", "recipes", "reference",
+        "_name", "_made", "_making",
+    )
+
+    def __init__(self, base: int, class_name: str, name: str, making: Made | None) -> None:
+        self.base = base
+        self.class_name = class_name
+        self.maker: Line | None = None
+        self.site = 0
+        if making is not None and making.code is None:
+            self.maker, self.site = making.maker, making.place
+        self.seen = NEVER
+        """What was touched in the stretch that touched it last."""
+        self.history: list[Any] = []
+        self.is_sharing = False
+        self.is_shared = False
+        self.things: dict[Any, Thing | Element] = {}
+        self.recipes: dict[Any, dict[Any, Touched]] = {}
+        """What is noted where a place touches it once more, in another stretch."""
+        self.reference: Any = None
+        self._name = name
+        self._made: str | None = None
+        self._making = making
+
+
+Fields: Any = OwnerFields if quick is None else quick.OwnerFields
+
+
+class Owner(Fields):  # type: ignore[misc]
+    """An object, a class, a module or a cell, with the things of it that were touched.
+
+    As long as one task alone has touched it, `history` has what it has seen in each stretch, and there are no things of it.
+    """
+
+    __slots__ = ()
+
+    @property
+    def name(self) -> str:
+        """The name that it was made for, else the one of the place that touched it first."""
+        making = self._making
+        named = ACCESSES[making.place].text if making is not None and making.code is None else ""
+        return named or self._name or _with_article(self.class_name)
+
+    @property
+    def made(self) -> str:
+        """Where it was made, for a person."""
+        if self._made is None:
+            self._made = "" if self._making is None else self._making.told()
+        return self._made
+
+    def call(self, name: str, made: str) -> None:
+        """Gives it another name, and says where it was made."""
+        self._name, self._made, self._making = name, made, None
+
+    def leave(self) -> None:
+        """Nobody can touch its things any more."""
+        for thing in self.things.values():
+            thing.is_gone = True
+
+
+OWNERS: Any = {} if quick is None else quick.OWNERS
+"""Of each object that is known, by its identity."""
 MADE: dict[int, Made] = {}
 KEPT: dict[int, Any] = {}
 """What cannot be referred to weakly, and is held therefore."""
@@ -120,19 +173,21 @@ _numbers = iter(range(1, 1 << 62))
 _bases = iter(range(FIRST_NUMBER_OF_OWNERS, 1 << 62, FIRST_NUMBER_OF_OWNERS))
 
 
-def owner_of(one: Any, name: str) -> Owner:
+def _owner_of(one: Any, name: str) -> Owner:
     """The owner that stands for an object. The name is for an object that nobody has named where it was made."""
-    return OWNERS.get(id(one)) or _new_owner(one, id(one), name)
+    return OWNERS.get(id(one)) or _new_owner(one, id(one), name)  # type: ignore[no-any-return]
+
+
+owner_of: Callable[[Any, str], Owner] = _owner_of if quick is None else quick.owner_of
 
 
 def _new_owner(one: Any, key: int, name: str) -> Owner:
     kind_name = name_of(type(one))
-    named, told, maker, site = _making(key, kind_name)
-    owner = Owner(next(_bases), named or name or _with_article(kind_name), told, maker, site, None)
+    made = MADE.get(key)
+    owner = Owner(next(_bases), kind_name, name, made if made is not None and made.kind == kind_name else None)
 
     def gone(_: Any) -> None:
         if OWNERS.get(key) is owner:
-            BASES.pop(key, None)
             OWNERS.pop(key, None)
         owner.leave()
 
@@ -142,13 +197,13 @@ def _new_owner(one: Any, key: int, name: str) -> Owner:
         let_go_of_some(LOOKED_THROUGH)
         KEPT[key] = one
         HELD.append(key)
-    OWNERS[key] = owner
-    BASES[key] = owner.base
-    return owner
+    return OWNERS.setdefault(key, owner)  # type: ignore[no-any-return]
 
 
 def let_go_of_some(most: int) -> None:
     """Lets go of some of what nobody else holds any more, and of the oldest where too many are held."""
+    if quick is not None:
+        OWNERS.let_go_of_some(most)
     for _ in range(min(most, len(HELD))):
         try:
             key = HELD.popleft()
@@ -160,7 +215,6 @@ def let_go_of_some(most: int) -> None:
         if not is_alone and len(HELD) < MOST_HELD:
             HELD.append(key)
             continue
-        BASES.pop(key, None)
         owner = OWNERS.pop(key, None)
         if is_alone and owner is not None:
             owner.leave()
@@ -177,7 +231,6 @@ REFERENCES_OF_HELD = _references_of_held()
 
 def let_go() -> None:
     """Holds nothing any more, at the end of tracing."""
-    BASES.clear()
     OWNERS.clear()
     HELD.clear()
     KEPT.clear()
@@ -189,7 +242,7 @@ def let_go() -> None:
 
 def made_here(one: Any, site: int) -> None:
     """Keeps where a container was made."""
-    _keep(id(one), Made(name_of(type(one)), None, site, _maker()))
+    _keep(id(one), Made(name_of(type(one)), None, site, maker_now()))
 
 
 def made_by(one: Any, code: CodeType, instruction: int) -> None:
@@ -203,63 +256,54 @@ def _keep(key: int, made: Made) -> None:
     MADE[key] = made
 
 
-def _maker() -> Line | None:
+def maker_now() -> Line | None:
     if state.note is not None:
         return line_of_now()
     return None if state.tracer is None else state.tracer.main
-
-
-def _making(key: int, kind: str) -> tuple[str, str, Line | None, int]:
-    """The name that an object was made for, where it was made, by whom, and the place of a container."""
-    made = MADE.get(key)
-    if made is None or made.kind != kind:
-        return "", "", None, 0
-    if made.code is not None:
-        place = f"{os.path.basename(made.code.co_filename)}:{line_of(made.code, made.place)}"
-        return "", f"{_with_article(kind)} made at {place}", None, 0
-    site = SITES[made.place]
-    return ACCESSES[made.place].text, f"{_with_article(kind)} made at {os.path.basename(site.file)}:{site.line}", made.maker, made.place
 
 
 def _with_article(kind: str) -> str:
     return f"{'an' if kind[:1] in 'AEIOUaeiou' else 'a'} {kind}"
 
 
-# The things of an owner
+# The things of an owner. `told` takes the makings, if the task of the line that touches a thing first has made the owner.
 
 
-def _tell_maker(owner: Owner, thing: Thing | Element) -> None:
-    """If the task that made the owner is the first to touch it, that is noted too."""
-    if owner.maker is not None and owner.maker is line_of_now():
-        touched((MAKING, thing.number), thing, MAKING, owner.site)
-
-
-def _new_thing(owner: Owner, mark: Any, name: str) -> Thing:
-    thing = owner.things[mark] = Thing(next(_numbers), name, owner.made)
-    _tell_maker(owner, thing)
+def _added(owner: Owner, mark: Any, made: Any, told: dict[Any, Touched], line: Line | None) -> Any:
+    """The thing of this mark. If two tasks come at once, the first one's stands for both."""
+    thing = owner.things.setdefault(mark, made)
+    if thing is made and owner.maker is not None and owner.maker is line:
+        told[MAKING, thing.number] = thing, MAKING, owner.site
     return thing
 
 
-def field_of(owner: Owner, class_name: str, name: str) -> Thing:
-    return owner.things.get(name) or _new_thing(owner, name, f"{class_name}.{name}")  # type: ignore[return-value]
+def field_of(owner: Owner, class_name: str, name: str, told: dict[Any, Touched], line: Line | None) -> Thing:
+    return owner.things.get(name) or _added(  # type: ignore[return-value]
+        owner, name, Thing(next(_numbers), f"{class_name}.{name}", owner.made), told, line,
+    )
 
 
 SHAPE = ("shape",)
 
 
-def shape_of(owner: Owner) -> Thing:
-    return owner.things.get(SHAPE) or _new_thing(owner, SHAPE, owner.name)  # type: ignore[return-value]
+def shape_of(owner: Owner, told: dict[Any, Touched], line: Line | None) -> Thing:
+    return owner.things.get(SHAPE) or _added(  # type: ignore[return-value]
+        owner, SHAPE, Thing(next(_numbers), owner.name, owner.made), told, line,
+    )
 
 
-def element_of(owner: Owner, key: Any, is_simple: bool) -> Element:
-    """The element of a key. Of a key whose hash is the program's own code, the identity is its mark."""
-    mark = (key,) if is_simple else ("object", id(key))
-    element = owner.things.get(mark)
-    if element is None:
-        told = key if is_simple else KeyOfType(f"a {name_of(type(key))}")
-        element = owner.things[mark] = Element(next(_numbers), owner, told)
-        _tell_maker(owner, element)
-    return element  # type: ignore[return-value]
+def mark_of(key: Any, value: Any) -> tuple[Any, Any]:
+    """What a key is known by, and what is told of it. If its hash is the program's own code, its identity is its mark."""
+    if value is key:
+        return (key,), key
+    told = KeyOfType(f"a {name_of(type(key))}")
+    return (("object", id(key)), told) if value is UNKNOWN else ((value,), told)
+
+
+def element_of(owner: Owner, mark: Any, key: Any, told: dict[Any, Touched], line: Line | None) -> Element:
+    return owner.things.get(mark) or _added(  # type: ignore[return-value]
+        owner, mark, Element(next(_numbers), owner, key), told, line,
+    )
 
 
 _variables: dict[tuple[str, str], Thing] = {}
@@ -268,6 +312,6 @@ _variables: dict[tuple[str, str], Thing] = {}
 def variable_of(module: str, name: str, made: str = "") -> Thing:
     thing = _variables.get((module, name))
     if thing is None:
-        whole = name if module == "__main__" else f"{module}.{name}"
-        thing = _variables[module, name] = Thing(next(_numbers), whole, made)
+        whole = name if module in ("__main__", "__mp_main__") else f"{module}.{name}"
+        thing = _variables.setdefault((module, name), Thing(next(_numbers), whole, made))
     return thing

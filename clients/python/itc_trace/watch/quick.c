@@ -1,0 +1,1284 @@
+/* The hooks of watched modules, and what they look at for most touches, in C.
+
+   They do what the hooks of hooks.py do, which they stand in for: these say why. What is rare is left to them, too. Whatever is asked of
+   a type is asked once for each place, and kept for as long as the type stays as it is. No code of the program is run. */
+
+#define PY_SSIZE_T_CLEAN
+#include <Python.h>
+#include <structmember.h>
+#include <stdint.h>
+#include <string.h>
+
+#if PY_VERSION_HEX < 0x030B0000 || PY_VERSION_HEX >= 0x030C0000
+#error "It is for Python 3.11 alone: others have other objects."
+#endif
+
+/* What the Python part hands over. */
+
+static struct {
+    PyObject *stretches;      /* The stretch of each thread, by its identity. */
+    PyObject *state;          /* Whether tracing is on. */
+    PyObject *made;           /* Where objects were made. */
+    PyObject *begun;          /* How many references there were when a constructor began. */
+    PyObject *never;          /* What has been seen of an owner that nobody has touched. */
+    PyObject *owner_type;
+    PyObject *made_type;
+    PyObject *maker;          /* Whose the task is. */
+    PyObject *begin_stretch;
+    PyObject *share;          /* A second task has reached an owner. */
+    PyObject *shorten;        /* Many stretches have reached an owner. */
+    PyObject *saw;
+    PyObject *note_shared;
+    PyObject *what_of;        /* What a place is to a type. */
+    PyObject *failed;
+    PyObject *fields_of;      /* Whose fields some dictionaries have. */
+    PyObject *field, *whole, *nested, *method, *steps, *keyed, *variable, *cell, *went_on, *second;  /* What is done for the rest. */
+    long long begun_more;     /* How many references more the beginning of a constructor counts. */
+} given;
+
+static PyObject *text_note, *text_line, *text_leave, *text_constructor, *no_words;
+
+/* What was seen of an owner in a stretch: a dictionary of marks. */
+
+typedef struct {
+    PyDictObject marks;
+    PyObject *stretch;
+} Seen;
+
+static int seen_traverse(Seen *self, visitproc visit, void *arg)
+{
+    Py_VISIT(self->stretch);
+    return PyDict_Type.tp_traverse((PyObject *)self, visit, arg);
+}
+
+static int seen_clear(Seen *self)
+{
+    Py_CLEAR(self->stretch);
+    return PyDict_Type.tp_clear((PyObject *)self);
+}
+
+static void seen_dealloc(Seen *self)
+{
+    PyObject_GC_UnTrack(self);
+    Py_CLEAR(self->stretch);
+    PyDict_Type.tp_dealloc((PyObject *)self);
+}
+
+static int seen_init(Seen *self, PyObject *words, PyObject *named)
+{
+    PyObject *stretch;
+    if (named != NULL || !PyArg_ParseTuple(words, "O", &stretch))
+        return -1;
+    Py_XSETREF(self->stretch, Py_NewRef(stretch));
+    return 0;
+}
+
+static PyMemberDef seen_members[] = {
+    {"stretch", T_OBJECT, offsetof(Seen, stretch), 0, NULL},
+    {NULL},
+};
+
+static PyTypeObject SeenType = {
+    PyVarObject_HEAD_INIT(NULL, 0)
+    .tp_name = "itc_trace.watch.quick.Seen",
+    .tp_basicsize = sizeof(Seen),
+    .tp_flags = Py_TPFLAGS_DEFAULT | Py_TPFLAGS_HAVE_GC | Py_TPFLAGS_BASETYPE,
+    .tp_base = &PyDict_Type,
+    .tp_traverse = (traverseproc)seen_traverse,
+    .tp_clear = (inquiry)seen_clear,
+    .tp_dealloc = (destructor)seen_dealloc,
+    .tp_init = (initproc)seen_init,
+    .tp_members = seen_members,
+};
+
+static Seen *new_seen(PyObject *stretch)
+{
+    Seen *seen = (Seen *)PyDict_Type.tp_new(&SeenType, no_words, NULL);
+    if (seen != NULL)
+        seen->stretch = Py_NewRef(stretch);
+    return seen;
+}
+
+/* The owner of things. */
+
+typedef struct {
+    PyObject_HEAD
+    PyObject *base, *class_name, *maker, *site, *seen, *history, *things, *recipes, *reference, *name, *made, *making;
+    char is_sharing, is_shared;
+    void *one;
+} Owner;
+
+static int owner_traverse(Owner *self, visitproc visit, void *arg)
+{
+    Py_VISIT(self->maker);
+    Py_VISIT(self->seen);
+    Py_VISIT(self->history);
+    Py_VISIT(self->things);
+    Py_VISIT(self->recipes);
+    Py_VISIT(self->reference);
+    Py_VISIT(self->making);
+    return 0;
+}
+
+static int owner_clear(Owner *self)
+{
+    PyObject **fields[] = {
+        &self->base, &self->class_name, &self->maker, &self->site, &self->seen, &self->history, &self->things, &self->recipes,
+        &self->reference, &self->name, &self->made, &self->making,
+    };
+    for (size_t place = 0; place < sizeof fields / sizeof *fields; place++)
+        Py_CLEAR(*fields[place]);
+    return 0;
+}
+
+static void owner_dealloc(Owner *self)
+{
+    PyObject_GC_UnTrack(self);
+    owner_clear(self);
+    Py_TYPE(self)->tp_free((PyObject *)self);
+}
+
+static PyObject *owner_called(Owner *self, PyObject *words, PyObject *named);
+static int leave_owner(Owner *owner);
+
+#define ON_DEMAND(field, make)                                        \
+    static PyObject *owner_##field(Owner *self, void *closure)       \
+    {                                                                 \
+        if (self->field == NULL && (self->field = make) == NULL)     \
+            return NULL;                                              \
+        return Py_NewRef(self->field);                               \
+    }
+
+ON_DEMAND(history, PyList_New(0))
+ON_DEMAND(things, PyDict_New())
+ON_DEMAND(recipes, PyDict_New())
+
+static PyGetSetDef owner_getset[] = {
+    {"history", (getter)owner_history, NULL, NULL, NULL},
+    {"things", (getter)owner_things, NULL, NULL, NULL},
+    {"recipes", (getter)owner_recipes, NULL, NULL, NULL},
+    {NULL},
+};
+
+static PyMemberDef owner_members[] = {
+    {"base", T_OBJECT, offsetof(Owner, base), 0, NULL},
+    {"class_name", T_OBJECT, offsetof(Owner, class_name), 0, NULL},
+    {"maker", T_OBJECT, offsetof(Owner, maker), 0, NULL},
+    {"site", T_OBJECT, offsetof(Owner, site), 0, NULL},
+    {"seen", T_OBJECT, offsetof(Owner, seen), 0, NULL},
+    {"reference", T_OBJECT, offsetof(Owner, reference), 0, NULL},
+    {"_name", T_OBJECT, offsetof(Owner, name), 0, NULL},
+    {"_made", T_OBJECT, offsetof(Owner, made), 0, NULL},
+    {"_making", T_OBJECT, offsetof(Owner, making), 0, NULL},
+    {"is_sharing", T_BOOL, offsetof(Owner, is_sharing), 0, NULL},
+    {"is_shared", T_BOOL, offsetof(Owner, is_shared), 0, NULL},
+    {NULL},
+};
+
+static PyTypeObject OwnerType = {
+    PyVarObject_HEAD_INIT(NULL, 0)
+    .tp_name = "itc_trace.watch.quick.OwnerFields",
+    .tp_basicsize = sizeof(Owner),
+    .tp_flags = Py_TPFLAGS_DEFAULT | Py_TPFLAGS_HAVE_GC | Py_TPFLAGS_BASETYPE,
+    .tp_traverse = (traverseproc)owner_traverse,
+    .tp_clear = (inquiry)owner_clear,
+    .tp_dealloc = (destructor)owner_dealloc,
+    .tp_call = (ternaryfunc)owner_called,
+    .tp_getset = owner_getset,
+    .tp_members = owner_members,
+};
+
+/* The owners of all objects that are known, by identity. */
+
+static struct {
+    void **ones;
+    Owner **owners;
+    size_t size, used;  /* The size is a power of two. */
+} table;
+
+static size_t slot_of(void *one)
+{
+    return (size_t)(((uintptr_t)one >> 4) * 0x9E3779B97F4A7C15u >> 20) & (table.size - 1);
+}
+
+static inline Owner *find_owner(void *one)
+{
+    if (table.size == 0)
+        return NULL;
+    for (size_t slot = slot_of(one); table.ones[slot] != NULL; slot = (slot + 1) & (table.size - 1))
+        if (table.ones[slot] == one)
+            return table.owners[slot];
+    return NULL;
+}
+
+static void put_owner(void *one, Owner *owner)
+{
+    size_t slot = slot_of(one);
+    while (table.ones[slot] != NULL)
+        slot = (slot + 1) & (table.size - 1);
+    table.ones[slot] = one;
+    table.owners[slot] = owner;
+    table.used++;
+}
+
+static int grow_table(void)
+{
+    size_t size = table.size, wanted = size == 0 ? 1024 : 2 * size;
+    void **ones = table.ones;
+    Owner **owners = table.owners;
+    void **more_ones = PyMem_RawCalloc(wanted, sizeof *more_ones);
+    Owner **more_owners = PyMem_RawCalloc(wanted, sizeof *more_owners);
+    if (more_ones == NULL || more_owners == NULL) {
+        PyMem_RawFree(more_ones);
+        PyMem_RawFree(more_owners);
+        PyErr_NoMemory();
+        return -1;
+    }
+    table.ones = more_ones;
+    table.owners = more_owners;
+    table.size = wanted;
+    table.used = 0;
+    for (size_t slot = 0; slot < size; slot++)
+        if (ones[slot] != NULL)
+            put_owner(ones[slot], owners[slot]);
+    PyMem_RawFree(ones);
+    PyMem_RawFree(owners);
+    return 0;
+}
+
+/* Takes an owner over, as the one of this object. */
+static int add_owner(void *one, Owner *owner)
+{
+    if (2 * (table.used + 1) > table.size && grow_table() < 0)
+        return -1;
+    put_owner(one, (Owner *)Py_NewRef((PyObject *)owner));
+    return 0;
+}
+
+/* Takes an owner out, and hands it over. Those behind it move up. */
+static Owner *take_owner(void *one)
+{
+    if (table.size == 0)
+        return NULL;
+    size_t mask = table.size - 1, slot = slot_of(one);
+    while (table.ones[slot] != one) {
+        if (table.ones[slot] == NULL)
+            return NULL;
+        slot = (slot + 1) & mask;
+    }
+    Owner *taken = table.owners[slot];
+    size_t hole = slot;
+    for (size_t next = (slot + 1) & mask; table.ones[next] != NULL; next = (next + 1) & mask) {
+        size_t home = slot_of(table.ones[next]);
+        if (((next - home) & mask) >= ((next - hole) & mask)) {
+            table.ones[hole] = table.ones[next];
+            table.owners[hole] = table.owners[next];
+            hole = next;
+        }
+    }
+    table.ones[hole] = NULL;
+    table.owners[hole] = NULL;
+    table.used--;
+    return taken;
+}
+
+/* It is called when its object is gone. */
+static PyObject *owner_called(Owner *self, PyObject *words, PyObject *named)
+{
+    Py_INCREF(self);
+    if (self->one != NULL && find_owner(self->one) == self)
+        Py_XDECREF(take_owner(self->one));
+    self->one = NULL;
+    int result = leave_owner(self);
+    Py_DECREF(self);
+    return result < 0 ? NULL : Py_NewRef(Py_None);
+}
+
+/* What cannot be referred to weakly, and is held therefore: a ring, whose size is a power of two. */
+
+#define MOST_HELD 20000
+#define LOOKED_THROUGH 2
+#define LOOKED_THROUGH_AT_ONCE 64
+
+static struct {
+    PyObject **ones;
+    size_t size, first, count;
+} held;
+
+static PyObject *take_held(void)
+{
+    PyObject *one = held.ones[held.first];
+    held.first = (held.first + 1) & (held.size - 1);
+    held.count--;
+    return one;
+}
+
+/* Takes a reference over. */
+static void put_held(PyObject *one)
+{
+    held.ones[(held.first + held.count) & (held.size - 1)] = one;
+    held.count++;
+}
+
+static int make_room_for_held(void)
+{
+    if (held.count < held.size)
+        return 0;
+    size_t size = held.size == 0 ? 1024 : 2 * held.size, count = held.count;
+    PyObject **ones = PyMem_RawMalloc(size * sizeof *ones);
+    if (ones == NULL) {
+        PyErr_NoMemory();
+        return -1;
+    }
+    for (size_t place = 0; place < count; place++)
+        ones[place] = held.ones[(held.first + place) & (held.size - 1)];
+    PyMem_RawFree(held.ones);
+    held.ones = ones;
+    held.size = size;
+    held.first = 0;
+    return 0;
+}
+
+static int leave_owner(Owner *owner)
+{
+    PyObject *left = owner->things == NULL ? Py_NewRef(Py_None) : PyObject_CallMethodNoArgs((PyObject *)owner, text_leave);
+    Py_XDECREF(left);
+    return left == NULL ? -1 : 0;
+}
+
+/* Lets go of some of what nobody else holds any more, and of the oldest where too many are held. */
+static int let_go_of_some(size_t most)
+{
+    for (size_t looked = Py_MIN(most, held.count); looked > 0 && held.count > 0; looked--) {
+        PyObject *one = take_held();
+        int is_alone = Py_REFCNT(one) == 1, result = 0;
+        if (!is_alone && held.count < MOST_HELD) {
+            put_held(one);
+            continue;
+        }
+        Owner *owner = take_owner(one);
+        if (owner != NULL && is_alone)
+            result = leave_owner(owner);
+        Py_XDECREF((PyObject *)owner);
+        Py_DECREF(one);
+        if (result < 0)
+            return -1;
+    }
+    return 0;
+}
+
+static int hold(PyObject *one)
+{
+    if (make_room_for_held() < 0)
+        return -1;
+    put_held(Py_NewRef(one));
+    return 0;
+}
+
+static void let_go_of_all(void)
+{
+    while (held.count > 0)
+        Py_DECREF(take_held());
+}
+
+static PyObject *owners_let_go(PyObject *self, PyObject *most)
+{
+    size_t count = PyLong_AsSize_t(most);
+    if (PyErr_Occurred() || let_go_of_some(count) < 0)
+        return NULL;
+    Py_RETURN_NONE;
+}
+
+static PyObject *owners_get(PyObject *self, PyObject *key)
+{
+    void *one = PyLong_AsVoidPtr(key);
+    if (one == NULL && PyErr_Occurred())
+        return NULL;
+    Owner *owner = find_owner(one);
+    return Py_NewRef(owner == NULL ? Py_None : (PyObject *)owner);
+}
+
+static PyObject *owners_pop(PyObject *self, PyObject *const *words, Py_ssize_t count)
+{
+    void *one = count < 1 ? NULL : PyLong_AsVoidPtr(words[0]);
+    if (one == NULL && PyErr_Occurred())
+        return NULL;
+    Owner *owner = one == NULL ? NULL : take_owner(one);
+    return owner == NULL ? Py_NewRef(Py_None) : (PyObject *)owner;
+}
+
+static PyObject *owners_values(PyObject *self, PyObject *ignored)
+{
+    PyObject *found = PyList_New(0);
+    for (size_t slot = 0; found != NULL && slot < table.size; slot++)
+        if (table.ones[slot] != NULL && PyList_Append(found, (PyObject *)table.owners[slot]) < 0)
+            Py_CLEAR(found);
+    return found;
+}
+
+static PyObject *owners_clear(PyObject *self, PyObject *ignored)
+{
+    size_t size = table.size;
+    void **ones = table.ones;
+    Owner **owners = table.owners;
+    memset(&table, 0, sizeof table);
+    for (size_t slot = 0; slot < size; slot++)
+        if (ones[slot] != NULL) {
+            Py_CLEAR(owners[slot]->reference);
+            Py_DECREF(owners[slot]);
+        }
+    PyMem_RawFree(ones);
+    PyMem_RawFree(owners);
+    let_go_of_all();
+    Py_RETURN_NONE;
+}
+
+static PyMethodDef owners_methods[] = {
+    {"get", owners_get, METH_O, NULL},
+    {"pop", (PyCFunction)(void (*)(void))owners_pop, METH_FASTCALL, NULL},
+    {"values", owners_values, METH_NOARGS, NULL},
+    {"clear", owners_clear, METH_NOARGS, NULL},
+    {"let_go_of_some", owners_let_go, METH_O, NULL},
+    {NULL},
+};
+
+static PyTypeObject OwnersType = {
+    PyVarObject_HEAD_INIT(NULL, 0)
+    .tp_name = "itc_trace.watch.quick.Owners",
+    .tp_basicsize = sizeof(PyObject),
+    .tp_flags = Py_TPFLAGS_DEFAULT,
+    .tp_methods = owners_methods,
+};
+
+static long long next_base = 1LL << 32;
+
+/* Fills an owner in. A new one of an object that may be referred to weakly is told when the object is gone. */
+static Owner *new_owner(PyObject *one, PyObject *name)
+{
+    PyTypeObject *type = Py_TYPE(one);
+    Owner *owner = (Owner *)((PyTypeObject *)given.owner_type)->tp_alloc((PyTypeObject *)given.owner_type, 0);
+    PyObject *key = PyLong_FromVoidPtr(one), *made = NULL;
+    if (owner == NULL || key == NULL)
+        goto fail;
+    owner->one = one;
+    owner->base = PyLong_FromLongLong(next_base);
+    next_base += 1LL << 32;
+    owner->class_name = PyType_GetName(type);
+    owner->site = PyLong_FromLong(0);
+    if (owner->base == NULL || owner->class_name == NULL || owner->site == NULL)
+        goto fail;
+    owner->name = Py_NewRef(name);
+    owner->seen = Py_NewRef(given.never);
+    made = PyDict_GetItemWithError(given.made, key);
+    if (made == NULL && PyErr_Occurred())
+        goto fail;
+    if (made != NULL && PyTuple_Check(made) && PyTuple_GET_SIZE(made) == 4 && PyUnicode_Compare(PyTuple_GET_ITEM(made, 0), owner->class_name) == 0) {
+        owner->making = Py_NewRef(made);
+        if (PyTuple_GET_ITEM(made, 1) == Py_None) {
+            Py_SETREF(owner->site, Py_NewRef(PyTuple_GET_ITEM(made, 2)));
+            owner->maker = Py_NewRef(PyTuple_GET_ITEM(made, 3));
+        }
+    }
+    int is_weak = PyType_SUPPORTS_WEAKREFS(type);
+    if (is_weak ? (owner->reference = PyWeakref_NewRef(one, (PyObject *)owner)) == NULL : let_go_of_some(LOOKED_THROUGH) < 0)
+        goto fail;
+    Owner *first = find_owner(one);  /* Another task may have come meanwhile. */
+    if (first != NULL) {
+        Py_INCREF((PyObject *)first);
+        Py_CLEAR(owner->reference);
+        Py_SETREF(owner, first);
+    } else if ((!is_weak && hold(one) < 0) || add_owner(one, owner) < 0)
+        goto fail;
+    Py_DECREF(key);
+    return owner;
+fail:
+    Py_XDECREF(key);
+    if (owner != NULL)
+        Py_CLEAR(owner->reference);
+    Py_XDECREF((PyObject *)owner);
+    return NULL;
+}
+
+/* A new reference. */
+static inline Owner *owner_for(PyObject *one, PyObject *name)
+{
+    Owner *owner = find_owner(one);
+    return owner != NULL ? (Owner *)Py_NewRef((PyObject *)owner) : new_owner(one, name);
+}
+
+static PyObject *owner_of(PyObject *self, PyObject *const *words, Py_ssize_t count)
+{
+    if (count != 2) {
+        PyErr_SetString(PyExc_TypeError, "owner_of takes an object and a name");
+        return NULL;
+    }
+    return (PyObject *)owner_for(words[0], words[1]);
+}
+
+/* The stretch of this thread. It is looked up once for each change of the stretches, and each change of the thread. */
+
+static inline PyObject *current_stretch(void)
+{
+    static uint64_t known_version, known_thread;
+    static PyObject *known;
+    uint64_t version = ((PyDictObject *)given.stretches)->ma_version_tag;
+    PyThreadState *thread = PyThreadState_Get();
+    if (version == known_version && thread->id == known_thread)
+        return known;
+    PyObject *key = PyLong_FromUnsignedLong(PyThread_get_thread_ident());
+    if (key == NULL)
+        return NULL;
+    known = PyDict_GetItemWithError(given.stretches, key);
+    Py_DECREF(key);
+    known_version = version;
+    known_thread = thread->id;
+    return known;
+}
+
+static inline int is_seen(Owner *owner, PyObject *mark)
+{
+    Seen *seen = (Seen *)owner->seen;
+    if (seen == NULL || PyDict_GET_SIZE(seen) == 0 || seen->stretch != current_stretch())
+        return 0;
+    int is_there = PyDict_Contains((PyObject *)seen, mark);
+    if (is_there < 0)
+        PyErr_Clear();  /* What is not known to be seen is noted. */
+    return is_there > 0;
+}
+
+/* What each place is to a type: decided once, for as long as the type stays as it is. */
+
+/* What is DEEP has more inside that is looked at. What is LEFT is left to Python, whoever refers to it: it has the containers inside. */
+enum what { NONE, FIELD, SHAPE, OF_DICT, OF_LIST, OTHER, OWN_FIELD, OF_CLASS, STEPS, DEEP, LEFT };
+
+typedef struct {
+    PyTypeObject *type;
+    unsigned version;
+    enum what what;
+    PyObject *site, *late, *name, *field;
+} Decision;
+
+#define MOST_DECISIONS 16384  /* A power of two. Two that come to the same slot displace each other. */
+
+static Decision decisions[MOST_DECISIONS];
+
+static inline size_t slot_of_decision(PyTypeObject *type, long site)
+{
+    return (size_t)((((uintptr_t)type >> 4) * 0x9E3779B97F4A7C15u + (uint64_t)site * 0xC2B2AE3D27D4EB4Fu) >> 40) & (MOST_DECISIONS - 1);
+}
+
+static void clear_decision(Decision *known)
+{
+    known->type = NULL;
+    Py_CLEAR(known->site);
+    Py_CLEAR(known->late);
+    Py_CLEAR(known->name);
+    Py_CLEAR(known->field);
+}
+
+static PyObject *forget(PyObject *self, PyObject *ignored)
+{
+    for (size_t slot = 0; slot < MOST_DECISIONS; slot++)
+        clear_decision(&decisions[slot]);
+    Py_RETURN_NONE;
+}
+
+/* Asks the Python part. Without a version the type cannot be told from a changed one: then it is asked each time. */
+static Decision *decide(PyTypeObject *type, PyObject *site, Decision *known, char hook)
+{
+    char letter[2] = {hook, 0};
+    PyObject *found = PyObject_CallFunction(given.what_of, "sOO", letter, type, site), *late, *name, *field;
+    int what;
+    if (found == NULL)
+        return NULL;
+    if (!PyArg_ParseTuple(found, "iOOO", &what, &late, &name, &field)) {
+        Py_DECREF(found);
+        return NULL;
+    }
+    _PyType_Lookup(type, text_line);  /* It gives the type a version. */
+    clear_decision(known);
+    known->type = type;
+    known->version = PyType_HasFeature(type, Py_TPFLAGS_VALID_VERSION_TAG) ? type->tp_version_tag : 0;
+    known->what = (enum what)what;
+    known->site = Py_NewRef(site);
+    known->late = Py_NewRef(late);
+    known->name = Py_NewRef(name);
+    known->field = Py_NewRef(field);
+    Py_DECREF(found);
+    return known;
+}
+
+static inline int is_same_number(PyObject *one, PyObject *other)
+{
+    return one == other || (one != NULL && PyLong_AsLong(one) == PyLong_AsLong(other));
+}
+
+static inline Decision *decision_of(PyTypeObject *type, PyObject *site, char hook)
+{
+    Decision *known = &decisions[slot_of_decision(type, PyLong_AsLong(site))];
+    if (known->type == type && known->version == type->tp_version_tag && known->version != 0
+        && PyType_HasFeature(type, Py_TPFLAGS_VALID_VERSION_TAG) && is_same_number(known->site, site))
+        return known;
+    return decide(type, site, known, hook);
+}
+
+/* Whether the object itself has the field: 0 or 1, and -1 if the Python part has to find out. No descriptor is called. */
+static int has_own(PyObject *one, PyObject *field)
+{
+    PyObject *of_class = _PyType_Lookup(Py_TYPE(one), field);
+    if (of_class != NULL && Py_TYPE(of_class)->tp_descr_get != NULL)
+        return -1;
+    PyObject *found = _PyObject_GenericGetAttrWithDict(one, field, NULL, 1);
+    int is_own = found == NULL ? (PyErr_Occurred() ? -1 : 0) : found == of_class ? -1 : 1;
+    Py_XDECREF(found);
+    PyErr_Clear();
+    return is_own;
+}
+
+/* Keeping touches. */
+
+#define SHORTENED_AT 64
+
+/* Another stretch has reached the owner. */
+static Seen *begin_seen(Owner *owner, PyObject *stretch)
+{
+    Seen *seen = new_seen(stretch);
+    if (seen == NULL)
+        return NULL;
+    if (!owner->is_shared) {
+        if (owner->history == NULL && (owner->history = PyList_New(0)) == NULL)
+            goto fail;
+        if (PyList_Append(owner->history, (PyObject *)seen) < 0)
+            goto fail;
+        if (PyList_GET_SIZE(owner->history) % SHORTENED_AT == 0) {
+            PyObject *shortened = PyObject_CallOneArg(given.shorten, (PyObject *)owner);
+            if (shortened == NULL)
+                goto fail;
+            Py_DECREF(shortened);
+        }
+        if (PyList_GET_SIZE(owner->history) == 0)
+            goto done;  /* Another task has shared it meanwhile. */
+        PyObject *first = ((Seen *)PyList_GET_ITEM(owner->history, 0))->stretch;
+        if (first != stretch) {
+            Py_INCREF(first);
+            PyObject *line = PyObject_GetAttr(first, text_line), *own = PyObject_GetAttr(stretch, text_line);
+            int is_other = line != own;
+            Py_DECREF(first);
+            Py_XDECREF(line);
+            Py_XDECREF(own);
+            if (line == NULL || own == NULL)
+                goto fail;
+            if (is_other) {
+                PyObject *shared = PyObject_CallOneArg(given.share, (PyObject *)owner);
+                if (shared == NULL)
+                    goto fail;
+                Py_DECREF(shared);
+            }
+        }
+    }
+done:
+    Py_XSETREF(owner->seen, Py_NewRef((PyObject *)seen));
+    return seen;
+fail:
+    Py_DECREF((PyObject *)seen);
+    return NULL;
+}
+
+static int note_of_shared(Owner *owner, PyObject *stretch, PyObject *mark, PyObject *late, int is_repeated)
+{
+    PyObject *known = owner->recipes == NULL || !is_repeated ? NULL : PyDict_GetItemWithError(owner->recipes, mark);
+    if (known != NULL) {
+        Py_INCREF(known);
+        int put = PyDict_Update(stretch, known);
+        Py_DECREF(known);
+        return put;
+    }
+    if (PyErr_Occurred())
+        return -1;
+    PyObject *noted = PyObject_CallFunctionObjArgs(given.note_shared, owner, stretch, mark, late, is_repeated ? Py_True : Py_False, NULL);
+    Py_XDECREF(noted);
+    return noted == NULL ? -1 : 0;
+}
+
+static int saw_by_python(Owner *owner, PyObject *mark, PyObject *late, int is_repeated)
+{
+    PyObject *seen = PyObject_CallFunctionObjArgs(given.saw, owner, mark, late, is_repeated ? Py_True : Py_False, NULL);
+    Py_XDECREF(seen);
+    return seen == NULL ? -1 : 0;
+}
+
+/* As `saw` of late.py. */
+static int saw(Owner *owner, PyObject *mark, PyObject *late, int is_repeated)
+{
+    PyObject *note = PyObject_GetAttr(given.state, text_note);
+    if (note == NULL)
+        return -1;
+    if (note == Py_None) {
+        Py_DECREF(note);
+        return saw_by_python(owner, mark, late, is_repeated);
+    }
+    PyObject *stretch = current_stretch();
+    if (stretch == NULL && PyErr_Occurred()) {
+        Py_DECREF(note);
+        return -1;
+    }
+    stretch = stretch == NULL ? PyObject_CallOneArg(given.begin_stretch, note) : Py_NewRef(stretch);
+    Py_DECREF(note);
+    if (stretch == NULL)
+        return -1;
+    Seen *seen = (Seen *)owner->seen;
+    seen = seen == NULL || seen->stretch != stretch ? begin_seen(owner, stretch) : (Seen *)Py_NewRef((PyObject *)seen);
+    int result = -1;
+    if (seen != NULL) {
+        PyObject *found = PyDict_SetDefault((PyObject *)seen, mark, late);
+        if (found == late)
+            result = owner->is_shared ? note_of_shared(owner, stretch, mark, late, is_repeated) : 0;
+        else if (found != NULL)
+            result = saw_by_python(owner, mark, late, is_repeated);
+        Py_DECREF((PyObject *)seen);
+    }
+    Py_DECREF(stretch);
+    return result;
+}
+
+/* Gives back what the hook was given. A fault stops tracing, and does not reach the program. */
+static PyObject *end_hook(PyObject *back, int result)
+{
+    if (result < 0 && PyErr_Occurred()) {
+        if (!PyErr_ExceptionMatches(PyExc_Exception))
+            return NULL;
+        PyObject *type, *fault, *trace;
+        PyErr_Fetch(&type, &fault, &trace);
+        PyErr_NormalizeException(&type, &fault, &trace);
+        PyObject *told = PyObject_CallOneArg(given.failed, fault);
+        Py_XDECREF(type);
+        Py_XDECREF(fault);
+        Py_XDECREF(trace);
+        if (told == NULL)
+            return NULL;
+        Py_DECREF(told);
+    }
+    return Py_NewRef(back);
+}
+
+static PyObject *ended(PyObject *back, PyObject *result)
+{
+    Py_XDECREF(result);
+    return end_hook(back, result == NULL ? -1 : 0);
+}
+
+/* The hooks. `limit` is how many references there are of what nobody else can see: none where that does not count. */
+
+#define ANYBODY 0
+#define OF_TEMPORARY 1
+#define OF_VARIABLE 2
+#define OF_VARIABLE_IN_USE 3
+
+static int see_as(PyObject *one, PyObject *mark, PyObject *late, PyObject *name, int is_repeated)
+{
+    Owner *owner = owner_for(one, name);
+    int result = owner == NULL ? -1 : saw(owner, mark, late, is_repeated);
+    Py_XDECREF((PyObject *)owner);
+    return result;
+}
+
+static PyObject *see(PyObject *one, PyObject *site, Decision *decision, PyObject *back)
+{
+    PyObject *late = Py_NewRef(decision->late), *name = Py_NewRef(decision->name);  /* What comes next may decide anew. */
+    int result = see_as(one, site, late, name, 1);
+    Py_DECREF(late);
+    Py_DECREF(name);
+    return end_hook(back, result);
+}
+
+static PyObject *touch_field(PyObject *one, PyObject *site, Py_ssize_t limit, char hook)
+{
+    Decision *decision = decision_of(Py_TYPE(one), site, hook);
+    if (decision == NULL)
+        return end_hook(one, -1);
+    enum what what = decision->what;
+    if (what == NONE)
+        return Py_NewRef(one);
+    Owner *owner = find_owner(one);
+    if (owner == NULL ? Py_REFCNT(one) <= limit : is_seen(owner, site))
+        return Py_NewRef(one);
+    if (what == OWN_FIELD || what == OF_CLASS) {
+        PyObject *field = Py_NewRef(decision->field);  /* A look into an object's own fields may have it decided anew. */
+        int is_own = has_own(one, field);
+        Py_DECREF(field);
+        if (is_own == 0 && what == OWN_FIELD)
+            return Py_NewRef(one);
+        what = is_own > 0 ? FIELD : OTHER;
+    }
+    if (what != FIELD)
+        return ended(one, PyObject_CallFunctionObjArgs(given.field, one, site, NULL));
+    decision = decision_of(Py_TYPE(one), site, hook);
+    return decision == NULL ? end_hook(one, -1) : see(one, site, decision, one);
+}
+
+/* Whether it is a dictionary that has the fields of an object, which Python looks at. */
+static inline int has_fields(PyObject *one)
+{
+    if (PyDict_GET_SIZE(given.fields_of) == 0 || !PyDict_CheckExact(one))
+        return 0;
+    PyObject *key = PyLong_FromVoidPtr(one);
+    int result = key == NULL ? -1 : PyDict_Contains(given.fields_of, key);
+    Py_XDECREF(key);
+    if (result < 0)
+        PyErr_Clear();
+    return result > 0;
+}
+
+static PyObject *touch_whole(PyObject *one, PyObject *site, Py_ssize_t limit)
+{
+    Decision *decision = decision_of(Py_TYPE(one), site, 'h');
+    if (decision == NULL)
+        return end_hook(one, -1);
+    if (decision->what == NONE)
+        return Py_NewRef(one);
+    if (decision->what == LEFT || has_fields(one))
+        return ended(one, PyObject_CallFunctionObjArgs(given.whole, one, site, NULL));
+    Owner *owner = find_owner(one);
+    if (owner == NULL && Py_REFCNT(one) <= limit)
+        return decision->what == DEEP ? ended(one, PyObject_CallFunctionObjArgs(given.nested, one, site, NULL)) : Py_NewRef(one);
+    if (owner != NULL && is_seen(owner, site))
+        return Py_NewRef(one);
+    if (decision->what == SHAPE)
+        return see(one, site, decision, one);
+    return ended(one, PyObject_CallFunctionObjArgs(given.whole, one, site, NULL));
+}
+
+static PyObject *touch_method(PyObject *one, PyObject *site, Py_ssize_t limit)
+{
+    Decision *decision = decision_of(Py_TYPE(one), site, 'm');
+    if (decision == NULL)
+        return end_hook(one, -1);
+    if (decision->what == NONE)
+        return Py_NewRef(one);
+    if (decision->what == LEFT || has_fields(one))
+        return ended(one, PyObject_CallFunctionObjArgs(given.method, one, site, NULL));
+    if (decision->what != SHAPE)
+        return touch_field(one, site, ANYBODY, 'm');
+    Owner *owner = find_owner(one);
+    if (owner == NULL ? Py_REFCNT(one) <= limit : is_seen(owner, site))
+        return Py_NewRef(one);
+    return see(one, site, decision, one);
+}
+
+static PyObject *steps_through(PyObject *one, PyObject *site, Decision *decision);
+
+static PyObject *touch_steps(PyObject *one, PyObject *site, Py_ssize_t limit)
+{
+    Decision *decision = decision_of(Py_TYPE(one), site, 'f');
+    if (decision == NULL)
+        return end_hook(one, -1);
+    if (decision->what == LEFT || has_fields(one)) {
+        PyObject *left = PyObject_CallFunctionObjArgs(given.steps, one, site, NULL);
+        return left != NULL ? left : end_hook(one, -1);
+    }
+    if (decision->what == NONE || (find_owner(one) == NULL && Py_REFCNT(one) <= limit))
+        return Py_NewRef(one);
+    PyObject *steps = steps_through(one, site, decision);
+    return steps != NULL ? steps : end_hook(one, -1);
+}
+
+static int is_simple(PyObject *key)
+{
+    return PyUnicode_CheckExact(key) || PyLong_CheckExact(key) || PyBytes_CheckExact(key) || PyFloat_CheckExact(key) || PyBool_Check(key)
+        || key == Py_None;
+}
+
+/* What a key of a plain dictionary comes to. */
+static PyObject *late_of_key(PyObject *one, PyObject *key, PyObject *site, PyObject *made, int *is_repeated)
+{
+    PyObject *make = PyTuple_GET_ITEM(made, 0), *kinds = PyTuple_GET_ITEM(made, 1), *if_there = PyTuple_GET_ITEM(made, 2);
+    PyObject *kinds_there = PyTuple_GET_ITEM(made, 3), *if_not = PyTuple_GET_ITEM(made, 4);
+    int is_there = PyDict_Contains(one, key);
+    if (is_there < 0)
+        return NULL;
+    *is_repeated = is_there && if_there != if_not;
+    PyObject *mark = PyTuple_Pack(1, key);
+    PyObject *late = mark == NULL ? NULL : PyTuple_Pack(6, make, mark, key, is_there ? kinds_there : kinds, is_there ? if_there : if_not, site);
+    Py_XDECREF(mark);
+    return late;
+}
+
+static PyObject *late_of_index(PyObject *key, PyObject *site, PyObject *made)
+{
+    return PyTuple_Pack(5, PyTuple_GET_ITEM(made, 0), key, key, PyTuple_GET_ITEM(made, 1), site);
+}
+
+/* A key that is looked up without any code of the program. */
+static int saw_key(PyObject *one, PyObject *key, PyObject *site, PyObject *mark, Decision *decision)
+{
+    int is_repeated = 1;
+    PyObject *made = Py_NewRef(decision->late), *name = Py_NewRef(decision->name);
+    PyObject *late = decision->what == OF_DICT ? late_of_key(one, key, site, made, &is_repeated) : late_of_index(key, site, made);
+    int result = late == NULL ? -1 : see_as(one, mark, late, name, is_repeated);
+    Py_XDECREF(late);
+    Py_DECREF(made);
+    Py_DECREF(name);
+    return result;
+}
+
+static PyObject *touch_keyed(PyObject *one, PyObject *key, PyObject *site, Py_ssize_t limit, PyObject *back)
+{
+    Decision *decision = decision_of(Py_TYPE(one), site, 'k');
+    if (decision == NULL)
+        return end_hook(back, -1);
+    enum what what = decision->what;
+    if (what == NONE)
+        return Py_NewRef(back);
+    if (what == LEFT || has_fields(one))
+        return ended(back, PyObject_CallFunctionObjArgs(given.keyed, one, key, site, NULL));
+    Owner *owner = find_owner(one);
+    if (what == FIELD || what == OWN_FIELD || what == OF_CLASS) {
+        PyObject *touched = touch_field(one, site, ANYBODY, 'k');
+        Py_XDECREF(touched);
+        return touched == NULL ? NULL : Py_NewRef(back);
+    }
+    if (owner == NULL && Py_REFCNT(one) <= limit)
+        return Py_NewRef(back);
+    int result = -1;
+    PyObject *mark = NULL;
+    if (is_simple(key) && (what != OF_LIST || PyLong_CheckExact(key))) {
+        if ((mark = PyTuple_Pack(2, site, key)) == NULL)
+            return end_hook(back, -1);
+        decision = decision_of(Py_TYPE(one), site, 'k');  /* What was made just now may have had it decided anew. */
+        if (decision == NULL)
+            result = -1;
+        else if (owner != NULL && (owner = find_owner(one)) != NULL && is_seen(owner, mark))
+            result = 0;
+        else if (decision->what == OF_DICT || (decision->what == OF_LIST && Py_SIZE(key) >= 0))
+            result = saw_key(one, key, site, mark, decision);
+        else
+            Py_CLEAR(mark);
+    }
+    if (mark == NULL)
+        return ended(back, PyObject_CallFunctionObjArgs(given.keyed, one, key, site, NULL));
+    Py_DECREF(mark);
+    return end_hook(back, result);
+}
+
+#define WORDS(wanted)                                                                  \
+    if (count != (wanted)) {                                                           \
+        PyErr_SetString(PyExc_TypeError, "a hook was given too many or too few words"); \
+        return NULL;                                                                   \
+    }
+
+#define HOOK(name, wanted, result)                                                               \
+    static PyObject *hook_##name(PyObject *self, PyObject *const *words, Py_ssize_t count)        \
+    {                                                                                             \
+        WORDS(wanted)                                                                             \
+        return result;                                                                            \
+    }
+
+HOOK(o, 2, touch_field(words[0], words[1], ANYBODY, 'o'))
+HOOK(o_local, 2, touch_field(words[0], words[1], OF_VARIABLE, 'o'))
+HOOK(h, 2, touch_whole(words[0], words[1], OF_TEMPORARY))
+HOOK(h_local, 2, touch_whole(words[0], words[1], OF_VARIABLE))
+HOOK(m, 2, touch_method(words[0], words[1], OF_TEMPORARY))
+HOOK(m_local, 2, touch_method(words[0], words[1], OF_VARIABLE))
+HOOK(f, 2, touch_steps(words[0], words[1], OF_TEMPORARY))
+HOOK(f_local, 2, touch_steps(words[0], words[1], OF_VARIABLE))
+HOOK(k, 3, touch_keyed(words[0], words[1], words[2], OF_TEMPORARY, words[0]))
+HOOK(k_local, 3, touch_keyed(words[0], words[1], words[2], OF_VARIABLE, words[0]))
+HOOK(K, 3, touch_keyed(words[0], words[1], words[2], ANYBODY, words[1]))
+HOOK(K_local, 3, touch_keyed(words[0], words[1], words[2], OF_VARIABLE_IN_USE, words[1]))
+HOOK(first, Py_MAX(count, 1), Py_NewRef(words[0]))
+HOOK(second, Py_MAX(count, 2), Py_NewRef(words[1]))
+HOOK(none, count, Py_NewRef(Py_None))
+
+/* How many references there were when the constructor began, as the hook in Python counts them. */
+static Py_ssize_t begun_of(PyObject *one, PyObject *constructor)
+{
+    PyObject *key = PyLong_FromVoidPtr(one), *both = key == NULL ? NULL : PyTuple_Pack(2, key, constructor);
+    PyObject *found = both == NULL ? NULL : PyDict_GetItemWithError(given.begun, both);
+    Py_ssize_t references = found == NULL ? ANYBODY : PyLong_AsSsize_t(found) - given.begun_more;
+    Py_XDECREF(key);
+    Py_XDECREF(both);
+    return references;
+}
+
+HOOK(o_new, 3, touch_field(words[0], words[1], find_owner(words[0]) == NULL ? begun_of(words[0], words[2]) : ANYBODY, 'o'))
+
+static PyObject *hook_g(PyObject *self, PyObject *site)
+{
+    PyObject *stretch = current_stretch();
+    if (stretch != NULL && PyDict_GetItemWithError(stretch, site) != NULL)
+        Py_RETURN_NONE;
+    return ended(Py_None, PyObject_CallOneArg(given.variable, site));
+}
+
+static PyObject *hook_c(PyObject *self, PyObject *const *words, Py_ssize_t count)
+{
+    WORDS(2)
+    PyObject *closure = PyFunction_Check(words[0]) ? PyFunction_GET_CLOSURE(words[0]) : NULL;
+    if (closure == NULL || PyTuple_GET_SIZE(closure) == 0)
+        Py_RETURN_NONE;
+    PyObject *cell = PyTuple_GET_ITEM(closure, 0);
+    Owner *owner = find_owner(cell);
+    if (owner != NULL && is_seen(owner, words[1]))
+        Py_RETURN_NONE;
+    return ended(Py_None, PyObject_CallFunctionObjArgs(given.cell, cell, words[1], NULL));
+}
+
+/* Where things are made. */
+
+#define MOST_MADE 500000
+#define MOST_BEGUN 10000
+
+/* Keeps where an object was made. The last three are as in `Made` of things.py. */
+static int keep_made(PyObject *one, PyObject *code, PyObject *place, PyObject *maker)
+{
+    PyTypeObject *type = (PyTypeObject *)given.made_type;
+    PyObject *made = type->tp_alloc(type, 4), *key = PyLong_FromVoidPtr(one), *kind = PyType_GetName(Py_TYPE(one));
+    int result = -1;
+    if (made != NULL && key != NULL && kind != NULL) {
+        PyTuple_SET_ITEM(made, 0, Py_NewRef(kind));
+        PyTuple_SET_ITEM(made, 1, Py_NewRef(code));
+        PyTuple_SET_ITEM(made, 2, Py_NewRef(place));
+        PyTuple_SET_ITEM(made, 3, Py_NewRef(maker));
+        if (PyDict_GET_SIZE(given.made) >= MOST_MADE)
+            PyDict_Clear(given.made);
+        result = PyDict_SetItem(given.made, key, made);
+    }
+    Py_XDECREF(made);
+    Py_XDECREF(key);
+    Py_XDECREF(kind);
+    return result;
+}
+
+static PyObject *hook_n(PyObject *self, PyObject *const *words, Py_ssize_t count)
+{
+    WORDS(2)
+    PyObject *maker = PyObject_CallNoArgs(given.maker);
+    int result = maker == NULL ? -1 : keep_made(words[0], Py_None, words[1], maker);
+    Py_XDECREF(maker);
+    return end_hook(words[0], result);
+}
+
+static int is_constructor(PyCodeObject *code)
+{
+    return PyUnicode_CompareWithASCIIString(code->co_name, "__init__") == 0;
+}
+
+/* Keeps how many references there are when a constructor begins. Nothing is kept where it is called by its name. */
+static int keep_begun(PyObject *one, PyObject *constructor, PyCodeObject *caller)
+{
+    PyObject *key = PyLong_FromVoidPtr(one), *both = key == NULL ? NULL : PyTuple_Pack(2, key, constructor), *references = NULL;
+    int result = -1;
+    if (both == NULL)
+        goto end;
+    int is_named = is_constructor(caller) ? 0 : PySequence_Contains(caller->co_names, text_constructor);
+    if (is_named > 0) {
+        result = PyDict_Contains(given.begun, both);
+        result = result > 0 ? PyDict_DelItem(given.begun, both) : result;
+        result = result < 0 ? -1 : 1;
+    } else if (is_named == 0) {
+        if (PyDict_GET_SIZE(given.begun) > MOST_BEGUN)
+            PyDict_Clear(given.begun);
+        references = PyLong_FromSsize_t(Py_REFCNT(one) + given.begun_more);
+        result = references == NULL ? -1 : PyDict_SetItem(given.begun, both, references);
+    }
+end:
+    Py_XDECREF(key);
+    Py_XDECREF(both);
+    Py_XDECREF(references);
+    return result;
+}
+
+/* The frame that has called a frame, whose reference is taken over. */
+static PyFrameObject *back_of(PyFrameObject *frame)
+{
+    PyFrameObject *back = PyFrame_GetBack(frame);
+    Py_DECREF(frame);
+    return back;
+}
+
+static PyObject *hook_N(PyObject *self, PyObject *const *words, Py_ssize_t count)
+{
+    WORDS(2)
+    PyFrameObject *own = PyThreadState_GetFrame(PyThreadState_Get());
+    PyFrameObject *frame = own == NULL ? NULL : back_of(own);
+    if (frame == NULL)
+        Py_RETURN_NONE;
+    PyCodeObject *code = PyFrame_GetCode(frame);
+    int result = keep_begun(words[0], words[1], code);
+    for (PyFrameObject *back; result == 0 && is_constructor(code) && (back = PyFrame_GetBack(frame)) != NULL;) {
+        Py_SETREF(frame, back);
+        Py_SETREF(code, PyFrame_GetCode(frame));
+    }
+    if (result == 0) {
+        PyObject *place = PyLong_FromLong(PyFrame_GetLasti(frame));
+        result = place == NULL ? -1 : keep_made(words[0], (PyObject *)code, place, Py_None);
+        Py_XDECREF(place);
+    }
+    Py_DECREF(code);
+    Py_DECREF(frame);
+    return end_hook(Py_None, result);
+}
+
+static PyObject *hook_d(PyObject *self, PyObject *ignored)
+{
+    return end_hook(Py_None, let_go_of_some(LOOKED_THROUGH_AT_ONCE));
+}
+
+/* Goes on for ever, and looks at a container before each step of a loop through it. */
+
+typedef struct {
+    PyObject_HEAD
+    Owner *owner;
+    PyObject *site, *late;
+} Step;
+
+/* The first step of another stretch: a loop goes on, which began in an earlier one. */
+static int step_on(Step *self)
+{
+    if (saw(self->owner, self->site, self->late, 1) != 0)
+        return -1;
+    PyObject *done = PyObject_CallFunctionObjArgs(given.went_on, (PyObject *)self->owner, self->site, NULL);
+    Py_XDECREF(done);
+    return done == NULL ? -1 : 0;
+}
+
+static PyObject *step_next(Step *self)
+{
+    return end_hook(Py_None, is_seen(self->owner, self->site) ? 0 : step_on(self));
+}
+
+static PyObject *step_new(PyTypeObject *type, PyObject *words, PyObject *named)
+{
+    PyObject *owner, *site, *late;
+    if (!PyArg_ParseTuple(words, "O!OO", &OwnerType, &owner, &site, &late))
+        return NULL;
+    Step *step = (Step *)type->tp_alloc(type, 0);
+    if (step == NULL)
+        return NULL;
+    step->owner = (Owner *)Py_NewRef(owner);
+    step->site = Py_NewRef(site);
+    step->late = Py_NewRef(late);
+    return (PyObject *)step;
+}
+
+static int step_traverse(Step *self, visitproc visit, void *arg)
+{
+    Py_VISIT(self->owner);
+    Py_VISIT(self->late);
+    return 0;
+}
+
+static void step_dealloc(Step *self)
+{
+    PyObject_GC_UnTrack(self);
+    Py_CLEAR(self->owner);
+    Py_CLEAR(self->site);
+    Py_CLEAR(self->late);
+    Py_TYPE(self)->tp_free((PyObject *)self);
+}
+
+static PyTypeObject StepType = {
+    PyVarObject_HEAD_INIT(NULL, 0)
+    .tp_name = "itc_trace.watch.quick.Step",
+    .tp_basicsize = sizeof(Step),
+    .tp_flags = Py_TPFLAGS_DEFAULT | Py_TPFLAGS_HAVE_GC,
+    .tp_iter = PyObject_SelfIter,
+    .tp_iternext = (iternextfunc)step_next,
+    .tp_new = step_new,
+    .tp_traverse = (traverseproc)step_traverse,
+    .tp_dealloc = (destructor)step_dealloc,
+};
+
+/* An iterator whose steps look at the container. */
+static PyObject *steps_through(PyObject *one, PyObject *site, Decision *decision)
+{
+    PyObject *late = Py_NewRef(decision->late), *name = Py_NewRef(decision->name);
+    Owner *owner = owner_for(one, name);
+    PyObject *words = owner == NULL ? NULL : PyTuple_Pack(3, owner, site, late);
+    PyObject *step = words == NULL ? NULL : step_new(&StepType, words, NULL), *steps = NULL;
+    if (step != NULL && saw(owner, site, late, 1) == 0)
+        steps = PyObject_CallFunctionObjArgs((PyObject *)&PyMap_Type, given.second, step, one, NULL);
+    Py_XDECREF(step);
+    Py_XDECREF(words);
+    Py_XDECREF((PyObject *)owner);
+    Py_DECREF(late);
+    Py_DECREF(name);
+    return steps;
+}
+
+/* Beginning */
+
+static PyObject *setup(PyObject *self, PyObject *words, PyObject *named)
+{
+    static char *names[] = {
+        "stretches", "state", "made", "begun", "begun_more", "never", "owner_type", "made_type", "maker", "begin_stretch", "share",
+        "shorten", "saw", "note_shared", "what_of", "failed", "fields_of", "field", "whole", "nested", "method", "steps", "keyed", "variable", "cell",
+        "went_on", "second", NULL,
+    };
+    PyObject **objects[] = {
+        &given.stretches, &given.state, &given.made, &given.begun, NULL, &given.never, &given.owner_type, &given.made_type,
+        &given.maker, &given.begin_stretch, &given.share, &given.shorten, &given.saw, &given.note_shared, &given.what_of, &given.failed,
+        &given.fields_of, &given.field, &given.whole, &given.nested, &given.method, &given.steps, &given.keyed, &given.variable, &given.cell,
+        &given.went_on, &given.second,
+    };
+    for (size_t place = 0; names[place] != NULL; place++) {
+        PyObject *found = named == NULL ? NULL : PyDict_GetItemString(named, names[place]);
+        if (found == NULL)
+            return PyErr_Format(PyExc_TypeError, "%s is missing", names[place]);
+        if (objects[place] == NULL)
+            given.begun_more = PyLong_AsLongLong(found);
+        else
+            Py_XSETREF(*objects[place], Py_NewRef(found));
+    }
+    if (PyErr_Occurred())
+        return NULL;
+    Py_RETURN_NONE;
+}
+
+static PyObject *references(PyObject *self, PyObject *const *words, Py_ssize_t count)
+{
+    WORDS(2)
+    return PyLong_FromSsize_t(Py_REFCNT(words[0]));
+}
+
+#define FAST(name, function) {name, (PyCFunction)(void (*)(void))function, METH_FASTCALL, NULL}
+
+static PyMethodDef methods[] = {
+    FAST("hook_o", hook_o), FAST("hook_o_local", hook_o_local), FAST("hook_w", hook_o), FAST("hook_w_local", hook_o_local),
+    FAST("hook_o_new", hook_o_new), FAST("hook_h", hook_h), FAST("hook_h_local", hook_h_local), FAST("hook_m", hook_m),
+    FAST("hook_m_local", hook_m_local), FAST("hook_f", hook_f), FAST("hook_f_local", hook_f_local), FAST("hook_k", hook_k),
+    FAST("hook_k_local", hook_k_local), FAST("hook_K", hook_K), FAST("hook_K_local", hook_K_local), FAST("hook_c", hook_c),
+    {"hook_g", hook_g, METH_O, NULL}, FAST("hook_n", hook_n), FAST("hook_N", hook_N), {"hook_d", hook_d, METH_NOARGS, NULL},
+    FAST("hook_v", hook_first), FAST("first", hook_first), FAST("second", hook_second), FAST("nothing", hook_none), FAST("references", references),
+    FAST("owner_of", owner_of),
+    {"setup", (PyCFunction)(void (*)(void))setup, METH_VARARGS | METH_KEYWORDS, NULL},
+    {"forget", forget, METH_NOARGS, NULL},
+    {NULL},
+};
+
+static struct PyModuleDef module = {PyModuleDef_HEAD_INIT, "quick", NULL, -1, methods};
+
+static int add_type(PyObject *made, const char *name, PyTypeObject *type)
+{
+    return PyType_Ready(type) < 0 ? -1 : PyModule_AddObjectRef(made, name, (PyObject *)type);
+}
+
+PyMODINIT_FUNC PyInit_quick(void)
+{
+    text_note = PyUnicode_InternFromString("note");
+    text_line = PyUnicode_InternFromString("line");
+    text_leave = PyUnicode_InternFromString("leave");
+    text_constructor = PyUnicode_InternFromString("__init__");
+    no_words = PyTuple_New(0);
+    PyObject *made = PyModule_Create(&module);
+    if (made == NULL || text_note == NULL || text_line == NULL || text_leave == NULL || text_constructor == NULL || no_words == NULL)
+        return NULL;
+    if (add_type(made, "Seen", &SeenType) < 0 || add_type(made, "OwnerFields", &OwnerType) < 0 || add_type(made, "Owners", &OwnersType) < 0
+        || add_type(made, "Step", &StepType) < 0)
+        return NULL;
+    PyObject *owners = PyObject_New(PyObject, &OwnersType);
+    if (owners == NULL || PyModule_AddObjectRef(made, "OWNERS", owners) < 0)
+        return NULL;
+    Py_DECREF(owners);
+    return made;
+}
