@@ -1,8 +1,12 @@
-"""Measures what watching costs: small programs that nobody changed, untraced, with nothing watched and watched, by turns.
+"""Measures what watching costs: programs that nobody changed, untraced, with nothing watched, and watched by both forms of hooks, by turns.
 
 Usage: python3 measure_watched.py [NAME..]
+
+It writes a row of a table for each program, with the median processor time of each way in multiples of the untraced program's. It takes
+some minutes. A program whose packages are not here is skipped.
 """
 
+import importlib.util
 import os
 import statistics
 import subprocess
@@ -11,6 +15,9 @@ import tempfile
 from pathlib import Path
 
 TRIES = 5
+PURE = "watched by hooks in Python"
+STATUSES = (0, 66, 67)
+"""Of a program that did well, whatever was found in it."""
 TIMED = """
 import time as _time
 _start = _time.process_time()
@@ -119,30 +126,50 @@ def main():
 WATCHED = {"difflib": ["difflib"], "flask": ["flask", "werkzeug", "jinja2", "blinker", "itsdangerous", "click"]}
 
 
-def seconds(words: list[str]) -> float:
+HEAD = ("A program", "Untraced", "Nothing watched", "Watched", "Watched, hooks in Python")
+
+
+def seconds(words: list[str], is_pure: bool) -> float:
     folder = os.path.dirname(os.path.abspath(__file__))
-    ran = subprocess.run([sys.executable, *words], capture_output=True, text=True, env={**os.environ, "PYTHONPATH": folder}, check=False)
-    return float(ran.stdout.split()[0])
+    environment = {**os.environ, "PYTHONPATH": folder, "ITC_TRACE_PURE": "1" if is_pure else ""}
+    ran = subprocess.run([sys.executable, *words], capture_output=True, text=True, env=environment, check=False)
+    if ran.returncode not in STATUSES or not ran.stdout:
+        sys.exit(f"{' '.join(words)} has ended with status {ran.returncode}:\n{ran.stderr}")
+    return float(ran.stdout.split()[-1])
 
 
-def measure(name: str, program: str) -> None:
+def ways_of(name: str, program: str) -> dict[str, list[str]]:
+    """The words of a run of each way."""
     watched = [word for package in WATCHED.get(name, []) for word in ("--watch", package)]
     traced = ["-m", "itc_trace", "run", "--quiet"]
-    ways = {"untraced": [program], "nothing watched": [*traced, "--watch-nothing", program], "watched": [*traced, *watched, program]}
+    watching = [*traced, *watched, program]
+    return {"untraced": [program], "nothing watched": [*traced, "--watch-nothing", program], "watched": watching, PURE: watching}
+
+
+def row_of(name: str, program: str) -> tuple[str, ...]:
+    """The program's row. The first run of each way is not counted: it compiles what is not compiled yet."""
+    ways = ways_of(name, program)
     times: dict[str, list[float]] = {way: [] for way in ways}
-    for _ in range(TRIES):
+    for _ in range(1 + TRIES):
         for way, words in ways.items():
-            times[way].append(seconds(words))
-    best = {way: min(each) for way, each in times.items()}
-    middle = {way: statistics.median(each) for way, each in times.items()}
-    told = ", ".join(f"{way} {best[way] * 1000:.1f} ms" for way in ways)
-    ratios = f"{best['watched'] / best['untraced']:.1f} times (of medians {middle['watched'] / middle['untraced']:.1f})"
-    print(f"{name}: {told}: {ratios}", flush=True)
+            times[way].append(seconds(words, way == PURE))
+    untraced, *others = (statistics.median(each[1:]) for each in times.values())
+    return name, f"{untraced * 1000:.1f} ms", *(f"{middle / untraced:.1f}" for middle in others)
+
+
+def write_row(words: tuple[str, ...]) -> None:
+    print(f"| {' | '.join(words)} |", flush=True)
 
 
 if __name__ == "__main__":
+    write_row(HEAD)
+    write_row(("---",) * len(HEAD))
     with tempfile.TemporaryDirectory() as folder:
         for name in sys.argv[1:] or PROGRAMS:
+            missing = [package for package in WATCHED.get(name, []) if importlib.util.find_spec(package) is None]
+            if missing:
+                print(f"skipped: {name}: there is no {missing[0]} here", file=sys.stderr)
+                continue
             path = Path(folder, f"{name}_watched.py")
             path.write_text(PROGRAMS[name] + TIMED)
-            measure(name, str(path))
+            write_row(row_of(name, str(path)))

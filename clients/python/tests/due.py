@@ -23,7 +23,7 @@ WRITES = {"write", "addition", "removal", "replacement", "rewrite"}
 
 _MARK = re.compile(r"#\s*(race|also):\s*((?:read|write)(?:,\s*(?:read|write))*)\s*$")
 _HEADING = re.compile(r"^itc_trace: (possible )?race on (.*)$")
-_SIDE = re.compile(rf"\b({'|'.join(sorted(READS | WRITES))})\s+at (\S+?):(\d+)")
+_SIDE = re.compile(rf"\b({'|'.join(sorted(READS | WRITES))})\s+at (.+?):(\d+)")
 
 
 @dataclass(frozen=True, order=True)

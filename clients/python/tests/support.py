@@ -4,28 +4,41 @@ from __future__ import annotations
 
 import _thread
 import atexit
+import contextlib
 import os
+import socket
 import subprocess
 import sys
 import tempfile
 import threading
 import time
 import unittest
-from collections.abc import Callable
+from collections.abc import Callable, Iterator, Sequence
 from pathlib import Path
-from typing import Any
+from typing import Any, TypeVar
 
 from itc_trace import Collector, Races, Tracing, tracing
+from itc_trace.collector import HOST
 from itc_trace.dividing import Border, Limits
 from itc_trace.journal import Row, read_journal, read_line
 from itc_trace.lines import Line
 from itc_trace.parts import races_of_parts
 from itc_trace.tracer_parts import MOST_ENDED, Parts
 
+Case = TypeVar("Case")
 PACKAGE = Path(__file__).resolve().parent.parent
 EXAMPLES = PACKAGE / "examples"
 WAIT = 600
 """So many seconds a test waits for what surely comes, also on a machine that is busy with other work."""
+
+PROGRAM_RUNS = int(os.environ.get("ITC_PROGRAM_RUNS", "1"))
+"""How often each program of `programs` is run."""
+
+
+def chosen(cases: Sequence[Case]) -> Sequence[Case]:
+    """Every second case of a test whose cases take long. All of them, if programs are run several times."""
+    return cases if PROGRAM_RUNS > 1 else cases[::2]
+
 
 _TENANTS = [f"t{number}" for number in range(16)]
 _free: list[tuple[int, str]] = []
@@ -38,6 +51,15 @@ def fresh_tenant() -> tuple[int, str]:
         atexit.register(collector.close)
         _free.extend((collector.port, tenant) for tenant in _TENANTS)
     return _free.pop()
+
+
+@contextlib.contextmanager
+def kept_port() -> Iterator[int]:
+    """A port that nobody else is given meanwhile. A server that is told its number may listen there, and else nobody does."""
+    with socket.socket() as kept:
+        kept.setsockopt(socket.SOL_SOCKET, socket.SO_REUSEADDR, 1)
+        kept.bind((HOST, 0))
+        yield kept.getsockname()[1]
 
 
 PART_EVENTS = int(os.environ.get("ITC_PART_EVENTS", "0"))
@@ -165,6 +187,20 @@ def run_python(*words: str, **variables: str) -> subprocess.CompletedProcess[str
     """Runs `python3 WORDS..` with the package at hand."""
     environment = {**os.environ, "PYTHONPATH": str(PACKAGE), **variables}
     return subprocess.run([sys.executable, *words], capture_output=True, text=True, env=environment, timeout=1500, check=False)
+
+
+PATIENT = f"""
+import sys
+from itc_trace import __main__, ending, system
+ending.GRACE = system.GRACE_SECONDS = system.READY_SECONDS = {WAIT}.0
+sys.exit(__main__.main())
+"""
+"""The words `-c PATIENT` do what `-m itc_trace` does, and wait for programs of a machine that is busy."""
+
+
+def run_system(*words: str, **variables: str) -> subprocess.CompletedProcess[str]:
+    """Runs `python3 -m itc_trace system WORDS..`, which waits for its processes as long as it takes."""
+    return run_python("-c", PATIENT, "system", *words, **variables)
 
 
 def run_traced(*words: str, **variables: str) -> subprocess.CompletedProcess[str]:

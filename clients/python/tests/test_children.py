@@ -1,4 +1,7 @@
-"""Child processes: they end as fast as untraced, and what they touch untraced is no all-clear."""
+"""Child processes that are not traced: they end as fast as untraced, and what they touch is no all-clear.
+
+The programs share memory with their children, which keeps the children from being traced.
+"""
 
 from __future__ import annotations
 
@@ -14,11 +17,11 @@ from itc_trace.journal import read_whole
 from .support import ProgramCase, fresh_tenant, run_traced
 
 PROGRAM = """
-import multiprocessing, os, sys, time
+import mmap, multiprocessing, os, sys, time
 import itc_trace
 from itc_trace import tracer
 
-tracer.ANSWER_WAIT = tracer.END_WAIT = 900
+tracer.ANSWER_WAIT, memory = 900, mmap.mmap(-1, 1)
 stock = itc_trace.shared({"left": 9}, "stock")
 
 def work(touches):
@@ -57,7 +60,8 @@ if __name__ == "__main__":
 """
 WAYS = ("_exit", "exit", "fork", "forkserver", "spawn")
 IN_BOTH = """
-import os, itc_trace
+import mmap, os, itc_trace
+memory = mmap.mmap(-1, 1)
 for turn in range(2):
     itc_trace.touch("x", write=True)
     if turn == 0:
@@ -67,12 +71,12 @@ if child:
 """
 SHARED_MEMORY = """
 import multiprocessing, sys
-def work(count):
-    count.value += 1
+def work(counts):
+    counts[0] += 1
 if __name__ == "__main__":
     context = multiprocessing.get_context(sys.argv[1])
-    count = context.Value("i", 0, lock=False)
-    children = [context.Process(target=work, args=(count,)) for _ in range(2)]
+    counts = context.Array("i", 1, lock=False)
+    children = [context.Process(target=work, args=(counts,)) for _ in range(2)]
     for child in children:
         child.start()
     for child in children:
@@ -128,8 +132,6 @@ def start(how):
         in_child(lambda: os.execlpe("env", "env", *words, {"PATH": "/no_such:/usr/bin:/bin"}))
     elif how == "spawn":
         os.spawnv(os.P_WAIT, sys.executable, words)
-    elif how == "run in a fork":
-        in_child(lambda: subprocess.run(words, check=True))
     else:
         os.waitpid(os.posix_spawn(sys.executable, words, os.environ), 0)
 if __name__ == "__main__" and sys.argv[1] != "child":
@@ -152,28 +154,20 @@ for own in (("true",), (sys.executable, "-c", "import json"), ("/no_such/python"
     os.wait()
 """
 MOST_SECONDS = 450
-"""A child that waits for a thread which it does not have takes twice as long. A machine with other work may be slow."""
+"""From the last line of the first child to when its parent has seen it end. A child that waits for a thread which it does not have
+takes twice as long. A machine with other work may be slow."""
 
 
 @unittest.skipUnless(hasattr(os, "fork"), "there is no fork here")
 class Children(ProgramCase):
-    def test_a_child_ends_without_waiting_for_threads_it_does_not_have(self) -> None:
-        program = self.program(PROGRAM)
-        for how in WAYS:
-            with self.subTest(how=how):
-                self.assertLess(self.seconds_to_end(program, how), MOST_SECONDS)
-
-    def seconds_to_end(self, program: str, how: str) -> float:
-        """From the last line of the first child to when its parent has seen it end."""
-        *children, parent = map(float, run_traced("--watch-nothing", program, how, "no").stdout.split())
-        return parent - min(children)
-
-    def test_a_child_that_touches_nothing_leaves_the_run_whole(self) -> None:
+    def test_a_child_that_touches_nothing_leaves_the_run_whole_and_waits_for_no_thread_it_does_not_have(self) -> None:
         program = self.program(PROGRAM)
         for how in WAYS:
             with self.subTest(how=how):
                 ran = run_traced("--watch-nothing", program, how, "no")
                 self.assertEqual(ran.returncode, Verdict.NO_RACE, ran.stderr)
+                *children, parent = map(float, ran.stdout.split())
+                self.assertLess(parent - min(children), MOST_SECONDS)
 
     def test_a_child_that_touches_what_is_shared_is_told_as_not_seen(self) -> None:
         program = self.program(PROGRAM)
@@ -222,14 +216,11 @@ class Children(ProgramCase):
 
     def test_a_program_of_the_same_folder_that_is_started_is_told_as_not_seen(self) -> None:
         program = self.program(STARTS_ITSELF)
-        for how in (
-            "run", "without variables", "shell", "module", "system", "posix_spawn", "words of a shell", "text", "fork",
-            "fork, by the path", "spawn", "run in a fork",
-        ):
+        for how in ("shell", "system", "posix_spawn", "words of a shell", "text", "fork", "fork, by the path", "spawn"):
             with self.subTest(how=how):
                 ran = run_traced(program, how)
                 self.assertEqual(ran.returncode, Verdict.INCOMPLETE, ran.stderr)
-                self.assertRegex(ran.stderr.splitlines()[0], r"a child process was not traced: program(\.py)?, which was started at \S+program\.py:\d+$")
+                self.assertRegex(ran.stderr.splitlines()[0], r"a child process was not traced: program(\.py)?, which was started at .*program\.py:\d+$")
 
     def test_other_commands_leave_a_run_whole(self) -> None:
         ran = run_traced(self.program(STARTS_OTHERS))

@@ -4,15 +4,16 @@ from __future__ import annotations
 
 import os
 import subprocess
+import sys
 import tempfile
 import threading
 import unittest
 
 from itc_trace import Collector, Session, touch, tracing
-from itc_trace.collector import find_program, free_port
+from itc_trace.collector import PORTS_TO_TRY, find_program, free_port
 from itc_trace.journal import read_journal
 
-from .support import ProgramCase, run_python, run_traced
+from .support import PACKAGE, ProgramCase, kept_port, run_python, run_traced
 
 COUNTING = """
 import threading, itc_trace
@@ -69,16 +70,23 @@ class Served:
     """A collector with limits."""
 
     def __init__(self, *limits: str) -> None:
-        self.port = free_port()
-        words = [find_program(), "serve", "--port", str(self.port), *limits, "trace"]
-        self.process = subprocess.Popen(words, stdout=subprocess.PIPE)
-        assert self.process.stdout is not None
-        self.process.stdout.readline()
+        for _ in range(PORTS_TO_TRY):
+            self.port = free_port()
+            words = [find_program(), "serve", "--port", str(self.port), *limits, "trace"]
+            self.process = subprocess.Popen(words, stdout=subprocess.PIPE)
+            assert self.process.stdout is not None
+            if self.process.stdout.readline().startswith(b"listening"):
+                return
+            self.end()  # The port was taken in between, say.
+        raise AssertionError("no collector serves")
 
     def __enter__(self) -> Served:
         return self
 
     def __exit__(self, *_: object) -> None:
+        self.end()
+
+    def end(self) -> None:
         self.process.kill()
         self.process.wait()
         assert self.process.stdout is not None
@@ -143,7 +151,7 @@ class Ends(ProgramCase):
             self.assertTrue(summary.startswith("itc_trace: no race in what was seen: "), summary)
 
     def test_no_collector_is_told_before_the_program_runs(self) -> None:
-        ran = run_traced("--port", str(free_port()), self.program(COUNTING))
+        ran = run_traced("--port", str(self.enterContext(kept_port())), self.program(COUNTING))
         self.assertEqual((ran.returncode, ran.stdout), (2, ""), ran.stderr)
 
     def test_a_program_s_own_status_stays(self) -> None:
@@ -167,12 +175,35 @@ class Ends(ProgramCase):
         for words in ([], ["a", "--port", "1"]):
             self.assertEqual(run_traced("--quiet", program, *words).stdout, run_python(program, *words).stdout)
 
+    def test_a_program_that_is_named_by_half_a_path_finds_what_lies_beside_it(self) -> None:
+        text = "import os, sys\nos.chdir('/')\nprint(__file__, open(__file__).readline(), sys.argv, __loader__.get_filename('__main__'))\n"
+        program = os.path.relpath(self.program(text + "import itc_trace\nitc_trace.touch('x')\n1 / 0\n"))
+        traced, plain = run_traced("--quiet", program), run_python(program)
+        self.assertEqual((traced.stdout, traced.stderr), (plain.stdout, plain.stderr))
+        self.assertIn("import os, sys", plain.stdout)
+
+    def test_what_is_told_of_a_program_calls_it_as_its_command_does(self) -> None:
+        program = os.path.relpath(self.program(COUNTING.replace("with lock:", "if True:")))
+        self.assertRegex(run_traced(program).stderr, rf"(?m)^ +\w+ +at {program}:\d+")
+
+    def test_a_program_has_its_own_modules_of_the_library_s_names(self) -> None:
+        names = ("calendar", "string", "secrets", "statistics", "uuid", "getpass")
+        program = self.program(f"import {', '.join(names)}\nprint(*[one.MINE for one in ({', '.join(names)})])\n")
+        folder = os.path.dirname(program)
+        for name in names:
+            with open(os.path.join(folder, f"{name}.py"), "w", encoding="utf-8") as module:
+                module.write(f"MINE = {name!r}\n")
+        for words in ((program,), ("-m", "program")):
+            words = ("-m", "itc_trace", "run", "--quiet", *words)
+            ran = subprocess.run([sys.executable, *words], cwd=folder, env={**os.environ, "PYTHONPATH": str(PACKAGE)}, capture_output=True, text=True, check=False)
+            self.assertEqual((ran.stdout, ran.stderr), (" ".join(names) + "\n", ""))
+
     def test_a_module_is_run_as_one(self) -> None:
         ran = run_traced("--quiet", "-m", "json.tool", "--help")
         self.assertEqual(ran.stdout, run_python("-m", "json.tool", "--help").stdout)
 
     @unittest.skipUnless(hasattr(os, "fork"), "there is no fork here")
-    def test_a_forked_child_reports_nothing(self) -> None:
+    def test_a_forked_child_is_a_task_of_its_own(self) -> None:
         text = """
 import os, itc_trace
 itc_trace.touch("x", write=True)
@@ -184,8 +215,9 @@ if child:
 """
         with tempfile.NamedTemporaryFile("r") as journal:
             ran = run_traced("--quiet", "--journal", journal.name, self.program(text))
-            self.assertEqual((ran.returncode, ran.stdout), (67, "parent\n"), ran.stderr)
-            self.assertEqual([row.thing for row in read_journal(journal)], ["x", "x"])
+            self.assertEqual((ran.returncode, ran.stdout), (0, "parent\n"), ran.stderr)
+            touches = sorted((row.task, row.thing) for row in read_journal(journal) if row.is_touch)
+            self.assertEqual(touches, [("child_1", "y of child_1"), ("root", "x"), ("root", "x")])
 
     def test_two_runs_report_to_one_tenant(self) -> None:
         with Collector("trace") as collector:

@@ -10,11 +10,11 @@ import unittest
 from pathlib import Path
 
 from itc_trace import Collector, Session, Verdict, touch, tracing
-from itc_trace.collector import find_program, free_port
+from itc_trace.collector import find_program
 from itc_trace.journal import NoJournal, read_whole
 from itc_trace.verdict import BREAKS_OFF, END_ROW, Cause, Unseen, end_row
 
-from .support import PACKAGE, ProgramCase, run_python, run_traced
+from .support import PACKAGE, ProgramCase, kept_port, run_python, run_traced
 
 TOUCHING = "import itc_trace\nitc_trace.touch('x', write=True)\nprint('ran')\n"
 CRASHING = "import itc_trace\nraise ValueError('its own')\n"
@@ -38,7 +38,11 @@ class Errors(ProgramCase):
 
     def test_a_program_that_is_none(self) -> None:
         self.assert_told(run_traced(self.program("x = 1\ndef f(:\n")), "program.py cannot be run", "at line 2")
-        self.assert_told(run_traced(self.program("x = '\0'\n")), "program.py cannot be run")
+        self.assert_told(run_traced(self.program("x = '\0'\n")), "program.py cannot be run: source code string cannot contain null bytes: mend it first")
+
+    def test_a_folder_or_an_archive_without_a_program_in_it(self) -> None:
+        with tempfile.TemporaryDirectory() as folder:
+            self.assert_told(run_traced(folder), f"there is no __main__ in {folder} to run")
 
     def test_no_program_at_all(self) -> None:
         self.assert_told(run_traced(), "run wants a program")
@@ -50,7 +54,7 @@ class Errors(ProgramCase):
             self.assert_told(run_traced(option, "/no_such_folder/file", program), "/no_such_folder/file cannot be written")
 
     def test_a_port_where_nobody_listens(self) -> None:
-        port = str(free_port())
+        port = str(self.enterContext(kept_port()))
         with tempfile.NamedTemporaryFile("w") as journal:
             journal.write(ROW)
             for words in (("run", "--port", port, self.program(TOUCHING)), ("races", "--port", port, "trace", journal.name),

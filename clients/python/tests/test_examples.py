@@ -1,14 +1,18 @@
-"""Each example, ten times: with its bug a race is found each time, and without it none."""
+"""Each example: with its bug a race is found in each run, and without it none.
+
+ITC_RUNS says how often each is run, once where it is not set.
+"""
 
 from __future__ import annotations
 
 import os
+import subprocess
 import unittest
 from concurrent.futures import ThreadPoolExecutor
 
 from .support import EXAMPLES, run_python, run_traced
 
-RUNS = int(os.environ.get("ITC_RUNS", "10"))
+RUNS = int(os.environ.get("ITC_RUNS", "1"))
 THINGS = {
     "lost_update": {"stock"}, "cache": {"cache"}, "singleton": {"pool"}, "late_field": {"order 0", "order 1", "order 2"},
     "handler": {"account"}, "pool": {"squares"}, "barrier": {"part 0", "part 1", "part 2"},
@@ -21,31 +25,25 @@ def racing_things(text: str) -> set[str]:
     return {line.partition("race on ")[2].partition(" (")[0] for line in lines}
 
 
+def runs(*words: str, behind: tuple[str, ...] = ()) -> list[tuple[str, "subprocess.CompletedProcess[str]"]]:
+    """Each run of each example, with words before and behind its name."""
+    names = [name for name in THINGS for _ in range(RUNS)]
+    with ThreadPoolExecutor(2) as pool:
+        return list(zip(names, pool.map(lambda name: run_traced(*words, str(EXAMPLES / f"{name}.py"), *behind), names)))
+
+
 class Examples(unittest.TestCase):
-    def repeat(self, name: str, *words: str) -> list[tuple[int, set[str], str]]:
-        with ThreadPoolExecutor(2) as pool:
-            jobs = [pool.submit(run_traced, str(EXAMPLES / f"{name}.py"), *words) for _ in range(RUNS)]
-            ended = [job.result() for job in jobs]
-        return [(one.returncode, racing_things(one.stderr), one.stderr) for one in ended]
-
     def test_a_race_is_found_in_each_run(self) -> None:
-        for name, things in THINGS.items():
+        for name, ended in runs():
             with self.subTest(name=name):
-                for status, found, text in self.repeat(name):
-                    self.assertEqual((status, found), (RACE, things), text)
+                self.assertEqual((ended.returncode, racing_things(ended.stderr)), (RACE, THINGS[name]), ended.stderr)
 
-    def test_the_repaired_program_is_clean_in_each_run(self) -> None:
-        for name in THINGS:
+    def test_the_repaired_program_is_clean_in_each_run_and_does_what_it_does_untraced(self) -> None:
+        for name, ended in runs("--quiet", behind=("fixed",)):
             with self.subTest(name=name):
-                for status, found, text in self.repeat(name, "fixed"):
-                    self.assertEqual((status, found), (CLEAN, set()), text)
-
-    def test_programs_do_the_same_untraced(self) -> None:
-        for name in THINGS:
-            with self.subTest(name=name):
-                traced = run_traced("--quiet", str(EXAMPLES / f"{name}.py"), "fixed")
                 plain = run_python(str(EXAMPLES / f"{name}.py"), "fixed")
-                self.assertEqual((traced.stdout, traced.stderr, traced.returncode), (plain.stdout, "", plain.returncode))
+                self.assertEqual((ended.returncode, ended.stdout, ended.stderr), (CLEAN, plain.stdout, ""))
+                self.assertEqual(plain.returncode, CLEAN, plain.stderr)
 
 
 class ThreeProcesses(unittest.TestCase):

@@ -13,7 +13,7 @@ from itc_trace.conflicts import CHANGING, CONFLICTING
 from itc_trace.journal import Row
 from itc_trace.races import _Finder, _things_of
 from itc_trace.session import Refused
-from itc_trace.trace import Trace
+from itc_trace.trace import Steps, Told, Trace
 
 from .random_runs import LOCKS, Answers, AnswersWithoutLocks, Found, RandomRun, Run
 
@@ -233,18 +233,18 @@ def _split_in_one_turn(rows: list[Row]) -> Iterator[Any]:
             yield racing_pairs._Split(reads[:1], row)
 
 
-def _no_signals(trace: Trace, locks: set[int]) -> list[int]:
+def _no_signals(trace: Trace, steps: Steps) -> Told:
     """As if a task knew by signals only what its own task did."""
     told = [0]
     for event in trace.events:
         previous = trace.previous(event)
         told.append(told[previous] | 1 << previous)
-    return told
+    return Told(told, told)
 
 
-def _all_signals(trace: Trace, locks: set[int]) -> list[int]:
+def _all_signals(trace: Trace, steps: Steps) -> Told:
     """As if a lock told as a signal does."""
-    return trace.before
+    return Told(trace.before, trace.before)
 
 
 def _any_hand_over(thing: Any, trace: Trace, told: list[int], replaced: Any) -> Any:

@@ -10,6 +10,7 @@ from pathlib import Path
 
 from itc_trace import Verdict
 from itc_trace.collector import find_program
+from itc_trace.part_collectors import PartCollectors, ask_for_port
 from itc_trace.parts import races_of_parts
 from itc_trace.verdict import BREAKS_OFF, END_ROW, Cause, Unseen, end_row
 
@@ -113,28 +114,59 @@ asyncio.run(main())
 """
 
 
-OPEN = "the receipt of a job's result may be lost at a border, and the run is incomplete then"
+ASKS_ITSELF = """
+import threading, urllib.request
+from http.server import BaseHTTPRequestHandler, ThreadingHTTPServer
+totals, lock = {"slow": 0, "served": 0}, threading.Lock()
+class Handler(BaseHTTPRequestHandler):
+    def do_GET(self):
+        with lock:
+            totals["served"] += 1
+        if self.path.endswith("7"):
+            totals["slow"] += 1
+        self.send_response(200)
+        self.end_headers()
+        self.wfile.write(b"ok")
+    def log_message(self, *words):
+        pass
+server = ThreadingHTTPServer(("127.0.0.1", 0), Handler)
+thread = threading.Thread(target=server.serve_forever, args=(0.01,))
+thread.start()
+for number in range(30):
+    urllib.request.urlopen(f"http://127.0.0.1:{server.server_port}/{number}").read()
+    totals["slow"]
+server.shutdown()
+thread.join()
+"""
+FULL_AT_ITS_END = """
+import itc_trace, threading, time
+from itc_trace import lines, tracer_parts
+tracer_parts.Parts.is_full = property(lambda parts: lines.state.tracer is None)
+threads = [threading.Thread(target=itc_trace.touch, args=("x", True)) for _ in range(2)]
+for thread in threads: thread.start()
+for thread in threads: thread.join()
+while lines.state.tracer.notes: pass
+time.sleep(0.1)
+"""
 
 
 class Orders(unittest.TestCase):
     """Each order that is promised holds across borders, and none more: the tests of these run with a border after a few events."""
 
     def assert_same_in_parts(self, module: str) -> None:
-        ran = run_python("-B", "-m", "unittest", f"tests.{module}", ITC_PART_EVENTS=EVENTS_OF_A_PART)
+        ran = run_python("-m", "unittest", f"tests.{module}", ITC_PART_EVENTS=EVENTS_OF_A_PART)
         self.assertRegex(ran.stderr, r"\nOK")
 
     def test_threads_and_locks(self) -> None:
         self.assert_same_in_parts("test_threads")
         self.assert_same_in_parts("test_locks")
 
-    @unittest.skipUnless(os.environ.get("ITC_OPEN"), OPEN)
     def test_queues_and_pools(self) -> None:
         self.assert_same_in_parts("test_queues")
 
     def test_other_orders(self) -> None:
         self.assert_same_in_parts("test_orders")
 
-    @unittest.skipUnless(os.environ.get("ITC_OPEN"), OPEN)
     def test_loops(self) -> None:
         self.assert_same_in_parts("test_asyncio")
 
@@ -205,11 +237,27 @@ class LongRuns(ProgramCase):
     def test_a_part_that_has_no_collector_is_not_seen(self) -> None:
         with tempfile.TemporaryDirectory() as folder:
             once = Path(folder, "once")
-            once.write_text(f'#!/bin/sh\n[ -e {folder}/begun ] && exit 3\ntouch {folder}/begun\nexec "{find_program()}" "$@"\n')
+            once.write_text(f'#!/bin/sh\n[ -e "{folder}/begun" ] && exit 3\ntouch "{folder}/begun"\nexec "{find_program()}" "$@"\n')
             once.chmod(once.stat().st_mode | stat.S_IXUSR)
             ran = run_traced("--watch-nothing", "--part-events", "100", self.program(HANDED_OVER), ITC_TRACE=os.fspath(once))
         self.assertEqual(ran.returncode, Verdict.INCOMPLETE, ran.stderr)
         self.assertRegex(ran.stderr, r"(?m)^itc_trace: incomplete: .*does not serve as a collector")
+
+    def test_a_part_that_is_full_at_the_end_of_the_run_is_the_last_one(self) -> None:
+        ran = run_traced("--watch-nothing", self.program(FULL_AT_ITS_END))
+        self.assertEqual(ran.returncode, Verdict.RACES, ran.stderr)
+
+    def test_the_collector_of_a_part_that_no_journal_tells_of_is_not_asked(self) -> None:
+        with PartCollectors("trace") as collectors:
+            first = collectors.port
+            second = ask_for_port(collectors.asked_at)
+            self.assertEqual([collectors.port_of(part) for part in (1, 2)], [first, second])
+
+    def test_what_only_requests_of_the_process_to_itself_order_is_told_across_parts(self) -> None:
+        ran = run_traced("--part-events", "100", self.program(ASKS_ITSELF))
+        self.assertEqual(ran.returncode, Verdict.NO_RACE, ran.stderr)
+        self.assertRegex(ran.stderr, r"possible race on totals\['slow'\].*\n.*:10 in do_GET.*\n.*:10 in do_GET.*\n.*only by requests of the process to itself; .* of part")
+        self.assertIn("no race in this run; 1 possible", ran.stderr)
 
     def test_an_order_that_was_left_behind_is_not_guessed(self) -> None:
         """More ended threads may be waited for than a part takes along, and the first one is."""

@@ -20,7 +20,7 @@ from itc_trace.trace import Asked, Trace
 
 from .random_runs import Answers, Found, RandomRun, Run
 
-RUNS = int(os.environ.get("ITC_RANDOM_RUNS", "3000"))
+RUNS = int(os.environ.get("ITC_RANDOM_RUNS", "2000"))
 RUNS_WITH_COLLECTOR = 12
 SEEDS = 3000
 """By one of so many runs each wrong rule is to be caught."""

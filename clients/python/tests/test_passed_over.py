@@ -21,7 +21,7 @@ for thread in threads:
     thread.join()
 """
 TEXT = "stock = {}\ndef work():\n    exec('stock[1] = 2')\n" + THREADS
-LATER = "from operator import itemgetter\nimport ctypes\n\ndef work():\n    print(eval('1'), max([(1, 2)], key=itemgetter(0)), memoryview(b'x')[0])\n"
+LATER = "from mmap import mmap\nimport ctypes\n\ndef work():\n    print(len(mmap(-1, 9)), eval('1'), memoryview(b'x')[0])\n"
 SHADOWED = "def exec(text):\n    return text\ndef work():\n    print(exec('a'), evaluate())\nevaluate = int\n" + THREADS
 EXEC = PassedOver("exec", "shop.py:3")
 
@@ -35,7 +35,7 @@ class PassedOverCase(ProgramCase):
     def test_each_is_named_once_and_not_too_many(self) -> None:
         ran = run_traced(self.program(LATER + THREADS))
         self.assertEqual(ran.returncode, Verdict.NO_RACE, ran.stderr)
-        self.assertIn("not looked into: ctypes at program.py:2, eval at program.py:5, itemgetter at program.py:5 and 1 more: ", ran.stderr)
+        self.assertIn("not looked into: ctypes at program.py:2, mmap at program.py:5, eval at program.py:5 and 1 more: ", ran.stderr)
 
     def test_a_run_of_one_task_has_nothing_to_look_into(self) -> None:
         ran = run_traced(self.program(LATER + "work()\n"))
@@ -50,6 +50,13 @@ class PassedOverCase(ProgramCase):
         for words in (("--runs", "2", "--no-shake"), ("--part-events", "100")):
             with self.subTest(words=words):
                 self.assertIn("; not looked into: exec at program.py:3", run_traced(*words, self.program(TEXT)).stderr.splitlines()[-1])
+
+    def test_a_dictionary_that_an_object_is_given_is_named(self) -> None:
+        text = "class Shop:\n    left = 2\nshop = Shop()\ndef work():\n    shop.__dict__['left'] = 1\n    USE\n"
+        for use, is_told in (("shop.__dict__ = {}", True), ("fields = shop.__dict__", False), ("vars(shop)['left'] += 1", False)):
+            ran = run_traced(self.program(text.replace("USE", use) + THREADS))
+            self.assertEqual(ran.returncode, Verdict.RACES, ran.stderr)
+            self.assertEqual("not looked into: __dict__ at program.py:6" in ran.stderr, is_told, ran.stderr)
 
 
 class Rows(unittest.TestCase):

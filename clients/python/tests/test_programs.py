@@ -6,6 +6,7 @@ ITC_PROGRAM_RUNS says how often each is run, once where it is not set. ITC_PROGR
 from __future__ import annotations
 
 import fnmatch
+import json
 import os
 import subprocess
 import unittest
@@ -14,9 +15,8 @@ from concurrent.futures import ThreadPoolExecutor
 from pathlib import Path
 
 from .due import Due, Place, due_of, faults, told_by
-from .support import PACKAGE, run_python, run_traced
+from .support import PACKAGE, PROGRAM_RUNS, run_python, run_traced
 
-RUNS = int(os.environ.get("ITC_PROGRAM_RUNS", "1"))
 PATTERN = os.environ.get("ITC_PROGRAMS", "*")
 AT_ONCE = 2
 PROGRAMS = PACKAGE / "tests" / "programs"
@@ -36,6 +36,30 @@ def run_all(run: Callable[..., Ended], paths: Iterable[Path]) -> list[tuple[Path
     return [(path, job.result()) for path, job in running]
 
 
+EACH_IN_A_CHILD = """
+import itc_trace, json, os, sys, types
+def run(program):
+    module = sys.modules["__main__"] = types.ModuleType("__main__")
+    sys.argv, sys.path[0], module.__file__ = [program], os.path.dirname(program), program
+    with open(program, encoding="utf-8") as text:
+        exec(compile(text.read(), program, "exec"), vars(module))
+for program in sys.argv[1:]:
+    told, telling = os.pipe()
+    child = os.fork()
+    if child == 0:
+        os.dup2(os.open(os.devnull, os.O_WRONLY), 1)
+        os.dup2(telling, 2)
+        os.close(told), os.close(telling)
+        run(program)
+        break
+    os.close(telling)
+    with open(told, encoding="utf-8") as errors:
+        said = errors.read()
+    print(json.dumps((program, (os.waitstatus_to_exitcode(os.waitpid(child, 0)[1]), said))), flush=True)
+"""
+"""Runs each program as Python does, in a child of one process: to begin Python and this package takes longer than most of them."""
+
+
 class Programs(unittest.TestCase):
     def test_marked_programs_have_the_verdicts_that_are_due(self) -> None:
         self.assert_due(programs(PROGRAMS))
@@ -44,9 +68,14 @@ class Programs(unittest.TestCase):
         self.assert_due(programs(PROGRAMS / "unchanged"))
 
     def test_programs_end_well_where_nothing_is_traced(self) -> None:
-        for path, ended in run_all(run_python, [*programs(PROGRAMS), *programs(PROGRAMS / "unchanged")]):
-            with self.subTest(program=path.stem):
-                self.assertEqual((ended.returncode, ended.stderr), (0, ""))
+        paths = [str(path) for path in (*programs(PROGRAMS), *programs(PROGRAMS / "unchanged"))]
+        with ThreadPoolExecutor(AT_ONCE) as pool:
+            ended = list(pool.map(lambda first: run_python("-c", EACH_IN_A_CHILD, *paths[first::AT_ONCE]), range(AT_ONCE)))
+        told = dict(json.loads(line) for one in ended for line in one.stdout.splitlines())
+        self.assertEqual(sorted(told), sorted(paths), [one.stderr for one in ended])
+        for path, (status, errors) in told.items():
+            with self.subTest(program=path):
+                self.assertEqual((status, errors), (0, ""))
 
     def test_unchanged_programs_do_not_know_the_package(self) -> None:
         for path in (PROGRAMS / "unchanged").glob("*.py"):
@@ -55,7 +84,7 @@ class Programs(unittest.TestCase):
 
     def assert_due(self, paths: list[Path]) -> None:
         judged = {path: due_of(path) for path in paths}
-        for path, ended in run_all(run_traced, [path for path in judged for _ in range(RUNS)]):
+        for path, ended in run_all(run_traced, [path for path in judged for _ in range(PROGRAM_RUNS)]):
             with self.subTest(program=path.stem):
                 wrong = faults(judged[path], ended.returncode, ended.stderr)
                 self.assertEqual(wrong, [], f"\n{ended.stdout}{ended.stderr}")

@@ -110,16 +110,21 @@ with open(sys.argv[1], "a+") as runs:
 """
 SWITCHING = "import sys; print(sys.getswitchinterval())"
 RANDOM = "import random; random.seed(1); print(random.random())"
-MOST_RUNS = 25
+RUNS, MOST_TRIES = 10, 12
+"""How many runs a command makes, and how many commands are tried. On a busy machine one run in ten finds the race."""
 SHAKEN = re.compile(r"^itc_trace: run (\d+) of (\d+)(?: \(--shake=(\d+)\))?: (.*)$", re.MULTILINE)
 
 
 class Runs(ProgramCase):
     def test_shaken_runs_find_a_race_that_a_lock_hides(self) -> None:
-        ran = run_traced("--runs", str(MOST_RUNS), self.program(LUCKY))
+        program = self.program(LUCKY)
+        for _ in range(MOST_TRIES):
+            ran = run_traced("--runs", str(RUNS), program)
+            if ran.returncode == Verdict.RACES:
+                break
         self.assertEqual(ran.returncode, Verdict.RACES, ran.stderr)
-        self.assertRegex(ran.stderr, rf"\n    in \d+ of {MOST_RUNS} runs, first in run \d+")
-        self.assertRegex(ran.stderr, rf"itc_trace: 1 race in {MOST_RUNS} runs\n\Z")
+        self.assertRegex(ran.stderr, rf"\n    in \d+ of {RUNS} runs, first in run \d+")
+        self.assertRegex(ran.stderr, rf"itc_trace: 1 race in {RUNS} runs\n\Z")
 
     def test_all_runs_but_the_first_are_shaken_by_a_seed_of_their_own(self) -> None:
         ran = run_traced("--runs", "3", self.program(CLEAN))

@@ -7,14 +7,13 @@ import signal
 import subprocess
 import sys
 import tempfile
-import time
 import unittest
 from pathlib import Path
 
 from itc_trace import Verdict
 from itc_trace.collector import find_program
 
-from .support import PACKAGE, ProgramCase, run_traced
+from .support import PACKAGE, PATIENT, WAIT, ProgramCase, run_traced
 
 SELLING = """
 import sys, threading, time, itc_trace
@@ -42,21 +41,16 @@ signal.signal(signal.SIGTERM, lambda *_: sys.exit(0))
 print("ready", flush=True)
 time.sleep(1000)
 """
-MANY = """
-import itc_trace
-print("sold", flush=True)
-while True:
-    for _ in range(100): itc_trace.touch("x")
-"""
+SHORT_GRACE = PATIENT.replace(f"{WAIT}.0", "1.0")
 
 
 class Started:
     """A run that is started, and read from."""
 
-    def __init__(self, *words: str) -> None:
+    def __init__(self, *words: str, command: str = PATIENT) -> None:
         environment = {**os.environ, "PYTHONPATH": str(PACKAGE)}
         self.process = subprocess.Popen(
-            [sys.executable, "-m", "itc_trace", "run", *words], stdout=subprocess.PIPE, stderr=subprocess.PIPE, text=True,
+            [sys.executable, "-c", command, "run", *words], stdout=subprocess.PIPE, stderr=subprocess.PIPE, text=True,
             env=environment, start_new_session=True,
         )
 
@@ -77,9 +71,9 @@ class Started:
 
 
 class Signals(ProgramCase):
-    def ended(self, text: str, number: int, *words: str, line: str = "sold", is_for_all: bool = False) -> tuple[int, str]:
+    def ended(self, text: str, number: int, *words: str, is_for_all: bool = False) -> tuple[int, str]:
         run = Started(*words, self.program(text), *(["clean"] if "clean" in words else []))
-        run.wait_for(line)
+        run.wait_for("sold")
         return run.end(number, is_for_all)
 
     def test_a_run_that_is_ended_lists_the_races_that_were_seen(self) -> None:
@@ -124,9 +118,9 @@ time.sleep(1000)
         self.assertIn("in what was seen: 4001 places of 4001 things", ran.stderr)
 
     def test_a_program_that_does_not_end_is_killed(self) -> None:
-        began = time.monotonic()
-        status, errors = self.ended(DEAF, signal.SIGTERM, line="deaf")
-        self.assertLess(time.monotonic() - began, 900)
+        run = Started(self.program(DEAF), command=SHORT_GRACE)
+        run.wait_for("deaf")
+        status, errors = run.end(signal.SIGTERM)
         self.assertEqual(status, Verdict.RACES, errors)
         self.assertTrue(errors.startswith("itc_trace: incomplete: the program was ended by SIGKILL\n"), errors)
 

@@ -16,7 +16,8 @@ from itc_trace.verdict import END_ROW
 
 MOST_QUESTIONS = 4
 """For each event."""
-MOST_SECONDS = 10.0
+MOST_SECONDS = 60.0
+"""Of a processor. A look at each pair takes many times as long, and a machine that is busy some times."""
 LOCK = "#1 lock L (a.py:1)"
 
 Report = tuple[str, str, str | None, int]

@@ -15,9 +15,8 @@ from pathlib import Path
 from typing import Any
 
 from itc_trace import Verdict
-from itc_trace.collector import free_port
 
-from .support import EXAMPLES, PACKAGE, WAIT, run_python
+from .support import EXAMPLES, PACKAGE, PATIENT, WAIT, kept_port, run_python, run_system
 
 CLIENTS = PACKAGE.parent
 STOCK = """
@@ -90,7 +89,7 @@ class Systems(unittest.TestCase):
         return [sys.executable, self.written(f"{name}.py", text), *words]
 
     def run_system(self, *words: str, **processes: Any) -> "subprocess.CompletedProcess[str]":
-        return run_python("-m", "itc_trace", "system", *words, self.file(**processes))
+        return run_system(*words, self.file(**processes))
 
     # What is found
 
@@ -135,10 +134,11 @@ for thread in threads: thread.join()
     def test_a_lost_update_between_python_and_java(self) -> None:
         out, sources = str(self.folder / "out"), CLIENTS / "java" / "src" / "main" / "java" / "itctrace"
         seller = self.written("Seller.java", JAVA)
-        subprocess.run(["javac", "-d", out, *map(str, sorted(sources.glob("*.java"))), seller], check=True)
+        quick = ("-J-XX:TieredStopAtLevel=1", "-J-XX:+UseSerialGC")
+        subprocess.run(["javac", *quick, "-d", out, *map(str, sorted(sources.glob("*.java"))), seller], check=True)
         self.assert_lost_update(["java", "-cp", out, "Seller"], {"Seller.java:6", "Seller.java:7"})
 
-    @unittest.skipUnless(shutil.which("rustc"), "no Rust")
+    @unittest.skipUnless(shutil.which("rustc") and shutil.which("cc"), "no Rust")
     def test_a_lost_update_between_python_and_rust(self) -> None:
         library, seller = str(self.folder / "libitc_trace.rlib"), str(self.folder / "seller")
         source = self.written("seller.rs", RUST)
@@ -160,14 +160,14 @@ for thread in threads: thread.join()
     # Starting and ending
 
     def test_a_process_waits_for_those_that_it_comes_after(self) -> None:
-        port = free_port()
-        client = ["sh", "-c", "echo begun"]
+        port = self.enterContext(kept_port())
+        client = self.python("client", "import socket, sys\nsocket.create_connection(('127.0.0.1', int(sys.argv[1]))).close()\nprint('begun')\n", str(port))
         for how in [dict[str, Any](ready="listening"), dict[str, Any](port=port)]:
             server = self.python("server", "import time\ntime.sleep(0.3)\n" + SERVER, str(port))
             ran = self.run_system(
                 client={"command": client, "after": ["server"], "traced": False}, server={"command": server, "service": True, **how})
             self.assertEqual(ran.returncode, Verdict.NO_RACE, ran.stderr)
-            self.assertEqual(ran.stdout.splitlines()[:2], ["server | listening", "client | begun"])
+            self.assertEqual(set(ran.stdout.splitlines()), {"server | listening", "client | begun"})
 
     def test_each_process_is_told_where_to_report(self) -> None:
         words = " ".join(f"${name}" for name in ("ITC_TRACE_TENANT", "ITC_TRACE_PROCESS", "ITC_TRACE_PORT", "ITC_TRACE_JOURNAL"))
@@ -186,12 +186,19 @@ for thread in threads: thread.join()
         self.assertEqual(ran.returncode, 7, ran.stderr)
         self.assertIn("itc_trace: process a ended with status 7\n", ran.stderr)
 
+    def test_each_of_many_that_end_at_once_is_told(self) -> None:
+        names = ["one", "two", "three"]
+        ran = run_python("-c", SLOW_TELLING, self.file(**{name: {"command": ["sh", "-c", "exit 3"], "traced": False} for name in names}))
+        told = [line for line in ran.stderr.splitlines() if line.endswith("ended with status 3")]
+        self.assertEqual(sorted(told), sorted(f"itc_trace: process {name} ended with status 3" for name in names))
+        self.assertEqual(ran.returncode, 3)
+
     def test_signals_end_it_and_its_processes(self) -> None:
         for number in (signal.SIGTERM, signal.SIGINT):
-            server = self.python("server", SERVER, str(free_port()))
+            server = self.python("server", SERVER, str(self.enterContext(kept_port())))
             file = self.file(server={"command": server})
             environment = {**os.environ, "PYTHONPATH": str(PACKAGE)}
-            words = [sys.executable, "-m", "itc_trace", "system", file]
+            words = [sys.executable, "-c", PATIENT, "system", file]
             with subprocess.Popen(words, stdout=subprocess.PIPE, stderr=subprocess.PIPE, text=True, env=environment) as system:
                 assert system.stdout is not None
                 self.assertEqual(system.stdout.readline(), "server | listening\n")
@@ -222,7 +229,7 @@ for thread in threads: thread.join()
 
     def test_a_process_that_is_started_again_loses_nothing(self) -> None:
         program = self.written("twice.py", REPORTING)
-        twice = ["sh", "-c", f"{sys.executable} {program}; {sys.executable} {program}"]
+        twice = ["sh", "-c", f"'{sys.executable}' '{program}'; '{sys.executable}' '{program}'"]
         ran = self.run_system(twice={"command": twice})
         self.assertEqual(ran.returncode, Verdict.NO_RACE, ran.stderr)
         self.assertIn("itc_trace: process twice reported 2 times: it was started again\n", ran.stderr)
@@ -274,6 +281,17 @@ for thread in threads: thread.join()
         self.assertIn("ITC_TRACE_PORT is many, which is no port", ran.stderr)
 
 
+SLOW_TELLING = """
+import sys, time
+from itc_trace import system, __main__
+tell_end = system.Running._tell_end
+def tell_slowly(self, process):
+    time.sleep(1)
+    tell_end(self, process)
+system.Running._tell_end = tell_slowly
+sys.argv[1:1] = ["system"]
+sys.exit(__main__.main())
+"""
 SHORT_GRACE = """
 import sys
 from itc_trace import system, __main__

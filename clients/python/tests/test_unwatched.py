@@ -97,7 +97,7 @@ class Unwatched(ProgramCase):
     def test_a_source_that_the_language_does_not_take_is_told(self) -> None:
         ran = run_traced(self.program(TOO_DEEP))
         self.assertEqual(ran.returncode, 2, ran.stderr)
-        self.assertRegex(ran.stderr, r"\Aitc_trace: \S*program.py cannot be run: [^\n]*\n\Z")
+        self.assertRegex(ran.stderr, r"\Aitc_trace: .*program.py cannot be run: [^\n]*\n\Z")
 
     def test_a_module_that_is_found_by_its_file_is_watched(self) -> None:
         ran = run_traced(self.beside(BY_SPECIFICATION + THREADS))

@@ -2,6 +2,7 @@
 
 from __future__ import annotations
 
+import ast
 import contextlib
 import dis
 import gc
@@ -26,8 +27,9 @@ from unittest import mock
 
 from itc_trace import tracing
 from itc_trace.stretches import STRETCHES, Stretch
-from itc_trace.watch import hooks, things
+from itc_trace.watch import hooks, late, stored, things
 from itc_trace.watch.rewrite import rewritten
+from itc_trace.watch.scopes import Scopes
 
 from .support import PACKAGE, ProgramCase, fresh_tenant, run_python, run_traced
 
@@ -63,8 +65,13 @@ def run_of(code: types.CodeType, **names: Any) -> tuple[str, dict[str, Any]]:
 
 def touches() -> list[tuple[str, str]]:
     """What this thread has touched in this stretch: names of things, and kinds."""
-    stretch = STRETCHES.get(threading.get_ident(), {})
-    return [(thing.name, kind) for thing, kind, _ in stretch.values() if kind != "making"]
+    stretch = STRETCHES.get(threading.get_ident())
+    noted = {} if stretch is None else dict(stretch)
+    for owner in list(things.OWNERS.values()):
+        for seen in owner.history:
+            if stretch is not None and seen.stretch is stretch:
+                noted |= late.touches_of(owner, seen.items(), None)
+    return [(thing.name, kind) for thing, kind, _ in noted.values() if kind != "making"]
 
 
 SAME = {
@@ -234,7 +241,11 @@ SAME = {
     "documentation, classes and annotations": '''
         """The module's text."""
         from __future__ import annotations
+        from __future__ import division
         import dataclasses, enum, inspect, pickle, typing
+        def use():
+            return annotations
+        annotations = division
         @dataclasses.dataclass
         class Point:
             """A point."""
@@ -254,6 +265,82 @@ SAME = {
         print(Point(1), Point(1) == Point(1), list(Color), Color.RED.name, Text(2), add(Point(1)), dataclasses.asdict(Point(2, [3])))
         print([name for name in sorted(globals()) if not name.startswith("__")])
     ''',
+    "matching and other ways to a field": """
+        import collections, functools, operator, string, types
+        class Loud(type):
+            def __instancecheck__(cls, one):
+                print("is it one?")
+                return True
+        class Anything(metaclass=Loud):
+            pass
+        class Shop:
+            __match_args__ = ("left", "price")
+            def __init__(self, left):
+                self.left, self.items = left, {"a": [1, 2], "b": None}
+            @property
+            def price(self):
+                print("priced")
+                return 7
+            def __getattr__(self, name):
+                print("asked for", name)
+                raise AttributeError(name)
+        class Table(dict):
+            def get(self, key, default=None):
+                print("got", key)
+                return dict.get(self, key, default)
+            def keys(self):
+                print("keys")
+                return dict.keys(self)
+        found = None
+        def change(one):
+            global found, helper, Kind
+            def helper():
+                return 1
+            class Kind:
+                pass
+            match one:
+                case Shop(3, 8) | Shop(left=4):
+                    found = "priced otherwise"
+                case Shop(left=2, items={"a": [first, *_], "b": None, **more}, none=_):
+                    found = "none"
+                case Shop(2, 7, items={"a": [first, *rest] as both, **more}) if first == 1:
+                    print(first, rest, both, more)
+                case {"x": -1 | 1.5 | True as one, **found}:
+                    print(one)
+                case [_, _, *found] | collections.deque([*found]):
+                    pass
+                case None | "text" | b"bytes":
+                    found = "simple"
+                case Anything():
+                    found = "anything"
+            print(found if not isinstance(found, Shop) else "shop")
+        table = Table(x=-1, y=2)
+        for one in Shop(3), Shop(2), Shop(4), {"x": 1.5}, table, [1, 2, 3], "text", None, 7, (1, 2), types.SimpleNamespace():
+            change(one)
+        shop = Shop(5)
+        shop.__dict__["left"] += 1
+        vars(shop).update(left=shop.__dict__.pop("left"), right=1)
+        shop.__dict__.setdefault("more", [])
+        print(vars(shop)["left"], shop.__dict__.get("none"), "{0.left:>4} {0.items[a][1]} {more.price}".format(shop, more=shop), "left" in vars(shop))
+        add = functools.partial(shop.more.append, 1)
+        print(add(), functools.partial(shop.more.append, 2)(), shop.more * 2, 2 * shop.more, shop.more < [2], operator.iadd(shop.more, [3]), add.func == shop.more.append)
+        view, keys = shop.items.items(), shop.items.keys()
+        print([*view], len(view), [one for one in keys], ("b", None) in view, sorted(keys), list(reversed(view)))
+        def steps():
+            try:
+                print("sent", (yield 1))
+                yield 2
+            except ValueError as fault:
+                print("thrown", fault)
+                yield 3
+        one, other = steps(), steps()
+        print(next(one), one.send(5), one.close(), next(other), other.throw(ValueError("x")), other.__next__.__name__)
+        try:
+            one.send(1), "{0} {}".format(1)
+        except StopIteration as found:
+            print("over")
+        print(found if "found" in globals() else "unbound", "{".join("ab"), "{}}}{{".format(1))
+    """,
     "exec and eval": """
         shared = {"n": 1}
         def run():
@@ -280,7 +367,8 @@ class TheProgramDoesWhatItDid(unittest.TestCase):
         def fail(*_: object) -> None:
             raise LookupError("planted")
 
-        for name in ("_touch_field", "_touch_whole", "_touch_keyed", "_touch_method", "_stepping", "_touch_cell", "_note"):
+        places = "_touch_field", "_touch_whole", "_touch_keyed", "_touch_method", "_stepping", "_touch_cell", "_touch_variable", "saw", "_what_of"
+        for name in places:
             for text in SAME.values():
                 plain = run_of(compile(textwrap.dedent(text), "<watched_module>", "exec", dont_inherit=True))[0]
                 with self.subTest(name=name), contextlib.redirect_stderr(io.StringIO()), noting(), mock.patch.object(hooks, name, fail):
@@ -441,6 +529,171 @@ class WhatIsTouched(unittest.TestCase):
         self.assert_touches("heapq.heappush(shop.items, 1)", of_field, ("Shop.items", "rewrite"), before="import heapq")
         self.assert_touches("push(shop.items, 1)", of_field, ("Shop.items", "rewrite"), before="from heapq import heappush as push")
 
+    def test_patterns(self) -> None:
+        read, length = ("Shop.items", "read"), ("Shop.items", "length")
+        table = ("Shop.stock", "read"), ("Shop.stock['left']", "read"), ("Shop.stock", "lookup")
+        for cases, *expected in (
+            ("case Shop(items=1): pass", read), ("case Shop(items=[1, *rest]): pass", read, length), ("case Shop(7): pass", read),
+            ("case Shop(items=other) | Shop(count=other): pass", read), ("case Shop(sold=3, items=1): pass", ("Shop.sold", "read"), read),
+            ("case Shop(): pass\n    case Shop(items=1): pass",), ("case Shop() if not shop: pass\n    case Shop(items=1): pass", read),
+            ("case int() | str(): pass\n    case Other(items=1): pass",), ("case [Shop(items=1)]: pass",), ("case other: pass",),
+        ):
+            with self.subTest(cases=cases):
+                self.assert_touches(f"match shop:\n    {cases}", *expected, before="shop.sold = 5\nShop.__match_args__ = ('items',)\nclass Other: pass")
+        for line, *expected in (
+            ("match shop.items:\n    case [1, *rest]: pass", read, length), ("match shop.items:\n    case {'left': 1}: pass", read),
+            ("match shop.stock:\n    case {'left': 7}: pass", *table), ("match shop.stock:\n    case {'left': 2}: pass\n    case {'new': _}: pass", *table),
+            ("match shop.stock:\n    case {**rest}: pass", ("Shop.stock", "read"), ("Shop.stock", "iteration")),
+            ("match [shop.stock]:\n    case [{'left': 7}]: pass", *table),
+        ):
+            with self.subTest(line=line):
+                self.assert_touches(line, *expected)
+
+    def test_what_statements_bind(self) -> None:
+        for line in (
+            "def total(): pass", "async def total(): pass", "class total: pass", "import json as total", "from json import loads as total",
+            "try: 1 / 0\n    except ZeroDivisionError as total: pass", "match 1:\n        case total: pass", "match [1]:\n        case [*total]: pass",
+            "with open('/dev/null') as total: pass", "for total in (1,): pass", "match {}:\n        case {**total}: pass",
+        ):
+            before = f"total = 0\ndef show():\n    return total\ndef change():\n    global total\n    {line}\n"
+            with self.subTest(line=line):
+                self.assert_touches("change()", ("watched_module.total", "write"), before=before)
+
+    def test_generators_and_views(self) -> None:
+        steps = "def counted():\n    while True:\n        yield 1\nsteps = counted()\nnext(steps)\n"
+        for line in ("steps.send(1)", "next(steps)", "steps.close()", "for one in steps:\n    break", "steps.__next__()"):
+            self.assert_touches(line, ("steps", "write"), before=steps)
+        self.assert_touches("sink.send(1)", before="class Sink:\n    def send(self, one): pass\nsink = Sink()")
+        for view, kind in (("items", "iteration"), ("values", "iteration"), ("keys", "keys")):
+            for line in ("for one in view: pass", "[*view]", "sorted(view)"):
+                self.assert_touches(line, ("Shop.stock", kind), before=f"view = shop.stock.{view}()")
+
+    def test_fields_by_other_ways(self) -> None:
+        read, write, look = ("Shop.items", "read"), ("Shop.items", "write"), ("Shop.items", "iteration")
+        for line, *expected in (
+            ("shop.__dict__['items']", read), ("shop.__dict__['items'] = 1", write), ("vars(shop)['items'] = 1", write),
+            ("del shop.__dict__['items']", write), ("shop.__dict__['items'] += []", read, write), ("shop.__dict__.get('items')", read),
+            ("vars(shop).pop('items')", write), ("shop.__dict__.update(items=1, new=2)", write, ("Shop.new", "write")),
+            ("'{0.items} {one.count}'.format(shop, one=shop)", read, look, ("Shop.count", "read")), ("'{.items!r:>9}'.format(shop)", read, look),
+        ):
+            with self.subTest(line=line):
+                self.assert_touches(line, *expected)
+        made = "import types\nmade = types.ModuleType('made')\nmade.debug = False"
+        self.assert_touches("made.debug", ("made.debug", "read"), before=made)
+        self.assert_touches("made.debug = True", ("made.debug", "write"), before=made)
+        self.assert_touches("types.debug", before=made + "\ntypes.debug = False")
+
+    def test_operators(self) -> None:
+        of_field, look = ("Shop.items", "read"), ("Shop.items", "iteration")
+        for line in ("shop.items * 2", "2 * shop.items", "shop.items < [1]", "shop.items >= keep", "shop.items + keep", "shop.items != keep"):
+            expected = [("keep", "iteration")] if "keep" in line else []
+            with self.subTest(line=line):
+                self.assert_touches(line.replace("keep", "others"), of_field, look, *[("others", "iteration")] * len(expected), before="others = [1]")
+        self.assert_touches("operator.iadd(shop.items, [1])", of_field, ("Shop.items", "addition"), before="import operator")
+        self.assert_touches("operator.lt(shop.items, [1])", of_field, look, before="import operator")
+        self.assert_touches("partial(shop.items.append, 1)()", of_field, ("Shop.items", "addition"), before="from functools import partial")
+
+    def test_methods_that_are_kept(self) -> None:
+        others = "others = [1]\nkeep.append(others)\n"
+        self.assert_touches("table['put'](1)", ("table", "lookup"), ("table['put']", "read"), ("others", "addition"), before=others + "table = {'put': others.append}\nkeep.append(table)")
+        self.assert_touches("shop.put(1)", ("Shop.put", "read"), ("others", "addition"), before=others + "shop.put = others.append")
+        self.assert_touches("list(iter(others.pop, 1))", ("others", "removal"), before=others)
+        self.assert_touches("shop.call(1)", ("Shop.call", "read"), before="shop.call = print")
+
+    def test_equal_keys_are_one(self) -> None:
+        before = """
+            import collections, dataclasses, datetime, decimal, fractions, pathlib, uuid
+            Point = collections.namedtuple("Point", "x y")
+            @dataclasses.dataclass(frozen=True)
+            class Place:
+                x: int
+                parts: tuple = ()
+            class Own:
+                def __init__(self, x):
+                    self.x = x
+                def __eq__(self, other):
+                    raise LookupError
+                def __hash__(self):
+                    return id(self)
+        """
+        keys = (
+            "datetime.date(2020, 1, 1)", "datetime.datetime(2020, 1, 1, tzinfo=datetime.timezone.utc)", "datetime.timedelta(1)", "decimal.Decimal(1)",
+            "fractions.Fraction(1, 2)", "uuid.UUID(int=3)", "pathlib.Path('a')", "Point(1, 2)", "Place(1)", "Place(1, (2, 'a'))", "1j",
+            "frozenset([1, 2])", "(1, ('a', None))", "(Point(1, 2), datetime.date(2020, 1, 1))",
+        )
+        for key in keys:
+            with self.subTest(key=key):
+                self.assertEqual(len(self.elements(f"shop.stock[{key}] = 1\nshop.stock[{key}] += 1", before)), 1)
+        for one, other in (("Place(1)", "Place(2)"), ("Place(1)", "Point(1, ())"), ("(1,)", "frozenset([1])"), ("Own(1)", "Own(1)")):
+            with self.subTest(one=one, other=other):
+                self.assertEqual(len(self.elements(f"keep.append([{one}, {other}])\nshop.stock[keep[-1][0]] = shop.stock[keep[-1][1]] = 1", before)), 2)
+
+    def elements(self, body: str, before: str) -> set[int]:
+        """The numbers of the elements that the lines touch."""
+        text = f"class Shop:\n    stock = {{}}\nshop, keep = Shop(), []\n{textwrap.dedent(before)}\ndef work():\n{textwrap.indent(body, '    ')}\n"
+        with noting():
+            _, variables = run_of(code_of(text))
+            STRETCHES.pop(threading.get_ident(), None)
+            variables["work"]()
+            touches()  # Things are made late.
+            things_of_stock = [owner.things for owner in things.OWNERS.values() if owner.name.endswith("stock")]
+            return {thing.number for held in things_of_stock for thing in held.values() if isinstance(thing, things.Element)}
+
+    def test_bytes_and_what_is_written_into_them(self) -> None:
+        of_bytes = "data = bytearray(b'abc')\nimport io, struct\n"
+        for line, kind in (
+            ("data.decode()", "iteration"), ("data.find(b'a')", "iteration"), ("data.split()", "iteration"), ("data.extend(b'x')", "addition"),
+            ("io.BytesIO(b'xyz').readinto(data)", "rewrite"), ("struct.pack_into('B', data, 0, 1)", "rewrite"), ("struct.unpack('3B', data)", "iteration"),
+        ):
+            with self.subTest(line=line):
+                self.assert_touches(line, ("data", kind), before=of_bytes)
+        self.assert_touches("text.split()\ntext.find('a')", before="text = 'a b'")
+
+    def test_attributes_that_are_keys(self) -> None:
+        table = "class Table(dict):\n    __getattr__ = dict.GET\n    __setattr__ = dict.__setitem__\n    kind = 1\ntable = Table(left=2)\nkeep.append(table)\n"
+        for get in ("__getitem__", "get"):
+            before, element = table.replace("GET", get), "a Table['left']"
+            self.assert_touches("table.left", (element, "read"), ("a Table", "lookup"), before=before)
+            self.assert_touches("table.left = 1", (element, "write"), ("a Table", "replacement"), before=before)
+            self.assert_touches("table.kind", before=before)
+
+    def test_variables_that_are_bound_behind_a_start(self) -> None:
+        for helper, call in (
+            ("def launch():\n    threading.Thread(target=print).start()\n", "launch()"), ("def launch():\n    go()\ndef go():\n    pool.submit(print)\n", "launch()"),
+            ("class Launch:\n    def __init__(self):\n        self.go()\n    def go(self):\n        pool.submit(print)\n", "Launch()"),
+            ("", "threading.Thread(target=print).start()"),
+        ):
+            for is_behind in (True, False):
+                lines = [call, "limit = 1"] if is_behind else ["limit = 1", call]
+                text = f"import threading\n{helper}def work():\n    return limit\n" + "\n".join(lines) + "\n"
+                scopes = Scopes(ast.parse(text))
+                with self.subTest(text=text):
+                    self.assertEqual(scopes.may_be_shared(scopes.module, "limit"), is_behind)
+
+    def test_names_that_other_modules_store_are_found(self) -> None:
+        text = """
+            import config, os.path as p
+            from . import (alpha,
+                beta)
+            from x import y as z  # not w
+            config.debug = True
+            config.a, config.b = 1, 2
+            config.n += config.m
+            config.d //= 1
+            config.t: int = 3
+            setattr(beta, "size", 3)
+            del alpha.gone
+            self.left = 3
+            local.q = w.f(k=3)
+            if config.same == 3 or p.sep <= z.zed: pass
+        """
+        source = textwrap.dedent(text).encode()
+        self.assertEqual(sorted(stored.stored_by(source)), ["a", "b", "d", "debug", "gone", "n", "size", "t"])
+
+    def test_fields_that_may_have_methods_are_found(self) -> None:
+        text = b"self.put = 1\nshop.a, shop.b = 1, 2\nshop.c: int = 3\nShop(name=one.label)\nShop(take=items.pop)\nsize = items.pop()\nif self.same == 3: self.call(1)\n"
+        self.assertEqual(sorted(stored.kept_by(text)), ["a", "b", "c", "put", "take"])
+
     def test_what_only_a_variable_has_is_not_touched(self) -> None:
         self.assert_touches("mine = [1]\nmine.append(2)\nmine[0] = 3\nlen(mine)")
         self.assert_touches("mine = {}\nmine['a'] = 1\nfor key in mine: pass")
@@ -496,7 +749,7 @@ for thread in threads:
         ran = run_traced(self.program(self.SHOP))
         self.assertEqual(ran.returncode, RACE, ran.stderr)
         self.assertIn("itc_trace: race on stock['left'] (a dict made at program.py:3)\n", ran.stderr)
-        self.assertRegex(ran.stderr, r"write at \S+program.py:6 in sell:  stock\[.left.\] -= 1\n    read  at")
+        self.assertRegex(ran.stderr, r"write at .*program.py:6 in sell:  stock\[.left.\] -= 1\n    read  at")
         self.assertRegex(ran.stderr, r"itc_trace: 1 race in this run: \d+ places of \d things, \d+ events")
 
     def test_a_variable_is_told_by_the_line_that_made_it(self) -> None:
@@ -504,16 +757,28 @@ for thread in threads:
         ran = run_traced(self.program(text))
         self.assertIn("itc_trace: race on stock (a variable made at program.py:3)\n", ran.stderr)
 
+    def test_a_field_that_another_module_gives_a_method_is_called_as_that(self) -> None:
+        with tempfile.TemporaryDirectory() as folder:
+            Path(folder, "store.py").write_text("class Shop:\n    def __init__(self, items):\n        self.put = items.append\n")
+            text = self.SHOP.replace('stock = {"left": 2}', "import store\nstock = []\nshop = store.Shop(stock)").replace('stock["left"] -= 1', "shop.put(1)\n    len(stock)")
+            Path(folder, "program.py").write_text(text)
+            ran = run_traced(os.path.join(folder, "program.py"))
+        self.assertEqual(ran.returncode, RACE, ran.stderr)
+        self.assertIn("race on stock", ran.stderr)
+
     def test_a_variable_of_another_module_is_the_one_that_the_module_reads(self) -> None:
         with tempfile.TemporaryDirectory() as folder:
-            Path(folder, "config.py").write_text("debug = False\nlevel = 1\ndef get():\n    return debug, level\n")
-            text = self.SHOP.replace('stock = {"left": 2}', "import config").replace('stock["left"] -= 1', "config.debug = True\n    config.get()")
+            Path(folder, "config.py").write_text("debug = False\nlevel = 1\nname = 'x'\ndef get():\n    return debug, level, name\n")
+            Path(folder, "admin.py").write_text("import config\ndef enable():\n    config.debug = True\n")
+            imports, change = "import config\nimport admin", "admin.enable()\n    config.level = 2\n    config.get()"
+            text = self.SHOP.replace('stock = {"left": 2}', imports).replace('stock["left"] -= 1', change)
             Path(folder, "program.py").write_text(text)
             ran = run_traced(os.path.join(folder, "program.py"))
         self.assertEqual(ran.returncode, RACE, ran.stderr)
         self.assertIn("race on config.debug", ran.stderr)
-        self.assertRegex(ran.stderr, r"read\s+at \S+config.py:4 in get")
-        self.assertNotIn("level", ran.stderr.replace("return debug, level", ""))
+        self.assertIn("race on config.level", ran.stderr)
+        self.assertRegex(ran.stderr, r"read\s+at .*config.py:5 in get")
+        self.assertIn(" 2 things", ran.stderr, "a variable that nobody stores into is noted")
 
     def test_with_a_lock_there_is_none(self) -> None:
         text = self.SHOP.replace("def sell():\n    stock", "lock = threading.Lock()\ndef sell():\n  with lock:\n    stock")

@@ -30,11 +30,18 @@ class Handler(BaseHTTPRequestHandler):
         pass
 
 
+def ask():
+    with urllib.request.urlopen(f"http://127.0.0.1:{server.server_port}/") as response:
+        print(response.read().decode())
+
+
 with ThreadingHTTPServer(("127.0.0.1", 0), Handler) as server:
     thread = threading.Thread(target=server.serve_forever, kwargs={"poll_interval": 0.01})
     thread.start()
-    for _ in range(2):
-        with urllib.request.urlopen(f"http://127.0.0.1:{server.server_port}/") as response:
-            print(response.read().decode())
+    clients = [threading.Thread(target=ask) for _ in range(2)]
+    for client in clients:
+        client.start()
+    for client in clients:
+        client.join()
     server.shutdown()
     thread.join()

@@ -14,7 +14,7 @@ class Audited:
     def __getattribute__(self, name):
         if name.startswith("secret"):
             raise AttributeError(name)
-        return super().__getattribute__(name)
+        return super().__getattribute__(name)  # race: read
 
 
 audited = Audited()

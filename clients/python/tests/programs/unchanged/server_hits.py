@@ -21,12 +21,19 @@ class Handler(BaseHTTPRequestHandler):
         pass
 
 
+def ask(port):
+    urllib.request.urlopen(f"http://127.0.0.1:{port}/").close()
+
+
 def main():
     server = ThreadingHTTPServer(("127.0.0.1", 0), Handler)
     thread = threading.Thread(target=server.serve_forever, args=(0.01,))
     thread.start()
-    for _ in range(2):
-        urllib.request.urlopen(f"http://127.0.0.1:{server.server_port}/").close()
+    clients = [threading.Thread(target=ask, args=(server.server_port,)) for _ in range(2)]
+    for client in clients:
+        client.start()
+    for client in clients:
+        client.join()
     server.shutdown()
     thread.join()
     server.server_close()

@@ -1,0 +1,688 @@
+"""Child processes that are traced: each is a task that its parent starts and joins."""
+
+from __future__ import annotations
+
+import os
+import unittest
+from unittest import mock
+
+from itc_trace import Verdict, shared_names
+from itc_trace.journal import read_whole
+from itc_trace.shared_names import SharedNames
+from itc_trace.verdict import END_ROW, child_begun_row, child_ended_row
+
+from .support import ProgramCase, chosen, run_python, run_traced
+
+METHODS = ("fork", "forkserver", "spawn")
+STARTS_AND_JOINS = """
+import multiprocessing, sys
+import itc_trace
+
+def sell():
+    itc_trace.touch("stock", write=True, across=True)
+    itc_trace.touch("own", write=True)
+
+if __name__ == "__main__":
+    method, joins_first = sys.argv[1], sys.argv[2] == "first"
+    context = multiprocessing.get_context(method)
+    itc_trace.touch("stock", write=True, across=True)
+    sellers = [context.Process(target=sell) for _ in range(2)]
+    for seller in sellers:
+        seller.start()
+        if joins_first:
+            seller.join()
+    for seller in sellers:
+        JOINING
+    itc_trace.touch("stock", across=True)
+    itc_trace.touch("own", write=True)
+"""
+JOIN = "seller.join()"
+POLL = """
+        while seller.is_alive():
+            pass"""
+EXIT = """
+        while seller.exitcode is None:
+            pass"""
+FORKS = """
+import itc_trace, os, sys
+itc_trace.touch("file", write=True, across=True)
+for _ in range(2):
+    if os.fork() == 0:
+        itc_trace.touch("file", write=True, across=True)
+        LEAVE
+    if sys.argv[1] == "waits":
+        WAIT
+if sys.argv[1] != "waits":
+    WAIT; WAIT
+itc_trace.touch("file", write=True, across=True)
+"""
+WATCHED = """
+import multiprocessing, sys, threading
+class Shop: pass
+shop, lock = Shop(), threading.Lock()
+shop.left = 100
+def sell(locked):
+    for _ in range(3):
+        if locked:
+            with lock:
+                shop.left -= 1
+        else:
+            shop.left -= 1
+def sell_in_threads(locked):
+    threads = [threading.Thread(target=sell, args=(locked,)) for _ in range(2)]
+    for thread in threads:
+        thread.start()
+    for thread in threads:
+        thread.join()
+if __name__ == "__main__":
+    child = multiprocessing.get_context(sys.argv[1]).Process(target=sell_in_threads, args=(sys.argv[2] == "locked",), name="seller")
+    child.start()
+    shop.left = 0
+    child.join()
+"""
+GRANDCHILD = """
+import itc_trace, multiprocessing
+def write():
+    itc_trace.touch("file", write=True, across=True)
+def start():
+    child = multiprocessing.Process(target=write)
+    child.start()
+    child.join()
+    write()
+if __name__ == "__main__":
+    child = multiprocessing.Process(target=start)
+    child.start()
+    child.join()
+    write()
+"""
+ENDED = """
+import multiprocessing, sys, time
+def wait():
+    time.sleep(1000)
+child = multiprocessing.get_context("fork").Process(target=wait)
+child.start()
+getattr(child, sys.argv[1])()
+child.join()
+"""
+LONG = """
+import itc_trace, multiprocessing, queue, threading
+def write():
+    itc_trace.touch("file", write=True, across=True)
+def answer():
+    for _ in range(200):
+        ping.get()
+        itc_trace.touch("turn", write=True)
+        pong.put(1)
+ping, pong = queue.Queue(), queue.Queue()
+early, other = threading.Thread(target=write), threading.Thread(target=answer)
+early.start()
+other.start()
+for _ in range(200):
+    itc_trace.touch("turn", write=True)
+    ping.put(1)
+    pong.get()
+for _ in range(2):
+    child = multiprocessing.get_context("fork").Process(target=write)
+    child.start()
+    child.join()
+early.join()
+write()
+"""
+
+
+@unittest.skipUnless(hasattr(os, "fork"), "there is no fork here")
+class Starts(ProgramCase):
+    def assert_verdict(self, verdict: Verdict, text: str, *words: str) -> str:
+        ran = run_traced(self.program(text), *words)
+        self.assertEqual(ran.returncode, verdict, ran.stderr)
+        return ran.stderr
+
+    def test_two_children_of_one_parent_race(self) -> None:
+        for method in METHODS:
+            with self.subTest(method=method):
+                told = self.assert_verdict(Verdict.RACES, STARTS_AND_JOINS.replace("JOINING", JOIN), method, "later")
+                self.assertRegex(told, r"race on stock\n +write at .*program\.py:6 in sell: .*\n +write at .*program\.py:6 in sell")
+                self.assertNotIn("race on own", told)
+                self.assertEqual(told.count("race on"), 1)
+
+    def test_a_child_comes_after_its_start_and_before_its_join(self) -> None:
+        for method in METHODS:
+            with self.subTest(method=method):
+                self.assert_verdict(Verdict.NO_RACE, STARTS_AND_JOINS.replace("JOINING", JOIN), method, "first")
+
+    def test_whoever_sees_that_it_is_over_comes_after_it(self) -> None:
+        for how in (POLL, EXIT):
+            told = self.assert_verdict(Verdict.RACES, STARTS_AND_JOINS.replace("JOINING", how), "fork", "later")
+            self.assertEqual(told.count("race on"), 1)
+            self.assertNotIn("root", told)
+
+    def test_a_parent_that_does_not_wait_races_with_its_child(self) -> None:
+        told = self.assert_verdict(Verdict.RACES, STARTS_AND_JOINS.replace("JOINING", "pass"), "fork", "later")
+        self.assertIn("root", told)
+
+    def test_a_program_that_forks_by_itself(self) -> None:
+        for leave in ("os._exit(0)", "sys.exit()"):
+            for wait in ("os.wait()", "os.waitpid(-1, 0)"):
+                text = FORKS.replace("LEAVE", leave).replace("WAIT", wait)
+                with self.subTest(leave=leave, wait=wait):
+                    self.assert_verdict(Verdict.NO_RACE, text, "waits")
+                    told = self.assert_verdict(Verdict.RACES, text, "later")
+                    self.assertNotIn("root", told)
+
+    def test_the_threads_of_a_child_are_traced_and_what_it_has_is_its_own(self) -> None:
+        for method in chosen(METHODS):
+            with self.subTest(method=method):
+                self.assert_verdict(Verdict.NO_RACE, WATCHED, method, "locked")
+                told = self.assert_verdict(Verdict.RACES, WATCHED, method, "plain")
+                self.assertRegex(told, r"race on Shop\.left")
+                self.assertNotIn("<module>", told)
+
+    def test_a_child_s_child(self) -> None:
+        self.assert_verdict(Verdict.NO_RACE, GRANDCHILD)
+        self.assert_verdict(Verdict.RACES, GRANDCHILD.replace("    child.join()\n    write()\nif", "    write()\nif"))
+
+    def test_a_child_that_its_parent_ends_was_seen_whole_and_one_that_is_killed_was_not(self) -> None:
+        self.assert_verdict(Verdict.NO_RACE, ENDED, "terminate")
+        told = self.assert_verdict(Verdict.INCOMPLETE, ENDED, "kill")
+        self.assertRegex(told, r"incomplete: a child process was not traced to its end: it was started by fork at .*program\.py:6\n")
+
+    def test_a_run_that_is_divided_goes_on_with_children(self) -> None:
+        ran = run_traced("--part-events", "200", self.program(LONG))
+        self.assertEqual(ran.returncode, Verdict.RACES, ran.stderr)
+        self.assertRegex(ran.stderr, r"(?s)race on file\n.*write_1 and write_2: nothing orders them; 2 times, as event \d+ of part 1 and event \d+ of part")
+        self.assertEqual(ran.stderr.count("race on"), 1)
+
+    def test_a_pool_of_threads_does_not_keep_children_from_being_traced(self) -> None:
+        self.assert_verdict(Verdict.NO_RACE, """
+import multiprocessing, multiprocessing.pool
+if __name__ == "__main__":
+    with multiprocessing.pool.ThreadPool(2) as pool:
+        assert pool.map(abs, [-1]) == [1]
+    child = multiprocessing.Process(target=print)
+    child.start()
+    child.join()
+""")
+
+    def test_a_child_that_never_reports_is_not_seen(self) -> None:
+        text = "import os\nif os.fork() == 0:\n    import socket\n    os.kill(os.getpid(), 9)\nos.wait()\n"
+        self.assert_verdict(Verdict.INCOMPLETE, text)
+
+
+MESSAGES = """
+import multiprocessing, sys
+import itc_trace
+
+def work(requests, replies):
+    request = requests.recv() if is_pipe else requests.get()
+    assert request == ["write", 1], request
+    itc_trace.touch("file", write=True, across=True)
+    replies.send((1,)) if is_pipe else replies.put((1,))
+    itc_trace.touch("later", write=True, across=True)
+
+method, kind, is_wrong = sys.argv[1], sys.argv[2], sys.argv[3] == "wrong"
+is_pipe = kind == "Pipe"
+if __name__ == "__main__":
+    context = multiprocessing.get_context(method)
+    made = [getattr(context, kind)() for _ in range(2)]
+    (takes, gives), (gets, puts) = [one[::-1] if is_pipe else (one, one) for one in made]
+    child = context.Process(target=work, args=(takes, puts))
+    child.start()
+    itc_trace.touch("file", write=True, across=True)
+    gives.send(["write", 1]) if is_pipe else gives.put(["write", 1])
+    if is_wrong:
+        itc_trace.touch("file", write=True, across=True)
+    reply = gets.recv() if is_pipe else gets.get()
+    assert reply == (1,), reply
+    itc_trace.touch("file", write=True, across=True)
+    if is_wrong:
+        itc_trace.touch("later", across=True)
+    child.join()
+    itc_trace.touch("later", across=True)
+"""
+TWO_PUT = """
+import itc_trace, multiprocessing, sys, threading
+queue, first = getattr(multiprocessing, sys.argv[1])(), []
+def one():
+    itc_trace.touch("x", write=True)
+    queue.put(1)
+    first.append(1)
+def other():
+    while not first: pass
+    queue.put(2)
+    itc_trace.touch("x", write=True)
+threads = [threading.Thread(target=run) for run in (one, other)]
+for thread in threads:
+    thread.start()
+for thread in threads:
+    thread.join()
+"""
+FAILS = """
+import multiprocessing, time
+queue = multiprocessing.Queue()
+queue.put(lambda: None)
+queue.put("next")
+print(queue.get())
+"""
+UNTRACED_READER = """
+import multiprocessing, os, pickle
+reader, writer = multiprocessing.Pipe(False)
+writer.send({"left": 1})
+size = int.from_bytes(os.read(reader.fileno(), 4), "big")
+print(pickle.loads(os.read(reader.fileno(), size)))
+"""
+NOT_FOLLOWED = """
+import multiprocessing
+from multiprocessing import shared_memory
+def work(thing):
+    pass
+if __name__ == "__main__":
+    thing = MAKE
+    child = multiprocessing.Process(target=work, args=(thing,))
+    child.start()
+    child.join()
+    del thing
+"""
+MAKERS = (
+    "multiprocessing.Semaphore()", "multiprocessing.BoundedSemaphore()", "multiprocessing.Barrier(1)", "multiprocessing.Queue(1)",
+    "multiprocessing.JoinableQueue()", "multiprocessing.Array('i', 3)", "multiprocessing.RawArray('i', 3)",
+    "shared_memory.ShareableList([1])", "multiprocessing.Pool(1).close()",
+    "multiprocessing.Manager().list()", "__import__('mmap').mmap(-1, 1)", "(lambda pipe: pipe[0].send_bytes(b'x') or pipe)(multiprocessing.Pipe())",
+)
+LATER = """
+import multiprocessing
+def work(pipe, other):
+    other.close()
+    try:
+        USE
+    except EOFError:
+        pass
+if __name__ == "__main__":
+    there, here = multiprocessing.Pipe()
+    child = multiprocessing.Process(target=work, args=(there, here))
+    child.start()
+    there.close()
+    GIVE
+    here.close()
+    child.join()
+"""
+
+
+@unittest.skipUnless(hasattr(os, "fork"), "there is no fork here")
+class Messages(ProgramCase):
+    def test_an_item_is_a_message(self) -> None:
+        for method, kind in chosen((("fork", "Queue"), ("forkserver", "Pipe"), ("spawn", "SimpleQueue"), ("fork", "Pipe"), ("spawn", "Queue"))):
+            with self.subTest(method=method, kind=kind):
+                program = self.program(MESSAGES)
+                ran = run_traced(program, method, kind, "right")
+                self.assertEqual(ran.returncode, Verdict.NO_RACE, ran.stderr)
+                ran = run_traced(program, method, kind, "wrong")
+                self.assertEqual(ran.returncode, Verdict.RACES, ran.stderr)
+                self.assertRegex(ran.stderr, r"race on file\n.*program\.py:(23|8)\b.*\n.*program\.py:(23|8)\b")
+                self.assertRegex(ran.stderr, r"race on later\n.*program\.py:(28|10)\b.*\n.*program\.py:(28|10)\b")
+                self.assertEqual(ran.stderr.count("race on"), 2)
+
+    def test_two_who_put_are_in_no_order(self) -> None:
+        for kind in ("Queue", "SimpleQueue"):
+            ran = run_traced("--watch-nothing", self.program(TWO_PUT), kind)
+            self.assertEqual(ran.returncode, Verdict.RACES, ran.stderr)
+
+    def test_an_item_that_cannot_be_pickled_is_told_as_ever(self) -> None:
+        program = self.program(FAILS)
+        ran, plain = run_traced(program), run_python(program)
+        self.assertEqual((ran.returncode, ran.stdout), (0, "next\n"), ran.stderr)
+        self.assertIn("PicklingError", plain.stderr)
+        self.assertEqual(ran.stderr.count("PicklingError"), plain.stderr.count("PicklingError"))
+
+    def test_whoever_does_not_know_of_the_name_reads_the_item(self) -> None:
+        ran = run_traced(self.program(UNTRACED_READER))
+        self.assertEqual((ran.returncode, ran.stdout), (Verdict.NO_RACE, "{'left': 1}\n"), ran.stderr)
+
+    def test_what_is_not_followed_is_no_all_clear(self) -> None:
+        for make in chosen(MAKERS):
+            with self.subTest(make=make):
+                ran = run_traced(self.program(NOT_FOLLOWED.replace("MAKE", make)))
+                self.assertEqual(ran.returncode, Verdict.INCOMPLETE, ran.stderr)
+                self.assertRegex(ran.stderr, r"incomplete: a child process was not traced: it was started by fork at .*program\.py:\d+")
+
+    def test_what_is_used_later_and_is_not_followed_is_no_all_clear(self) -> None:
+        for use, give, told in (
+            ("pipe.recv_bytes()", "here.send_bytes(b'x')", "recv_bytes was used at"), ("pipe.recv()", "pass", "the end of a pipe was used at"),
+            ("multiprocessing.Array('i', 3)", "pass", "shared memory"), ("pipe.send(1); pipe.recv()", "here.recv(); here.send(multiprocessing.Lock)", ""),
+        ):
+            with self.subTest(use=use):
+                ran = run_traced(self.program(LATER.replace("USE", use).replace("GIVE", give)))
+                self.assertEqual(ran.returncode, Verdict.INCOMPLETE if told else Verdict.NO_RACE, ran.stderr)
+                if told:
+                    self.assertIn("incomplete: what processes do to each other was not all seen: ", ran.stderr)
+
+
+RUNS_ITSELF = """
+import os, subprocess, sys
+import itc_trace
+if sys.argv[1] == "child":
+    itc_trace.touch("file", write=True, across=True)
+    print(os.path.basename(sys.argv[0]), *sys.argv[1:], *sys.orig_argv[-1:], sys.flags.utf8_mode, flush=True)
+    sys.exit(3)
+how, is_wrong = sys.argv[1], sys.argv[2] == "wrong"
+words, folder = [sys.executable, "-X", "utf8", __file__, "child"], os.path.dirname(os.path.abspath(__file__))
+if how == "module":
+    words[3:4] = ["-m", "program"]
+child = subprocess.Popen(args=words, env={} if how == "without variables" else None, cwd=folder)
+if is_wrong:
+    itc_trace.touch("file", write=True, across=True)
+if how == "poll":
+    while child.poll() is None:
+        pass
+assert child.wait() == 3
+itc_trace.touch("file", write=True, across=True)
+assert subprocess.run(words, cwd=folder).returncode == 3
+itc_trace.touch("file", write=True, across=True)
+"""
+RUNS_ITSELF_IN_A_FORK = """
+import os, subprocess, sys
+import itc_trace
+if sys.argv[1] == "child":
+    itc_trace.touch("file", write=True, across=True)
+    sys.exit()
+child = os.fork()
+if child == 0:
+    itc_trace.touch("file", write=True, across=True)
+    subprocess.run([sys.executable, __file__, "child"], check=True)
+    itc_trace.touch("file", write=True, across=True)
+    os._exit(0)
+if sys.argv[1] == "wrong":
+    itc_trace.touch("file", write=True, across=True)
+os.waitpid(child, 0)
+itc_trace.touch("file", write=True, across=True)
+"""
+
+
+class Commands(ProgramCase):
+    def test_a_program_that_a_forked_child_runs_is_a_task(self) -> None:
+        program = self.program(RUNS_ITSELF_IN_A_FORK)
+        ran = run_traced(program, "right")
+        self.assertEqual(ran.returncode, Verdict.NO_RACE, ran.stderr)
+        ran = run_traced(program, "wrong")
+        self.assertEqual(ran.returncode, Verdict.RACES, ran.stderr)
+        self.assertRegex(ran.stderr, r"race on file\n.*program\.py:(14|5)\b.*\n.*program\.py:(14|5)\b")
+
+    def test_a_program_of_the_same_folder_is_a_task(self) -> None:
+        program = self.program(RUNS_ITSELF)
+        for how in ("run", "poll", "module", "without variables"):
+            with self.subTest(how=how):
+                ran = run_traced(program, how, "right")
+                self.assertEqual((ran.returncode, ran.stdout), (Verdict.NO_RACE, 2 * "program.py child child 1\n"), ran.stderr)
+        ran = run_traced(program, "run", "wrong")
+        self.assertEqual(ran.returncode, Verdict.RACES, ran.stderr)
+        self.assertRegex(ran.stderr, r"race on file\n.*program\.py:(14|5)\b.*\n.*program\.py:(14|5)\b")
+        self.assertEqual(ran.stderr.count("race on"), 1)
+
+    def test_one_that_cannot_be_started_is_told_as_ever(self) -> None:
+        text = "import subprocess, sys\ntry:\n    subprocess.run([sys.executable, __file__], cwd='/no_such')\nexcept OSError as error:\n    print(error.strerror)\n"
+        ran = run_traced(self.program(text))
+        self.assertEqual((ran.returncode, ran.stdout), (Verdict.NO_RACE, "No such file or directory\n"), ran.stderr)
+
+    def test_one_that_does_not_look_at_variables_is_told_as_not_seen(self) -> None:
+        for flag in ("-I", "-E", "-sE"):
+            text = f"import subprocess, sys\nif not sys.argv[1:]:\n    subprocess.run([sys.executable, '{flag}', __file__, 'child'], check=True)\n"
+            ran = run_traced(self.program(text))
+            self.assertEqual(ran.returncode, Verdict.INCOMPLETE, ran.stderr)
+
+
+LOCKED = """
+import multiprocessing, sys
+import itc_trace
+
+def work(count, lock, how):
+    for _ in range(3):
+        if how == "plain":
+            count.value += 1
+        elif how == "with":
+            with lock:
+                count.value += 1
+        else:
+            lock.acquire()
+            try:
+                count.value += 1
+            finally:
+                lock.release()
+
+method, kind, how = sys.argv[1:]
+if __name__ == "__main__":
+    context = multiprocessing.get_context(method)
+    if kind == "Value":
+        count = context.Value("i", 0)
+        lock, raw = count.get_lock(), count.get_obj()
+    else:
+        raw = context.RawValue("i", 0)
+        lock = getattr(context, kind)()
+    children = [context.Process(target=work, args=(raw, lock, how)) for _ in range(2)]
+    for child in children:
+        child.start()
+    for child in children:
+        child.join()
+    print(raw.value, type(raw).__name__)
+"""
+NUMBERS = """
+import ctypes, multiprocessing
+number = multiprocessing.Value(ctypes.c_double, 1.5, lock=False)
+number.value *= 2
+letter = multiprocessing.RawValue("c", b"x")
+print(number, isinstance(number, ctypes.c_double), letter.value, multiprocessing.Value("i", 3), ctypes.sizeof(number))
+try:
+    number.value = "x"
+except TypeError as error:
+    print(error)
+"""
+HANDED_ON = """
+import multiprocessing
+def add(count, lock, mine, other):
+    for _ in range(3):
+        with lock:
+            with lock:
+                count.value += 1
+            count.value += 1
+if __name__ == "__main__":
+    count, lock = multiprocessing.RawValue("i", 0), multiprocessing.RLock()
+    child = multiprocessing.Process(target=add, args=(count, lock, 1, 2))
+    child.start()
+    add(count, lock, 2, 1)
+    child.join()
+    assert count.value == 12
+"""
+
+
+@unittest.skipUnless(hasattr(os, "fork"), "there is no fork here")
+class Locks(ProgramCase):
+    def test_a_lock_orders_processes_and_a_number_is_a_thing(self) -> None:
+        for method, kind, how in chosen((
+            ("fork", "Lock", "with"), ("fork", "RLock", "acquire"), ("spawn", "Value", "with"), ("spawn", "Lock", "acquire"),
+            ("forkserver", "RLock", "with"), ("fork", "Value", "with"),
+        )):
+            with self.subTest(method=method, kind=kind, how=how):
+                ran = run_traced(self.program(LOCKED), method, kind, how)
+                self.assertEqual((ran.returncode, ran.stdout), (Verdict.NO_RACE, "6 c_int\n"), ran.stderr)
+
+    def test_without_a_lock_the_number_races(self) -> None:
+        for method in chosen(METHODS):
+            with self.subTest(method=method):
+                ran = run_traced(self.program(LOCKED), method, "Lock", "plain")
+                self.assertEqual(ran.returncode, Verdict.RACES, ran.stderr)
+                self.assertRegex(
+                    ran.stderr, r"race on raw, a Value made at .*program\.py:26\n"
+                    r" +(write|read ) at .*program\.py:8 in work: .*\n +(write|read ) at .*program\.py:8 in work")
+                self.assertNotIn("root", ran.stderr)
+
+    def test_what_happens_outermost_counts_of_a_lock_that_is_acquired_again(self) -> None:
+        ran = run_traced(self.program(HANDED_ON))
+        self.assertEqual(ran.returncode, Verdict.NO_RACE, ran.stderr)
+
+    def test_numbers_behave_as_ever(self) -> None:
+        program = self.program(NUMBERS)
+        ran, plain = run_traced(program), run_python(program)
+        self.assertEqual((ran.returncode, ran.stdout), (0, plain.stdout), ran.stderr)
+
+    def test_a_lock_that_is_not_held_is_no_order(self) -> None:
+        text = LOCKED.replace("with lock:\n                count.value += 1", "with lock:\n                pass\n            count.value += 1")
+        ran = run_traced(self.program(text), "fork", "Lock", "with")
+        self.assertEqual(ran.returncode, Verdict.RACES, ran.stderr)
+
+
+POOL = """
+import multiprocessing, sys, threading
+import itc_trace
+from concurrent.futures import ProcessPoolExecutor, as_completed, wait
+
+def write(name):
+    itc_trace.touch(name, write=True, across=True)
+    if name == "fails":
+        raise ValueError(name)
+    return len(name)
+
+def begin():
+    itc_trace.touch("begun", write=True, across=True)
+
+def use():
+    itc_trace.touch("begun", across=True)
+
+method, how = sys.argv[1:]
+if __name__ == "__main__":
+    pool = ProcessPoolExecutor(1, multiprocessing.get_context(method), begin)
+    write("one")
+    write("given")
+    jobs = [pool.submit(write, name) for name in ("one", "other", "fails", "given")]
+    if how == "submitted":
+        write("given")
+    assert jobs[0].result() == 3
+    write("one")
+    try:
+        jobs[2].result()
+    except ValueError as error:
+        assert error.args == ("fails",) and not error.__dict__, error.__dict__
+        write_again = itc_trace.touch("fails", write=True, across=True)
+    if how == "not taken":
+        write("other")
+    if how == "same":
+        more = [pool.submit(write, "same") for _ in range(2)]
+    assert list(pool.map(write, ["first", "second"], chunksize=2)) == [5, 6]
+    for job in as_completed(jobs):
+        pass
+    write("other")
+    write("first")
+    last = pool.submit(use)
+    pool.shutdown()
+    for name in ("begun", "same", "given"):
+        write(name)
+"""
+
+
+@unittest.skipUnless(hasattr(os, "fork"), "there is no fork here")
+class Pools(ProgramCase):
+    def test_a_job_comes_after_its_submission_and_before_its_result(self) -> None:
+        for method in chosen(METHODS):
+            with self.subTest(method=method):
+                ran = run_traced(self.program(POOL), method, "right")
+                self.assertEqual(ran.returncode, Verdict.NO_RACE, ran.stderr)
+
+    def test_neither_the_process_nor_the_thread_of_the_pool_orders_its_jobs(self) -> None:
+        """One process ran all jobs, and gave back the results of earlier ones first."""
+        for how, thing, task in (("not taken", "other", "root"), ("same", "same", "_write_"), ("submitted", "given", "root")):
+            with self.subTest(how=how):
+                ran = run_traced(self.program(POOL), "fork", how)
+                self.assertEqual(ran.returncode, Verdict.RACES, ran.stderr)
+                self.assertEqual(ran.stderr.count("race on"), 1, ran.stderr)
+                self.assertIn(f"race on {thing}\n", ran.stderr)
+                self.assertRegex(ran.stderr, f"threads (\\S*{task}\\S* and |\\S+ and \\S*{task})")
+
+
+SIGNALS = """
+import multiprocessing, sys, time
+import itc_trace
+
+def work(event, condition, ready, how):
+    if how == "wait":
+        assert event.wait(600)
+    elif how == "poll":
+        while not event.is_set():
+            time.sleep(0.01)
+    elif how == "not set":
+        assert not event.is_set()
+        assert not event.wait(0.01)
+        ready.value = 1
+    elif how == "condition":
+        with condition:
+            while not ready.value:
+                condition.wait()
+    else:
+        with condition:
+            assert condition.wait_for(lambda: ready.value, 600)
+    itc_trace.touch("file", write=True, across=True)
+
+method, how = sys.argv[1:]
+if __name__ == "__main__":
+    context = multiprocessing.get_context(method)
+    event, condition, ready = context.Event(), context.Condition(), context.RawValue("i", 0)
+    child = context.Process(target=work, args=(event, condition, ready, how))
+    child.start()
+    itc_trace.touch("file", write=True, across=True)
+    if "condition" in how:
+        with condition:
+            ready.value = 1
+            condition.notify()
+    elif how == "not set":
+        while not any(memoryview(ready).cast("B")):
+            time.sleep(0.01)
+    event.set()
+    child.join()
+"""
+
+
+@unittest.skipUnless(hasattr(os, "fork"), "there is no fork here")
+class Signals(ProgramCase):
+    def test_whoever_sees_an_event_set_or_is_notified_comes_after_that(self) -> None:
+        for method, how in chosen((
+            ("fork", "wait"), ("fork", "condition"), ("spawn", "poll"), ("spawn", "wait"), ("forkserver", "condition for"), ("fork", "condition for"),
+        )):
+            with self.subTest(method=method, how=how):
+                ran = run_traced(self.program(SIGNALS), method, how)
+                self.assertEqual(ran.returncode, Verdict.NO_RACE, ran.stderr)
+
+    def test_an_event_that_is_not_set_is_no_order(self) -> None:
+        for method in ("fork", "spawn"):
+            ran = run_traced(self.program(SIGNALS), method, "not set")
+            self.assertEqual(ran.returncode, Verdict.RACES, ran.stderr)
+            self.assertEqual(ran.stderr.count("race on file"), 1)
+
+
+class Names(unittest.TestCase):
+    def test_each_key_has_a_place_of_its_own_that_others_find(self) -> None:
+        names = SharedNames()
+        self.addCleanup(names.remove)
+        places = {key: names.slot_of(key) for key in [f"lock {number}" for number in range(500)]}
+        self.assertEqual(len(set(places.values())), 500)
+        for key, place in places.items():
+            assert place is not None
+            names.put(place, f"m_{key[5:]}")
+        again = SharedNames(names.path)
+        self.assertEqual({key: again.slot_of(key) for key in places}, places)
+        self.assertEqual([again.name_at(place or 0) for place in places.values()], [f"m_{number}" for number in range(500)])
+
+    def test_there_is_no_place_for_a_key_that_is_long_or_one_too_many(self) -> None:
+        names = SharedNames()
+        self.addCleanup(names.remove)
+        self.assertIsNone(names.slot_of("x" * 33))
+        with mock.patch.object(shared_names, "MOST_SLOTS", 3):
+            self.assertEqual([names.slot_of(key) is None for key in "abcda"], [False, False, False, True, False])
+
+
+class Rows(unittest.TestCase):
+    def test_a_journal_tells_of_a_child_that_has_no_end(self) -> None:
+        begun = child_begun_row("c1", "fork at shop.py:3")
+        self.assertEqual(read_whole([begun, child_ended_row("c1"), END_ROW]).unseen, [])
+        for lines in ([begun, END_ROW], [begun, child_ended_row("c2"), END_ROW]):
+            texts = [one.text for one in read_whole(lines).unseen]
+            self.assertEqual(texts, ["a child process was not traced to its end: it was started by fork at shop.py:3"])
+
+
+if __name__ == "__main__":
+    unittest.main()
