@@ -5,7 +5,8 @@ import { opened, press, text } from "./tab.mjs";
 import { LOST_UPDATE, WITH_LOCK } from "./traces.mjs";
 
 const HOSTILE = "<img src=x onerror=alert(1)>.export";
-const row = (event, task, label) => `${JSON.stringify({ event, task, thing: "stock", kind: "write", file: "shop.py", line: 7, label })}\n`;
+const row = (event, task, label, more = {}) =>
+  `${JSON.stringify({ event, task, thing: "stock", kind: "write", file: "shop.py", line: 7, label, ...more })}\n`;
 
 async function pickedBeside(tab, path, done) {
   await tab.pick("#besideFile", path);
@@ -35,7 +36,11 @@ export async function beside(tab) {
   assert.match(await text(tab, "#aboutBeside"), /Event 2 is event 2 there\./);
   await tab.run(() => page.choose(12));
   assert.match(await text(tab, "#aboutBeside"), /Event 12 is not there\./);
-  await pickedBeside(tab, file("fixed.journal", row(9, "bob", "write stock")), () => page.beside.labels.size === 1);
+  const times = row(2, "root", "start alice", { time: 1795798400.25 }) + row(12, "dave", "none") + row(9, "bob", "write stock", { time: 1e300 });
+  await pickedBeside(tab, file("fixed.journal", times), () => page.beside.labels.size === 2);
+  await tab.run(() => page.openLabels('{"event":2,"task":"root","thing":"stock","kind":"write","file":"shop.py","line":7,"label":"start alice"}'));
+  await tab.run(() => page.choose(2));
+  assert.match(await text(tab, "#aboutBeside"), /Event 2 is event 2 there, at 2026-11-27 16:53:20\.250000 UTC\./);
   const isHostile = () => page.beside.name.startsWith("<img") && page.beside.verdict.startsWith("Checked");
   await pickedBeside(tab, file(HOSTILE, exportOf(LOST_UPDATE)), isHostile);
   assert.equal(await text(tab, "#aboutBeside h2"), `Beside: ${HOSTILE}`);

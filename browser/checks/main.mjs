@@ -1,10 +1,13 @@
 // Checks the page in headless Chromium against what the program answers: see `browser/test`.
 import assert from "node:assert/strict";
 import { Browser } from "./browser.mjs";
+import { clocks } from "./clocks.mjs";
 import { beside } from "./comparing.mjs";
 import { filters } from "./filtering.mjs";
+import { hostileFiles } from "./hostile.mjs";
+import { looks } from "./looks.mjs";
 import { hostileText, names, opening, policyFits, spoilt, spoiltPictures, versions } from "./opening.mjs";
-import { spoiltStamps, stamps, unjoinedTasks, worker } from "./packing.mjs";
+import { bigPages, spoiltStamps, stamps, unjoinedTasks, worker } from "./packing.mjs";
 import { cleanUp, exportOf, pictureOf } from "./program.mjs";
 import { ends, hostileRaces, races } from "./racing.mjs";
 import { why } from "./reasons.mjs";
@@ -20,8 +23,8 @@ const TIMED = ["16384 events"];
 const words = process.argv.slice(2), isUntimed = words[0] === "--untimed", [folder, only = ""] = isUntimed ? words.slice(1) : words;
 const CHECKS = { "worked export": workedExport, shapes, "500 events": busyTrace, topic, broadcasts, lanes, "spoilt exports": spoilt,
   opening, versions, "spoilt pictures": spoiltPictures, names, "hostile text": hostileText, "lists and search": listsAndSearch, labels, keyboard,
-  address, moving, tips, races, "hostile races": hostileRaces, ends, why, filters, stamps,
-  "spoilt stamps": spoiltStamps, worker, svg, beside,
+  address, moving, tips, races, "hostile races": hostileRaces, "hostile files": hostileFiles, ends, why, filters, stamps,
+  "spoilt stamps": spoiltStamps, worker, "big pages": bigPages, svg, beside, clocks, looks,
   "unjoined tasks": unjoinedTasks, "16384 events": size };
 
 /** No page asked for anything but files, or complained. */

@@ -4,7 +4,7 @@ import { readFileSync } from "node:fs";
 import { gzipSync } from "node:zlib";
 import { exportOf, file, pictureOf, verdictOf } from "./program.mjs";
 import { notice, opened, pause, picked } from "./tab.mjs";
-import { BUSY, unjoined, WORKED } from "./traces.mjs";
+import { BUSY, greatest, seeded, unjoined, WORKED } from "./traces.mjs";
 
 const MOST_OPENING = 3000;
 const processorTime = async (tab) => {
@@ -31,9 +31,10 @@ export async function stamps(tab) {
 /** Rows of stamps that are spoilt are no stamps, and the page says so. */
 export async function spoiltStamps(tab) {
   const html = readFileSync(pictureOf("spoilt_stamps.html", exportOf(WORKED))).toString();
-  const place = /(id="stamps">)[^<]*/, right = ["-", "0 0 0 [1;1]", "0 0 0 [(1,0);2]"];
-  const rows = [["9 1 1 x"], ["1 1 1 x"], ["-", "1 0 0 x"], [...right, "1 7 9999 x"], [...right, "99999999999999999999 1 1 "],
-    [...right, "1 3"], [...right, "1 1 1 )"], ["\u0000\u00ff"], ["-", "0 0 0 [1;1]", `1 0 0 ${"x".repeat(70000)}`], []];
+  const place = /(id="stamps">)[^<]*/, right = ["-", "0 0 0 [1;1]", "1 1 1 (1,0) 1 1 2"];
+  const rows = [["9 1 1 x"], ["1 1 1 x"], ["-", "1 0 0 x"], ["\u0000\u00ff"], ["-", "0 0 0 [1;1]", `1 0 0 ${"x".repeat(70000)}`], [],
+    ...["1 7 9999 x", "99999999999999999999 1 1 ", "1 3", "1 1 1 )", "1 1 1 ( 1 9999 2", "1 1 1 (1,0) 1 3 2", "1 1 2 (1,0) 1 1 2",
+      "1 9 9 x 1 1 2", "1 7 0 x 1 1 2", "1 1 1 2 3", "1 x 1 2", "1 -1 1 2", "1  1 2", "1 1 1 2 ", "0 1 0 x", "0 0 0 ;;", "0 0 0 0 0 0 [1;1]x"].map((row) => [...right, row])];
   for (const list of rows) {
     const packed = gzipSync(Buffer.from(list.map((row) => `${row}\n`).join(""))).toString("base64");
     await opened(tab, file("spoilt_stamps.html", html.replace(place, `$1${packed}`)));
@@ -83,6 +84,26 @@ export async function worker(tab) {
   assert.equal(await tab.run(() => page.verdict), "yes 3000", "without a worker the page checks in slices");
 }
 
+const MEBIBYTE = 2 ** 20;
+
+/** A page takes a tenth of its export at most, whether one task starts the others or they one another, and whether they are joined. Of
+ * the one that is packed worst the stamps are those of the export. */
+export async function bigPages(tab) {
+  const told = [];
+  let bytes, page;
+  for (const reports of [greatest(seeded(3)), unjoined(16384, 2047), unjoined(16384, 2047, { byAll: true })]) {
+    bytes = exportOf(reports);
+    page = pictureOf("big.html", bytes);
+    const { length } = readFileSync(page);
+    told.push(`${(bytes.length / MEBIBYTE).toFixed(1)} MiB as a page of ${(length / MEBIBYTE).toFixed(2)} MiB`);
+    assert.ok(length * 10 <= bytes.length, told.at(-1));
+  }
+  await opened(tab, page);
+  assert.equal(await tab.run(() => page.verdict), "yes 16384");
+  assert.deepEqual(await stampsShown(tab), stampsOf(bytes));
+  return told.join(", ");
+}
+
 /** A page of 16384 events of 2047 tasks that nobody joined takes a tenth of its export at most, and shows its picture within 3 s of
  * the processor, which other work beside does not count. */
 export async function unjoinedTasks(tab) {
@@ -97,7 +118,7 @@ export async function unjoinedTasks(tab) {
     times.push(await processorTime(tab) - begin);
     assert.equal(await tab.run(() => page.verdict), null, "the picture is there before the check ends");
   }
-  const mebibytes = (length) => (length / 2 ** 20).toFixed(1);
+  const mebibytes = (length) => (length / MEBIBYTE).toFixed(1);
   const took = times.map((time) => time.toFixed(0)).join(", ");
   const words = `${mebibytes(bytes.length)} MiB as a page of ${mebibytes(size)} MiB, shown after ${took} ms of the processor`;
   assert.ok(size * 10 <= bytes.length && Math.min(...times) < MOST_OPENING, words);

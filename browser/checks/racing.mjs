@@ -28,9 +28,9 @@ export async function races(tab) {
   assert.equal(await text(tab, "#races h2"), "1 race, 1 possible race");
   const listed = await tab.run(() => [...document.querySelectorAll("#races li button")].map((button) =>
     [...button.children].map((part) => part.textContent)));
-  assert.deepEqual(listed, [["stock (a Shop made at shop.py:3)", "read shop.py:11 in buy: alice, event 4",
-    "write shop.py:12 in buy: bob, event 7", "3 times; nothing orders them"], ["price", "write shop.py:12 in buy: alice, event 6",
-    "write shop.py:12 in buy: bob, event 7", "possible; once; the hand-over of a lock"]]);
+  assert.deepEqual(listed, [["stock (a Shop made at shop.py:3)", "read shop.py:11 in buy: alice, event\u00a04",
+    "write shop.py:12 in buy: bob, event\u00a07", "3 times; nothing orders them"], ["price", "write shop.py:12 in buy: alice, event\u00a06",
+    "write shop.py:12 in buy: bob, event\u00a07", "possible; once; the hand-over of a lock"]]);
   await press(tab, "#races li:nth-child(1) button");
   assert.equal(await chosen(tab), "Events 4 and 7");
   assert.equal(await text(tab, "#chosen p"), "Race on stock, 3 times: nothing orders them.");
@@ -122,6 +122,7 @@ export async function ends(tab) {
   const [, , all] = await shown([{ end: true }, whole]);
   assert.deepEqual(all, ["Tasks that did not end: 0"]);
   assert.ok(await tab.run(() => page.view.layout.to.every((to) => to !== Infinity)), "each lane ends");
+  assert.equal(await tab.run(() => page.view.layout.lanes), 3, "processes that ended share no lane");
   const [, , named] = await shown([{ end: true, task: "bob" }]);
   assert.deepEqual(named, ["Tasks that did not end: 0"]);
 }

@@ -2,7 +2,7 @@
 import assert from "node:assert/strict";
 import { answers, inWork, lists } from "./program.mjs";
 import { opened } from "./tab.mjs";
-import { BUSY, seeded } from "./traces.mjs";
+import { BUSY, seeded, WORKED } from "./traces.mjs";
 
 const PAIRS = 120;
 
@@ -46,10 +46,22 @@ function freedomOf(events, past, one, other) {
 /** Of two events that are concurrent, the synchronizations around each and the latest event before both; of two that are ordered,
  * a shortest chain of edges. Both are drawn. */
 export async function why(tab) {
+  await opened(tab, inWork("worked.html"));
+  const all = WORKED.map((_, place) => place + 1);
+  await areTold(tab, WORKED, all.flatMap((one) => all.map((other) => [one, other])));
   await opened(tab, inWork("busy.html"));
-  const events = eventsOf(BUSY), random = seeded(31), some = () => 1 + Math.floor(random() * 500);
-  const pairs = Array.from({ length: PAIRS }, () => [some(), some()]), asked = [...new Set(pairs.flat())];
-  const past = new Map(lists(BUSY, "past", asked).map((list, place) => [asked[place], list])), counts = { free: 0, chains: 0 };
+  const random = seeded(31), some = () => 1 + Math.floor(random() * BUSY.length);
+  const { free, chains, longest } = await areTold(tab, BUSY, Array.from({ length: PAIRS }, () => [some(), some()]));
+  assert.ok(free > 20 && chains > 20, `${free} ${chains}`);
+  await isDrawn(tab, longest);
+  return `${free} concurrent pairs, ${chains} ordered ones`;
+}
+
+/** The page tells of each pair what the program's answers lead to. Gives how many are concurrent and ordered, and a pair whose chain has
+ * more than two steps. */
+async function areTold(tab, reports, pairs) {
+  const events = eventsOf(reports), asked = [...new Set(pairs.flat())];
+  const past = new Map(lists(reports, "past", asked).map((list, place) => [asked[place], list])), counts = { free: 0, chains: 0 };
   const shown = await tab.run((list) => list.map(([one, other]) => {
     page.chooseNothing();
     page.chooseNothing();
@@ -78,9 +90,7 @@ export async function why(tab) {
     assert.ok(chain.filter(isLeftOut).every((event) => events[event].task === events[chain[chain.indexOf(event) + 1]].task), what);
     counts.chains++;
   });
-  assert.ok(counts.free > 20 && counts.chains > 20, JSON.stringify(counts));
-  await isDrawn(tab, pairs[shown.findIndex(({ steps }) => steps.length > 2)]);
-  return `${counts.free} concurrent pairs, ${counts.chains} ordered ones`;
+  return { ...counts, longest: pairs[shown.findIndex(({ steps }) => steps.length > 2)] };
 }
 
 /** A broad line leads from event to event of the chain, also in the whole picture. To a task that was started it goes as the lane. */

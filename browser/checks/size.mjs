@@ -2,9 +2,9 @@
 import assert from "node:assert/strict";
 import { readFileSync } from "node:fs";
 import { exportOf, file, lists, pictureOf } from "./program.mjs";
-import { greatest, seeded } from "./traces.mjs";
+import { greatest, seeded, unjoined } from "./traces.mjs";
 
-const MOST_OPENING = 2000, MOST_STEP = 50;
+const MOST_OPENING = 2000, MOST_OPENING_UNJOINED = 3000, MOST_STEP = 50;
 const pan = (count, deltaX, deltaY) => ({ count, deltaX, deltaY });
 const zoom = (count, deltaY) => ({ count, deltaX: 0, deltaY, ctrlKey: true });
 const PLAN = [pan(15, 300, 0), zoom(30, 60), pan(15, 200, 0), pan(10, 0, 200), zoom(30, -60), pan(20, 900, 0), zoom(10, 100),
@@ -37,7 +37,7 @@ const steps = async (plan) => {
   return { longest: times[0], middle: times[times.length >> 1].least, most, reached };
 };
 
-async function openings(tab, html, path) {
+async function openingsOfPage(tab, html) {
   const times = [];
   for (let turn = 0; turn < 3; turn++) {
     await tab.navigate("about:blank");
@@ -47,6 +47,11 @@ async function openings(tab, html, path) {
     await tab.frame();
     times.push(performance.now() - begin);
   }
+  return times;
+}
+
+async function openings(tab, html, path) {
+  const times = await openingsOfPage(tab, html);
   const begin = performance.now(), opened = await tab.run(() => page.opened);
   await tab.pick("#file", path);
   await tab.until((count) => page.opened > count + 1, opened);
@@ -66,7 +71,12 @@ async function judged(tab, what) {
   }
 }
 
+const inWords = (times) => `${times.map((time) => time.toFixed(0)).join(", ")} ms`;
+
+/** The greatest trace, and the page of the tasks that nobody joined, which is the greatest export. */
 export async function size(tab) {
+  const byUnjoined = await openingsOfPage(tab, pictureOf("unjoined.html", exportOf(unjoined(16384, 2047))));
+  assert.ok(Math.min(...byUnjoined) < MOST_OPENING_UNJOINED, `the page of 2047 tasks that nobody joined opened in ${inWords(byUnjoined)}`);
   const reports = greatest(seeded(3)), spawned = reports.filter((report) => report.startsWith("spawn")).length;
   assert.deepEqual([reports.length, spawned], [16384, 2047]);
   const bytes = exportOf(reports), html = pictureOf("greatest.html", bytes);
@@ -86,7 +96,7 @@ export async function size(tab) {
   told.push(await judged(tab, "by event number"));
   await pastIsRight(tab, reports);
   const mebibytes = (length) => (length / 2 ** 20).toFixed(1);
-  return `${mebibytes(bytes.length)} MiB opened in ${asPage.map((time) => time.toFixed(0)).join(", ")} ms as a page of `
+  return `2047 tasks that nobody joined opened in ${inWords(byUnjoined)}; ${mebibytes(bytes.length)} MiB opened in ${inWords(asPage)} as a page of `
     + `${mebibytes(readFileSync(html).length)} MiB and in ${asFile.toFixed(0)} ms as a file, and compared after `
     + `${(compared / 1000).toFixed(1)} s more; ${told.join("; ")}`;
 }

@@ -89,13 +89,13 @@ export function mostAlive(reports) {
   return most;
 }
 
-/** So many events of root and of so many tasks that it starts one by one, and that nobody joins. */
-export function unjoined(events, tasks) {
+/** So many events of root and of so many tasks that nobody joins: root starts them one by one, or they all start one another. */
+export function unjoined(events, tasks, { byAll = false } = {}) {
   const random = seeded(4), live = ["root"], unread = [], reports = [], some = () => live[Math.floor(random() * live.length)];
   for (let sent = 0; reports.length < events;) {
     const kind = random();
     if (live.length <= tasks && live.length <= reports.length / (events / tasks) + 1) {
-      reports.push(`spawn root task_${live.length}`);
+      reports.push(`spawn ${byAll ? some() : "root"} task_${live.length}`);
       live.push(`task_${live.length}`);
     } else if (unread.length > 0 && kind < 0.25) {
       reports.push(`recv ${some()} ${takenFrom(unread, random)}`);

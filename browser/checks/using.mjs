@@ -42,6 +42,25 @@ export async function labels(tab) {
   assert.equal(await tab.run(() => document.querySelectorAll("img").length), 0);
   await found(tab, "6", "Event 6");
   assert.ok((await text(tab, "#chosen dl")).startsWith("kindrecv"));
+  await labelsAreWhole(tab);
+}
+
+/** A label is written whole, also where its event stands near an end of what is in view. */
+async function labelsAreWhole(tab) {
+  const long = (event) => JSON.stringify({ event, task: "a", thing: null, kind: "read", file: null, line: 0, label: `a label of event ${event}` });
+  await opened(tab, pictureOf("long_labels.html", exportOf(WORKED), ["--labels", file("long.journal", `${[1, 5, 8].map(long).join("\n")}\n`)]));
+  await tab.until(() => page.labels.size === 3);
+  const written = await tab.run(() => {
+    const { view } = page, texts = [];
+    page.view.scale = (view.width - 20) / 5;
+    page.view.left = 1 - 10 / view.scale;
+    view.context.fillText = (words, x) => texts.push([words, x, x + view.context.measureText(words).width]);
+    view.draw();
+    delete view.context.fillText;
+    return { texts: texts.filter(([words]) => words.includes("label")), width: view.width };
+  });
+  assert.deepEqual(written.texts.map(([words]) => words).sort(), [1, 5, 8].map((event) => `${event} a label of event ${event}`));
+  for (const [words, from, to] of written.texts) assert.ok(from >= 0 && to <= written.width, `${words}: ${from} to ${to}`);
 }
 
 const TOLD = [[3, "a", "local", "touch", 11], [5, "a", "send", "put order", 12], [6, "root", "recv", "get order", 30],
