@@ -8,6 +8,7 @@ import shutil
 import socket
 import subprocess
 import sys
+import tempfile
 
 TOP = os.path.dirname(os.path.dirname(os.path.abspath(__file__)))
 SCRIPT = os.path.basename(sys.argv[0])
@@ -17,18 +18,30 @@ NO_MEMORY = (4, b"", b"itc_trace: no memory\n")
 FIRST_PORT = 10000 + os.getpid() % 200 * 100
 
 
-def check(holds, what):
+def check(holds, what, test=None):
+    """Ends the script with what is wrong, unless this holds. What `test` names is one test, however often it is checked, and
+    without a name each place of the scripts that checks is one."""
     if not holds:
         sys.exit(f"{SCRIPT}: wrong: {what}")
-    check.passed += 1
+    caller = sys._getframe(1)
+    check.tests.add(test or (caller.f_code.co_filename, caller.f_lineno))
+    check.count += 1
 
 
-check.passed = 0
+check.tests, check.count = set(), 0
 
 
 def tell():
-    """The last line of a script in which nothing is wrong."""
-    print(f"{SCRIPT}: {check.passed} passed")
+    """The last lines of a script in which nothing is wrong."""
+    print(f"{SCRIPT}: checked {check.count} times")
+    print(f"{SCRIPT}: {len(check.tests)} passed")
+
+
+def written_down(export):
+    """A file with the export, to be looked at."""
+    with tempfile.NamedTemporaryFile(prefix="spoiled_export_", delete=False) as file:
+        file.write(export)
+    return file.name
 
 
 def file_of(run, file):
