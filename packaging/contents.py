@@ -42,7 +42,7 @@ def files() -> Iterator[File]:
     """The package of Python, and beside its modules what it looks for in a repository: the program and the picture."""
     source = TOP / "clients" / "python" / PACKAGE
     for path in sorted(source.rglob("*")):
-        if path.suffix == ".py" or path.name == "py.typed":
+        if path.suffix in (".py", ".c") or path.name == "py.typed":
             yield File(f"{PACKAGE}/{path.relative_to(source)}", path.read_bytes())
     yield File(f"{PACKAGE}/command.py", (TOP / "packaging" / "command.py").read_bytes())
     yield File(f"{PACKAGE}/itc_trace", released_program(), is_command=True)

@@ -26,15 +26,15 @@ def tag() -> str:
 
 def about() -> list[File]:
     """The files that say what the wheel is, but for the list of all files."""
-    name, mail = MAINTAINER.rstrip(">").split(" <")
+    maintainer, mail = MAINTAINER.rstrip(">").split(" <")
     metadata = (
-        f"Metadata-Version: 2.1\nName: itc-trace\nVersion: {version()}\nSummary: {SUMMARY}\nMaintainer: {name}\nMaintainer-email: {mail}\n"
+        f"Metadata-Version: 2.1\nName: itc-trace\nVersion: {version()}\nSummary: {SUMMARY}\nMaintainer: {maintainer}\nMaintainer-email: {mail}\n"
         "License: Apache-2.0\nClassifier: Programming Language :: Python :: 3\nClassifier: Typing :: Typed\nRequires-Python: >=3.11\n"
     )
     wheel = f"Wheel-Version: 1.0\nGenerator: itc_trace\nRoot-Is-Purelib: false\nTag: {tag()}\n"
     entries = f"[console_scripts]\nitc-trace = {ENTRY}\n\n[pytest11]\nitc_trace = itc_trace.pytest_plugin\n"
     texts = {"METADATA": metadata, "WHEEL": wheel, "entry_points.txt": entries, "LICENSE": (TOP / "LICENSE").read_text()}
-    return [File(f"{folder()}/{name}", text.encode()) for name, text in texts.items()]
+    return [File(f"{folder()}/{path}", text.encode()) for path, text in texts.items()]
 
 
 def folder() -> str:
@@ -52,9 +52,13 @@ def digest(content: bytes) -> str:
     return base64.urlsafe_b64encode(hashlib.sha256(content).digest()).rstrip(b"=").decode()
 
 
+def name() -> str:
+    return f"{PACKAGE}-{version()}-{tag()}.whl"
+
+
 def write(target: Path) -> Path:
     held = [*files(), *about()]
-    wheel = target / f"{PACKAGE}-{version()}-{tag()}.whl"
+    wheel = target / name()
     with zipfile.ZipFile(wheel, "w", zipfile.ZIP_DEFLATED) as archive:
         for file in [*held, record(held)]:
             entry = zipfile.ZipInfo(file.path, DATE)
