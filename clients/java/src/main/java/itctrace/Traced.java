@@ -6,6 +6,7 @@ import itctrace.Task.What;
 import java.io.IOException;
 import java.util.Optional;
 import java.util.concurrent.BlockingQueue;
+import java.util.concurrent.CancellationException;
 import java.util.concurrent.ExecutionException;
 import java.util.concurrent.ExecutorService;
 import java.util.concurrent.ThreadFactory;
@@ -197,12 +198,15 @@ public final class Traced {
         T value() throws InterruptedException, ExecutionException, X;
     }
 
-    /** Waits for the value. However that ends, this thread has seen then what it saw of the value. */
+    /** Waits for the value. This thread has seen the end of what gives it then, unless it stopped waiting before. */
     static <T, X extends Exception> T waited(Wait<T, X> wait, Runnable seen) throws InterruptedException, ExecutionException, X {
         try {
-            return wait.value();
-        } finally {
+            T value = wait.value();
             seen.run();
+            return value;
+        } catch (ExecutionException | CancellationException failure) {
+            seen.run();
+            throw failure;
         }
     }
 

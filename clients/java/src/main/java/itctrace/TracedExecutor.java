@@ -43,13 +43,16 @@ final class TracedExecutor extends AbstractExecutorService {
 
         @Override
         public boolean isDone() {
-            taken();
-            return super.isDone();
+            boolean isDone = super.isDone();
+            if (isDone) {
+                taken();
+            }
+            return isDone;
         }
 
-        /** This thread comes after a job that is done. One that was cancelled may go on, and so may one whose result did not come in time. */
+        /** This thread comes after a job that is done. One that was cancelled may go on. */
         private void taken() {
-            if (super.isDone() && !isCancelled()) {
+            if (!isCancelled()) {
                 Traced.join(task, Traced.site());
             }
         }

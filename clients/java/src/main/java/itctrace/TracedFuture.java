@@ -223,8 +223,7 @@ public final class TracedFuture<T> extends CompletableFuture<T> {
 
     @Override
     public T getNow(T absent) {
-        takenIfDone();
-        return super.getNow(absent);
+        return takenIfDone() ? super.getNow(absent) : absent;
     }
 
     @Override
