@@ -14,10 +14,9 @@ import os
 import random
 import sys
 import tempfile
-from concurrent.futures import ThreadPoolExecutor
 from pathlib import Path
 
-from wrappers import AT_ONCE, INCOMPLETE, Programs, Wrong, run_system
+from wrappers import INCOMPLETE, Check, Programs, Wrong, run_all, run_system
 
 STEPS = 300
 MOST_TASKS = 6
@@ -174,19 +173,8 @@ def check(programs: Programs, seed: int) -> None:
 
 def main() -> int:
     runs = int(os.environ.get("ITC_RANDOM_RUNS", "4"))
-    failed, passed = 0, 0
-    with ThreadPoolExecutor(AT_ONCE) as pool:
-        languages = [Programs(language, Path(sys.argv[1])) for language in sys.argv[2:]]
-        begun = [(one.language, pool.submit(check, one, seed)) for one in languages for seed in range(runs)]
-        for language, done in begun:
-            try:
-                done.result()
-                passed += 1
-            except Wrong as wrong:
-                failed += 1
-                print(f"clients: wrong: {language}: {wrong}", flush=True)
-    print(f"random orders: {passed} passed" + (f", {failed} failed" if failed else ""))
-    return 1 if failed else 0
+    languages = [Programs(language, Path(sys.argv[1])) for language in sys.argv[2:]]
+    return run_all("random orders", [Check([f"{one.language}: seed {seed}"], check, (one, seed)) for one in languages for seed in range(runs)])
 
 
 if __name__ == "__main__":

@@ -278,18 +278,30 @@ class Check(NamedTuple):
 
 
 def run_all(title: str, checks: list[Check]) -> int:
-    """Makes the checks, some at a time, and tells how many programs passed."""
-    passed = failed = 0
+    """Makes the checks, some at a time, and tells how many programs passed. What fails beside others is made once more by itself."""
     with ThreadPoolExecutor(AT_ONCE) as pool:
-        for names, done in [(one.names, pool.submit(one.call, *one.words)) for one in checks]:
-            try:
-                done.result()
-                passed += len(names)
-            except (Wrong, OSError, LookupError, ValueError, subprocess.SubprocessError) as wrong:
-                failed += len(names)
-                print(f"clients: wrong: {', '.join(names)}: {wrong}", flush=True)
-    print(f"{title}: {passed} passed" + (f", {failed} failed" if failed else ""))
-    return 1 if failed else 0
+        faults = list(pool.map(fault_of, checks))
+    failed = [check for check, fault in zip(checks, faults, strict=True) if fault is not None and fails_again(check, fault)]
+    ill = sum(len(check.names) for check in failed)
+    well = sum(len(check.names) for check in checks) - ill
+    print(f"{title}: {well} passed" + (f", {ill} failed" if ill else ""))
+    return 1 if ill else 0
+
+
+def fault_of(check: Check) -> "Exception | None":
+    try:
+        check.call(*check.words)
+    except (Wrong, OSError, LookupError, ValueError, subprocess.SubprocessError) as wrong:
+        return wrong
+    return None
+
+
+def fails_again(check: Check, fault: Exception) -> bool:
+    names = ", ".join(check.names)
+    print(f"{names}: fails beside others: {fault}", flush=True)
+    again = fault_of(check)
+    print(f"{names}: passes alone" if again is None else f"clients: wrong: {names}: {again}", flush=True)
+    return again is not None
 
 
 def systems_of(statuses: dict[str, int]) -> Iterator[dict[str, int]]:
