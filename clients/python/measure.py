@@ -24,6 +24,7 @@ from itc_trace import Collector, Session, find_races, shared, touch, tracing
 TURNS, TRIES = 10000, 5
 PROCESSES, REPORTS, AT_ONCE = 32, 512, 64
 EVENTS, THINGS, LOCKS = 16000, 200, 10
+REQUESTS, TOUCHES = (250, 1000, 2047), 7
 
 
 # The cost of one turn of a loop
@@ -262,20 +263,38 @@ def reports(tasks: int, locked: bool) -> Iterator[tuple[str, str, str | None]]:
             yield f"send {task} m{number}", "send", None
 
 
-def measure_races() -> None:
-    from itc_trace.verdict import END_ROW  # A package that is measured beside this one may have none.
+def requests(tasks: int) -> Iterator[tuple[str, str, str | None]]:
+    """Reports of a server that has a task for each request, and joins none."""
+    chance, names = random.Random(1), [f"t{number}" for number in range(1, tasks)]
+    for name in names:
+        yield f"spawn root {name}", "spawn", None
+    for name in names:
+        for _ in range(TOUCHES):
+            yield f"local {name}", chance.choice(["read", "read", "write"]), f"thing{chance.randrange(THINGS)}"
 
+
+def measure_races() -> None:
     for locked in (True, False):
         for tasks in (4, 16, 64):
-            with Collector("trace") as collector:
-                rows = [report for report, _ in zip(reports(tasks, locked), range(EVENTS))]
-                with Session("trace", collector.port) as session:
-                    list(session.ask(line for line, _, _ in rows))
-                journal = [*(journal_line(event, *row) for event, row in enumerate(rows, 1)), END_ROW]
-                start = time.perf_counter()
-                found = find_races("trace", collector.port, journal)
-                seconds = time.perf_counter() - start
-            print(f"{tasks} tasks, {'locked' if locked else 'free'}: {seconds:.2f} s: {found.summary()}", flush=True)
+            rows = [report for report, _ in zip(reports(tasks, locked), range(EVENTS))]
+            measure_races_of(f"{tasks} tasks, {'locked' if locked else 'free'}", rows)
+    for tasks in REQUESTS:
+        measure_races_of(f"{tasks} tasks of a server", list(requests(tasks)))
+
+
+def measure_races_of(what: str, rows: list[tuple[str, str, str | None]]) -> None:
+    try:
+        from itc_trace.verdict import END_ROW
+    except ImportError:  # A package that is measured beside this one may have none.
+        END_ROW = ""
+    with Collector("trace") as collector:
+        with Session("trace", collector.port) as session:
+            list(session.ask(line for line, _, _ in rows))
+        journal = [*(journal_line(event, *row) for event, row in enumerate(rows, 1)), *filter(None, [END_ROW])]
+        start = time.perf_counter()
+        found = find_races("trace", collector.port, journal)
+        seconds = time.perf_counter() - start
+    print(f"{what}: {seconds:.2f} s: {found.summary()}", flush=True)
 
 
 def journal_line(event: int, line: str, kind: str, thing: str | None) -> str:
