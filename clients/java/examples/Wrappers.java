@@ -442,6 +442,23 @@ public final class Wrappers {
         CompletableFuture<Void> told = written.thenAccept(value -> readStock());
         writeStock();
         told.join();
+        futureAsValue();
+    }
+
+    /** Whoever takes a future as a value of another one has not seen its completion. */
+    private static void futureAsValue() {
+        CompletableFuture<Integer> inner = new TracedFuture<>();
+        CompletableFuture<CompletableFuture<Integer>> outer = TracedFuture.supplyAsync(() -> inner);
+        TracedThread completing =
+                Traced.start(
+                        "completing",
+                        () -> {
+                            Traced.touch("value", true); // race: callback_too_early
+                            inner.complete(1);
+                        });
+        doStep(Thread::join, completing.thread()); // That is no order that is reported.
+        outer.join();
+        Traced.touch("value", false); // race: callback_too_early
     }
 
     private static void beforeEnd() throws InterruptedException {

@@ -30,12 +30,12 @@ public final class TracedFuture<T> extends CompletableFuture<T> {
     private final AtomicReference<Token> completed = new AtomicReference<>();
     private final AtomicReference<Origin> origin = new AtomicReference<>();
 
-    /** What completes a future: a function that runs as this task, after these sources, and gives perhaps another future. */
+    /** What completes a future: a function that runs as this task, after these sources, and then perhaps the future that it has given. */
     private static final class Origin {
         private final List<CompletableFuture<?>> sources;
         private final Task task;
         private volatile boolean hasRun;
-        private volatile CompletionStage<?> given;
+        private volatile CompletionStage<?> awaited;
 
         Origin(String hint, CompletableFuture<?>... sources) {
             this.sources = List.of(sources);
@@ -48,10 +48,14 @@ public final class TracedFuture<T> extends CompletableFuture<T> {
                     task,
                     () -> {
                         sources.forEach(TracedFuture::taken);
-                        U value = body.get();
-                        given = value instanceof CompletionStage<?> stage ? stage : null;
-                        return value;
+                        return body.get();
                     });
+        }
+
+        /** What the function has given is done before the future is. */
+        <U extends CompletionStage<?>> U awaiting(U given) {
+            awaited = given;
+            return given;
         }
 
         <U> CompletableFuture<U> of(CompletableFuture<U> future) {
@@ -63,7 +67,7 @@ public final class TracedFuture<T> extends CompletableFuture<T> {
         void taken() {
             if (hasRun) {
                 Traced.join(task, Traced.site());
-                TracedFuture.taken(given);
+                TracedFuture.taken(awaited);
             } else {
                 sources.forEach(TracedFuture::taken);
             }
@@ -254,6 +258,10 @@ public final class TracedFuture<T> extends CompletableFuture<T> {
         return value -> origin.run(() -> body.apply(value));
     }
 
+    private static <A, U extends CompletionStage<?>> Function<A, U> composing(Origin origin, Function<? super A, ? extends U> body) {
+        return value -> origin.awaiting(origin.run(() -> body.apply(value)));
+    }
+
     private static <A, B, U> BiFunction<A, B, U> by(Origin origin, BiFunction<? super A, ? super B, ? extends U> body) {
         return (first, second) -> origin.run(() -> body.apply(first, second));
     }
@@ -315,7 +323,7 @@ public final class TracedFuture<T> extends CompletableFuture<T> {
     @Override
     public <U> CompletableFuture<U> thenCompose(Function<? super T, ? extends CompletionStage<U>> body) {
         Origin origin = origin();
-        return origin.of(super.<U>thenCompose(by(origin, body)));
+        return origin.of(super.<U>thenCompose(composing(origin, body)));
     }
 
     @Override
@@ -326,7 +334,7 @@ public final class TracedFuture<T> extends CompletableFuture<T> {
     @Override
     public <U> CompletableFuture<U> thenComposeAsync(Function<? super T, ? extends CompletionStage<U>> body, Executor executor) {
         Origin origin = origin();
-        return origin.of(super.<U>thenComposeAsync(by(origin, body), executor));
+        return origin.of(super.<U>thenComposeAsync(composing(origin, body), executor));
     }
 
     @Override
