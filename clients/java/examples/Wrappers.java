@@ -11,6 +11,7 @@ import java.util.Map;
 import java.util.concurrent.BlockingQueue;
 import java.util.concurrent.CancellationException;
 import java.util.concurrent.CompletableFuture;
+import java.util.concurrent.CompletionException;
 import java.util.concurrent.ConcurrentHashMap;
 import java.util.concurrent.CountDownLatch;
 import java.util.concurrent.ExecutorService;
@@ -443,6 +444,7 @@ public final class Wrappers {
         writeStock();
         told.join();
         futureAsValue();
+        timeouts();
     }
 
     /** Whoever takes a future as a value of another one has not seen its completion. */
@@ -459,6 +461,25 @@ public final class Wrappers {
         doStep(Thread::join, completing.thread()); // That is no order that is reported.
         outer.join();
         Traced.touch("value", false); // race: callback_too_early
+    }
+
+    /** Whoever sees that the time is over has not seen the completion of another future with a timeout, though one thread looks at both. */
+    private static void timeouts() {
+        CompletableFuture<Integer> other = new TracedFuture<Integer>().orTimeout(100, TimeUnit.MILLISECONDS);
+        other.thenRun(() -> sleep(200)); // The timer goes on that long.
+        TracedThread completing =
+                Traced.start(
+                        "completing",
+                        () -> {
+                            Traced.touch("time", true); // race: callback_too_early
+                            other.complete(1);
+                        });
+        doStep(Thread::join, completing.thread()); // That is no order that is reported.
+        try {
+            new TracedFuture<Integer>().orTimeout(200, TimeUnit.MILLISECONDS).join();
+        } catch (CompletionException late) {
+            Traced.touch("time", false); // race: callback_too_early
+        }
     }
 
     private static void beforeEnd() throws InterruptedException {

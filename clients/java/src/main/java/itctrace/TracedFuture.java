@@ -204,6 +204,19 @@ public final class TracedFuture<T> extends CompletableFuture<T> {
         return token == null || !super.isDone() && completed.compareAndSet(null, token);
     }
 
+    /** A timer of its own looks whether the time is over: what the JDK's would see here, its thread would know for all later timeouts. */
+    @Override
+    public CompletableFuture<T> orTimeout(long time, TimeUnit unit) {
+        CompletableFuture<T> timer = new CompletableFuture<T>().orTimeout(time, unit);
+        timer.exceptionally(
+                late -> {
+                    completeExceptionally(late);
+                    return null;
+                });
+        super.whenComplete((value, failure) -> timer.complete(null));
+        return this;
+    }
+
     // Taking.
 
     @Override
