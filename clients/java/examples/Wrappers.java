@@ -425,6 +425,24 @@ public final class Wrappers {
             Thread.onSpinWait();
         }
         writeStock();
+        otherCompletions();
+    }
+
+    private static void otherCompletions() {
+        CompletableFuture<Integer> later = new TracedFuture<Integer>().completeAsync(Wrappers::writeAndGive);
+        later.copy().join();
+        writeStock();
+        CompletableFuture<Integer> failing = TracedFuture.supplyAsync(Wrappers::writeAndFail);
+        Throwable told = failing.handle((value, failure) -> failure).join();
+        if (!(told instanceof CompletionException) || !(told.getCause() instanceof IllegalStateException)) {
+            throw new IllegalStateException("a function fails otherwise than by itself: " + told);
+        }
+        writeStock();
+    }
+
+    private static int writeAndFail() {
+        writeStock();
+        throw new IllegalStateException("on purpose");
     }
 
     private static int writeAndGive() {

@@ -5,6 +5,7 @@ import itctrace.Task.Token;
 import itctrace.Task.What;
 import java.util.List;
 import java.util.concurrent.CompletableFuture;
+import java.util.concurrent.CompletionException;
 import java.util.concurrent.CompletionStage;
 import java.util.concurrent.ExecutionException;
 import java.util.concurrent.Executor;
@@ -32,6 +33,9 @@ public final class TracedFuture<T> extends CompletableFuture<T> {
 
     /** What completes a future: a function that runs as this task, after these sources, and then perhaps the future that it has given. */
     private static final class Origin {
+        /** What the JDK does by itself: nobody knows what that comes after. */
+        private static final Origin UNKNOWN = new Origin(null);
+
         private final List<CompletableFuture<?>> sources;
         private final Task task;
         private volatile boolean hasRun;
@@ -80,11 +84,7 @@ public final class TracedFuture<T> extends CompletableFuture<T> {
     }
 
     public static <U> CompletableFuture<U> supplyAsync(Supplier<U> supplier, Executor executor) {
-        TracedFuture<U> future = new TracedFuture<>();
-        Origin origin = new Origin("future");
-        origin.of(future);
-        executor.execute(() -> future.completeBy(origin, supplier));
-        return future;
+        return new TracedFuture<U>().completeAsync(supplier, executor);
     }
 
     public static CompletableFuture<Void> runAsync(Runnable body) {
@@ -102,11 +102,33 @@ public final class TracedFuture<T> extends CompletableFuture<T> {
         };
     }
 
-    private void completeBy(Origin origin, Supplier<T> supplier) {
+    @Override
+    public CompletableFuture<T> completeAsync(Supplier<? extends T> supplier) {
+        return completeAsync(supplier, defaultExecutor());
+    }
+
+    @Override
+    public CompletableFuture<T> completeAsync(Supplier<? extends T> supplier, Executor executor) {
+        Origin made = new Origin("future");
+        if (!origin.compareAndSet(null, made)) {
+            origin.set(Origin.UNKNOWN); // Another function may be faster.
+        }
+        executor.execute(
+                () -> {
+                    if (!super.isDone()) {
+                        completeBy(made, supplier);
+                    }
+                });
+        return this;
+    }
+
+    private void completeBy(Origin origin, Supplier<? extends T> supplier) {
         try {
             super.complete(origin.run(supplier));
-        } catch (Throwable failure) {
+        } catch (CompletionException failure) {
             super.completeExceptionally(failure);
+        } catch (Throwable failure) {
+            super.completeExceptionally(new CompletionException(failure));
         }
     }
 
@@ -176,7 +198,12 @@ public final class TracedFuture<T> extends CompletableFuture<T> {
 
     @Override
     public <U> CompletableFuture<U> newIncompleteFuture() {
-        return new TracedFuture<>();
+        return Origin.UNKNOWN.of(new TracedFuture<>());
+    }
+
+    @Override
+    public CompletableFuture<T> copy() {
+        return new Origin(null, this).of(super.copy());
     }
 
     // Completing: who is first has it done, and the others come too late.
@@ -200,8 +227,11 @@ public final class TracedFuture<T> extends CompletableFuture<T> {
     }
 
     private boolean isFirst() {
+        if (super.isDone()) {
+            return false;
+        }
         Token token = Traced.mark(RESULT, Traced.site());
-        return token == null || !super.isDone() && completed.compareAndSet(null, token);
+        return token == null || completed.compareAndSet(null, token);
     }
 
     /** A timer of its own looks whether the time is over: what the JDK's would see here, its thread would know for all later timeouts. */
