@@ -26,6 +26,7 @@ import java.util.concurrent.locks.Lock;
 import java.util.concurrent.locks.ReadWriteLock;
 import java.util.concurrent.locks.ReentrantLock;
 import java.util.concurrent.locks.ReentrantReadWriteLock;
+import java.util.function.Function;
 
 /**
  * Small programs, each for one order that is reported by itself. A line that races says so in a comment, with the name of its program:
@@ -426,6 +427,7 @@ public final class Wrappers {
         }
         writeStock();
         otherCompletions();
+        otherFunctions();
     }
 
     private static void otherCompletions() {
@@ -436,6 +438,32 @@ public final class Wrappers {
         Throwable told = failing.handle((value, failure) -> failure).join();
         if (!(told instanceof CompletionException) || !(told.getCause() instanceof IllegalStateException)) {
             throw new IllegalStateException("a function fails otherwise than by itself: " + told);
+        }
+        writeStock();
+    }
+
+    /** Functions for two futures, or for a failure. */
+    private static void otherFunctions() {
+        CompletableFuture<Integer> never = new TracedFuture<>();
+        CompletableFuture<Integer> done = TracedFuture.supplyAsync(() -> 1);
+        List<Function<CompletableFuture<Integer>, CompletableFuture<?>>> ways =
+                List.of(
+                        future -> TracedFuture.anyOf(never, future),
+                        future -> future.applyToEither(never, value -> writeAndGive()),
+                        future -> never.acceptEitherAsync(future, value -> writeStock()),
+                        future -> future.runAfterEither(never, Wrappers::writeStock),
+                        future -> future.thenAcceptBoth(done, (own, other) -> writeStock()),
+                        future -> done.runAfterBothAsync(future, Wrappers::writeStock),
+                        future -> future.whenCompleteAsync((value, failure) -> writeStock()),
+                        future -> future.thenApply(value -> writeAndFail()).exceptionallyAsync(failure -> writeAndGive()),
+                        future -> future.thenApply(value -> writeAndFail()).exceptionallyCompose(failure -> done));
+        for (Function<CompletableFuture<Integer>, CompletableFuture<?>> way : ways) {
+            way.apply(TracedFuture.supplyAsync(Wrappers::writeAndGive)).join();
+            writeStock();
+        }
+        CompletableFuture<Integer> failing = TracedFuture.supplyAsync(Wrappers::writeAndFail);
+        while (!failing.isCompletedExceptionally()) {
+            Thread.onSpinWait();
         }
         writeStock();
     }
@@ -463,6 +491,7 @@ public final class Wrappers {
         told.join();
         futureAsValue();
         timeouts();
+        firstOfTwo();
     }
 
     /** Whoever takes a future as a value of another one has not seen its completion. */
@@ -498,6 +527,24 @@ public final class Wrappers {
         } catch (CompletionException late) {
             Traced.touch("time", false); // race: callback_too_early
         }
+    }
+
+    /** Whoever takes what the first one gave has not seen the other one. */
+    private static void firstOfTwo() {
+        CompletableFuture<Integer> first = new TracedFuture<>();
+        CompletableFuture<Integer> second = new TracedFuture<>();
+        CompletableFuture<Object> any = TracedFuture.anyOf(second, first);
+        first.complete(1);
+        TracedThread completing =
+                Traced.start(
+                        "completing",
+                        () -> {
+                            Traced.touch("second", true); // race: callback_too_early
+                            second.complete(2);
+                        });
+        doStep(Thread::join, completing.thread()); // That is no order that is reported.
+        any.join();
+        Traced.touch("second", false); // race: callback_too_early
     }
 
     private static void beforeEnd() throws InterruptedException {

@@ -20,10 +20,10 @@ import java.util.function.Supplier;
 
 /**
  * A future whose value carries the order. Whoever takes the value comes after its completion. A function that is given to it is a task
- * of its own, which comes after the call that gave it and after the completion.
+ * of its own, which comes after the call that gave it and after the completion. One for either of two futures comes after the one that
+ * was first.
  *
- * <p>The functions that are given to other methods than those here are run as part of the thread that runs them. A future that a
- * function completes and somebody by hand tells no order, since nobody knows who was first.
+ * <p>A future that a function completes and somebody by hand tells no order, since nobody knows who was first.
  */
 public final class TracedFuture<T> extends CompletableFuture<T> {
     private static final What RESULT = What.forAll("result", "complete future", "take result");
@@ -140,6 +140,36 @@ public final class TracedFuture<T> extends CompletableFuture<T> {
         return all;
     }
 
+    /** Completes as the first of them does. Whoever takes the value comes after that one, and not after the others. */
+    public static CompletableFuture<Object> anyOf(CompletableFuture<?>... futures) {
+        return TracedFuture.<Object>firstOf(List.of(futures));
+    }
+
+    private static <U> TracedFuture<U> firstOf(List<? extends CompletableFuture<? extends U>> futures) {
+        TracedFuture<U> first = new TracedFuture<>();
+        futures.forEach(future -> watch(future, (value, failure) -> first.completeAfter(future, value, failure)));
+        return first;
+    }
+
+    /** Has this done by the thread that completes the future, as no task of its own. */
+    private static <U> void watch(CompletableFuture<U> future, BiConsumer<? super U, ? super Throwable> body) {
+        if (future instanceof TracedFuture<U> traced) {
+            traced.watch(body);
+        } else {
+            future.whenComplete(body);
+        }
+    }
+
+    private void watch(BiConsumer<? super T, ? super Throwable> body) {
+        super.whenComplete(body);
+    }
+
+    private void completeAfter(CompletableFuture<?> source, T value, Throwable failure) {
+        if (origin.compareAndSet(null, new Origin(null, source))) {
+            completeAs(value, failure == null || failure instanceof CompletionException ? failure : new CompletionException(failure));
+        }
+    }
+
     /** Completes as the other one does, once this was done with its value as a task of its own. To cancel it cancels the other one. */
     static <T> CompletableFuture<T> following(CompletableFuture<T> other, Consumer<? super T> body) {
         TracedFuture<T> future = new TracedFuture<>();
@@ -163,9 +193,9 @@ public final class TracedFuture<T> extends CompletableFuture<T> {
     }
 
     private void cancelAlso(CompletableFuture<T> other) {
-        super.whenComplete(
+        watch(
                 (value, failure) -> {
-                    if (isCancelled()) {
+                    if (super.isCancelled()) {
                         other.cancel(true);
                     }
                 });
@@ -243,7 +273,7 @@ public final class TracedFuture<T> extends CompletableFuture<T> {
                     completeExceptionally(late);
                     return null;
                 });
-        super.whenComplete((value, failure) -> timer.complete(null));
+        watch((value, failure) -> timer.complete(null));
         return this;
     }
 
@@ -278,8 +308,21 @@ public final class TracedFuture<T> extends CompletableFuture<T> {
         return takenIfDone();
     }
 
+    @Override
+    public boolean isCancelled() {
+        return takenIf(super.isCancelled());
+    }
+
+    @Override
+    public boolean isCompletedExceptionally() {
+        return takenIf(super.isCompletedExceptionally());
+    }
+
     private boolean takenIfDone() {
-        boolean isDone = super.isDone();
+        return takenIf(super.isDone());
+    }
+
+    private boolean takenIf(boolean isDone) {
         if (isDone) {
             taken(Traced.site());
         }
@@ -307,6 +350,13 @@ public final class TracedFuture<T> extends CompletableFuture<T> {
 
     private static <A, B, U> BiFunction<A, B, U> by(Origin origin, BiFunction<? super A, ? super B, ? extends U> body) {
         return (first, second) -> origin.run(() -> body.apply(first, second));
+    }
+
+    private static <A, B> BiFunction<A, B, Void> returning(BiConsumer<? super A, ? super B> body) {
+        return (first, second) -> {
+            body.accept(first, second);
+            return null;
+        };
     }
 
     private static <A> Function<A, Void> returning(Consumer<? super A> body) {
@@ -401,6 +451,92 @@ public final class TracedFuture<T> extends CompletableFuture<T> {
     }
 
     @Override
+    public <U> CompletableFuture<Void> thenAcceptBoth(CompletionStage<? extends U> other, BiConsumer<? super T, ? super U> body) {
+        return thenCombine(other, returning(body));
+    }
+
+    @Override
+    public <U> CompletableFuture<Void> thenAcceptBothAsync(
+            CompletionStage<? extends U> other, BiConsumer<? super T, ? super U> body) {
+        return thenCombineAsync(other, returning(body));
+    }
+
+    @Override
+    public <U> CompletableFuture<Void> thenAcceptBothAsync(
+            CompletionStage<? extends U> other, BiConsumer<? super T, ? super U> body, Executor executor) {
+        return thenCombineAsync(other, returning(body), executor);
+    }
+
+    @Override
+    public CompletableFuture<Void> runAfterBoth(CompletionStage<?> other, Runnable body) {
+        return thenAcceptBoth(other, (own, others) -> body.run());
+    }
+
+    @Override
+    public CompletableFuture<Void> runAfterBothAsync(CompletionStage<?> other, Runnable body) {
+        return thenAcceptBothAsync(other, (own, others) -> body.run());
+    }
+
+    @Override
+    public CompletableFuture<Void> runAfterBothAsync(CompletionStage<?> other, Runnable body, Executor executor) {
+        return thenAcceptBothAsync(other, (own, others) -> body.run(), executor);
+    }
+
+    private TracedFuture<T> either(CompletionStage<? extends T> other) {
+        return TracedFuture.<T>firstOf(List.of(this, other.toCompletableFuture()));
+    }
+
+    private TracedFuture<Object> eitherOfAny(CompletionStage<?> other) {
+        return TracedFuture.<Object>firstOf(List.of(this, other.toCompletableFuture()));
+    }
+
+    @Override
+    public <U> CompletableFuture<U> applyToEither(CompletionStage<? extends T> other, Function<? super T, U> body) {
+        return either(other).thenApply(body);
+    }
+
+    @Override
+    public <U> CompletableFuture<U> applyToEitherAsync(CompletionStage<? extends T> other, Function<? super T, U> body) {
+        return either(other).thenApplyAsync(body);
+    }
+
+    @Override
+    public <U> CompletableFuture<U> applyToEitherAsync(
+            CompletionStage<? extends T> other, Function<? super T, U> body, Executor executor) {
+        return either(other).thenApplyAsync(body, executor);
+    }
+
+    @Override
+    public CompletableFuture<Void> acceptEither(CompletionStage<? extends T> other, Consumer<? super T> body) {
+        return either(other).thenAccept(body);
+    }
+
+    @Override
+    public CompletableFuture<Void> acceptEitherAsync(CompletionStage<? extends T> other, Consumer<? super T> body) {
+        return either(other).thenAcceptAsync(body);
+    }
+
+    @Override
+    public CompletableFuture<Void> acceptEitherAsync(CompletionStage<? extends T> other, Consumer<? super T> body, Executor executor) {
+        return either(other).thenAcceptAsync(body, executor);
+    }
+
+    @Override
+    public CompletableFuture<Void> runAfterEither(CompletionStage<?> other, Runnable body) {
+        return eitherOfAny(other).thenRun(body);
+    }
+
+    @Override
+    public CompletableFuture<Void> runAfterEitherAsync(CompletionStage<?> other, Runnable body) {
+        return eitherOfAny(other).thenRunAsync(body);
+    }
+
+    @Override
+    public CompletableFuture<Void> runAfterEitherAsync(CompletionStage<?> other, Runnable body, Executor executor) {
+        return eitherOfAny(other).thenRunAsync(body, executor);
+    }
+
+    @Override
     public <U> CompletableFuture<U> handle(BiFunction<? super T, Throwable, ? extends U> body) {
         Origin origin = origin();
         return origin.of(super.<U>handle(by(origin, body)));
@@ -420,12 +556,51 @@ public final class TracedFuture<T> extends CompletableFuture<T> {
     @Override
     public CompletableFuture<T> whenComplete(BiConsumer<? super T, ? super Throwable> body) {
         Origin origin = origin();
-        return origin.of(super.whenComplete((value, failure) -> origin.run(supplying(() -> body.accept(value, failure)))));
+        return origin.of(super.whenComplete(by(origin, returning(body))::apply));
+    }
+
+    @Override
+    public CompletableFuture<T> whenCompleteAsync(BiConsumer<? super T, ? super Throwable> body) {
+        return whenCompleteAsync(body, defaultExecutor());
+    }
+
+    @Override
+    public CompletableFuture<T> whenCompleteAsync(BiConsumer<? super T, ? super Throwable> body, Executor executor) {
+        Origin origin = origin();
+        return origin.of(super.whenCompleteAsync(by(origin, returning(body))::apply, executor));
     }
 
     @Override
     public CompletableFuture<T> exceptionally(Function<Throwable, ? extends T> body) {
         Origin origin = origin();
         return origin.of(super.exceptionally(by(origin, body)));
+    }
+
+    @Override
+    public CompletableFuture<T> exceptionallyAsync(Function<Throwable, ? extends T> body) {
+        return exceptionallyAsync(body, defaultExecutor());
+    }
+
+    @Override
+    public CompletableFuture<T> exceptionallyAsync(Function<Throwable, ? extends T> body, Executor executor) {
+        Origin origin = origin();
+        return origin.of(super.exceptionallyAsync(by(origin, body), executor));
+    }
+
+    @Override
+    public CompletableFuture<T> exceptionallyCompose(Function<Throwable, ? extends CompletionStage<T>> body) {
+        Origin origin = origin();
+        return origin.of(super.exceptionallyCompose(composing(origin, body)));
+    }
+
+    @Override
+    public CompletableFuture<T> exceptionallyComposeAsync(Function<Throwable, ? extends CompletionStage<T>> body) {
+        return exceptionallyComposeAsync(body, defaultExecutor());
+    }
+
+    @Override
+    public CompletableFuture<T> exceptionallyComposeAsync(Function<Throwable, ? extends CompletionStage<T>> body, Executor executor) {
+        Origin origin = origin();
+        return origin.of(super.exceptionallyComposeAsync(composing(origin, body), executor));
     }
 }
