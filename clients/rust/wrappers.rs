@@ -183,10 +183,10 @@ fn condition() {
         drop(state);
         read_stock();
     });
-    write_stock();
     while !shared.0.lock().unwrap().0 {
         plain::sleep(Duration::from_millis(1));
     }
+    write_stock();
     shared.0.lock().unwrap().1 = true;
     shared.1.notify_all();
     waiting.join().unwrap();

@@ -125,14 +125,17 @@ func luckyLock() {
 func condition() {
 	var lock itctrace.Mutex
 	isReady, condition := false, itctrace.NewCond(&lock)
+	begun := make(chan bool) // It gives no order that is reported.
 	waiting := start(func() {
 		lock.Lock()
+		close(begun)
 		for !isReady {
 			condition.Wait()
 		}
 		lock.Unlock()
 		readStock()
 	})
+	<-begun
 	writeStock()
 	lock.Lock()
 	isReady = true

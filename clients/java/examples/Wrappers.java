@@ -206,17 +206,20 @@ public final class Wrappers {
         Lock lock = Traced.lock(new ReentrantLock());
         Condition isReady = lock.newCondition();
         boolean[] ready = {false};
+        CountDownLatch begun = new CountDownLatch(1); // That is no order that is reported.
         TracedThread waiting =
                 Traced.start(
                         "waiting",
                         () -> {
                             lock.lock();
+                            begun.countDown();
                             while (!ready[0]) {
                                 isReady.awaitUninterruptibly();
                             }
                             lock.unlock();
                             readStock();
                         });
+        begun.await();
         writeStock();
         lock.lock();
         ready[0] = true;
