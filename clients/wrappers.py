@@ -50,6 +50,8 @@ OWN = {
     "go": {"wait_group": NO_RACE, "rendezvous": NO_RACE, "full_channel": NO_RACE, "closed_channel": NO_RACE, "context": NO_RACE,
            "http": NO_RACE, "http_race": RACES},
 }
+LINES = {"java": ("executor",)}
+"""Programs of one language alone whose events each have a line of their own."""
 PYTHON = """import itc_trace
 itc_trace.touch("row", across=True)  # race: across
 itc_trace.touch("row", write=True, across=True)  # race: across
@@ -232,7 +234,9 @@ def check_journal(programs: Programs) -> None:
         kept = written(name, "journal", "kept")
         environment = {"ITC_TRACE_TENANT": "shop", "ITC_TRACE_PROCESS": "my-shop_1", "ITC_TRACE_JOURNAL": str(kept)}
         rows: list[dict[str, Any]] = []
-        for number, process, program, thing in ((2, "mysho", "odd_names", ODD_THING), (3, "mysho2", "hand_off", "stock")):
+        ran = [("odd_names", ODD_THING), *((name, "stock") for name in ("hand_off", "other_calls", *LINES.get(programs.language, ())))]
+        for number, (program, thing) in enumerate(ran, 2):
+            process = "mysho" if number == 2 else f"mysho{number - 1}"
             subprocess.run(
                 programs.words(program), env={**os.environ, **environment, "ITC_TRACE_PORT": str(collector.port)}, check=True,
                 capture_output=True, timeout=MOST_SECONDS)

@@ -21,12 +21,16 @@ record Row(String task, String thing, String kind, Site site, String label, List
     record Site(String file, int line, String function) {
         static final Site NONE = new Site(null, 0, "");
 
-        /** The line of the program that called this package. */
+        /** The line of the program that called this package, itself or by the JDK. */
         static Site ofCaller() {
             return StackWalker.getInstance()
-                    .walk(frames -> frames.filter(frame -> !frame.getClassName().startsWith("itctrace.")).findFirst())
+                    .walk(frames -> frames.filter(frame -> isOfProgram(frame.getClassName())).findFirst())
                     .map(frame -> new Site(frame.getFileName(), frame.getLineNumber(), frame.getMethodName()))
                     .orElse(NONE);
+        }
+
+        private static boolean isOfProgram(String name) {
+            return !name.startsWith("itctrace.") && !name.startsWith("java.") && !name.startsWith("jdk.") && !name.startsWith("com.sun.");
         }
 
         /** The line alone. */
