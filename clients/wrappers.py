@@ -108,7 +108,8 @@ def run_system(folder: Path, options: list[str] | None = None, **processes: list
     file.write_text("".join(f"[process.{name}]\ncommand = {json.dumps(words)}\n" for name, words in processes.items()))
     environment = {**os.environ, "PYTHONPATH": str(CLIENTS / "python")}
     return subprocess.run(
-        [sys.executable, "-m", "itc_trace", "system", *(options or []), str(file)], env=environment, capture_output=True, text=True, timeout=MOST_SECONDS)
+        [sys.executable, "-m", "itc_trace", "system", *(options or []), str(file)], env=environment, capture_output=True, text=True,
+        timeout=MOST_SECONDS)
 
 
 def check(ran: "subprocess.CompletedProcess[str]", status: int, races: set[str], possible: set[str]) -> None:
@@ -234,7 +235,7 @@ def check_journal(programs: Programs) -> None:
         kept = written(name, "journal", "kept")
         environment = {"ITC_TRACE_TENANT": "shop", "ITC_TRACE_PROCESS": "my-shop_1", "ITC_TRACE_JOURNAL": str(kept)}
         rows: list[dict[str, Any]] = []
-        ran = [("odd_names", ODD_THING), *((name, "stock") for name in ("hand_off", "other_calls", *LINES.get(programs.language, ())))]
+        ran = [("odd_names", ODD_THING), *((name, "stock") for name in ("hand_off", "condition", "other_calls", *LINES.get(programs.language, ())))]
         for number, (program, thing) in enumerate(ran, 2):
             process = "mysho" if number == 2 else f"mysho{number - 1}"
             subprocess.run(

@@ -65,7 +65,11 @@ func siteAbove(calls int) site {
 	if count == 0 {
 		return site{}
 	}
-	frame, _ := runtime.CallersFrames(counters[:count]).Next()
+	frames := runtime.CallersFrames(counters[:count])
+	frame, hasMore := frames.Next()
+	for hasMore && strings.HasPrefix(frame.Function, "sync.") { // A condition calls the lock.
+		frame, hasMore = frames.Next()
+	}
 	found := site{&frame.File, frame.Line, frame.Function[strings.LastIndex(frame.Function, "/")+1:]}
 	sites.Store(counters, found)
 	return found

@@ -99,6 +99,8 @@ func (m *Mutex) Unlock() {
 
 // NewCond makes a condition of the lock. Whoever waits comes after the one who has signalled, by the lock.
 func NewCond(lock *Mutex) *sync.Cond {
+	lock.hand.mutex.Lock()
+	defer lock.hand.mutex.Unlock()
 	lock.hand.isSignal = true
 	return sync.NewCond(lock)
 }
