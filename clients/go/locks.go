@@ -139,10 +139,11 @@ func (m *RWMutex) RUnlock() {
 
 // WaitGroup waits for goroutines. Whoever has waited comes after all that are done. Its zero value is ready.
 type WaitGroup struct {
-	group  sync.WaitGroup
-	mutex  sync.Mutex
-	count  int
-	tokens []*token
+	group    sync.WaitGroup
+	mutex    sync.Mutex
+	count    int
+	tokens   []*token
+	isWaited bool
 }
 
 // Add adds to the count of those that are waited for.
@@ -153,8 +154,8 @@ func (w *WaitGroup) Done() { w.add(-1, siteOf(1)) }
 
 func (w *WaitGroup) add(count int, at site) {
 	w.mutex.Lock()
-	if w.count == 0 {
-		w.tokens = nil // All who waited for the ones before have returned.
+	if w.count == 0 && w.isWaited {
+		w.tokens, w.isWaited = nil, false // All who waited for the ones before have returned.
 	}
 	w.count += count
 	if count < 0 {
@@ -171,6 +172,7 @@ func (w *WaitGroup) Wait() {
 	w.group.Wait()
 	w.mutex.Lock()
 	defer w.mutex.Unlock()
+	w.isWaited = true
 	for _, one := range w.tokens {
 		take(one, siteOf(1))
 	}

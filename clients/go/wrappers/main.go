@@ -228,15 +228,24 @@ func closedChannel() {
 	taker.Wait()
 }
 
+// waitGroup waits for goroutines by one group, twice.
 func waitGroup() {
 	var group itctrace.WaitGroup
-	group.Add(1)
-	start(func() {
-		writeStock()
-		group.Done()
-	})
-	group.Wait()
-	readStock()
+	for turn := 0; turn < 2; turn++ {
+		for _, thing := range []string{"first", "second"} {
+			thing, done := thing, make(chan bool) // The first one is done before the second one is added.
+			group.Add(1)
+			start(func() {
+				itctrace.Touch(thing, true)
+				group.Done()
+				close(done)
+			})
+			<-done
+		}
+		group.Wait()
+		itctrace.Touch("first", true)
+		itctrace.Touch("second", true)
+	}
 }
 
 func cancelledContext() {
