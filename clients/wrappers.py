@@ -48,7 +48,7 @@ OWN = {
              "future_calls": NO_RACE, "callback_too_early": RACES},
     "rust": {"scope": NO_RACE, "rendezvous": NO_RACE},
     "go": {"wait_group": NO_RACE, "rendezvous": NO_RACE, "full_channel": NO_RACE, "closed_channel": NO_RACE, "context": NO_RACE,
-           "http": NO_RACE, "http_race": RACES},
+           "late_cancel": RACES, "http": NO_RACE, "http_race": RACES},
 }
 LINES = {"java": ("executor",)}
 """Programs of one language alone whose events each have a line of their own."""

@@ -2,13 +2,13 @@ package itctrace
 
 import (
 	"context"
-	"errors"
 	"sync"
 )
 
-// cancelled is the place where a context was cancelled, and the context above it. All below one context share a mutex, so that it is
-// known which of them was cancelled first.
+// cancelled is the place where a context was cancelled, and the context above it, if nothing of the language may be done between the
+// two. All below one context share a mutex, so that it is known which of them was cancelled first.
 type cancelled struct {
+	done  <-chan struct{}
 	above *cancelled
 	mutex *sync.Mutex
 	token *token
@@ -16,22 +16,27 @@ type cancelled struct {
 
 type cancelledKey struct{}
 
-// WithCancel gives a context that may be cancelled. Whoever sees by Done that it is cancelled comes after that.
+// WithCancel gives a context that may be cancelled. Whoever sees by Done that it is cancelled comes after that. A context of the language
+// below it gives no order, since it may have been done before.
 func WithCancel(parent context.Context) (context.Context, context.CancelFunc) {
 	own := &cancelled{mutex: &sync.Mutex{}}
 	if above, isBelow := parent.Value(cancelledKey{}).(*cancelled); isBelow {
-		own.above, own.mutex = above, above.mutex
+		own.mutex = above.mutex
+		if parent.Done() == above.done {
+			own.above = above
+		}
 	}
 	ctx, cancel := context.WithCancel(context.WithValue(parent, cancelledKey{}, own))
+	own.done = ctx.Done()
 	return ctx, func() {
 		own.mutex.Lock()
 		defer own.mutex.Unlock()
 		if ctx.Err() == nil {
 			own.token = mark(what{hint: "cancel", giving: "cancel", taking: "see that it is cancelled"}, siteOf(1))
-		}
-		cancel()
-		if errors.Is(ctx.Err(), context.DeadlineExceeded) {
-			own.token = nil // A deadline was faster.
+			cancel()
+			if parent.Err() != nil {
+				own.token = nil // What is above may have been faster.
+			}
 		}
 	}
 }
@@ -45,10 +50,11 @@ func Done(ctx context.Context) error {
 // seeDone comes after the cancelling of the lowest context that was cancelled: the others above it came too late, or it before them.
 func seeDone(ctx context.Context, at site) error {
 	one, _ := ctx.Value(cancelledKey{}).(*cancelled)
-	if one != nil {
-		one.mutex.Lock()
-		defer one.mutex.Unlock()
+	if one == nil || one.done != ctx.Done() {
+		return ctx.Err()
 	}
+	one.mutex.Lock()
+	defer one.mutex.Unlock()
 	for ; one != nil; one = one.above {
 		if one.token != nil {
 			take(one.token, at)

@@ -262,6 +262,33 @@ func cancelledContext() {
 	waiting.Wait()
 }
 
+// lateCancel: contexts of the language were done already when the ones above them were cancelled.
+func lateCancel() {
+	ctx, cancel := itctrace.WithCancel(context.Background())
+	stopped, stop := context.WithCancel(ctx)
+	below, release := itctrace.WithCancel(stopped)
+	defer release()
+	late, end := context.WithTimeout(ctx, time.Millisecond)
+	defer end()
+	stop()
+	<-late.Done()
+	done := make(chan bool)
+	start(func() {
+		for _, thing := range []string{"stopped", "below", "late"} {
+			itctrace.Touch(thing, true) // race: late_cancel
+		}
+		cancel()
+		close(done)
+	})
+	<-done
+	itctrace.Done(stopped)
+	itctrace.Touch("stopped", false) // race: late_cancel
+	itctrace.Done(below)
+	itctrace.Touch("below", false) // race: late_cancel
+	itctrace.Done(late)
+	itctrace.Touch("late", false) // race: late_cancel
+}
+
 func readLock(isWrittenByBoth bool) {
 	var lock itctrace.RWMutex
 	inTwoGoroutines(func() {
@@ -533,6 +560,7 @@ func main() {
 		"closed_channel": closedChannel,
 		"wait_group":     waitGroup,
 		"context":        cancelledContext,
+		"late_cancel":    lateCancel,
 		"read_lock":      func() { readLock(false) },
 		"read_first":     readFirst,
 		"read_lock_race": func() { readLock(true) },
