@@ -1,6 +1,9 @@
 package itctrace
 
-import "context"
+import (
+	"context"
+	"sync"
+)
 
 var (
 	item    = what{hint: "item", giving: "send", taking: "receive", isForOne: true}
@@ -14,6 +17,7 @@ type Chan[T any] struct {
 	items  chan carried[T]
 	room   chan *token
 	ended  chan struct{}
+	ending sync.Mutex
 	closed *token
 }
 
@@ -94,9 +98,16 @@ func (c *Chan[T]) taken(given carried[T], isThere bool, at site) (T, bool) {
 	return given.value, true
 }
 
-// Close closes it. Whoever sees the end comes after that.
+// Close closes it. Whoever sees the end comes after that. It panics if the channel is closed, as with one of the language.
 func (c *Chan[T]) Close() {
-	c.closed = mark(closing, siteOf(1))
+	at := siteOf(1)
+	c.ending.Lock()
+	defer c.ending.Unlock()
+	select {
+	case <-c.ended: // What closed it first is kept.
+	default:
+		c.closed = mark(closing, at)
+	}
 	close(c.items)
 	close(c.ended)
 }

@@ -214,18 +214,36 @@ func fullChannel() {
 	taker.Wait()
 }
 
+// closedChannel: who sees the end comes after the first closing, and not after one that fails.
 func closedChannel() {
 	channel := itctrace.MakeChan[int](1)
+	isClosed := make(chan bool) // It gives no order that is reported.
 	taker := start(func() {
+		<-isClosed
 		for _, isThere := channel.Receive(); isThere; _, isThere = channel.Receive() {
 			fmt.Println("received")
 		}
 		readStock()
 	})
 	channel.Send(1)
-	writeStock()
-	channel.Close()
+	start(func() {
+		writeStock()
+		channel.Close()
+		isClosed <- true
+	})
+	<-isClosed
+	closeAgain(channel)
+	isClosed <- true
 	taker.Wait()
+}
+
+func closeAgain(channel *itctrace.Chan[int]) {
+	defer func() {
+		if recover() == nil {
+			panic("a channel was closed twice")
+		}
+	}()
+	channel.Close()
 }
 
 // waitGroup waits for goroutines by one group, twice.
@@ -358,7 +376,15 @@ func web(client *http.Client) {
 	response.Body.Close()
 	if client.Transport != nil {
 		writeStock()
+		answerHere()
 	}
+}
+
+// answerHere answers a request in this goroutine, which goes on as itself then.
+func answerHere() {
+	handler := itctrace.Handler(http.NotFoundHandler())
+	handler.ServeHTTP(httptest.NewRecorder(), httptest.NewRequest("GET", "/", nil))
+	writeStock()
 }
 
 func beforeEnd() {
