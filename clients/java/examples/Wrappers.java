@@ -172,6 +172,19 @@ public final class Wrappers {
             given.countDown();
             taker.join(TimeUnit.MINUTES.toMillis(1));
         }
+        failedTries();
+    }
+
+    /** What was not put leaves nothing in the trace: these tries would fill it. */
+    private static void failedTries() {
+        BlockingQueue<Integer> full = Traced.queue(new LinkedBlockingQueue<>(1));
+        full.add(0);
+        for (int turn = 0; turn < MANY; turn++) {
+            if (full.offer(turn)) {
+                throw new IllegalStateException("the queue has room");
+            }
+            Traced.touch("stock", false);
+        }
     }
 
     /** A factory of virtual threads, where the JDK has them. */

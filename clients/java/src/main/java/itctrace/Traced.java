@@ -143,6 +143,12 @@ public final class Traced {
         return isOn() ? TRACER.mark(current(), what, site) : null;
     }
 
+    static void withdraw(Token token) {
+        if (isOn() && token != null) {
+            TRACER.withdraw(token);
+        }
+    }
+
     static void take(Token token, Site site) {
         if (isOn() && token != null) {
             TRACER.take(current(), token, site);

@@ -8,6 +8,7 @@ import java.util.ArrayList;
 import java.util.Collection;
 import java.util.Iterator;
 import java.util.List;
+import java.util.Objects;
 import java.util.concurrent.BlockingQueue;
 import java.util.concurrent.TimeUnit;
 
@@ -52,7 +53,15 @@ public final class TracedQueue<E> extends AbstractQueue<E> implements BlockingQu
     }
 
     private Carried<E> carried(E element) {
-        return new Carried<>(element, Traced.mark(ITEM, Traced.site()));
+        return new Carried<>(Objects.requireNonNull(element), Traced.mark(ITEM, Traced.site()));
+    }
+
+    /** Nobody can come after the place of an element that was not put. */
+    private boolean wasPut(boolean isPut, Carried<E> carried) {
+        if (!isPut) {
+            Traced.withdraw(carried.token);
+        }
+        return isPut;
     }
 
     private E taken(Carried<E> carried) {
@@ -70,12 +79,14 @@ public final class TracedQueue<E> extends AbstractQueue<E> implements BlockingQu
 
     @Override
     public boolean offer(E element) {
-        return queue.offer(carried(element));
+        Carried<E> carried = carried(element);
+        return wasPut(queue.offer(carried), carried);
     }
 
     @Override
     public boolean offer(E element, long time, TimeUnit unit) throws InterruptedException {
-        return queue.offer(carried(element), time, unit);
+        Carried<E> carried = carried(element);
+        return wasPut(queue.offer(carried, time, unit), carried);
     }
 
     @Override

@@ -142,6 +142,11 @@ final class Tracer {
         return token;
     }
 
+    /** Nobody is going to come after the token's place. */
+    synchronized void withdraw(Task.Token token) {
+        token.task.pending.remove(token);
+    }
+
     /** The task comes after the token's place. */
     synchronized void take(Task task, Task.Token token, Row.Site site) {
         if (token == null || isOver) {
