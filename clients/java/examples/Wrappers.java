@@ -1,6 +1,7 @@
 import itctrace.Reporter;
 import itctrace.Traced;
 import itctrace.TracedFuture;
+import itctrace.TracedRequest;
 import itctrace.TracedThread;
 import java.nio.file.Files;
 import java.nio.file.Path;
@@ -21,11 +22,13 @@ import java.util.concurrent.LinkedBlockingQueue;
 import java.util.concurrent.Semaphore;
 import java.util.concurrent.ThreadFactory;
 import java.util.concurrent.TimeUnit;
+import java.util.concurrent.atomic.AtomicInteger;
 import java.util.concurrent.locks.Condition;
 import java.util.concurrent.locks.Lock;
 import java.util.concurrent.locks.ReadWriteLock;
 import java.util.concurrent.locks.ReentrantLock;
 import java.util.concurrent.locks.ReentrantReadWriteLock;
+import java.util.concurrent.locks.StampedLock;
 import java.util.function.Function;
 
 /**
@@ -154,6 +157,7 @@ public final class Wrappers {
                         queue -> queue.poll(1, TimeUnit.MINUTES),
                         BlockingQueue::peek,
                         queue -> queue.drainTo(new ArrayList<>()),
+                        queue -> queue.remove(Integer.valueOf(1)),
                         queue -> queue.iterator().next());
         for (Step<BlockingQueue<Integer>> way : ways) {
             BlockingQueue<Integer> queue = Traced.queue(new LinkedBlockingQueue<>());
@@ -173,6 +177,65 @@ public final class Wrappers {
             taker.join(TimeUnit.MINUTES.toMillis(1));
         }
         failedTries();
+        removedOnce();
+        sharedLocks();
+        requestsHere();
+    }
+
+    /** An element that equals itself once two threads have asked, or no other one has for some time. */
+    private static final class Asked {
+        private final CountDownLatch asked = new CountDownLatch(2);
+
+        @Override
+        public boolean equals(Object other) {
+            asked.countDown();
+            doStep(latch -> latch.await(200, TimeUnit.MILLISECONDS), asked);
+            return this == other;
+        }
+
+        @Override
+        public int hashCode() {
+            return 0;
+        }
+    }
+
+    /** Of two threads that take the same element away, one does. */
+    private static void removedOnce() throws InterruptedException {
+        BlockingQueue<Asked> queue = Traced.queue(new LinkedBlockingQueue<>());
+        Asked element = new Asked();
+        AtomicInteger removed = new AtomicInteger();
+        queue.add(element);
+        inTwoThreads(() -> removed.addAndGet(queue.remove(element) ? 1 : 0));
+        if (removed.get() != 1) {
+            throw new IllegalStateException(removed + " threads took one element away");
+        }
+    }
+
+    /** A lock that several threads may hold at once is not taken for one that a single thread holds. */
+    private static void sharedLocks() {
+        for (Lock shared : List.of(new ReentrantReadWriteLock().readLock(), new StampedLock().asReadLock())) {
+            try {
+                Traced.lock(shared);
+            } catch (IllegalArgumentException refused) {
+                continue;
+            }
+            throw new IllegalStateException("a lock of readers is taken for one of a single thread");
+        }
+    }
+
+    /** A thread goes on as itself behind each request, and behind a function that it ran for a future. */
+    private static void requestsHere() {
+        TracedRequest outer = Traced.request(null);
+        TracedRequest inner = Traced.request(null);
+        inner.close();
+        readStock();
+        outer.close();
+        inner.close();
+        readStock();
+        CompletableFuture<Integer> future = new TracedFuture<>();
+        future.thenRun(() -> {});
+        future.complete(1);
+        readStock();
     }
 
     /** What was not put leaves nothing in the trace: these tries would fill it. */

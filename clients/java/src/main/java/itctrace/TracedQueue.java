@@ -43,6 +43,28 @@ public final class TracedQueue<E> extends AbstractQueue<E> implements BlockingQu
         }
     }
 
+    /** What equals an element that is looked for, and the one that was found last. */
+    private static final class Sought {
+        private final Object element;
+        private Carried<?> found;
+
+        private Sought(Object element) {
+            this.element = element;
+        }
+
+        @Override
+        public boolean equals(Object other) {
+            boolean isFound = other instanceof Carried<?> carried && carried.element.equals(element);
+            found = isFound ? (Carried<?>) other : found;
+            return isFound;
+        }
+
+        @Override
+        public int hashCode() {
+            return element.hashCode();
+        }
+    }
+
     private final BlockingQueue<Carried<E>> queue;
 
     TracedQueue(BlockingQueue<Carried<E>> queue) {
@@ -117,10 +139,24 @@ public final class TracedQueue<E> extends AbstractQueue<E> implements BlockingQu
 
     @Override
     public int drainTo(Collection<? super E> elements, int most) {
+        if (elements == this) {
+            throw new IllegalArgumentException("a queue cannot be drained to itself");
+        }
         List<Carried<E>> drained = new ArrayList<>();
         queue.drainTo(drained, most);
         drained.forEach(carried -> elements.add(taken(carried)));
         return drained.size();
+    }
+
+    /** Takes one away that equals the element, and comes after the place where it was put. No two threads take the same one. */
+    @Override
+    public boolean remove(Object element) {
+        Sought sought = new Sought(element);
+        boolean isRemoved = element != null && queue.remove(sought);
+        if (isRemoved) {
+            Traced.take(sought.found.token, Traced.site());
+        }
+        return isRemoved;
     }
 
     /** Goes over the elements. Whoever sees one comes after the place where it was put. */
