@@ -5,9 +5,12 @@ import itctrace.Task.Token;
 import itctrace.Task.What;
 import java.util.concurrent.locks.Lock;
 import java.util.concurrent.locks.ReentrantReadWriteLock;
+import java.util.concurrent.locks.StampedLock;
 
 /** A lock whose releases come before the next time that it is acquired. All that it knows is read and written with the lock held. */
 final class TracedLock extends ReportingLock {
+    private static final Class<?> READ_VIEW = new StampedLock().asReadLock().getClass();
+
     private final Name name = new Name();
     private Token released;
     private What release;
@@ -17,7 +20,7 @@ final class TracedLock extends ReportingLock {
 
     TracedLock(Lock lock) {
         super(lock);
-        if (lock instanceof ReentrantReadWriteLock.ReadLock) {
+        if (lock instanceof ReentrantReadWriteLock.ReadLock || READ_VIEW.isInstance(lock)) {
             throw new IllegalArgumentException("several threads may hold the lock at once: wrap the lock that it is of");
         }
     }
@@ -33,7 +36,11 @@ final class TracedLock extends ReportingLock {
 
     @Override
     void releasing(Site site) {
-        if (isOwner() && --depth == 0 && Traced.isOn()) {
+        if (!isOwner() || --depth > 0) {
+            return;
+        }
+        owner = null; // Else this thread could take itself for the owner while another one is.
+        if (Traced.isOn()) {
             isSignal |= name.letGo(Traced.current()); // One that was acquired later stays, as in a lock made of two.
             released = Traced.mark(release(), site);
         }

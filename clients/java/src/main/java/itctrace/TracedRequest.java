@@ -13,6 +13,7 @@ package itctrace;
 public final class TracedRequest implements AutoCloseable {
     private final Task task;
     private final Task before;
+    private boolean isClosed;
 
     TracedRequest(Task task) {
         this.task = task;
@@ -21,6 +22,9 @@ public final class TracedRequest implements AutoCloseable {
 
     @Override
     public void close() {
-        Traced.end(task, before);
+        if (!isClosed) {
+            isClosed = true;
+            Traced.end(task, before);
+        }
     }
 }
