@@ -46,7 +46,7 @@ COMMON = {
 OWN = {
     "java": {"executor": NO_RACE, "before_future": RACES, "two_jobs": RACES, "cancelled_job": RACES, "future": NO_RACE,
              "future_calls": NO_RACE, "callback_too_early": RACES},
-    "rust": {"scope": NO_RACE, "rendezvous": NO_RACE},
+    "rust": {"scope": NO_RACE, "rendezvous": NO_RACE, "closed_channel": NO_RACE},
     "go": {"wait_group": NO_RACE, "rendezvous": NO_RACE, "full_channel": NO_RACE, "closed_channel": NO_RACE, "context": NO_RACE,
            "late_cancel": RACES, "http": NO_RACE, "http_race": RACES},
 }

@@ -121,6 +121,13 @@ pub(crate) fn mark(what: &What, site: Site) -> Option<Arc<Token>> {
     on().map(|tracer| tracer.mark(current(tracer), what, site))
 }
 
+/// Nobody is going to come after the token's place.
+pub(crate) fn withdraw(token: Option<&Arc<Token>>) {
+    if let (Some(tracer), Some(token)) = (on(), token) {
+        tracer.withdraw(token);
+    }
+}
+
 /// This thread comes after the token's place.
 pub(crate) fn take(token: Option<&Arc<Token>>, site: Site) {
     if let (Some(tracer), Some(token)) = (on(), token) {

@@ -172,6 +172,11 @@ impl Tracer {
         self.state().mark(task, what, site)
     }
 
+    /// Nobody is going to come after the token's place.
+    pub fn withdraw(&self, token: &Arc<Token>) {
+        self.state().withdraw(token);
+    }
+
     /// The task comes after the token's place.
     pub fn take(&self, task: Task, token: &Arc<Token>, site: Site) {
         self.state().take(task, token, site);
@@ -374,10 +379,14 @@ impl State {
         token
     }
 
+    fn withdraw(&mut self, token: &Arc<Token>) {
+        self.tasks[token.task].pending.retain(|other| !Arc::ptr_eq(other, token));
+    }
+
     fn take(&mut self, task: Task, token: &Arc<Token>, site: Site) {
         if token.task == task {
             if token.what.is_for_one {
-                self.tasks[task].pending.retain(|other| !Arc::ptr_eq(other, token));
+                self.withdraw(token);
             }
             return;
         }

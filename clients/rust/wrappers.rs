@@ -5,7 +5,7 @@
 
 mod web_programs;
 
-use itc_trace::sync::mpsc::{channel, sync_channel, Receiver, Sender};
+use itc_trace::sync::mpsc::{channel, sync_channel, Receiver, Sender, TryRecvError};
 use itc_trace::sync::{Condvar, Mutex, RwLock};
 use itc_trace::{incoming, outgoing, thread, touch, touch_across, Error, Reporter};
 use std::collections::HashMap;
@@ -99,9 +99,21 @@ fn other_calls() {
         sender.try_send(1).unwrap();
         taker.join().unwrap();
     }
+    failed_tries();
     poisoned();
     timed_out();
     tried_to_read();
+}
+
+/// What was not sent leaves nothing in the trace: these tries would fill it.
+fn failed_tries() {
+    let (sender, receiver) = sync_channel(1);
+    sender.send(0).unwrap();
+    for turn in 0..MANY {
+        sender.try_send(turn).unwrap_err();
+        touch("stock", false);
+    }
+    drop(receiver);
 }
 
 /// Who reads comes after who has written, by whichever call.
@@ -218,6 +230,28 @@ fn rendezvous() {
     sender.send(1).unwrap();
     read_stock();
     taker.join().unwrap();
+}
+
+/// Who sees the end of a channel comes after the end of each sender, and not only after what was sent.
+fn closed_channel() {
+    let ways: [fn(Receiver<usize>); 4] = [
+        |receiver| assert_eq!(receiver.into_iter().sum::<usize>(), 2),
+        |receiver| assert_eq!((&receiver).into_iter().count(), 2),
+        |receiver| while receiver.recv_timeout(Duration::from_secs(60)).is_ok() {},
+        |receiver| while receiver.try_recv() != Err(TryRecvError::Disconnected) {},
+    ];
+    for way in ways {
+        let (sender, receiver) = channel();
+        for (thing, sender) in [("first", sender.clone()), ("second", sender)] {
+            thread::spawn(move || {
+                sender.send(1).unwrap();
+                touch(thing, true);
+            });
+        }
+        way(receiver);
+        touch("first", true);
+        touch("second", true);
+    }
 }
 
 fn before_end() {
@@ -503,6 +537,7 @@ fn main() {
         "hand_off" => hand_off(false),
         "after_hand_off" => hand_off(true),
         "rendezvous" => rendezvous(),
+        "closed_channel" => closed_channel(),
         "before_end" => before_end(),
         "scope" => scope(),
         "read_lock" => read_lock(false),
