@@ -261,7 +261,14 @@ public final class TracedFuture<T> extends CompletableFuture<T> {
             return false;
         }
         Token token = Traced.mark(RESULT, Traced.site());
-        return token == null || completed.compareAndSet(null, token);
+        boolean isFirst = token == null || completed.compareAndSet(null, token);
+        if (!isFirst) {
+            Traced.withdraw(token);
+        }
+        while (!isFirst && !super.isDone()) {
+            Thread.onSpinWait(); // Whoever is first is about to complete it.
+        }
+        return isFirst;
     }
 
     /** A timer of its own looks whether the time is over: what the JDK's would see here, its thread would know for all later timeouts. */
