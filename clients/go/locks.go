@@ -119,6 +119,16 @@ func (m *RWMutex) Lock() {
 	m.hand.acquired(true, siteOf(1))
 }
 
+// TryLock tells whether it could acquire it at once for writing.
+func (m *RWMutex) TryLock() bool {
+	isLocked := m.mutex.TryLock()
+	if isLocked {
+		m.hand.isShared = true
+		m.hand.acquired(true, siteOf(1))
+	}
+	return isLocked
+}
+
 // Unlock releases it after writing.
 func (m *RWMutex) Unlock() {
 	m.hand.releasing(true, siteOf(1))
@@ -129,6 +139,15 @@ func (m *RWMutex) Unlock() {
 func (m *RWMutex) RLock() {
 	m.mutex.RLock()
 	m.hand.acquired(false, siteOf(1))
+}
+
+// TryRLock tells whether it could acquire it at once for reading.
+func (m *RWMutex) TryRLock() bool {
+	isLocked := m.mutex.TryRLock()
+	if isLocked {
+		m.hand.acquired(false, siteOf(1))
+	}
+	return isLocked
 }
 
 // RUnlock releases it after reading.

@@ -91,13 +91,24 @@ func contended() {
 
 func triedLock() {
 	var lock itctrace.Mutex
+	var readLock itctrace.RWMutex
 	inTwoGoroutines(func() {
-		for !lock.TryLock() {
-			runtime.Gosched()
-		}
+		spin(lock.TryLock)
 		itctrace.Touch("stock", true)
 		lock.Unlock()
+		spin(readLock.TryLock)
+		itctrace.Touch("price", true)
+		readLock.Unlock()
+		spin(readLock.TryRLock)
+		itctrace.Touch("price", false)
+		readLock.RUnlock()
 	})
+}
+
+func spin(tryLock func() bool) {
+	for !tryLock() {
+		runtime.Gosched()
+	}
 }
 
 func oddNames() {
