@@ -188,6 +188,7 @@ fn condition() {
     let other = shared.clone();
     let waiting = thread::spawn(move || {
         let mut state = other.0.lock().unwrap();
+        write_stock();
         state.0 = true;
         while !state.1 {
             state = other.1.wait(state).unwrap();
@@ -198,8 +199,10 @@ fn condition() {
     while !shared.0.lock().unwrap().0 {
         plain::sleep(Duration::from_millis(1));
     }
+    let mut state = shared.0.lock().unwrap();
     write_stock();
-    shared.0.lock().unwrap().1 = true;
+    state.1 = true;
+    drop(state);
     shared.1.notify_all();
     waiting.join().unwrap();
 }

@@ -139,6 +139,7 @@ func condition() {
 	begun := make(chan bool) // It gives no order that is reported.
 	waiting := start(func() {
 		lock.Lock()
+		writeStock()
 		close(begun)
 		for !isReady {
 			condition.Wait()
@@ -147,8 +148,8 @@ func condition() {
 		readStock()
 	})
 	<-begun
-	writeStock()
 	lock.Lock()
+	writeStock()
 	isReady = true
 	condition.Broadcast()
 	lock.Unlock()

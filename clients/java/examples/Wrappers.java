@@ -288,6 +288,7 @@ public final class Wrappers {
                         "waiting",
                         () -> {
                             lock.lock();
+                            writeStock();
                             begun.countDown();
                             while (!ready[0]) {
                                 isReady.awaitUninterruptibly();
@@ -296,8 +297,8 @@ public final class Wrappers {
                             readStock();
                         });
         begun.await();
-        writeStock();
         lock.lock();
+        writeStock();
         ready[0] = true;
         isReady.signalAll();
         lock.unlock();
