@@ -50,8 +50,9 @@ OWN = {
     "go": {"wait_group": NO_RACE, "rendezvous": NO_RACE, "full_channel": NO_RACE, "closed_channel": NO_RACE, "context": NO_RACE,
            "late_cancel": RACES, "http": NO_RACE, "http_race": RACES},
 }
-LINES = {"java": ("executor",)}
-"""Programs of one language alone whose events each have a line of their own."""
+LINES = ("odd_names", "hand_off", "tried_lock", "condition", "other_calls")
+OWN_LINES = {"java": ("executor",)}
+"""Programs whose events each have a line of their own. They touch one thing."""
 PYTHON = """import itc_trace
 itc_trace.touch("row", across=True)  # race: across
 itc_trace.touch("row", write=True, across=True)  # race: across
@@ -235,8 +236,8 @@ def check_journal(programs: Programs) -> None:
         kept = written(name, "journal", "kept")
         environment = {"ITC_TRACE_TENANT": "shop", "ITC_TRACE_PROCESS": "my-shop_1", "ITC_TRACE_JOURNAL": str(kept)}
         rows: list[dict[str, Any]] = []
-        ran = [("odd_names", ODD_THING), *((name, "stock") for name in ("hand_off", "condition", "other_calls", *LINES.get(programs.language, ())))]
-        for number, (program, thing) in enumerate(ran, 2):
+        for number, program in enumerate((*LINES, *OWN_LINES.get(programs.language, ())), 2):
+            thing = ODD_THING if program == "odd_names" else "stock"
             process = "mysho" if number == 2 else f"mysho{number - 1}"
             subprocess.run(
                 programs.words(program), env={**os.environ, **environment, "ITC_TRACE_PORT": str(collector.port)}, check=True,

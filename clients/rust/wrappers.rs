@@ -219,8 +219,25 @@ fn hand_off(is_touched_after: bool) {
     sender.send(1).unwrap();
     if is_touched_after {
         write_stock();
+        one_sender_ends();
     }
     taker.join().unwrap();
+}
+
+/// Whoever sees that no message is there has not seen the end of one sender, if there is another one.
+fn one_sender_ends() {
+    let (sender, receiver) = channel::<usize>();
+    let other = sender.clone();
+    let ending = thread::spawn(move || {
+        touch("other", true); // race: after_hand_off
+        drop(other);
+    });
+    while !ending.is_finished() {
+        plain::sleep(Duration::from_millis(1));
+    }
+    assert_eq!(receiver.try_recv(), Err(TryRecvError::Empty));
+    touch("other", false); // race: after_hand_off
+    drop(sender);
 }
 
 /// Without room in the channel, the sender comes after the receipt.

@@ -96,11 +96,13 @@ func triedLock() {
 		spin(lock.TryLock)
 		itctrace.Touch("stock", true)
 		lock.Unlock()
+	})
+	inTwoGoroutines(func() {
 		spin(readLock.TryLock)
-		itctrace.Touch("price", true)
+		itctrace.Touch("stock", true)
 		readLock.Unlock()
 		spin(readLock.TryRLock)
-		itctrace.Touch("price", false)
+		itctrace.Touch("stock", false)
 		readLock.RUnlock()
 	})
 }

@@ -6,6 +6,7 @@ import itctrace.TracedThread;
 import java.nio.file.Files;
 import java.nio.file.Path;
 import java.util.ArrayList;
+import java.util.Date;
 import java.util.HashMap;
 import java.util.List;
 import java.util.Map;
@@ -149,7 +150,7 @@ public final class Wrappers {
         }
     }
 
-    /** Each other way to take from a queue, to wait for a thread, and to start one. */
+    /** Each other way to put into a queue and to take from it, to wait for a thread, and to start one. */
     private static void otherCalls() throws InterruptedException {
         List<Step<BlockingQueue<Integer>>> ways =
                 List.of(
@@ -159,7 +160,10 @@ public final class Wrappers {
                         queue -> queue.drainTo(new ArrayList<>()),
                         queue -> queue.remove(Integer.valueOf(1)),
                         queue -> queue.iterator().next());
-        for (Step<BlockingQueue<Integer>> way : ways) {
+        List<Step<BlockingQueue<Integer>>> puts =
+                List.of(queue -> queue.offer(1), queue -> queue.offer(1, 1, TimeUnit.MINUTES), queue -> queue.put(1), queue -> queue.add(1));
+        for (int turn = 0; turn < ways.size(); turn++) {
+            Step<BlockingQueue<Integer>> way = ways.get(turn);
             BlockingQueue<Integer> queue = Traced.queue(new LinkedBlockingQueue<>());
             CountDownLatch given = new CountDownLatch(1);
             TracedThread taker =
@@ -172,7 +176,7 @@ public final class Wrappers {
                             },
                             virtualThreads());
             writeStock();
-            queue.offer(1);
+            doStep(puts.get(turn % puts.size()), queue);
             given.countDown();
             taker.join(TimeUnit.MINUTES.toMillis(1));
         }
@@ -279,6 +283,19 @@ public final class Wrappers {
     }
 
     private static void condition() throws InterruptedException {
+        List<Step<Condition>> ways =
+                List.of(
+                        Condition::awaitUninterruptibly,
+                        Condition::await,
+                        condition -> condition.awaitNanos(TimeUnit.MINUTES.toNanos(1)),
+                        condition -> condition.await(1, TimeUnit.MINUTES),
+                        condition -> condition.awaitUntil(new Date(System.currentTimeMillis() + TimeUnit.MINUTES.toMillis(1))));
+        for (Step<Condition> way : ways) {
+            condition(way);
+        }
+    }
+
+    private static void condition(Step<Condition> way) throws InterruptedException {
         Lock lock = Traced.lock(new ReentrantLock());
         Condition isReady = lock.newCondition();
         boolean[] ready = {false};
@@ -291,7 +308,7 @@ public final class Wrappers {
                             writeStock();
                             begun.countDown();
                             while (!ready[0]) {
-                                isReady.awaitUninterruptibly();
+                                doStep(way, isReady);
                             }
                             lock.unlock();
                             readStock();
@@ -411,6 +428,13 @@ public final class Wrappers {
         executor.execute(Wrappers::writeStock);
         executor.shutdown();
         executor.awaitTermination(1, TimeUnit.MINUTES);
+        readStock();
+        ExecutorService polled = Traced.executor(Executors.newFixedThreadPool(1));
+        polled.execute(Wrappers::writeStock);
+        polled.shutdown();
+        while (!polled.isTerminated()) {
+            Thread.onSpinWait();
+        }
         readStock();
     }
 
