@@ -216,6 +216,42 @@ class BothForms(ProgramCase):
         self.assertEqual((ran.returncode, ran.stdout), (0, "3\n"), ran.stderr)
 
 
+@unittest.skipUnless(HAS_HELPER, NO_HELPER)
+class OtherInterpreters(unittest.TestCase):
+    WATCHED = '''
+    from itc_trace.watch import helper, hooks
+    from itc_trace.watch.rewrite import rewritten
+    variables = {"__name__": "watched"}
+    hooks.put(False)
+    exec(rewritten("table, items = {'left': 2}, [1]\\ndef work():\\n    table['left'] -= 1\\n    for one in items: pass", "<w>", "w", bool), variables)
+    hooks.put(True)
+    print(helper.quick is not None)
+    '''
+
+    def test_a_second_interpreter_has_the_hooks_in_python_and_leaves_those_of_the_first_one(self) -> None:
+        text = f"""
+            import sys, threading
+            import _xxsubinterpreters as interpreters
+            from itc_trace import tracing
+            TEXT = {textwrap.dedent(self.WATCHED)!r}
+            def in_another():
+                other = interpreters.create()
+                interpreters.run_string(other, f"import sys; sys.path[:] = {{sys.path}}\\n{{TEXT}}\\nvariables['work']()\\nhooks.put(False)")
+                interpreters.destroy(other)
+            with tracing(watched=None) as traced:
+                exec(TEXT)
+                in_another()
+                threads = [threading.Thread(target=variables["work"]) for _ in range(2)]
+                for thread in threads:
+                    thread.start()
+                for thread in threads:
+                    thread.join()
+                hooks.put(False)
+            print(int(traced.races().verdict()))
+        """
+        self.assertEqual(own_process(text, ITC_TRACE_PURE=""), "True\nFalse\n66\n")
+
+
 class WithoutTheHelper(ProgramCase):
     SHOP = "import threading\nstock = {}\ndef sell():\n    stock['left'] = 1\n" + (
         "threads = [threading.Thread(target=sell) for _ in range(2)]\nfor one in threads:\n    one.start()\nfor one in threads:\n    one.join()\n"

@@ -1256,29 +1256,41 @@ static PyMethodDef methods[] = {
     {NULL},
 };
 
-static struct PyModuleDef module = {PyModuleDef_HEAD_INIT, "quick", NULL, -1, methods};
-
 static int add_type(PyObject *made, const char *name, PyTypeObject *type)
 {
     return PyType_Ready(type) < 0 ? -1 : PyModule_AddObjectRef(made, name, (PyObject *)type);
 }
 
-PyMODINIT_FUNC PyInit_quick(void)
+/* What is here belongs to one interpreter: another one has other objects, and gets the hooks in Python. */
+static int fill_module(PyObject *made)
 {
+    if (PyInterpreterState_Get() != PyInterpreterState_Main()) {
+        PyErr_SetString(PyExc_ImportError, "the hooks in C are for the main interpreter alone");
+        return -1;
+    }
     text_note = PyUnicode_InternFromString("note");
     text_line = PyUnicode_InternFromString("line");
     text_leave = PyUnicode_InternFromString("leave");
     text_constructor = PyUnicode_InternFromString("__init__");
     no_words = PyTuple_New(0);
-    PyObject *made = PyModule_Create(&module);
-    if (made == NULL || text_note == NULL || text_line == NULL || text_leave == NULL || text_constructor == NULL || no_words == NULL)
-        return NULL;
+    if (text_note == NULL || text_line == NULL || text_leave == NULL || text_constructor == NULL || no_words == NULL)
+        return -1;
     if (add_type(made, "Seen", &SeenType) < 0 || add_type(made, "OwnerFields", &OwnerType) < 0 || add_type(made, "Owners", &OwnersType) < 0
         || add_type(made, "Step", &StepType) < 0)
-        return NULL;
+        return -1;
     PyObject *owners = PyObject_New(PyObject, &OwnersType);
-    if (owners == NULL || PyModule_AddObjectRef(made, "OWNERS", owners) < 0)
-        return NULL;
-    Py_DECREF(owners);
-    return made;
+    int result = owners == NULL ? -1 : PyModule_AddObjectRef(made, "OWNERS", owners);
+    Py_XDECREF(owners);
+    return result;
+}
+
+static PyModuleDef_Slot slots[] = {{Py_mod_exec, fill_module}, {0, NULL}};
+
+static struct PyModuleDef module = {
+    PyModuleDef_HEAD_INIT, .m_name = "quick", .m_methods = methods, .m_slots = slots,
+};
+
+PyMODINIT_FUNC PyInit_quick(void)
+{
+    return PyModuleDef_Init(&module);
 }
