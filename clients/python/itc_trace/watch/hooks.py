@@ -34,7 +34,7 @@ from .helper import quick
 from .inside import fields_looked_at, inside_of, nested_in
 from .keys import SIMPLE, UNKNOWN, tell_of_unknown, value_of
 from .kinds import DEEP as DEEP_SITES
-from .kinds import BUFFER, DEQUE, DICT, EACH, KEYED, LIST, OF_GENERATOR, SHOWN, WHOLE
+from .kinds import BUFFER, BY_FIELDS, DEQUE, DICT, EACH, KEYED, LIST, OF_GENERATOR, SHOWN, WHOLE
 from .late import LOOKING, NOTHING, READ_ONLY, again, by_kinds, note_shared, saw, share, shorten
 from .late import cell as cell_late
 from .late import index as index_late
@@ -374,8 +374,18 @@ def _touch_whole_inside(one: Any, site: int) -> None:
             _touch_whole(container, site, ANYBODY)
     if access.name in DEEP_SITES:
         _touch_nested(one, site)
-    if access.name and access.name != EACH:
+    if _depth_of(access):
         _touch_fields(one, site)
+
+
+def _depth_of(access: Access) -> str:
+    """How deep the place looks at the fields of an object. What a method is given is only looked at by those that make a text of it."""
+    if access.what == "given":
+        return SHOWN if access.name in _SHOWING_METHODS else ""
+    return access.name if access.name in BY_FIELDS else ""
+
+
+_SHOWING_METHODS = frozenset("format format_map substitute safe_substitute".split())
 
 
 def _touch_by_view(container: Any, view: type, kind: str, site: int) -> None:
@@ -551,7 +561,7 @@ def _touch_path(value: Any, path: Path, site: int) -> None:
 
 def _touch_fields(one: Any, site: int) -> None:
     """All fields of an object that a function looks at by itself."""
-    for name in fields_looked_at(one, ACCESSES[site].name):
+    for name in fields_looked_at(one, _depth_of(ACCESSES[site])):
         mark = site, name
         saw(owner_of(one, ""), mark, (field_late, mark, name_of(type(one)), name, READ_ONLY, site))
 
@@ -1167,7 +1177,7 @@ def _what_of_whole(kind: type, family: int | None, access: Access, site: int) ->
             return NOT_TOUCHED
         what = DEEP if access.name in DEEP_SITES else OF_SHAPE
         return what, (shape_late, site, _kind_of(access.kinds, family), site), access.text, ""
-    if field_inside(kind) or access.name and (is_watched_class(kind) or kind is types.SimpleNamespace):
+    if field_inside(kind) or _depth_of(access) and (is_watched_class(kind) or kind is types.SimpleNamespace):
         return LEFT_TO_PYTHON
     return (OTHER, None, "", "") if kind is types.GeneratorType and access.kinds == KEYS else NOT_TOUCHED
 

@@ -103,6 +103,7 @@ _KNOWN = {
 SHOWN, STATE, FIELDS, EACH = "shown", "state", "fields", "each"
 """How deep a function looks at what it is given: at all that its text has, at all of its state, at its own fields, or at each element."""
 DEEP = frozenset((SHOWN, STATE, EACH))
+BY_FIELDS = frozenset((SHOWN, STATE, FIELDS))
 _DEPTHS = {
     **dict.fromkeys("copy.deepcopy json.dumps json.dump pickle.dumps pickle.dump dataclasses.asdict dataclasses.astuple".split(), STATE),
     **dict.fromkeys(("copy.copy", "dataclasses.replace"), FIELDS), "itertools.chain.from_iterable": EACH,
