@@ -1264,6 +1264,55 @@ next(steps)
             yield from steps
         |next(outer())
     """)),
+    Group("an iterator goes on", """
+import itertools
+steps = iter([1, 2, 3, 4, 5, 6, 7, 8])
+pairs = enumerate(steps)
+one, other = itertools.tee(pairs)
+""", "next(steps, 0)", _listed("""
+        next(steps, 0)
+        steps.__next__()
+        for one in steps: break
+        [one for one in steps]
+        list(zip(steps, "ab"))
+        list(itertools.islice(steps, 2))
+        0 in steps
+        first, *rest = steps
+        sum(steps)
+        dict.fromkeys(steps)
+        dict(zip(steps, "ab"))
+        [].extend(steps)
+        go = steps.__next__
+        |go()
+        from functools import partial
+        |partial(next, steps)()
+        list(iter(steps.__next__, 8))
+        next(pairs, 0)
+        for one in pairs: break
+        next(one, 0)
+        next(other, 0)
+        for one in other: break
+        def outer():
+            yield from pairs
+        |next(outer(), 0)
+    """)),
+    Group("a file of text goes on", """
+import tempfile
+lines = tempfile.TemporaryFile("w+")
+for number in range(8): print(number, file=lines)
+lines.seek(0)
+""", "next(lines, 0)", _listed("""
+        next(lines, 0)
+        for one in lines: break
+        lines.readline()
+        lines.readlines()
+        lines.read()
+        list(lines)
+        lines.seek(0)
+        import csv
+        |rows = csv.reader(lines)
+        |next(rows, 0)
+    """)),
     Group("what is inside of others", "inner = [1, 2]\nwhole = {'k': [inner], 'n': 1}\npair = (inner, 1)", "inner.append(3)", _listed("""
         str(whole)
         str(pair)
@@ -1417,6 +1466,20 @@ APART = (
         [bound for bound in "ab"]
         (lambda bound: bound)(1)
     """), is_race=False),
+    Group("an iterator is left where it is", "import itertools\nsteps, others = iter([1, 2, 3]), zip([1, 2, 3], 'abc')\nnumbers = itertools.count()", "next(steps, 0)", _listed("""
+        next(others, 0)
+        for one in others: break
+        next(numbers)
+        str(steps)
+        f"{steps}"
+        steps == others
+        if steps: pass
+        steps is None
+        same = steps
+        mine = iter([1, 2, 3])
+        |next(mine, 0)
+        |for one in mine: next(mine, 0)
+    """), False),
     Group("another generator goes on", "def count():\n    yield 1\n    yield 2\nsteps, others = count(), count()", "next(steps)", _listed("""
         next(others)
         others.close()

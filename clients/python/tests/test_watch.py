@@ -568,6 +568,29 @@ class WhatIsTouched(unittest.TestCase):
             for line in ("for one in view: pass", "[*view]", "sorted(view)"):
                 self.assert_touches(line, ("Shop.stock", kind), before=f"view = shop.stock.{view}()")
 
+    def test_iterators(self) -> None:
+        of_list = ("steps", "write"), ("Shop.items", "iteration")
+        for line in (
+            "next(steps)", "for one in steps:\n    break", "[one for one in steps]", "sum(steps)", "dict(zip('ab', steps))", "1 in steps",
+            "steps.__next__()", "first, *rest = steps", "''.join(map(str, steps))", "[].extend(steps)", "list(itertools.islice(steps, 1))",
+        ):
+            with self.subTest(line=line):
+                self.assert_touches(line, *of_list, before="import itertools\nshop.items += [1, 2]\nsteps = iter(shop.items)")
+                self.assert_touches(line, of_list[0], before="import itertools\nsteps = filter(None, (1, 2))")
+        for made in ("enumerate(shop.items)", "zip(shop.items, 'ab')", "map(str, shop.items)", "itertools.cycle(shop.items)", "csv.reader(iter(shop.items))", "reversed(shop.items)"):
+            with self.subTest(made=made):
+                self.assert_touches("next(steps, None)", *of_list, before=f"import csv, itertools\nshop.items += ['a', 'b']\nsteps = {made}")
+        self.assert_touches("next(one)", ("one", "write"), ("one[..]", "write"), before="import itertools\none, other = itertools.tee(iter((1, 2)))")
+        self.assert_touches("next(pairs)", ("pairs", "write"), ("steps", "write"), before="steps = iter((1, 2))\npairs = enumerate(steps)")
+
+    def test_what_leaves_an_iterator_where_it_is(self) -> None:
+        for line in ("print(steps, end='')", "f'{steps}'", "steps == 1", "if steps: pass", "steps is None", "next(numbers)", "repr(numbers)", "next(zeros)"):
+            with self.subTest(line=line):
+                self.assert_touches(line, before="import itertools\nsteps, numbers, zeros = iter((1, 2)), itertools.count(), itertools.repeat(0)")
+        for line in ("next(iter((1, 2)))", "mine = iter((1, 2))\nnext(mine)\nfor one in mine: pass", "for one in enumerate(zip('ab', 'cd')): pass"):
+            with self.subTest(line=line):
+                self.assert_touches(line)
+
     def test_fields_by_other_ways(self) -> None:
         read, write, look = ("Shop.items", "read"), ("Shop.items", "write"), ("Shop.items", "iteration")
         for line, *expected in (

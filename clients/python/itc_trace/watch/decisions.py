@@ -5,13 +5,15 @@ It is decided once for each place and type. Nothing here runs code of the progra
 
 from __future__ import annotations
 
+import _csv
 import io
+import itertools
 import os
 import threading
 import types
 import weakref
 from array import array
-from builtins import any, dict, frozenset, id, int, issubclass, iter, len, list, map, next, reversed, set, str, tuple, type
+from builtins import any, dict, enumerate, filter, frozenset, id, int, issubclass, iter, len, list, map, next, reversed, set, str, tuple, type, zip
 from collections import ChainMap, Counter, OrderedDict, UserDict, UserList, defaultdict, deque
 from collections.abc import Iterable
 from typing import Any
@@ -67,6 +69,26 @@ BY_ELEMENTS = ids_of(_BY_ELEMENTS)
 """Views and iterators that look at the elements of a container, and not at the keys of a dictionary alone."""
 VIEWS = ids_of((*_BY_KEYS, *_BY_ELEMENTS))
 """Types whose objects refer to the one container that they look at."""
+
+_UNCHANGED = ids_of((*(type(view) for table in ({}, OrderedDict()) for view in (table.keys(), table.values(), table.items())), types.MappingProxyType))
+"""Those of them that no look changes."""
+_OF_VALUES = ids_of((
+    type(iter(())), type(iter("")), type(iter("\u20ac")), type(iter(b"")), type(iter(range(0))), type(iter(range(1 << 70))), type(iter(int, 0)),
+    reversed,
+))
+ROWS_OF_ITERATORS = ids_of((zip, map, itertools.zip_longest))
+"""Types whose objects have the iterators behind them in a tuple."""
+COMPOSED = ROWS_OF_ITERATORS | ids_of((
+    enumerate, filter, itertools.accumulate, itertools.chain, itertools.combinations, itertools.combinations_with_replacement, itertools.compress,
+    itertools.cycle, itertools.dropwhile, itertools.filterfalse, itertools.groupby, itertools.islice, itertools.pairwise, itertools.permutations,
+    itertools.product, itertools.starmap, itertools.takewhile, type(itertools.tee(())[0]), type(_csv.reader(())),
+    *(getattr(itertools, name) for name in ("_grouper", "batched") if hasattr(itertools, name)),
+))
+"""Iterators that go on with others. One that gives each call a value of its own, whoever comes first, is none: `count` and `repeat`."""
+FILES = ids_of((io.TextIOWrapper,))
+"""Files of text, which go on by lines. Those of bytes have a lock of their own."""
+STEPPED = (VIEWS - _UNCHANGED) | _OF_VALUES | COMPOSED | FILES | ids_of((types.GeneratorType,))
+"""Iterators: each step changes how far they have come."""
 
 _mro_of: Any = vars(type)["__mro__"].__get__
 _vars_of: Any = vars(type)["__dict__"].__get__

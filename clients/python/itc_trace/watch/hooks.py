@@ -7,6 +7,7 @@ of a function refers to is shared with nobody, and is not noted.
 from __future__ import annotations
 
 import builtins
+import itertools
 import os
 import sys
 import types
@@ -25,16 +26,16 @@ from ..lines import state
 from ..noting import begin_stretch, failed, touched_all
 from ..stretches import STRETCHES
 from .decisions import (
-    AS_KEY, BY_ELEMENTS, FIELD, OF_CLASS, OF_MODULE, OF_TYPE, OWN_FIELD, PLAIN, SKIP, VARIABLES, VIEWS, WATCHED, class_with, decision,
+    AS_KEY, BY_ELEMENTS, COMPOSED, FIELD, FILES, OF_CLASS, OF_MODULE, OF_TYPE, OWN_FIELD, PLAIN, SKIP, STEPPED, VARIABLES, VIEWS, WATCHED, class_with, decision,
     family_of, field_inside, fields_of, has_own_method, has_setter, has_watched_method, ids_of, is_watched_class, name_of, value_of_element,
     value_of_field, vars_of, without_own,
 )
 from .as_fields import FIELDS_OF, keep_fields_of, object_of
 from .helper import quick
-from .inside import fields_looked_at, inside_of, nested_in
+from .inside import OWN_STEPS, behind, fields_looked_at, inside_of, nested_in
 from .keys import SIMPLE, UNKNOWN, tell_of_unknown, value_of
 from .kinds import DEEP as DEEP_SITES
-from .kinds import BUFFER, BY_FIELDS, DEQUE, DICT, EACH, KEYED, LIST, OF_GENERATOR, SHOWN, WHOLE
+from .kinds import BUFFER, BY_FIELDS, DEQUE, DICT, EACH, KEYED, LIST, OF_FILE, OF_GENERATOR, SHOWN, WHOLE
 from .late import LOOKING, NOTHING, READ_ONLY, again, by_kinds, note_shared, saw, share, shorten
 from .late import cell as cell_late
 from .late import index as index_late
@@ -52,9 +53,8 @@ INDEXED = (list, bytearray, array)
 FLAT = PLAIN - {id(tuple), id(frozenset)}
 """Types whose values have nothing inside that could change."""
 LOOKED_THROUGH_AT_ONCE = 64
-A_GENERATOR = "a generator"
-ANYBODY = 0
-"""A limit of references that nothing is within."""
+ANYBODY, NOBODY = 0, sys.maxsize
+"""A limit of references that nothing is within, and one that everything is."""
 OF_VARIABLE_IN_C = 2
 """How many references the helper sees of what only one variable refers to."""
 
@@ -347,9 +347,11 @@ def _touch_whole(one: Any, site: int, limit: int) -> None:
     kind = type(one)
     family = family_of(kind)
     if family is None:
-        if kind is types.GeneratorType and ACCESSES[site].kinds == KEYS and getrefcount(one) > limit:
-            _touch_generator(one, site)
-        _touch_whole_inside(one, site)
+        if id(kind) not in STEPPED:
+            _touch_whole_inside(one, site)
+        elif _goes_on_by(kind, ACCESSES[site]):
+            is_reached = OWNERS.get(id(one)) is not None or getrefcount(one) > limit
+            _touch_iterator(one, site, is_reached)
         return
     if _is_passed_over(family, ACCESSES[site]):
         return
@@ -386,6 +388,7 @@ def _depth_of(access: Access) -> str:
 
 
 _SHOWING_METHODS = frozenset("format format_map substitute safe_substitute".split())
+_COMPARING_METHODS = frozenset(("__eq__",))
 
 
 def _touch_by_view(container: Any, view: type, kind: str, site: int) -> None:
@@ -578,9 +581,33 @@ def _is_passed_over(family: int, access: Access) -> bool:
     return family == BUFFER and (access.kinds == LENGTH or access.name == SHOWN)
 
 
-def _touch_generator(one: Any, site: int) -> None:
-    """A step of a generator changes it."""
-    saw(owner_of(one, ACCESSES[site].text or A_GENERATOR), site, (shape_late, site, WRITE, site))
+# Iterators
+
+def _goes_on_by(kind: type, access: Access) -> bool:
+    """Whether an iterator of this type goes on where the place looks at it. A text, a comparison and a copy leave it where it is."""
+    if access.kinds == ITERATION and id(kind) not in FILES:
+        return not _depth_of(access) and not (access.what == "given" and access.name in _COMPARING_METHODS)
+    return access.kinds == KEYS
+
+
+def _is_step_method(kind: type, name: str) -> bool:
+    return name in (OF_FILE if id(kind) in FILES else OF_GENERATOR)
+
+
+def _touch_iterator(one: Any, site: int, is_reached: bool) -> None:
+    """A step of an iterator that others reach changes it, and what it goes on with. The container that it goes through is looked at."""
+    text, kind = ACCESSES[site].text, type(one)
+    late = shape_late, site, WRITE, site
+    if not is_reached:
+        containers = [(container, kind) for container in inside_of(one)]
+    else:
+        iterators, containers = behind(one)
+        mark = (site, WRITE) if kind is itertools.chain else site  # What is behind a chain changes from step to step.
+        saw(owner_of(one, text), mark, (shape_late, mark, WRITE, site))
+        for inner in iterators:
+            saw(owner_of(inner, f"{text or name_of(kind)}[..]"), site, late)
+    for container, view in containers:
+        _touch_by_view(container, view, KEYS, site)
 
 
 def hook_f(one: Any, site: int) -> Any:
@@ -606,15 +633,18 @@ def hook_f_local(one: Any, site: int) -> Any:
 
 def _stepping(one: Any, site: int, limit: int) -> Any:
     kind = type(one)
-    is_generator, family = kind is types.GeneratorType, family_of(kind)
-    if family is None and not is_generator:
+    if id(kind) in STEPPED:
+        is_reached = OWNERS.get(id(one)) is not None or getrefcount(one) > limit
+        return _stepping_on(one, site, is_reached)
+    family = family_of(kind)
+    if family is None:
         inside = next(inside_of(one), None)
         if inside is None or has_watched_method(kind, "__iter__"):
             return one
         if id(kind) in VIEWS:
-            return _stepping_by_view(one, inside, site)
+            return _stepping_by_view(one, kind, inside, site)
         return _steps(one, owner_of(inside, ACCESSES[site].text), site, _kind_of(KEYS, family_of(type(inside))))
-    if not is_generator and has_own_method(kind, "__iter__"):
+    if has_own_method(kind, "__iter__"):
         return one
     if FIELDS_OF and object_of(one) is not None:
         return one
@@ -623,18 +653,29 @@ def _stepping(one: Any, site: int, limit: int) -> Any:
         if getrefcount(one) <= limit:
             return one
         owner = owner_of(one, ACCESSES[site].text)
-    return _steps(one, owner, site, WRITE if is_generator else _kind_of(KEYS, family))
+    return _steps(one, owner, site, _kind_of(KEYS, family))
 
 
-def _stepping_by_view(view: Any, container: Any, site: int) -> Any:
-    """Through a view of a container. One that nobody has kept was made where the container was looked at."""
+def _stepping_by_view(one: Any, view: type, container: Any, site: int) -> Any:
+    """Through one that goes through a view of a container. A view that nobody has kept was made where the container was looked at."""
     if FIELDS_OF and object_of(container) is not None:
-        _touch_by_view(container, type(view), KEYS, site)
-        return view
+        _touch_by_view(container, view, KEYS, site)
+        return one
     if OWNERS.get(id(container)) is None and ACCESSES[site].words == MADE_HERE:
-        return view
-    kind = ITERATION if id(type(view)) in BY_ELEMENTS else KEYS
-    return _steps(view, owner_of(container, ACCESSES[site].text), site, _kind_of(kind, family_of(type(container))))
+        return one
+    kind = ITERATION if id(view) in BY_ELEMENTS else KEYS
+    return _steps(one, owner_of(container, ACCESSES[site].text), site, _kind_of(kind, family_of(type(container))))
+
+
+def _stepping_on(one: Any, site: int, is_reached: bool) -> Any:
+    """Through an iterator: if others reach it, each step changes it, and what it goes on with."""
+    steps, kind, text = one, type(one), ACCESSES[site].text
+    iterators, containers = behind(one) if is_reached else ([], [(container, kind) for container in inside_of(one)])
+    for container, view in containers:
+        steps = _stepping_by_view(steps, view, container, site)
+    for inner in iterators:
+        steps = _steps(steps, owner_of(inner, f"{text or name_of(kind)}[..]"), site, WRITE)
+    return _steps(steps, owner_of(one, text), site, WRITE) if is_reached else steps
 
 
 class _Step:
@@ -656,6 +697,9 @@ class _Step:
                 _went_on(self._owner, self._site)
             except Exception as fault:
                 failed(fault)
+
+
+OWN_STEPS.update(map(id, [_Step] if quick is None else [_Step, quick.Step]))
 
 
 def _steps(one: Iterable[Any], owner: Owner, site: int, kind: str) -> Iterator[Any]:
@@ -744,8 +788,8 @@ def _touch_keyed(one: Any, key: Any, site: int, limit: int, ways: str | None = N
         return
     family, access = family_of(kind), ACCESSES[site]
     if family is None:
-        if kind is types.GeneratorType and access.kinds == "c":
-            _touch_generator(one, site)
+        if id(kind) in STEPPED and access.kinds == "c":
+            _touch_iterator(one, site, True)
         elif not _touch_inside(one, key, access, site) and access.what == "method":
             _touch_field(one, site)
         return
@@ -922,8 +966,8 @@ def _kind_of_method(name: str, family: int) -> str | None:
 def _touch_method_of_object(one: Any, access: Access, site: int) -> None:
     """A method of what is no container itself: it may have one inside, or the name may be that of a field."""
     kind = type(one)
-    if kind is types.GeneratorType and access.name in OF_GENERATOR:
-        _touch_generator(one, site)
+    if id(kind) in STEPPED and _is_step_method(kind, access.name):
+        _touch_iterator(one, site, True)
         return
     is_own = access.what == "method" and has_watched_method(kind, access.name)
     inside = [] if is_own else [*inside_of(one, access.name)]
@@ -1146,9 +1190,9 @@ def _what_of_object(kind: type, access: Access, site: int) -> What:
     """A method or an element of what is no container itself."""
     if field_inside(kind):
         return LEFT_TO_PYTHON
-    if kind is types.GeneratorType and access.name in OF_GENERATOR:
-        return OF_SHAPE, (shape_late, site, WRITE, site), access.text or A_GENERATOR, ""
-    if kind is types.GeneratorType and access.kinds == "c":
+    if id(kind) in STEPPED and _is_step_method(kind, access.name):
+        return LEFT_TO_PYTHON if id(kind) in COMPOSED else (OF_SHAPE, (shape_late, site, WRITE, site), access.text, "")
+    if id(kind) in STEPPED and access.kinds == "c":
         return OTHER, None, access.text, ""
     return _what_of_field(kind, access, site) if access.what == "method" else NOT_TOUCHED
 
@@ -1162,10 +1206,10 @@ def _what_of_field(kind: type, access: Access, site: int) -> What:
 
 
 def _what_of_steps(kind: type, family: int | None, access: Access, site: int) -> What:
-    if kind is types.GeneratorType:
-        return OF_STEPS, (shape_late, site, WRITE, site), access.text, ""
     if family is None and field_inside(kind):
         return LEFT_TO_PYTHON
+    if id(kind) in STEPPED:
+        return (OTHER, None, "", "") if id(kind) in COMPOSED else (OF_STEPS, (shape_late, site, WRITE, site), access.text, "")
     if family is None or has_own_method(kind, "__iter__"):
         return NOT_TOUCHED
     return OF_STEPS, (shape_late, site, _kind_of(KEYS, family), site), access.text, ""
@@ -1177,9 +1221,9 @@ def _what_of_whole(kind: type, family: int | None, access: Access, site: int) ->
             return NOT_TOUCHED
         what = DEEP if access.name in DEEP_SITES else OF_SHAPE
         return what, (shape_late, site, _kind_of(access.kinds, family), site), access.text, ""
-    if field_inside(kind) or _depth_of(access) and (is_watched_class(kind) or kind is types.SimpleNamespace):
-        return LEFT_TO_PYTHON
-    return (OTHER, None, "", "") if kind is types.GeneratorType and access.kinds == KEYS else NOT_TOUCHED
+    if id(kind) in STEPPED:
+        return NOT_TOUCHED if not _goes_on_by(kind, access) else LEFT_TO_PYTHON if field_inside(kind) else (OTHER, None, "", "")
+    return LEFT_TO_PYTHON if field_inside(kind) or _depth_of(access) and (is_watched_class(kind) or kind is types.SimpleNamespace) else NOT_TOUCHED
 
 
 def _what_of_method(family: int, access: Access, site: int) -> What:
@@ -1212,8 +1256,9 @@ def _set_up() -> None:
         stretches=STRETCHES, state=state, made=MADE, begun=BEGUN, begun_more=OF_VARIABLE - 1 - OF_VARIABLE_IN_C, never=NEVER,
         owner_type=Owner, made_type=Made, maker=maker_now, begin_stretch=begin_stretch, share=share, shorten=shorten, saw=saw,
         note_shared=note_shared, what_of=lambda hook, kind, site: _what_of(hook, kind, site), failed=failed,
-        field=lambda one, site: _touch_field(one, site), whole=lambda one, site: _touch_whole(one, site, ANYBODY),
-        nested=lambda one, site: _touch_nested(one, site), fields_of=FIELDS_OF, method=_touch_method_inside, steps=lambda one, site: _stepping(one, site, ANYBODY),
+        field=lambda one, site: _touch_field(one, site), whole=lambda one, site, is_own: _touch_whole(one, site, NOBODY if is_own else ANYBODY),
+        nested=lambda one, site: _touch_nested(one, site), fields_of=FIELDS_OF, method=_touch_method_inside,
+        steps=lambda one, site, is_own: _stepping(one, site, NOBODY if is_own else ANYBODY),
         keyed=lambda one, key, site: _touch_keyed(one, key, site, ANYBODY), variable=lambda site: _touch_variable(site),
         cell=lambda one, site: _touch_cell(one, site), went_on=lambda owner, site: _went_on(owner, site),
         second=quick.second,

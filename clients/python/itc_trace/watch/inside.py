@@ -2,14 +2,19 @@
 
 from __future__ import annotations
 
-from builtins import any, bool, bytes, dict, float, frozenset, id, int, len, list, min, range, set, str, tuple, type
+from builtins import any, bool, bytes, dict, enumerate, float, frozenset, id, int, iter, len, list, min, next, range, set, str, tuple, type
 from collections import deque
 from collections.abc import Iterable, Iterator
 from gc import get_referents
+from itertools import tee
+from sys import getrefcount
 from types import SimpleNamespace
-from typing import Any
+from typing import Any, NamedTuple
 
-from .decisions import MAPS, REFERRED, class_with, family_of, field_inside, fields_of, has_watched_method, ids_of, is_made, is_watched_class, vars_of
+from .decisions import (
+    COMPOSED, MAPS, REFERRED, ROWS_OF_ITERATORS, STEPPED, VIEWS, class_with, family_of, field_inside, fields_of, has_watched_method, ids_of, is_made,
+    is_watched_class, vars_of,
+)
 from .kinds import EACH, SHOWN
 
 READING = frozenset(("", "r", "c", "get", "keys", "values", "items", "copy", "__getitem__", "__contains__"))
@@ -39,6 +44,60 @@ def _parts_of(maps: Any, way: str) -> list[Any]:
         return []
     most = MOST_INSIDE if way in READING else 1
     return [maps[number] for number in range(min(len(maps), most))]
+
+
+# What is behind an iterator
+
+OWN_STEPS: set[int] = set()
+"""Types of this package whose steps are looks at a container: what goes on with them is noted already."""
+_SHARING = id(type(next(iter(get_referents(tee(())[0])))))
+"""The type of what the iterators of one `tee` have in common."""
+
+
+class Behind(NamedTuple):
+    """What a step of an iterator goes on with: iterators that others reach, too, and containers, each with the type of its iterator."""
+
+    iterators: list[Any]
+    containers: list[tuple[Any, type]]
+
+
+def behind(one: Any) -> Behind:
+    """What an iterator goes on with. Nothing of the program's own is looked into."""
+    found, todo = Behind([], []), deque([(one, False)])
+    for _ in range(MOST_INSIDE):
+        if not todo:
+            break
+        iterator, is_reached = todo.popleft()
+        kind = type(iterator)
+        if id(kind) in VIEWS:
+            found.containers.extend((part, kind) for part in inside_of(iterator))
+        for part in _iterators_in(iterator):
+            is_others = is_reached or getrefcount(part) > REFERENCES_OF_INNER
+            if is_others and id(type(part)) != _SHARING:
+                found.iterators.append(part)
+            todo.append((part, is_others))
+    return found
+
+
+def _iterators_in(one: Any) -> list[Any]:
+    if id(type(one)) not in COMPOSED and id(type(one)) != _SHARING:
+        return []
+    parts = get_referents(one)
+    if id(type(one)) in ROWS_OF_ITERATORS:
+        parts = [part for row in parts[:1] if type(row) is tuple for part in row]
+    kinds = {id(type(part)) for part in parts}
+    return [] if kinds & OWN_STEPS else [part for part in parts if id(type(part)) in STEPPED or id(type(part)) == _SHARING]
+
+
+def _references_of_inner() -> int:
+    outer = enumerate(())
+    for part in _iterators_in(outer):
+        return getrefcount(part)
+    return 0
+
+
+REFERENCES_OF_INNER = _references_of_inner()
+"""How many references there are of an iterator that another one alone has."""
 
 
 # What is inside of a container, as deep as it goes

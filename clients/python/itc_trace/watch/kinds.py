@@ -58,6 +58,8 @@ KEYED: dict[str, dict[int, str]] = {
 
 OF_GENERATOR = frozenset(("send", "throw", "close", "__next__"))
 """Methods by which a generator goes on."""
+OF_FILE = frozenset("read readline readlines __next__ seek truncate".split())
+"""Methods by which a file of text goes on."""
 
 METHODS = frozenset(name for names in WHOLE.values() for name in names) | frozenset(KEYED) | OF_GENERATOR
 
@@ -76,7 +78,7 @@ CHANGED_ARGUMENT = {"struct.pack_into": 1}
 STEPPING = frozenset(
     f"itertools.{name}" for name in "chain islice cycle accumulate compress dropwhile filterfalse groupby pairwise "
     "starmap takewhile zip_longest batched".split()
-)
+) | {"csv.reader", "csv.DictReader"}
 """Functions that look at what they are given step by step, as others look at what they give."""
 
 _READING = frozenset(

@@ -829,6 +829,11 @@ static inline int has_fields(PyObject *one)
     return result > 0;
 }
 
+static PyObject *left_to_whole(PyObject *one, PyObject *site, int is_own)
+{
+    return ended(one, PyObject_CallFunctionObjArgs(given.whole, one, site, is_own ? Py_True : Py_False, NULL));
+}
+
 static PyObject *touch_whole(PyObject *one, PyObject *site, Py_ssize_t limit)
 {
     Decision *decision = decision_of(Py_TYPE(one), site, 'h');
@@ -836,16 +841,16 @@ static PyObject *touch_whole(PyObject *one, PyObject *site, Py_ssize_t limit)
         return end_hook(one, -1);
     if (decision->what == NONE)
         return Py_NewRef(one);
-    if (decision->what == LEFT || has_fields(one))
-        return ended(one, PyObject_CallFunctionObjArgs(given.whole, one, site, NULL));
     Owner *owner = find_owner(one);
+    if (decision->what == LEFT || has_fields(one))
+        return owner != NULL && is_seen(owner, site) ? Py_NewRef(one) : left_to_whole(one, site, owner == NULL && Py_REFCNT(one) <= limit);
     if (owner == NULL && Py_REFCNT(one) <= limit)
         return decision->what == DEEP ? ended(one, PyObject_CallFunctionObjArgs(given.nested, one, site, NULL)) : Py_NewRef(one);
     if (owner != NULL && is_seen(owner, site))
         return Py_NewRef(one);
     if (decision->what == SHAPE)
         return see(one, site, decision, one);
-    return ended(one, PyObject_CallFunctionObjArgs(given.whole, one, site, NULL));
+    return left_to_whole(one, site, 0);
 }
 
 static PyObject *touch_method(PyObject *one, PyObject *site, Py_ssize_t limit)
@@ -867,17 +872,24 @@ static PyObject *touch_method(PyObject *one, PyObject *site, Py_ssize_t limit)
 
 static PyObject *steps_through(PyObject *one, PyObject *site, Decision *decision);
 
+static PyObject *left_to_steps(PyObject *one, PyObject *site, int is_own)
+{
+    PyObject *steps = PyObject_CallFunctionObjArgs(given.steps, one, site, is_own ? Py_True : Py_False, NULL);
+    return steps != NULL ? steps : end_hook(one, -1);
+}
+
 static PyObject *touch_steps(PyObject *one, PyObject *site, Py_ssize_t limit)
 {
     Decision *decision = decision_of(Py_TYPE(one), site, 'f');
     if (decision == NULL)
         return end_hook(one, -1);
-    if (decision->what == LEFT || has_fields(one)) {
-        PyObject *left = PyObject_CallFunctionObjArgs(given.steps, one, site, NULL);
-        return left != NULL ? left : end_hook(one, -1);
-    }
-    if (decision->what == NONE || (find_owner(one) == NULL && Py_REFCNT(one) <= limit))
+    int is_own = find_owner(one) == NULL && Py_REFCNT(one) <= limit;
+    if (decision->what == LEFT || has_fields(one))
+        return left_to_steps(one, site, is_own);
+    if (decision->what == NONE || is_own)
         return Py_NewRef(one);
+    if (decision->what == OTHER)
+        return left_to_steps(one, site, 0);
     PyObject *steps = steps_through(one, site, decision);
     return steps != NULL ? steps : end_hook(one, -1);
 }

@@ -1,0 +1,26 @@
+"""An iterator was made before the threads: one goes on with it, and the other one appends to its list.
+
+due: race
+thing: lines or steps
+"""
+
+import threading
+
+lines = ["a", "b"]
+steps = iter(lines)
+
+
+def follow():
+    return next(steps)  # race: read
+
+
+def add():
+    lines.append("c")  # race: write
+
+
+threads = [threading.Thread(target=follow), threading.Thread(target=add)]
+for thread in threads:
+    thread.start()
+for thread in threads:
+    thread.join()
+print(len(lines))
