@@ -10,7 +10,7 @@ from ..journal import line_of
 from . import hooks
 from .decisions import value_of_field
 from .finder import FILES
-from .kinds import KEYED, METHODS, SHOWN
+from .kinds import KEYED, METHODS
 from .places import NAMES_OF_HANDED, Access, new_site
 from .rewrite import OF_ATTRIBUTES, READERS, SHOWING, STEPPERS
 
@@ -29,7 +29,7 @@ def _touch(method: Method, place: Place) -> None:
     if name in _FIELDS:
         _touch_field(method, _site_of(place, name, "field", _FIELDS[name]))
     elif name in _WHOLE:
-        hooks.hook_h(method.container, _site_of(place, name, "whole", _WHOLE[name], SHOWN if name.removeprefix(_OF_BUILTINS) in SHOWING else ""))
+        hooks.hook_h(method.container, _site_of(place, name, "whole", _WHOLE[name], SHOWING.get(name.removeprefix(_OF_BUILTINS), "")))
     elif name in METHODS:
         site = _site_of(place, name, "base", "", name)
         if name in KEYED and words:

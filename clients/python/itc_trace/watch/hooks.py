@@ -35,7 +35,9 @@ from .helper import quick
 from .inside import OWN_STEPS, behind, fields_looked_at, inside_of, nested_in
 from .keys import SIMPLE, UNKNOWN, tell_of_unknown, value_of
 from .kinds import DEEP as DEEP_SITES
-from .kinds import BUFFER, BY_FIELDS, DEQUE, DICT, EACH, KEYED, LIST, OF_FILE, OF_GENERATOR, SHOWN, WHOLE
+from .kinds import (
+    BUFFER, BY_FIELDS, COMPARED, DEQUE, DICT, EACH, KEYED, LIST, OF_FILE, OF_GENERATOR, ORDERED, SHOWN, WHOLE, WRITTEN,
+)
 from .late import LOOKING, NOTHING, READ_ONLY, again, by_kinds, note_shared, saw, share, shorten
 from .late import cell as cell_late
 from .late import index as index_late
@@ -377,7 +379,7 @@ def _touch_whole_inside(one: Any, site: int) -> None:
     if access.name in DEEP_SITES:
         _touch_nested(one, site)
     if _depth_of(access):
-        _touch_fields(one, site)
+        _touch_fields(one, site, False)
 
 
 def _depth_of(access: Access) -> str:
@@ -409,7 +411,7 @@ def _touch_nested(one: Any, site: int) -> None:
         family = family_of(type(part))
         if family is None:
             if depth != EACH:
-                _touch_fields(part, site)
+                _touch_fields(part, site, True)
         else:
             saw(owner_of(part, name), site, (shape_late, site, _kind_of(ACCESSES[site].kinds, family), site), True)
 
@@ -562,9 +564,9 @@ def _touch_path(value: Any, path: Path, site: int) -> None:
     _touch_if_any(value, site)
 
 
-def _touch_fields(one: Any, site: int) -> None:
+def _touch_fields(one: Any, site: int, is_inside: bool) -> None:
     """All fields of an object that a function looks at by itself."""
-    for name in fields_looked_at(one, _depth_of(ACCESSES[site])):
+    for name in fields_looked_at(one, _depth_of(ACCESSES[site]), is_inside):
         mark = site, name
         saw(owner_of(one, ""), mark, (field_late, mark, name_of(type(one)), name, READ_ONLY, site))
 
@@ -578,7 +580,10 @@ def _kind_of(kind: str, family: int | None) -> str:
 
 def _is_passed_over(family: int, access: Access) -> bool:
     """Whether it looks at no more of a buffer than that it is there."""
-    return family == BUFFER and (access.kinds == LENGTH or access.name == SHOWN)
+    return family == BUFFER and (access.kinds == LENGTH or access.name in _BY_IDENTITY)
+
+
+_BY_IDENTITY = frozenset((SHOWN, WRITTEN, COMPARED, ORDERED))
 
 
 # Iterators

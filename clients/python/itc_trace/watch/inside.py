@@ -2,9 +2,10 @@
 
 from __future__ import annotations
 
-from builtins import any, bool, bytes, dict, enumerate, float, frozenset, id, int, iter, len, list, min, next, range, set, str, tuple, type
+from builtins import any, bool, bytes, dict, enumerate, float, frozenset, getattr, id, int, iter, len, list, min, next, range, set, str, tuple, type
 from collections import deque
 from collections.abc import Iterable, Iterator
+from dataclasses import _FIELD, Field  # type: ignore[attr-defined]
 from gc import get_referents
 from itertools import tee
 from sys import getrefcount
@@ -15,7 +16,7 @@ from .decisions import (
     COMPOSED, MAPS, REFERRED, ROWS_OF_ITERATORS, STEPPED, VIEWS, class_with, family_of, field_inside, fields_of, has_watched_method, ids_of, is_made,
     is_watched_class, vars_of,
 )
-from .kinds import EACH, SHOWN
+from .kinds import COMPARED, DECLARED, EACH, ORDERED, SHOWN, WRITTEN
 
 READING = frozenset(("", "r", "c", "get", "keys", "values", "items", "copy", "__getitem__", "__contains__"))
 """Ways to touch, and methods, that look at each of several containers. Others change the first one."""
@@ -106,6 +107,7 @@ MOST_NESTED = 256
 _ELEMENTS = ids_of((list, tuple, set, frozenset, deque))
 _SINGLE = ids_of((str, int, float, bool, bytes, type(None)))
 _STATE_METHODS = ("__copy__", "__deepcopy__", "__reduce__", "__reduce_ex__", "__getstate__")
+_TEXT_METHODS = ("__str__", "__format__")
 
 
 def nested_in(one: Any, depth: str) -> Iterator[Any]:
@@ -126,19 +128,33 @@ def _parts_inside(one: Any) -> Iterable[Any]:
     return list(one) if id(type(one)) in _ELEMENTS else ()
 
 
-def fields_looked_at(one: Any, depth: str) -> list[str]:
-    """The fields of an object of the program that a function looks at by itself, and by no method of a class that is watched."""
+_MADE_FOR = {SHOWN: ("__repr__", "repr"), WRITTEN: ("__repr__", "repr"), COMPARED: ("__eq__", "compare"), ORDERED: ("__lt__", "compare")}
+"""The method that `dataclass` makes for such a look, and what it asks each field for."""
+
+
+def fields_looked_at(one: Any, depth: str, is_inside: bool) -> list[str]:
+    """The fields of an object of the program that a function looks at by itself, and by no method of a class that is watched.
+
+    What is inside of a container is compared for being equal first, and its text there is that for a programmer.
+    """
     kind = type(one)
     if kind is SimpleNamespace:
         return [name for name in list(fields_of(one)) if type(name) is str]
     if not is_watched_class(kind):
         return []
-    fields = class_with(kind, "__dataclass_fields__")
-    if depth == SHOWN:
-        is_looked_at = fields is not None and is_made(kind, "__repr__")
-    else:
-        is_looked_at = not any([has_watched_method(kind, name) for name in _STATE_METHODS])
-    if not is_looked_at:
-        return []
-    in_slots = () if fields is None else vars_of(fields)["__dataclass_fields__"]
-    return [name for name in list(fields_of(one) or in_slots) if type(name) is str]
+    fields = _declared_fields(kind)
+    if depth == DECLARED:
+        return [*fields]
+    if depth not in _MADE_FOR:
+        is_own = any([has_watched_method(kind, name) for name in _STATE_METHODS])
+        return [] if is_own else [name for name in list(fields_of(one) or fields) if type(name) is str]
+    method, asked = _MADE_FOR[COMPARED if is_inside and depth == ORDERED else depth]
+    has_own_text = depth == SHOWN and not is_inside and any([has_watched_method(kind, name) for name in _TEXT_METHODS])
+    return [] if has_own_text or not is_made(kind, method) else [name for name, field in fields.items() if getattr(field, asked)]
+
+
+def _declared_fields(kind: type) -> dict[str, Any]:
+    """The fields of a dataclass."""
+    owner = class_with(kind, "__dataclass_fields__")
+    fields = {} if owner is None else vars_of(owner)["__dataclass_fields__"]
+    return {name: field for name, field in fields.items() if type(field) is Field and field._field_type is _FIELD}

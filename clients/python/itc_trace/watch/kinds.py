@@ -102,14 +102,17 @@ _KNOWN = {
     ),
 }
 
-SHOWN, STATE, FIELDS, EACH = "shown", "state", "fields", "each"
-"""How deep a function looks at what it is given: at all that its text has, at all of its state, at its own fields, or at each element."""
-DEEP = frozenset((SHOWN, STATE, EACH))
-BY_FIELDS = frozenset((SHOWN, STATE, FIELDS))
+SHOWN, WRITTEN, COMPARED, ORDERED, DECLARED, STATE, FIELDS, EACH = "shown written compared ordered declared state fields each".split()
+"""How deep a function looks at what it is given: at all that its text has, or its text for a programmer, at what is compared for being equal
+or greater, at all fields that its class declares, at all of its state, at its own fields, or at each element."""
+BY_FIELDS = frozenset((SHOWN, WRITTEN, COMPARED, ORDERED, DECLARED, STATE, FIELDS))
+DEEP = (BY_FIELDS - {FIELDS}) | {EACH}
 _DEPTHS = {
-    **dict.fromkeys("copy.deepcopy json.dumps json.dump pickle.dumps pickle.dump dataclasses.asdict dataclasses.astuple".split(), STATE),
+    **dict.fromkeys("copy.deepcopy json.dumps json.dump pickle.dumps pickle.dump".split(), STATE),
+    **dict.fromkeys("dataclasses.asdict dataclasses.astuple".split(), DECLARED),
     **dict.fromkeys(("copy.copy", "dataclasses.replace"), FIELDS), "itertools.chain.from_iterable": EACH,
-    **dict.fromkeys("pprint.pprint pprint.pformat operator.eq operator.ne".split(), SHOWN),
+    **dict.fromkeys("pprint.pprint pprint.pformat".split(), WRITTEN),
+    **dict.fromkeys("operator.eq operator.ne".split(), COMPARED), **dict.fromkeys((f"operator.{name}" for name in "lt le gt ge".split()), ORDERED),
 }
 
 

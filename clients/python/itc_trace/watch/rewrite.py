@@ -16,7 +16,8 @@ from typing import Any
 from ..conflicts import ADDITION, ITERATION, KEYS, LENGTH, REWRITE
 from . import passed_over
 from .kinds import (
-    CHANGED_ARGUMENT, CONSUMING, EACH, IN_PLACE_FUNCTIONS, KEYED, LATE_METHODS, METHODS, SHOWN, STEPPING, depth_of, known_function,
+    CHANGED_ARGUMENT, COMPARED, CONSUMING, EACH, IN_PLACE_FUNCTIONS, KEYED, LATE_METHODS, METHODS, ORDERED, SHOWN, STEPPING, WRITTEN, depth_of,
+    known_function,
 )
 from .patterns import Patterns
 from .places import MADE_HERE, NAMES_OF_HANDED, OF_BASE, Access, new_site
@@ -32,10 +33,12 @@ READERS = {
     **dict.fromkeys("list tuple set frozenset sorted sum min max any all next iter reversed enumerate zip map filter".split(), KEYS),
 }
 """Functions of the language that look at what they are given."""
-SHOWING = frozenset(("str", "repr", "ascii", "format", "print"))
-"""Those that show what is inside, too."""
+SHOWING = {**dict.fromkeys(("str", "format", "print"), SHOWN), **dict.fromkeys(("repr", "ascii"), WRITTEN)}
+"""Those that show what is inside, too, and how."""
 STEPPERS = frozenset(("enumerate", "zip", "map", "filter"))
 """Those that look at it step by step."""
+WRITTEN_BY = frozenset(map(ord, "ra"))
+"""Conversions of a formatted text that ask for a text for a programmer."""
 OF_ATTRIBUTES = {"getattr": "r", "hasattr": "r", "setattr": "w", "delattr": "w"}
 OF_OBJECT = {"__getattribute__": "r", "__setattr__": "w", "__delattr__": "w"}
 """Methods of `object` that do the same for a class with methods of its own."""
@@ -789,7 +792,7 @@ class Rewriter:
             return self._operand(node, "f", self._site_of_whole(node, READERS[name]))
         if isinstance(node, ast.Starred) or name in STEPPERS:
             return self._child(node)  # type: ignore[no-any-return]
-        return self._whole(node, READERS[name], SHOWN if name in SHOWING else depth)  # type: ignore[no-any-return]
+        return self._whole(node, READERS[name], SHOWING.get(name, depth))  # type: ignore[no-any-return]
 
     def _call_method(self, node: ast.Call, func: ast.Attribute) -> ast.expr:
         name, owner = func.attr, func.value
@@ -1043,12 +1046,13 @@ class Rewriter:
     def _compare_values(self, node: ast.Compare) -> ast.expr:
         """A comparison looks at all of both sides, but for one with a text or a number, and `is`."""
         sides: list[Any] = [node.left, *node.comparators]
-        looked_at: set[int] = set()
+        looked_at: dict[int, str] = {}
         for place, operator in enumerate(node.ops):
             both = sides[place:place + 2]
             if not isinstance(operator, (ast.Is, ast.IsNot)) and not any(_is_plain(one) for one in both):
-                looked_at |= {place, place + 1}
-        made = [self._whole(one, ITERATION, SHOWN) if place in looked_at else self._child(one) for place, one in enumerate(sides)]
+                depth = COMPARED if isinstance(operator, (ast.Eq, ast.NotEq)) else ORDERED
+                looked_at |= {place: depth, place + 1: depth}
+        made = [self._whole(one, ITERATION, looked_at[place]) if place in looked_at else self._child(one) for place, one in enumerate(sides)]
         node.left, node.comparators = made[0], made[1:]
         return node
 
@@ -1078,7 +1082,7 @@ class Rewriter:
         return node
 
     def _visit_FormattedValue(self, node: ast.FormattedValue) -> ast.expr:
-        node.value = self._whole(node.value, ITERATION, SHOWN)
+        node.value = self._whole(node.value, ITERATION, WRITTEN if node.conversion in WRITTEN_BY else SHOWN)
         if node.format_spec is not None:
             self._visit_JoinedStr(node.format_spec)  # type: ignore[arg-type]
         return node
