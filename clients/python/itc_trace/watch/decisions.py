@@ -20,7 +20,7 @@ from typing import Any
 
 from .helper import quick
 from .kinds import BUFFER, DEQUE, DICT, LIST, SET
-from .places import SKIPPED, Access
+from .places import DELETED, SKIPPED, Access
 
 SKIP, FIELD, OWN_FIELD, OF_CLASS, OF_TYPE, OF_MODULE, AS_KEY = range(7)
 
@@ -194,7 +194,8 @@ def has_watched_method(kind: type, name: str) -> bool:
     if key not in known:
         _remember(kind)
         owner = class_with(kind, name)
-        known[key] = owner is not None and type(_vars_of(owner)[name]) is types.FunctionType and _vars_of(owner).get("__module__") in WATCHED
+        is_function = owner is not None and type(_vars_of(owner)[name]) is types.FunctionType and not is_made(kind, name)
+        known[key] = is_function and _vars_of(owner).get("__module__") in WATCHED
     return known[key]
 
 
@@ -279,13 +280,18 @@ def decision(kind: type, access: Access, site: int) -> int:
     if known is None:
         _remember(kind)
         known = _decided[id(kind)] = {}
-    of_access = access.name, access.kinds
+    of_access = access.name, DELETED if access.words == DELETED else access.kinds
     found = known.get(of_access)
     if found is None:
-        found = known[of_access] = _decide(kind, access.name, access.kinds or "r")
+        is_by_method = has_watched_method(kind, _METHOD_OF_FIELDS.get(of_access[1], ""))
+        found = known[of_access] = SKIP if is_by_method else _decide(kind, access.name, access.kinds or "r")
     if found == SKIP and site < len(SKIPPED) and access.what != "named":
         SKIPPED[site].add(id(kind))
     return found
+
+
+_METHOD_OF_FIELDS = {"": "__getattribute__", "r": "__getattribute__", "w": "__setattr__", DELETED: "__delattr__"}
+"""What an object does for each way to touch a field. A method of a watched class has hooks where it does so."""
 
 
 def _decide(kind: type, name: str, kinds: str) -> int:

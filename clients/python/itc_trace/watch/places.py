@@ -35,6 +35,8 @@ MADE_HERE = "made here"
 """Of a view or an iterator that nobody has kept: what it looks at was looked at where it was made."""
 OF_BASE = "of the base"
 """Of an attribute by its name that goes past the methods of its class, as `super().__setattr__(name, value)` does."""
+DELETED = "deleted"
+"""Of a field that is deleted."""
 CASES: dict[int, list[Any]] = {}
 """Of each `match` statement that looks at what tasks may share, its cases."""
 NAMES_OF_HANDED: dict[tuple[str, int, str], str] = {}

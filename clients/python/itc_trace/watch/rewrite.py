@@ -20,7 +20,7 @@ from .kinds import (
     known_function,
 )
 from .patterns import Patterns
-from .places import MADE_HERE, NAMES_OF_HANDED, OF_BASE, Access, new_site
+from .places import DELETED, MADE_HERE, NAMES_OF_HANDED, OF_BASE, Access, new_site
 from .scopes import CLASS, COMPREHENSION, COMPREHENSIONS, FUNCTION, MODULE, STORED_FIELDS, Scope, Scopes
 from .templates import field_paths
 
@@ -42,6 +42,8 @@ WRITTEN_BY = frozenset(map(ord, "ra"))
 OF_ATTRIBUTES = {"getattr": "r", "hasattr": "r", "setattr": "w", "delattr": "w"}
 OF_OBJECT = {"__getattribute__": "r", "__setattr__": "w", "__delattr__": "w"}
 """Methods of `object` that do the same for a class with methods of its own."""
+WORDS_OF_OBJECT = {"__getattribute__": 1, "__setattr__": 2, "__delattr__": 1}
+"""What each is given behind the object. If the class is named in front of it, the object comes first."""
 MAKERS = frozenset("dict list set bytearray deque defaultdict OrderedDict Counter".split())
 OPERATORS = {
     "operator.setitem": "__setitem__", "operator.getitem": "__getitem__", "operator.delitem": "__delitem__",
@@ -647,7 +649,8 @@ class Rewriter:
             node.value = self._child(node.value)
         else:
             kinds = "r" if isinstance(node.ctx, ast.Load) else "w"
-            node.value = self._operand(node.value, "o", self._site(node, "field", kinds, self._mangled(node.attr)))
+            words = DELETED if isinstance(node.ctx, ast.Del) else None
+            node.value = self._operand(node.value, "o", self._site(node, "field", kinds, self._mangled(node.attr), words=words))
         return node
 
     def _visit_Subscript(self, node: ast.Subscript) -> ast.expr:
@@ -801,7 +804,7 @@ class Rewriter:
             self._call_of_base(node, func)
         elif name in METHODS and node.args and not isinstance(node.args[0], ast.Starred) and self._is_container_class(owner):
             self._call_unbound(node, func)
-        elif name in OF_OBJECT and len(node.args) > 1 and isinstance(owner, ast.Name) and owner.id == "object" and self._is_builtin("object"):
+        elif name in OF_OBJECT and len(node.args) > WORDS_OF_OBJECT[name]:
             self._attribute_by_name(node, OF_OBJECT[name])
         elif name in OF_OBJECT and node.args and not isinstance(node.args[0], ast.Starred):
             self._attribute_of_owner(node, func)
