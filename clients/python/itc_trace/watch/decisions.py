@@ -70,7 +70,9 @@ BY_ELEMENTS = ids_of(_BY_ELEMENTS)
 VIEWS = ids_of((*_BY_KEYS, *_BY_ELEMENTS))
 """Types whose objects refer to the one container that they look at."""
 
-_UNCHANGED = ids_of((*(type(view) for table in ({}, OrderedDict()) for view in (table.keys(), table.values(), table.items())), types.MappingProxyType))
+_UNCHANGED = ids_of((
+    *(type(view) for table in ({}, OrderedDict()) for view in (table.keys(), table.values(), table.items())), types.MappingProxyType,
+))
 """Those of them that no look changes."""
 _OF_VALUES = ids_of((
     type(iter(())), type(iter("")), type(iter("\u20ac")), type(iter(b"")), type(iter(range(0))), type(iter(range(1 << 70))), type(iter(int, 0)),

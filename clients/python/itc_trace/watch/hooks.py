@@ -12,7 +12,7 @@ import os
 import sys
 import types
 from array import array
-from builtins import id, issubclass, len, map, next, setattr, type, zip
+from builtins import any, id, issubclass, len, map, next, setattr, type, zip
 from _thread import get_ident
 from collections import defaultdict
 from collections.abc import Callable, Iterable, Iterator
@@ -26,8 +26,8 @@ from ..lines import state
 from ..noting import begin_stretch, failed, touched_all
 from ..stretches import STRETCHES
 from .decisions import (
-    AS_KEY, BY_ELEMENTS, COMPOSED, FIELD, FILES, OF_CLASS, OF_MODULE, OF_TYPE, OWN_FIELD, PLAIN, SKIP, STEPPED, VARIABLES, VIEWS, WATCHED, class_with, decision,
-    family_of, field_inside, fields_of, has_own_method, has_setter, has_watched_method, ids_of, is_watched_class, name_of, value_of_element,
+    AS_KEY, BY_ELEMENTS, COMPOSED, FIELD, FILES, OF_CLASS, OF_MODULE, OF_TYPE, OWN_FIELD, PLAIN, SKIP, STEPPED, VARIABLES, VIEWS, WATCHED, class_with,
+    decision, family_of, field_inside, fields_of, has_own_method, has_setter, has_watched_method, ids_of, is_watched_class, name_of, value_of_element,
     value_of_field, vars_of, without_own,
 )
 from .as_fields import FIELDS_OF, keep_fields_of, object_of
@@ -36,7 +36,7 @@ from .inside import OWN_STEPS, behind, fields_looked_at, inside_of, nested_in
 from .keys import SIMPLE, UNKNOWN, tell_of_unknown, value_of
 from .kinds import DEEP as DEEP_SITES
 from .kinds import (
-    BUFFER, BY_FIELDS, COMPARED, DEQUE, DICT, EACH, KEYED, LIST, OF_FILE, OF_GENERATOR, ORDERED, SHOWN, WHOLE, WRITTEN,
+    BUFFER, BY_FIELDS, COMPARED, DEQUE, DICT, EACH, IN_PLACE_METHODS, KEYED, LIST, OF_FILE, OF_GENERATOR, ORDERED, SHOWN, WHOLE, WRITTEN,
 )
 from .late import LOOKING, NOTHING, READ_ONLY, again, by_kinds, note_shared, saw, share, shorten
 from .late import cell as cell_late
@@ -254,7 +254,7 @@ def _touch_through_object(one: Any, name: str, mark: Any, site: int) -> None:
 
 def _touch_in_place(value: Any, kind: str, site: int) -> None:
     """What an assignment as `+=` does to the container that stands in a field."""
-    if family_of(type(value)) is not None:
+    if family_of(type(value)) is not None and not any([has_watched_method(type(value), name) for name in IN_PLACE_METHODS[kind]]):
         saw(owner_of(value, ACCESSES[site].name), site, (shape_late, site, kind, site))
 
 
@@ -348,6 +348,8 @@ def hook_h_local(one: Any, site: int) -> Any:
 def _touch_whole(one: Any, site: int, limit: int) -> None:
     kind = type(one)
     family = family_of(kind)
+    if _is_by_own_method(kind, ACCESSES[site]):
+        return
     if family is None:
         if id(kind) not in STEPPED:
             _touch_whole_inside(one, site)
@@ -365,6 +367,11 @@ def _touch_whole(one: Any, site: int, limit: int) -> None:
         saw(owner, site, (shape_late, site, _kind_of(ACCESSES[site].kinds, family), site), True)
     if ACCESSES[site].name in DEEP_SITES:
         _touch_nested(one, site)
+
+
+def _is_by_own_method(kind: type, access: Access) -> bool:
+    """Whether a method of a watched class stands for the container's own here. It has hooks itself."""
+    return type(access.words) is tuple and any([has_watched_method(kind, name) for name in access.words])
 
 
 def _touch_whole_inside(one: Any, site: int) -> None:
@@ -1221,6 +1228,8 @@ def _what_of_steps(kind: type, family: int | None, access: Access, site: int) ->
 
 
 def _what_of_whole(kind: type, family: int | None, access: Access, site: int) -> What:
+    if _is_by_own_method(kind, access):
+        return NOT_TOUCHED
     if family is not None:
         if _is_passed_over(family, access):
             return NOT_TOUCHED

@@ -66,6 +66,9 @@ METHODS = frozenset(name for names in WHOLE.values() for name in names) | frozen
 LATE_METHODS = frozenset("append appendleft extend extendleft insert update remove".split())
 """Those that change a container after all of their arguments are there."""
 
+IN_PLACE_METHODS = {ADDITION: ("__iadd__",), REWRITE: tuple(f"__i{name}__" for name in "mul or and xor sub".split())}
+"""Those that an assignment as `+=` calls, by what it does to a container."""
+
 IN_PLACE_FUNCTIONS = {
     **dict.fromkeys(("operator.iadd", "operator.iconcat"), ADDITION),
     **dict.fromkeys((f"operator.{name}" for name in "imul ior iand isub ixor".split()), REWRITE),

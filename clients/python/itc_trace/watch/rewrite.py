@@ -16,8 +16,8 @@ from typing import Any
 from ..conflicts import ADDITION, ITERATION, KEYS, LENGTH, REWRITE
 from . import passed_over
 from .kinds import (
-    CHANGED_ARGUMENT, COMPARED, CONSUMING, EACH, IN_PLACE_FUNCTIONS, KEYED, LATE_METHODS, METHODS, ORDERED, SHOWN, STEPPING, WRITTEN, depth_of,
-    known_function,
+    CHANGED_ARGUMENT, COMPARED, CONSUMING, EACH, IN_PLACE_FUNCTIONS, IN_PLACE_METHODS, KEYED, LATE_METHODS, METHODS, ORDERED, SHOWN, STEPPING,
+    WRITTEN, depth_of, known_function,
 )
 from .patterns import Patterns
 from .places import DELETED, MADE_HERE, NAMES_OF_HANDED, OF_BASE, Access, new_site
@@ -35,6 +35,21 @@ READERS = {
 """Functions of the language that look at what they are given."""
 SHOWING = {**dict.fromkeys(("str", "format", "print"), SHOWN), **dict.fromkeys(("repr", "ascii"), WRITTEN)}
 """Those that show what is inside, too, and how."""
+OF_KEYS = ("__iter__", "keys")
+METHODS_OF_READERS = {
+    "len": ("__len__",), "bool": ("__bool__", "__len__"), "reversed": ("__reversed__",), "bytes": ("__bytes__", "__iter__"), "dict": OF_KEYS,
+}
+"""Which methods of a class these functions call, where that is another one than for the others."""
+METHODS_OF_DEPTHS = {SHOWN: ("__str__", "__repr__", "__format__"), WRITTEN: ("__repr__",)}
+METHODS_OF_COMPARISONS = {
+    ast.Eq: ("__eq__",), ast.NotEq: ("__ne__",), ast.Lt: ("__lt__", "__gt__"), ast.Gt: ("__lt__", "__gt__"), ast.LtE: ("__le__", "__ge__"),
+    ast.GtE: ("__le__", "__ge__"),
+}
+METHODS_OF_OPERATORS = {
+    kind: (f"__{name}__", f"__r{name}__")
+    for kind, name in ((ast.Add, "add"), (ast.Sub, "sub"), (ast.Mult, "mul"), (ast.BitOr, "or"), (ast.BitAnd, "and"), (ast.BitXor, "xor"))
+}
+METHODS_OF_SLICES = {"r": ("__getitem__",), "w": ("__setitem__",), "d": ("__delitem__",)}
 STEPPERS = frozenset(("enumerate", "zip", "map", "filter"))
 """Those that look at it step by step."""
 WRITTEN_BY = frozenset(map(ord, "ra"))
@@ -389,7 +404,8 @@ class Rewriter:
                 self._after += self._stores([target], node)
             if self._is_in_place(node):
                 loaded = ast.copy_location(ast.Name(target.id, ast.Load()), target)
-                site = self._site(node, "whole", IN_PLACE[type(node.op)], "", self._text(target))
+                kind = IN_PLACE[type(node.op)]
+                site = self._site(node, "whole", kind, "", self._text(target), IN_PLACE_METHODS[kind])
                 self._before.append(ast.copy_location(ast.Expr(self._hook(self._named_for("h", target), node, loaded, site)), node))
             node.value = self._added(node)
         elif isinstance(target, ast.Attribute):
@@ -658,8 +674,8 @@ class Rewriter:
         if self._is_foreign_container(node.value):
             return self._generic(node)  # type: ignore[no-any-return]
         if isinstance(node.slice, ast.Slice):
-            whole = ITERATION if kinds == "r" else REWRITE
-            node.value = self._operand(node.value, "h", self._site(node, "whole", whole, "", self._text(node.value)))
+            whole, methods = ITERATION if kinds == "r" else REWRITE, METHODS_OF_SLICES[kinds]
+            node.value = self._operand(node.value, "h", self._site(node, "whole", whole, "", self._text(node.value), methods))
             node.slice = self._child(node.slice)
         else:
             self._element(node, self._site(node, "element", kinds, "", self._text(node.value)))
@@ -795,7 +811,7 @@ class Rewriter:
             return self._operand(node, "f", self._site_of_whole(node, READERS[name]))
         if isinstance(node, ast.Starred) or name in STEPPERS:
             return self._child(node)  # type: ignore[no-any-return]
-        return self._whole(node, READERS[name], SHOWING.get(name, depth))  # type: ignore[no-any-return]
+        return self._whole(node, READERS[name], SHOWING.get(name, depth), METHODS_OF_READERS.get(name))  # type: ignore[no-any-return]
 
     def _call_method(self, node: ast.Call, func: ast.Attribute) -> ast.expr:
         name, owner = func.attr, func.value
@@ -939,7 +955,7 @@ class Rewriter:
             return node
         if isinstance(owner, (ast.Constant, ast.JoinedStr)) or isinstance(owner, ast.Name) and self._is_builtin(owner.id):
             return self._whole(node, kinds, EACH if is_bytes else "")
-        site = self._site(node, "given", kinds, func.attr, self._text(node))
+        site = self._site(node, "given", kinds, func.attr, self._text(node), OF_KEYS if kinds == KEYS or func.attr == "update" else None)
         if isinstance(owner, ast.Name):
             return self._hook("x", node, self._child(node), owner.twin, site)  # type: ignore[attr-defined]
         return self._hook("X", node, self._child(node), site)
@@ -950,28 +966,29 @@ class Rewriter:
             if isinstance(one, ast.Call) and isinstance(one.func, ast.Name) and one.func.id == f"{PREFIX}X":
                 func.value = self._hook("p", func.value, func.value, one.args[1], 0)
 
-    def _whole(self, node: Any, kinds: str, depth: str = "") -> Any:
-        """An expression, all of which is looked at if it is a container."""
+    def _whole(self, node: Any, kinds: str, depth: str = "", methods: tuple[str, ...] | None = None) -> Any:
+        """An expression, all of which is looked at if it is a container, and no class of the program has one of the methods."""
         is_looked_at = isinstance(node, GIVEN) and not self._is_foreign_container(node) and not self._is_made(node)
         if is_looked_at or depth and isinstance(node, (*DISPLAYS, ast.Tuple)):
-            return self._operand(node, "h", self._site_of_whole(node, kinds, depth))
+            return self._operand(node, "h", self._site_of_whole(node, kinds, depth, methods))
         return self._child(node)
 
-    def _site_of_whole(self, node: Any, kinds: str, depth: str = "") -> int:
+    def _site_of_whole(self, node: Any, kinds: str, depth: str = "", methods: tuple[str, ...] | None = None) -> int:
         """The site of something that is looked at as a whole. A view that is made there is known by its container."""
         is_view = isinstance(node, ast.Call) and isinstance(node.func, ast.Attribute) and node.func.attr in VIEWS
         is_iterator = isinstance(node, ast.Call) and isinstance(node.func, ast.Name) and node.func.id in ("iter", "reversed")
         text = self._text(node.func.value if is_view else node)
-        return self._site(node, "whole", kinds, depth, text, MADE_HERE if is_view or is_iterator else None)
+        methods = methods or METHODS_OF_DEPTHS.get(depth) or (OF_KEYS[:1] if kinds == KEYS else None)
+        return self._site(node, "whole", kinds, depth, text, MADE_HERE if is_view or is_iterator else methods)
 
     def _visit_BinOp(self, node: ast.BinOp) -> ast.expr:
         sides: list[Any] = [node.left, node.right]
         if isinstance(node.op, ast.Mod) and not _is_number(node.left):
             node.left, node.right = self._child(node.left), self._formatted(node.right)
         elif isinstance(node.op, JOINING) and not any(_is_number(side) or _is_text(side) for side in sides):
-            node.left, node.right = (self._whole(side, ITERATION) for side in sides)
+            node.left, node.right = (self._whole(side, ITERATION, methods=METHODS_OF_OPERATORS[type(node.op)]) for side in sides)
         elif isinstance(node.op, ast.Mult) and not any(_is_text(side) or _is_fraction(side) for side in sides):
-            node.left, node.right = (self._whole(side, ITERATION) for side in sides)
+            node.left, node.right = (self._whole(side, ITERATION, methods=METHODS_OF_OPERATORS[ast.Mult]) for side in sides)
         else:
             node.left, node.right = map(self._child, sides)
         return node
@@ -1049,20 +1066,20 @@ class Rewriter:
     def _compare_values(self, node: ast.Compare) -> ast.expr:
         """A comparison looks at all of both sides, but for one with a text or a number, and `is`."""
         sides: list[Any] = [node.left, *node.comparators]
-        looked_at: dict[int, str] = {}
+        looked_at: dict[int, tuple[str, tuple[str, ...]]] = {}
         for place, operator in enumerate(node.ops):
             both = sides[place:place + 2]
             if not isinstance(operator, (ast.Is, ast.IsNot)) and not any(_is_plain(one) for one in both):
-                depth = COMPARED if isinstance(operator, (ast.Eq, ast.NotEq)) else ORDERED
-                looked_at |= {place: depth, place + 1: depth}
-        made = [self._whole(one, ITERATION, looked_at[place]) if place in looked_at else self._child(one) for place, one in enumerate(sides)]
+                depth = COMPARED if isinstance(operator, (ast.Eq, ast.NotEq, ast.In, ast.NotIn)) else ORDERED
+                looked_at |= dict.fromkeys((place, place + 1), (depth, METHODS_OF_COMPARISONS.get(type(operator), ())))
+        made = [self._whole(one, ITERATION, *looked_at[place]) if place in looked_at else self._child(one) for place, one in enumerate(sides)]
         node.left, node.comparators = made[0], made[1:]
         return node
 
     def _truth(self, node: Any) -> Any:
         """An expression whose truth is asked for: that of a container is its length."""
         if isinstance(node, (*REACHED, ast.Call, ast.NamedExpr)) and not self._is_foreign(node) and not self._is_made(node):
-            return self._operand(node, "h", self._site(node, "whole", LENGTH, "", self._text(node)))
+            return self._operand(node, "h", self._site(node, "whole", LENGTH, "", self._text(node), METHODS_OF_READERS["bool"]))
         if isinstance(node, ast.BoolOp):
             node.values = [self._part(one, self._truth) for one in node.values]
             return node
