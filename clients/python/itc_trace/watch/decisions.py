@@ -6,6 +6,7 @@ It is decided once for each place and type. Nothing here runs code of the progra
 from __future__ import annotations
 
 import _csv
+import functools
 import io
 import itertools
 import os
@@ -22,7 +23,7 @@ from .helper import quick
 from .kinds import BUFFER, DEQUE, DICT, LIST, SET
 from .places import DELETED, SKIPPED, Access
 
-SKIP, FIELD, OWN_FIELD, OF_CLASS, OF_TYPE, OF_MODULE, AS_KEY = range(7)
+SKIP, FIELD, OWN_FIELD, OF_CLASS, OF_TYPE, OF_MODULE, AS_KEY, OF_METHOD = range(8)
 
 WATCHED: set[str] = set()
 """The names of the modules that were rewritten."""
@@ -272,6 +273,11 @@ def has_setter(value: Any) -> bool:
     return type(value) is not types.MemberDescriptorType and _has(type(value), "__set__")
 
 
+def is_bound_by_code(value: Any) -> bool:
+    """Whether what a class has is given to those who ask for it by code of its own, as a method and a property are."""
+    return _has(type(value), "__get__")
+
+
 def _has(kind: type, name: str) -> bool:
     return any(name in _vars_of(one) for one in _mro_of(kind) if id(one) not in BARE)
 
@@ -297,6 +303,8 @@ _METHOD_OF_FIELDS = {"": "__getattribute__", "r": "__getattribute__", "w": "__se
 
 
 def _decide(kind: type, name: str, kinds: str) -> int:
+    if kind is types.MethodType:
+        return OF_METHOD
     if id(kind) in PLAIN and kind is not types.FunctionType:
         return SKIP
     if issubclass(kind, types.ModuleType):
@@ -338,6 +346,8 @@ def _decide_of_class(kind: type, value: Any, kinds: str) -> int:
     """The class has something of that name: a descriptor is code or a slot, anything else a value that objects may hide."""
     if type(value) is types.MemberDescriptorType:
         return FIELD
+    if type(value) is functools.cached_property:
+        return FIELD  # The value stands in the object's own field, which others may drop.
     if _has(type(value), "__get__"):
         is_hidden = kinds == "w" and not _has(type(value), "__set__")
         return FIELD if is_hidden else SKIP

@@ -26,9 +26,9 @@ from ..lines import state
 from ..noting import begin_stretch, failed, touched_all
 from ..stretches import STRETCHES
 from .decisions import (
-    AS_KEY, BY_ELEMENTS, COMPOSED, FIELD, FILES, OF_CLASS, OF_MODULE, OF_TYPE, OWN_FIELD, PLAIN, SKIP, STEPPED, VARIABLES, VIEWS, WATCHED, class_with,
-    decision, family_of, field_inside, fields_of, has_own_method, has_setter, has_watched_method, ids_of, is_watched_class, name_of, value_of_element,
-    value_of_field, vars_of, without_own,
+    AS_KEY, BY_ELEMENTS, COMPOSED, FIELD, FILES, OF_CLASS, OF_METHOD, OF_MODULE, OF_TYPE, OWN_FIELD, PLAIN, SKIP, STEPPED, VARIABLES,
+    VIEWS, WATCHED, class_with, decision, family_of, field_inside, fields_of, has_own_method, has_setter, has_watched_method, ids_of,
+    is_bound_by_code, is_watched_class, name_of, value_of_element, value_of_field, vars_of, without_own,
 )
 from .as_fields import FIELDS_OF, keep_fields_of, object_of
 from .helper import quick
@@ -208,7 +208,9 @@ def _touch_field(one: Any, site: int, access: Access | None = None) -> None:
     if found == SKIP:
         return
     mark = (site, access.name) if is_named else site
-    if found == AS_KEY:
+    if found == OF_METHOD:
+        _touch_field(one.__func__, site, access if is_named else None)
+    elif found == AS_KEY:
         _touch_key(one, owner_of(one, ""), access.name, kinds, DICT, site, False)
     elif found == OF_MODULE:
         _touch_module(one, access.name, kinds, mark, site)
@@ -235,12 +237,15 @@ def _touch_module(one: Any, name: str, kinds: str, mark: Any, site: int) -> None
 
 
 def _touch_type(one: Any, name: str, kinds: str, mark: Any, site: int) -> None:
-    """A class, or the one of its bases where it finds what it has not itself."""
+    """A class, or the one of its bases where it finds what it has not itself, or its metaclass."""
     holder = class_with(one, name) if kinds == READ_ONLY else one
-    if holder is not None:
-        saw(owner_of(holder, ""), mark, (field_late, mark, name_of(holder), name, kinds, site))
-        if holder is not one:
-            saw(owner_of(one, ""), mark, NOTHING)
+    if holder is None:
+        holder = class_with(type(one), name)
+        if holder is None or is_bound_by_code(vars_of(holder)[name]):
+            return
+    saw(owner_of(holder, ""), mark, (field_late, mark, name_of(holder), name, kinds, site))
+    if holder is not one:
+        saw(owner_of(one, ""), mark, NOTHING)
 
 
 def _touch_through_object(one: Any, name: str, mark: Any, site: int) -> None:
