@@ -291,15 +291,19 @@ def decision(kind: type, access: Access, site: int) -> int:
     of_access = access.name, DELETED if access.words == DELETED else access.kinds
     found = known.get(of_access)
     if found is None:
-        is_by_method = has_watched_method(kind, _METHOD_OF_FIELDS.get(of_access[1], ""))
-        found = known[of_access] = SKIP if is_by_method else _decide(kind, access.name, access.kinds or "r")
+        found = known[of_access] = SKIP if _is_by_own_method(kind, of_access[1]) else _decide(kind, access.name, access.kinds or "r")
     if found == SKIP and site < len(SKIPPED) and access.what != "named":
         SKIPPED[site].add(id(kind))
     return found
 
 
 _METHOD_OF_FIELDS = {"": "__getattribute__", "r": "__getattribute__", "w": "__setattr__", DELETED: "__delattr__"}
-"""What an object does for each way to touch a field. A method of a watched class has hooks where it does so."""
+"""What an object does for each way to touch a field."""
+
+
+def _is_by_own_method(kind: type, way: str) -> bool:
+    """Whether a method of a watched class does so for its objects. It has hooks there. Classes and modules are seen from outside."""
+    return not issubclass(kind, (type, types.ModuleType)) and has_watched_method(kind, _METHOD_OF_FIELDS.get(way, ""))
 
 
 def _decide(kind: type, name: str, kinds: str) -> int:
