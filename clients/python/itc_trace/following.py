@@ -169,7 +169,7 @@ def begin(hint: str, how: str, depth: int) -> Begun | None:
     line, waiter = Line(tracer, hint), Waiter()
     line.is_process = True
     note((CHILD, getattr(_own, "parent", None) or current(), line, waiter, *place_of(frame_of_start(depth))))
-    tracer.hurry()
+    tracer.look_after(waiter)
     if not waiter.wait(ANSWER_SECONDS):
         return None
     tag, names = _fresh_tag(tracer), shared_names()

@@ -69,6 +69,13 @@ NOT_MINE = {405, 407, 408, 409}
 """What a message of another process may be refused for: it was never sent, or this task has it. A process was killed, or joined before."""
 
 
+def _say(text: str) -> None:
+    """Writes a line to standard error, if there still is one."""
+    if sys.__stderr__ is not None:
+        with contextlib.suppress(OSError, ValueError):
+            print(f"itc_trace: {text}", file=sys.__stderr__, flush=True)
+
+
 def _clean(hint: str, room: int) -> str:
     name = re.sub(r"[^A-Za-z0-9]+", "_", hint).strip("_")
     return name[:room].strip("_") or "task"
@@ -172,6 +179,8 @@ class Tracer:
         """Those in the middle of which their task had another event."""
         self._writing = _thread.RLock()
         self._is_over = False
+        self._missed: dict[str, object] = {}
+        """What was not seen of the run, while tracing went on, and something of whoever told of it."""
         self._all_sent = False
         self._switch = _thread.allocate_lock()
         self._hurry = _thread.allocate_lock()
@@ -331,15 +340,32 @@ class Tracer:
                 state.note = None
         self._write_touches(is_last=True)
         self._journal_row(Unseen(cause, reason).row())
-        self.notes.clear()
         self._end_session()
-        while self._outstanding:
-            waiter = self._outstanding.popleft().waiter
-            if waiter is not None:
-                waiter.answer(False)
-        if sys.__stderr__ is not None:
-            print(f"itc_trace: tracing stops: {reason}", file=sys.__stderr__, flush=True)
+        self._let_go()
+        _say(f"tracing stops: {reason}")
         self._ended.answer(True)
+
+    def _let_go(self) -> None:
+        """Nobody waits for an answer any more. Other threads may take notes and reports meanwhile, too."""
+        with contextlib.suppress(IndexError):
+            while True:
+                _, note = self.notes.popleft()
+                for word in note:
+                    if isinstance(word, Waiter):
+                        word.answer(False)
+        with contextlib.suppress(IndexError):
+            while True:
+                waiter = self._outstanding.popleft().waiter
+                if waiter is not None:
+                    waiter.answer(False)
+
+    def miss(self, unseen: Unseen) -> None:
+        """Tells of something that is not seen of the run, while tracing goes on. What was told is not told again."""
+        mine = object()
+        if self._is_over or state.tracer is not self or self._missed.setdefault(unseen.text, mine) is not mine:
+            return
+        self._journal_row(unseen.row())
+        _say(unseen.text)
 
     def _journal_row(self, row: str) -> None:
         try:
@@ -356,6 +382,12 @@ class Tracer:
     def hurry(self) -> None:
         """Has the notes reported at once."""
         _release(self._hurry)
+
+    def look_after(self, waiter: Waiter) -> None:
+        """Has the note with this waiter reported at once. If nothing is reported any more, nobody waits."""
+        self.hurry()
+        if self._is_over:
+            waiter.answer(False)
 
     def fresh_message(self) -> str:
         return f"{self.prefix}out_{next(self._outside_numbers)}"
@@ -604,10 +636,13 @@ class Tracer:
         except BaseException:
             waiter.answer(False)
             raise
+        self._answer_to(waiter, self._spawn(parent, child, code, instruction))
+
+    def _answer_to(self, waiter: Waiter, report: Outstanding) -> None:
+        """Lets whoever waits go on once the report is answered, or if it will not be."""
+        report.waiter = waiter
         if self._is_over:
             waiter.answer(False)
-        else:
-            self._spawn(parent, child, code, instruction).waiter = waiter
 
     def _finish(self, line: Line, ends: bool, is_awaited: bool) -> None:
         """The task does nothing more. A thread ends at once, where several wait for it with a message for all of them."""
@@ -765,8 +800,7 @@ class Tracer:
             self._join_now(taker, line, None, 0, f"join {line.name}")
 
     def _send_outside(self, line: Line, message: str, waiter: Waiter, code: CodeType | None, instruction: int) -> None:
-        report = self._report(line, "send", message, code, instruction, "send to another process")
-        report.waiter = waiter
+        self._answer_to(waiter, self._report(line, "send", message, code, instruction, "send to another process"))
         self._sent(line, message, None)
         if self._parts is not None:
             self._parts.sent_outside(message)
@@ -818,9 +852,10 @@ class Tracer:
         """Waits until all that was reported is answered."""
         answered = self._put(Report("count", ""), None, 0, "")
         answered.text, self._texts[-1] = "count\n", "count\n"
-        answered.waiter = Waiter()
+        waiter = Waiter()
+        self._answer_to(waiter, answered)
         self._flush()
-        self._await(answered.waiter)
+        self._await(waiter)
 
     def _share(self, parts: Parts) -> None:
         """Goes on in the same trace beside other processes, by a relay. It is not divided any more."""

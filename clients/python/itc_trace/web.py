@@ -7,12 +7,15 @@ import sys
 import urllib.request
 from collections.abc import Callable, Iterable
 from http.client import HTTPResponse
-from types import FrameType
+from types import CodeType, FrameType
 from typing import Any
 
+from .file_names import name_of_file
+from .journal import line_of
 from .lines import RECV, SEND, state
 from .noting import current, place
-from .tracer import ANSWER_WAIT, Waiter
+from .tracer import ANSWER_WAIT, Tracer, Waiter
+from .verdict import Cause, Unseen
 
 HEADER = "Itc-Trace"
 VARIABLE = "HTTP_ITC_TRACE"
@@ -33,9 +36,11 @@ def outgoing() -> str | None:
 class Sending:
     """A message that is on its way to the collector. Its name is handed on once the collector has it."""
 
-    def __init__(self, message: str, waiter: Waiter) -> None:
+    def __init__(self, message: str, waiter: Waiter, tracer: Tracer, where: tuple[CodeType | None, int]) -> None:
         self._message = message
         self._waiter = waiter
+        self._tracer = tracer
+        self._where = where
 
     @staticmethod
     def begin(frame: FrameType | None) -> Sending | None:
@@ -43,13 +48,21 @@ class Sending:
         note, tracer = state.note, state.tracer
         if note is None or tracer is None:
             return None
-        message, waiter = tracer.fresh_message(), Waiter()
-        note((SEND, current(), message, waiter, *place(frame)))
-        tracer.hurry()
-        return Sending(message, waiter)
+        message, waiter, where = tracer.fresh_message(), Waiter(), place(frame)
+        note((SEND, current(), message, waiter, *where))
+        tracer.look_after(waiter)
+        return Sending(message, waiter, tracer, where)
 
     def name(self) -> str | None:
-        return self._message if self._waiter.wait(ANSWER_WAIT) else None
+        """It waits for the collector. None if that does not answer: then nobody comes after the message, and that is told."""
+        if self._waiter.wait(ANSWER_WAIT):
+            return self._message
+        self._tracer.miss(Unseen(Cause.COLLECTOR, f"{self._words()} was not followed: the collector did not answer within {ANSWER_WAIT:g} s"))
+        return None
+
+    def _words(self) -> str:
+        code, instruction = self._where
+        return "a message" if code is None else f"the message of {name_of_file(code.co_filename)}:{line_of(code, instruction)}"
 
 
 def incoming(message: str | None) -> None:
