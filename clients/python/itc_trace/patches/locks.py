@@ -277,10 +277,11 @@ def _remove(line: Line, identity: LockIdentity) -> None:
 def took(lock: Any) -> None:
     """Notes that the lock was acquired. While it is held nobody else needs the place of its last release."""
     token = lock._itc_token
-    if token is not None and token.line.section is not None and token.line.section.token is token:
+    section = None if token is None else token.line.section  # Looked at once: another task may leave its own meanwhile.
+    if token is not None and section is not None and section.token is token:
         line = line_of_now()
-        if line is token.line and line.section is not None and _is_in_turn(line.section.stretch):
-            _entered_again(lock, line, line.section)
+        if line is token.line and line.section is section and _is_in_turn(section.stretch):
+            _entered_again(lock, line, section)
             return
     line = current()
     lock._itc_holder = line

@@ -8,7 +8,7 @@ from collections import deque
 from typing import Any
 
 from ..handed_on import called, handed_at
-from ..lines import BARRIER, EVENT, FINISH, JOIN, NOTIFY, SEMAPHORE, SPAWN, Line, state
+from ..lines import BARRIER, EVENT, FINISH, JOIN, NOTIFY, SEMAPHORE, SPAWN, Line, Token, state
 from ..noting import current, enter, frame_at, is_internal, mark, place, take, thread_name
 from .base import Patches, like
 from .exits import await_at_exit
@@ -144,11 +144,17 @@ def _join(original: Any) -> Any:
             original(self, timeout)
         finally:
             line.waiting -= 1
-        if not threading.Thread.is_alive.__wrapped__(self):  # type: ignore[attr-defined]
+        if _has_seen_end(self):
             _note_join(self, line)
         return None
 
     return join
+
+
+def _has_seen_end(thread: Any) -> bool:
+    """Whether `join` has seen the thread's end. If it has waited for too short a time, the thread may end right behind it."""
+    is_stopped: bool | None = thread.__dict__.get("_is_stopped")
+    return not threading.Thread.is_alive.__wrapped__(thread) if is_stopped is None else is_stopped  # type: ignore[attr-defined]
 
 
 def _is_alive(original: Any) -> Any:
@@ -232,11 +238,14 @@ def _condition_notify(original: Any) -> Any:
 def _condition_wait(original: Any) -> Any:
     def wait(self: Any, timeout: float | None = None) -> bool:
         is_of_condition(self._lock)
+        is_woken = False
         try:
-            return bool(original(self, timeout))
+            is_woken = bool(original(self, timeout))
         finally:
-            if type(self._waiters) is Waiters:
-                take(self._waiters.woken())
+            token = self._waiters.woken() if type(self._waiters) is Waiters else None
+            if is_woken:  # Else nobody has told it of a call that came when its time was over.
+                take(token)
+        return is_woken
 
     return wait
 
@@ -256,38 +265,71 @@ def _put_events(patches: Patches) -> None:
         patches.wrap(event, "isSet", _event_is_set)
 
 
+class _EventWaiters(Waiters):
+    """Those who wait for an event of the program. The call that sets it tells them by itself of its place."""
+
+
 def _event_begin(original: Any) -> Any:
     def __init__(self: Any) -> None:
         original(self)
         self._itc_is_silent = is_internal(frame_at(1))
+        if not self._itc_is_silent:
+            self._cond._waiters = _EventWaiters()
 
     return __init__
 
 
+def _is_noted(event: Any) -> bool:
+    return state.note is not None and type(event._cond._waiters) is _EventWaiters
+
+
 def _event_set(original: Any) -> Any:
+    """Nobody sees the event set before its place is known, and none who finds it set has a place."""
+
     def set(self: Any) -> None:
-        if state.note is not None and not self._flag and not self._itc_is_silent:
-            self._itc_token = mark(EVENT)
-        original(self)
+        if not _is_noted(self):
+            original(self)
+            return
+        token = None if self._flag else mark(EVENT)
+        with self._cond:
+            if not self._flag:
+                self._itc_token = token or mark(EVENT)
+                self._flag = True
+            self._cond._waiters.are_notified(self._itc_token, len(self._cond._waiters))
+            self._cond.notify_all()
 
     return set
 
 
 def _event_wait(original: Any) -> Any:
+    """Whoever has waited comes after the call that woke it, also if another one has set the event anew meanwhile."""
+
     def wait(self: Any, timeout: float | None = None) -> bool:
-        is_set = bool(original(self, timeout))
-        if is_set and self._itc_token is not None:
-            take(self._itc_token)
-        return is_set
+        if not _is_noted(self):
+            return bool(original(self, timeout))
+        with self._cond:
+            is_on, token = bool(self._flag), self._itc_token
+            if not is_on:
+                try:
+                    is_on = bool(self._cond.wait(timeout))
+                finally:
+                    token = self._cond._waiters.woken()
+        if is_on:
+            take(token)
+        return is_on
 
     return wait
 
 
 def _event_is_set(original: Any) -> Any:
+    """If another one sets it anew meanwhile, it looks again."""
+
     def is_set(self: Any) -> bool:
-        is_on = bool(original(self))
-        if is_on and self._itc_token is not None and not is_internal(frame_at(1)):
-            take(self._itc_token)
+        token, is_on = self._itc_token, bool(original(self))
+        while token is not self._itc_token:
+            token, is_on = self._itc_token, bool(original(self))
+        if is_on and token is not None and not is_internal(frame_at(1)):
+            take(token)
         return is_on
 
     return is_set
@@ -315,12 +357,35 @@ def _semaphore_begin(original: Any) -> Any:
     return __init__
 
 
+class _Counted:
+    """Stands for a semaphore while the library counts, so that its permits go from hand to hand while nobody else has the semaphore."""
+
+    __slots__ = ("_itc_semaphore", "_itc_token")
+
+    def __init__(self, semaphore: Any, token: Token | None = None) -> None:
+        object.__setattr__(self, "_itc_semaphore", semaphore)
+        object.__setattr__(self, "_itc_token", token)
+
+    def __getattr__(self, name: str) -> Any:
+        return getattr(self._itc_semaphore, name)
+
+    def __setattr__(self, name: str, value: Any) -> None:
+        semaphore = self._itc_semaphore
+        if name == "_value":
+            more, permits = value - semaphore._value, semaphore._itc_permits
+            permits.extend([self._itc_token] * more)
+            if more < 0 and permits:
+                object.__setattr__(self, "_itc_token", permits.popleft())
+        setattr(semaphore, name, value)
+
+
 def _semaphore_acquire(original: Any) -> Any:
     def acquire(self: Any, blocking: bool = True, timeout: float | None = None) -> bool:
-        is_acquired = bool(original(self, blocking, timeout))
-        permits = self.__dict__.get("_itc_permits")
-        if is_acquired and permits:
-            take(permits.popleft())
+        if "_itc_permits" not in self.__dict__:
+            return bool(original(self, blocking, timeout))
+        counted = _Counted(self)
+        is_acquired = bool(original(counted, blocking, timeout))
+        take(counted._itc_token)
         return is_acquired
 
     return acquire
@@ -328,17 +393,9 @@ def _semaphore_acquire(original: Any) -> Any:
 
 def _semaphore_release(original: Any) -> Any:
     def release(self: Any, n: int = 1) -> None:
-        permits = self.__dict__.get("_itc_permits")
-        if permits is None:
+        if "_itc_permits" not in self.__dict__:
             return original(self, n)  # type: ignore[no-any-return]
-        token = mark(SEMAPHORE)
-        permits.extend([token] * n)
-        try:
-            return original(self, n)  # type: ignore[no-any-return]
-        except BaseException:
-            for _ in range(n):
-                permits.pop()
-            raise
+        return original(_Counted(self, mark(SEMAPHORE)), n)  # type: ignore[no-any-return]
 
     return release
 
