@@ -107,13 +107,23 @@ def room_of(one: Any, size: int) -> Room:
     return room
 
 
-class _Bounded:
-    """Stands for a bounded queue while the library puts or gets, so that its order is seen while nobody else has the queue."""
+class _Seen:
+    """Stands for a queue while the library puts or gets, so that its order is seen while nobody else has the queue.
 
-    __slots__ = ("_itc_queue",)
+    Else two threads that put one thing, as None, might be taken for each other.
+    """
+
+    __slots__ = ("_itc_queue", "_itc_token", "not_empty", "not_full")
+
+    _itc_queue: Any
+    _itc_token: Token | None
 
     def __init__(self, one: Any) -> None:
-        object.__setattr__(self, "_itc_queue", one)
+        keep = object.__setattr__
+        keep(self, "_itc_queue", one)
+        keep(self, "_itc_token", None)
+        keep(self, "not_empty", one.not_empty)
+        keep(self, "not_full", one.not_full)
 
     def __getattr__(self, name: str) -> Any:
         return getattr(self._itc_queue, name)
@@ -123,45 +133,43 @@ class _Bounded:
 
     def _put(self, item: Any) -> None:
         one = self._itc_queue
-        room_of(one, one._qsize()).use()
-        items_of(one).add(item, mark(QUEUE))
-        one._put(item)
+        if has_few_places(one):
+            room_of(one, one._qsize()).use()
+        items = items_of(one)
+        items.add(item, mark(QUEUE))
+        try:
+            one._put(item)
+        except BaseException:
+            items.remove(item, from_end=True)
+            raise
 
     def _get(self) -> Any:
         one = self._itc_queue
-        room = room_of(one, one._qsize())
+        room = room_of(one, one._qsize()) if has_few_places(one) else None
         item = one._get()
-        take(items_of(one).remove(item))
-        room.make()
+        token = items_of(one).remove(item)
+        if room is None:
+            object.__setattr__(self, "_itc_token", token)
+        else:
+            take(token)
+            room.make()
         return item
 
 
 def _put(original: Any) -> Any:
     def put(self: Any, item: Any, block: bool = True, timeout: float | None = None) -> None:
-        if 0 < self.maxsize <= MOST_PLACES and state.note is not None:
-            return original(_Bounded(self), item, block, timeout)  # type: ignore[no-any-return]
-        token = mark(QUEUE)
-        if token is None:
-            return original(self, item, block, timeout)  # type: ignore[no-any-return]
-        items = items_of(self)
-        items.add(item, token)
-        try:
-            return original(self, item, block, timeout)  # type: ignore[no-any-return]
-        except BaseException:
-            items.remove(item, from_end=True)
-            raise
+        return original(self if state.note is None else _Seen(self), item, block, timeout)  # type: ignore[no-any-return]
 
     return put
 
 
 def _get(original: Any) -> Any:
     def get(self: Any, block: bool = True, timeout: float | None = None) -> Any:
-        if 0 < self.maxsize <= MOST_PLACES and state.note is not None:
-            return original(_Bounded(self), block, timeout)
-        item = original(self, block, timeout)
-        items = self.__dict__.get("_itc_items")
-        if items is not None:
-            take(items.remove(item))
+        if state.note is None:
+            return original(self, block, timeout)
+        seen = _Seen(self)
+        item = original(seen, block, timeout)
+        take(seen._itc_token)  # Nobody waits for the queue meanwhile.
         return item
 
     return get
@@ -175,10 +183,14 @@ def note_done(one: Any) -> None:
             one.__dict__.setdefault("_itc_done", {})[token.line] = token
 
 
-def take_done(one: Any) -> None:
+def done_of(one: Any) -> list[Token]:
+    """The places that whoever has waited for all items comes after."""
     with _guard:
-        tokens = list(one.__dict__.get("_itc_done", {}).values())
-    for token in tokens:
+        return list(one.__dict__.get("_itc_done", {}).values())
+
+
+def take_done(one: Any) -> None:
+    for token in done_of(one):
         take(token, 3)
 
 
@@ -191,9 +203,18 @@ def _task_done(original: Any) -> Any:
 
 
 def _join(original: Any) -> Any:
+    """What is done behind the moment in which all was done is none of what it has waited for."""
+
     def join(self: Any) -> None:
-        original(self)
-        take_done(self)
+        if state.note is None:
+            return original(self)  # type: ignore[no-any-return]
+        with self.all_tasks_done:
+            while self.unfinished_tasks:
+                self.all_tasks_done.wait()
+            tokens = done_of(self)
+        for token in tokens:
+            take(token)
+        return None
 
     return join
 
