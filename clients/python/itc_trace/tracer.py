@@ -158,7 +158,8 @@ class Tracer:
         """Each with the time at which it was taken."""
         self._time = 0.0
         """That of the note which is looked at."""
-        self.lines_made = 0
+        self.next_job: Callable[[], int] = itertools.count(1).__next__
+        """Gives each job of a pool a number of its own."""
         self.most_lines = MOST_TASKS // 2
         self._journal = journal
         self._parts = parts

@@ -9,7 +9,7 @@ from __future__ import annotations
 import concurrent.futures
 import concurrent.futures._base as base
 import concurrent.futures.thread as pools
-from collections.abc import Iterator
+from collections.abc import Callable, Iterator
 from typing import Any
 
 from ..handed_on import called, handed_at, watched_place
@@ -20,6 +20,7 @@ from .base import Patches, like
 from .exits import await_at_exit
 
 _DONE = {base.CANCELLED, base.CANCELLED_AND_NOTIFIED, base.FINISHED}
+_WAITING = (base.PENDING, base.RUNNING)
 
 
 def put(patches: Patches) -> None:
@@ -32,6 +33,7 @@ def put(patches: Patches) -> None:
     for name in ("result", "exception"):
         patches.wrap(future, name, _result)
     patches.wrap(future, "cancel", _cancel)
+    patches.wrap(future, "_invoke_callbacks", _invoke_callbacks)
     patches.wrap(future, "done", _done)
     patches.wrap(future, "add_done_callback", _add_done_callback)
     _put_pools(patches)
@@ -69,33 +71,66 @@ def take_any(future: Any, depth: int = 2) -> None:
         take_result(future, depth + 1)
 
 
+def _settle(future: Any, token: Token | None, are_waiting: tuple[str, ...], settle: Callable[[], Any]) -> Any:
+    """Gives the future its result, if it is in one of these states, and its place with it. Whoever comes too late gives no place.
+
+    Nobody sees the one without the other, as nobody else has the future meanwhile. Its callbacks are called behind that.
+    """
+    with future._condition:
+        if future._state in are_waiting:
+            future._itc_token = token
+        before, local.settled = getattr(local, "settled", None), [future]
+        try:
+            told = settle()
+        finally:
+            settled, local.settled = local.settled, before
+    for one in settled[1:]:
+        one._invoke_callbacks()
+    return told
+
+
+def _invoke_callbacks(original: Any) -> Any:
+    def _invoke_callbacks(self: Any) -> None:
+        settled = getattr(local, "settled", None)
+        if settled is not None and settled[0] is self:
+            settled.append(self)
+        else:
+            original(self)
+
+    return _invoke_callbacks
+
+
 def _set(original: Any) -> Any:
     def set(self: Any, value: Any) -> None:
-        if state.note is not None and not self._itc_sources:
-            self._itc_token = mark(RESULT)
-        original(self, value)
+        if state.note is None or self._itc_sources:
+            original(self, value)
+        else:
+            _settle(self, mark(RESULT), _WAITING, lambda: original(self, value))
 
     return set
 
 
 def _cancel(original: Any) -> Any:
     def cancel(self: Any) -> bool:
-        token = mark(RESULT)
-        is_cancelled = bool(original(self))
-        if is_cancelled and self._itc_token is None and not is_settled_by_source(self):
-            self._itc_token = token
-        return is_cancelled
+        if state.note is None or is_settled_by_source(self):
+            return bool(original(self))
+        return bool(_settle(self, mark(RESULT), (base.PENDING,), lambda: original(self)))
 
     return cancel
 
 
 def _result(original: Any) -> Any:
+    """Whoever waits for too short a time has not seen the result, though it may come right behind that."""
+
     def result(self: Any, timeout: float | None = None) -> Any:
         try:
-            return original(self, timeout)
-        finally:
-            if self._state in _DONE:
+            told = original(self, timeout)
+        except BaseException as error:
+            if error is self._exception or isinstance(error, base.CancelledError) and self._state in _DONE:
                 take_result(self)
+            raise
+        take_result(self)
+        return told
 
     return result
 
@@ -197,10 +232,10 @@ def _begin_job(item: Any, future: Any, pool: Any, name: str) -> None:
     note, tracer = state.note, state.tracer
     if note is None or tracer is None:
         return
-    tracer.lines_made += 1
-    if pool._max_workers == 1 or tracer.lines_made > tracer.most_lines:
+    number = tracer.next_job()
+    if pool._max_workers == 1 or number > tracer.most_lines:
         item._itc_submitted = mark(SUBMIT, 5)
-        item._itc_job = 0 if pool._max_workers == 1 else tracer.lines_made
+        item._itc_job = 0 if pool._max_workers == 1 else number
         return
     line = Line(tracer, name + "#")
     line.watch(future)

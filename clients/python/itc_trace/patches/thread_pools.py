@@ -179,9 +179,9 @@ class _Jobs:
         has_initializer = getattr(pool, "_initializer", None) is not None
         if pool._processes == 1:
             return _Job(awaited, job[1], None, 0, has_initializer)
-        tracer.lines_made += 1
-        if tracer.lines_made > tracer.most_lines:
-            return _Job(awaited, job[1], None, tracer.lines_made, has_initializer)
+        number = tracer.next_job()
+        if number > tracer.most_lines:
+            return _Job(awaited, job[1], None, number, has_initializer)
         line = Line(tracer, f"{self._name_of(job)}#")
         line.must_finish = True
         line.watch(result)
@@ -271,9 +271,12 @@ def _called_back(callback: Any, awaited: _Awaited) -> Any:
 
 
 def _wait(original: Any) -> Any:
+    """Whoever waits for too short a time has not seen the result, though it may come right behind that."""
+
     def wait(self: Any, timeout: float | None = None) -> None:
-        original(self, timeout)
-        if self._event.is_set():
+        if "_itc_awaited" not in self.__dict__:
+            original(self, timeout)
+        elif self._event.wait(timeout):
             _take_result(self)
 
     return wait
