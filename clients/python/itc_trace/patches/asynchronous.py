@@ -103,12 +103,17 @@ def _awaiting(plain: Any) -> Any:
 
 
 def _looking(plain: Any, name: str) -> Any:
-    original = getattr(plain, name)
+    original, is_done = getattr(plain, name), _PlainFuture.done
 
     def look(self: Any) -> Any:
-        if state.note is not None and self.done() and not _waits_inside(frame_at(1)):
-            take_any(self)
-        return original(self)
+        is_seen = is_done(self)
+        try:
+            told = original(self)
+            is_seen = True  # It may have come from another thread in between.
+            return told
+        finally:
+            if is_seen and state.note is not None and not _waits_inside(frame_at(1)):
+                take_any(self)
 
     return like(original, look)
 
@@ -225,14 +230,14 @@ class TracedFuture(_PlainFuture, metaclass=_LikePlain):  # type: ignore[misc]
     _itc_called: Any = ()
 
     def set_result(self, result: Any) -> None:
-        if not self._itc_sources:
-            self._itc_token = mark(RESULT)
+        token = None if self._itc_sources else mark(RESULT)
         super().set_result(result)
+        self._itc_token = token  # Whoever comes too late gives no result.
 
     def set_exception(self, exception: Any) -> None:
-        if not self._itc_sources:
-            self._itc_token = mark(RESULT)
+        token = None if self._itc_sources else mark(RESULT)
         super().set_exception(exception)
+        self._itc_token = token
 
     def cancel(self, msg: Any = None) -> bool:
         token = mark(RESULT)
@@ -320,11 +325,12 @@ def _naming(original: Any) -> Any:
     def create_task(*words: Any, name: Any = None, **named: Any) -> Any:
         if name is None or state.note is None:
             return original(*words, name=name, **named)
-        _named[id(words[-1])] = str(name)
+        coroutine = id(named["coro"] if "coro" in named else words[-1] if words else None)
+        _named[coroutine] = str(name)
         try:
             return original(*words, name=name, **named)
         finally:
-            _named.pop(id(words[-1]), None)
+            _named.pop(coroutine, None)
 
     return create_task
 
@@ -623,6 +629,8 @@ def _event_begin(original: Any) -> Any:
     def __init__(self: Any, **named: Any) -> None:
         original(self, **named)
         self._itc_is_silent = is_internal(frame_at(1))
+        if not self._itc_is_silent:
+            self._waiters = Waiters()
 
     return __init__
 
@@ -631,15 +639,23 @@ def _event_set(original: Any) -> Any:
     def set(self: Any) -> None:
         if state.note is not None and not self._value and not self._itc_is_silent:
             self._itc_token = mark(EVENT)
+            self._waiters.are_notified(self._itc_token, len(self._waiters))
         original(self)
 
     return set
 
 
 def _event_wait(original: Any) -> Any:
+    """Whoever has waited comes after the call that woke it, also if another one has set the event anew meanwhile."""
+
     async def wait(self: Any) -> Any:
-        told = await original(self)
-        take(self._itc_token)
+        is_set, token = self._value, self._itc_token
+        try:
+            told = await original(self)
+        finally:
+            if not is_set and type(self._waiters) is Waiters:
+                token = self._waiters.woken()
+        take(token)
         return told
 
     return wait
