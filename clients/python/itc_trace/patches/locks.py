@@ -163,10 +163,10 @@ TracedLock.__name__ = TracedLock.__qualname__ = "allocate_lock"
 TracedRLock.__name__ = TracedRLock.__qualname__ = "RLock"
 
 
-def traced_lock(frame: Any) -> Any:
-    """One that was made where the frame stands."""
-    made = object.__new__(TracedLock)
-    made._lock = _allocate()
+def traced_lock(frame: Any, kind: Any = TracedLock, lock: Any = None) -> Any:
+    """One that was made where the frame stands, or a lock that is there already."""
+    made = object.__new__(kind)
+    made._lock = lock or _allocate()
     made._itc_identity = LockIdentity("Lock", frame)
     made._itc_token = made._itc_holder = None
     return made

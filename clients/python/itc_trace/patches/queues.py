@@ -4,8 +4,12 @@ from __future__ import annotations
 
 import _thread
 import asyncio
+import functools
+import linecache
 import math
 import queue
+import re
+import sys
 import threading
 from collections import deque
 from typing import Any
@@ -13,7 +17,7 @@ from typing import Any
 from ..lines import DONE_ITEM, QUEUE, ROOM, Token, state
 from ..noting import frame_at, is_internal, mark, take
 from .base import Patches
-from .locks import traced_lock
+from .locks import TracedLock, gave, took, traced_lock
 
 _guard = vars(_thread)["RLock"]()
 _PlainSimpleQueue: Any = queue.SimpleQueue
@@ -22,6 +26,7 @@ MOST_PLACES = 16
 """Who puts into a queue of more places comes after nobody: such a queue bounds memory, and to tell it would take an event an item."""
 
 
+_CONDITIONS = re.compile(r"\.(not_empty|not_full|all_tasks_done)\b")
 _INSIDE = ("_init", "_put", "_get", "_qsize")
 """Methods that a queue calls while it holds its own lock."""
 
@@ -38,10 +43,54 @@ def put(patches: Patches) -> None:
 def _begin(original: Any) -> Any:
     def __init__(self: Any, maxsize: int = 0) -> None:
         original(self, maxsize)
-        if any(getattr(getattr(type(self), name), "__module__", "") != "queue" for name in _INSIDE):
-            _trace_lock(self, frame_at(1))
+        frame, kind = frame_at(1), type(self)
+        if any(getattr(getattr(kind, name), "__module__", "") != "queue" for name in _INSIDE) or _waits_by_itself(kind, frame):
+            _trace_lock(self, frame)
+        elif not is_internal(frame):
+            self.mutex = traced_lock(frame, _Mutex, self.mutex)
 
     return __init__
+
+
+def _waits_by_itself(kind: type, frame: Any) -> bool:
+    """Whether code of the program may wait at the conditions of the queue, or notify those who wait."""
+    files = {getattr(sys.modules.get(one.__module__), "__file__", None) for one in kind.__mro__ if one.__module__ not in ("queue", "builtins")}
+    files |= set() if frame is None or is_internal(frame) else {frame.f_code.co_filename}
+    return any(_names_conditions(file) for file in files if isinstance(file, str))
+
+
+@functools.cache
+def _names_conditions(file: str) -> bool:
+    return any(_CONDITIONS.search(line) for line in linecache.getlines(file))
+
+
+class _Mutex(TracedLock):
+    """The lock of a queue, as the program has it. What the library does while it holds the lock gives no order by that."""
+
+    __slots__ = ()
+
+    def acquire(self, blocking: bool = True, timeout: float = -1) -> bool:
+        if not self._lock.acquire(blocking, timeout):
+            return False
+        if state.note is not None and not is_internal(frame_at(1)):
+            took(self)
+        return True
+
+    def __enter__(self) -> bool:
+        self._lock.acquire()
+        if state.note is not None and not is_internal(frame_at(1)):
+            took(self)
+        return True
+
+    def release(self) -> None:
+        if state.note is not None and not is_internal(frame_at(1)):
+            gave(self)
+        self._lock.release()
+
+    def __exit__(self, *_: object) -> None:
+        if state.note is not None and not is_internal(frame_at(1)):
+            gave(self)
+        self._lock.release()
 
 
 def _trace_lock(one: Any, frame: Any) -> None:
