@@ -12,6 +12,7 @@ import re
 import sys
 import threading
 from collections import deque
+from types import MethodType
 from typing import Any
 
 from ..lines import DONE_ITEM, QUEUE, ROOM, Token, state
@@ -20,6 +21,8 @@ from .base import Patches
 from .locks import TracedLock, gave, took, traced_lock
 
 _guard = vars(_thread)["RLock"]()
+_own_steps: set[Any] = set()
+"""The methods by which the queues of the library put and get."""
 _PlainSimpleQueue: Any = queue.SimpleQueue
 _STACKS = queue.LifoQueue, asyncio.LifoQueue
 MOST_PLACES = 16
@@ -35,6 +38,10 @@ def put(patches: Patches) -> None:
     patches.wrap(queue.Queue, "__init__", _begin)
     patches.wrap(queue.Queue, "put", _put)
     patches.wrap(queue.Queue, "get", _get)
+    for kind in (queue.Queue, queue.LifoQueue, queue.PriorityQueue):
+        patches.wrap(kind, "_put", _put_inside)
+        patches.wrap(kind, "_get", _get_inside)
+        _own_steps.update((vars(kind)["_put"], vars(kind)["_get"]))
     patches.wrap(queue.Queue, "task_done", _task_done)
     patches.wrap(queue.Queue, "join", _join)
     patches.replace(queue, "SimpleQueue", TracedSimpleQueue)
@@ -156,23 +163,55 @@ def room_of(one: Any, size: int) -> Room:
     return room
 
 
+def _put_item(one: Any, item: Any, put: Any) -> None:
+    """The library puts the item, while nobody else has the queue. Else two threads that put one thing might be taken for each other."""
+    if has_few_places(one):
+        room_of(one, one._qsize()).use()
+    items = items_of(one)
+    items.add(item, mark(QUEUE, 3))
+    try:
+        put(item)
+    except BaseException:
+        items.remove(item, from_end=True)
+        raise
+
+
+def _get_item(one: Any, get: Any) -> Any:
+    """The library takes an item out, while nobody else has the queue."""
+    room = room_of(one, one._qsize()) if has_few_places(one) else None
+    item = get()
+    take(items_of(one).remove(item), 3)
+    if room is not None:
+        room.make()
+    return item
+
+
+def _put_inside(original: Any) -> Any:
+    def _put(self: Any, item: Any) -> None:
+        if state.note is None or type(self)._put not in _own_steps:
+            original(self, item)
+        else:
+            _put_item(self, item, MethodType(original, self))
+
+    return _put
+
+
+def _get_inside(original: Any) -> Any:
+    def _get(self: Any) -> Any:
+        if state.note is None or type(self)._get not in _own_steps:
+            return original(self)
+        return _get_item(self, MethodType(original, self))
+
+    return _get
+
+
 class _Seen:
-    """Stands for a queue while the library puts or gets, so that its order is seen while nobody else has the queue.
+    """Stands for a queue that puts or gets by code of the program, while the library calls that."""
 
-    Else two threads that put one thing, as None, might be taken for each other.
-    """
-
-    __slots__ = ("_itc_queue", "_itc_token", "not_empty", "not_full")
-
-    _itc_queue: Any
-    _itc_token: Token | None
+    __slots__ = ("_itc_queue",)
 
     def __init__(self, one: Any) -> None:
-        keep = object.__setattr__
-        keep(self, "_itc_queue", one)
-        keep(self, "_itc_token", None)
-        keep(self, "not_empty", one.not_empty)
-        keep(self, "not_full", one.not_full)
+        object.__setattr__(self, "_itc_queue", one)
 
     def __getattr__(self, name: str) -> Any:
         return getattr(self._itc_queue, name)
@@ -181,45 +220,24 @@ class _Seen:
         setattr(self._itc_queue, name, value)
 
     def _put(self, item: Any) -> None:
-        one = self._itc_queue
-        if has_few_places(one):
-            room_of(one, one._qsize()).use()
-        items = items_of(one)
-        items.add(item, mark(QUEUE))
-        try:
-            one._put(item)
-        except BaseException:
-            items.remove(item, from_end=True)
-            raise
+        _put_item(self._itc_queue, item, self._itc_queue._put)
 
     def _get(self) -> Any:
-        one = self._itc_queue
-        room = room_of(one, one._qsize()) if has_few_places(one) else None
-        item = one._get()
-        token = items_of(one).remove(item)
-        if room is None:
-            object.__setattr__(self, "_itc_token", token)
-        else:
-            take(token)
-            room.make()
-        return item
+        return _get_item(self._itc_queue, self._itc_queue._get)
 
 
 def _put(original: Any) -> Any:
     def put(self: Any, item: Any, block: bool = True, timeout: float | None = None) -> None:
-        return original(self if state.note is None else _Seen(self), item, block, timeout)  # type: ignore[no-any-return]
+        is_own = state.note is None or type(self)._put in _own_steps
+        return original(self if is_own else _Seen(self), item, block, timeout)  # type: ignore[no-any-return]
 
     return put
 
 
 def _get(original: Any) -> Any:
     def get(self: Any, block: bool = True, timeout: float | None = None) -> Any:
-        if state.note is None:
-            return original(self, block, timeout)
-        seen = _Seen(self)
-        item = original(seen, block, timeout)
-        take(seen._itc_token)  # Nobody waits for the queue meanwhile.
-        return item
+        is_own = state.note is None or type(self)._get in _own_steps
+        return original(self if is_own else _Seen(self), block, timeout)
 
     return get
 

@@ -8,8 +8,8 @@ from collections import deque
 from typing import Any
 
 from ..handed_on import called, handed_at
-from ..lines import BARRIER, EVENT, FINISH, JOIN, NOTIFY, SEMAPHORE, SPAWN, Line, Token, state
-from ..noting import current, enter, frame_at, is_internal, mark, place, take, thread_name
+from ..lines import BARRIER, EVENT, FINISH, JOIN, NOTIFY, SEMAPHORE, SPAWN, Line, state
+from ..noting import current, enter, frame_at, is_internal, local, mark, place, take, thread_name
 from .base import Patches, like
 from .exits import await_at_exit
 from .locks import TracedLock, TracedRLock, is_of_condition, traced_rlock
@@ -340,6 +340,7 @@ def _event_is_set(original: Any) -> Any:
 
 def _put_semaphores(patches: Patches) -> None:
     semaphore, bounded = threading.Semaphore, threading.BoundedSemaphore
+    patches.put(semaphore, "_value", property(_value, _set_value))
     patches.wrap(semaphore, "__init__", _semaphore_begin)
     patches.wrap(semaphore, "acquire", _semaphore_acquire)
     patches.put(semaphore, "__enter__", semaphore.acquire)
@@ -357,35 +358,28 @@ def _semaphore_begin(original: Any) -> Any:
     return __init__
 
 
-class _Counted:
-    """Stands for a semaphore while the library counts, so that its permits go from hand to hand while nobody else has the semaphore."""
+def _value(self: Any) -> Any:
+    return self.__dict__["_value"]
 
-    __slots__ = ("_itc_semaphore", "_itc_token")
 
-    def __init__(self, semaphore: Any, token: Token | None = None) -> None:
-        object.__setattr__(self, "_itc_semaphore", semaphore)
-        object.__setattr__(self, "_itc_token", token)
-
-    def __getattr__(self, name: str) -> Any:
-        return getattr(self._itc_semaphore, name)
-
-    def __setattr__(self, name: str, value: Any) -> None:
-        semaphore = self._itc_semaphore
-        if name == "_value":
-            more, permits = value - semaphore._value, semaphore._itc_permits
-            permits.extend([self._itc_token] * more)
-            if more < 0 and permits:
-                object.__setattr__(self, "_itc_token", permits.popleft())
-        setattr(semaphore, name, value)
+def _set_value(self: Any, value: Any) -> None:
+    """The library counts here, while nobody else has the semaphore: so the permits go from hand to hand in the order of its counting."""
+    own = self.__dict__
+    permits = own.get("_itc_permits")
+    if permits is not None:
+        more = value - own["_value"]
+        if more > 0:
+            permits.extend([local.permit] * more)
+        elif more < 0:
+            local.permit = permits.popleft() if permits else None
+    own["_value"] = value
 
 
 def _semaphore_acquire(original: Any) -> Any:
     def acquire(self: Any, blocking: bool = True, timeout: float | None = None) -> bool:
-        if "_itc_permits" not in self.__dict__:
-            return bool(original(self, blocking, timeout))
-        counted = _Counted(self)
-        is_acquired = bool(original(counted, blocking, timeout))
-        take(counted._itc_token)
+        is_acquired = bool(original(self, blocking, timeout))
+        if is_acquired and "_itc_permits" in self.__dict__:
+            take(local.permit)
         return is_acquired
 
     return acquire
@@ -393,9 +387,9 @@ def _semaphore_acquire(original: Any) -> Any:
 
 def _semaphore_release(original: Any) -> Any:
     def release(self: Any, n: int = 1) -> None:
-        if "_itc_permits" not in self.__dict__:
-            return original(self, n)  # type: ignore[no-any-return]
-        return original(_Counted(self, mark(SEMAPHORE)), n)  # type: ignore[no-any-return]
+        if "_itc_permits" in self.__dict__:
+            local.permit = mark(SEMAPHORE)
+        return original(self, n)  # type: ignore[no-any-return]
 
     return release
 
