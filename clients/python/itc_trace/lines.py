@@ -56,13 +56,13 @@ OUTSIDE = What("out", "send to another process", "receive from another process")
 
 
 class Line:
-    """The events of one task, in their order. All but the first eight fields belong to the thread that reports.
+    """The events of one task, in their order. All but the first nine fields belong to the thread that reports.
 
     `held` has the locks that the task holds now, in the order of their acquiring.
     """
 
     __slots__ = (
-        "tracer", "hint", "waiting", "reference", "must_finish", "held", "section", "job",
+        "tracer", "hint", "waiting", "reference", "must_finish", "held", "lent", "section", "job",
         "name", "count", "message", "lock", "sent", "pending", "known", "known_by_locks", "parent", "parent_count", "touches",
         "end_token", "is_finished", "has_ended", "is_gone", "joined_by", "joined_at", "joined", "first_taker",
         "is_forgotten", "is_process",
@@ -77,6 +77,8 @@ class Line:
         self.job: LateJob | None = None
         """The pool's job that is done in it, if there are too many jobs for each to be a task of its own."""
         self.held: tuple[LockIdentity, ...] = ()
+        self.lent: tuple[LockIdentity, ...] = ()
+        """The locks that the task held which started it."""
         self.section: Section | None = None
         """The section of a lock that it has left, if it has done nothing else since."""
         self.name = ""

@@ -27,10 +27,11 @@ class LockIdentity:
     A release is a signal if another task acquired the lock. It is one too if a lock is still held that was acquired after it, as
     in a read-write lock that is built of two. From then on `signal` of the lock says so, and of both in the second case.
 
-    The lock of a condition guards what the waiting ones look at. So to acquire it is an order as meant as a wake-up.
+    The lock of a condition guards what the waiting ones look at. So to acquire it is an order as meant as a wake-up. A lock that is held
+    while its task waits for one that it started encloses what that one does, though that one does not hold it.
     """
 
-    __slots__ = ("serial", "kind", "code", "instruction", "number", "signal", "is_of_condition", "_name")
+    __slots__ = ("serial", "kind", "code", "instruction", "number", "signal", "is_of_condition", "encloses_tasks", "_name")
 
     def __init__(self, kind: str, frame: FrameType | None) -> None:
         frame = _maker(frame)
@@ -41,6 +42,7 @@ class LockIdentity:
         self.number = 1
         self.signal: Signal | None = None
         self.is_of_condition = False
+        self.encloses_tasks = False
         self._name = ""
         if frame is not None:
             code = self.code = frame.f_code
@@ -51,7 +53,7 @@ class LockIdentity:
     @property
     def lock(self) -> LockIdentity | None:
         """The lock, where only luck puts those in order who acquire it."""
-        return None if self.is_of_condition else self
+        return None if self.is_of_condition or self.encloses_tasks else self
 
     @property
     def place(self) -> str:

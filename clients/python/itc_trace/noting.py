@@ -13,7 +13,7 @@ from types import CodeType, FrameType
 from typing import Any
 
 from .conflicts import MAKING, READ, WRITE
-from .lines import MARK, SPAWN, TAKE, TOUCH, Line, Note, Token, What, state
+from .lines import MARK, RESULT, SPAWN, TAKE, TOUCH, Line, Note, Token, What, state
 from .stretches import STRETCHES, TURNS, Across, Stretch, Touched, leave
 
 local = threading.local()
@@ -72,6 +72,27 @@ def current() -> Line:
     line = line_of_now()
     line.section = None
     return line
+
+
+def starting(line: Line) -> Line:
+    """The current task, which is about to start the task of this line."""
+    starter = current()
+    line.lent = starter.held
+    return starter
+
+
+def joining(line: Line) -> Line:
+    """The current task, which has seen that the task of this line is done."""
+    joiner = current()
+    _enclose(joiner, line)
+    return joiner
+
+
+def _enclose(line: Line, other: Line) -> None:
+    """The line comes after the other one. What it has held since it started that one encloses all that the other one did."""
+    for lock in other.lent:
+        if lock in line.held:
+            lock.encloses_tasks = True
 
 
 def line_of_now() -> Line:
@@ -196,6 +217,8 @@ def take_at(token: Token | None, frame: FrameType | None) -> None:
     if line is not token.line:
         leave()
         line.section = None
+        if token.line.lent and token.what is RESULT:
+            _enclose(line, token.line)
         note((TAKE, line, token, *place(frame)))
 
 

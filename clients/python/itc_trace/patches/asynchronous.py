@@ -26,7 +26,7 @@ from ..lines import (
     Line, Token, state,
 )
 from ..lock_identity import LockIdentity
-from ..noting import current, frame_at, is_internal, mark, place, take
+from ..noting import frame_at, is_internal, joining, mark, place, starting, take
 from ..stretches import TURNS, leave
 from .base import Patches, like
 from .futures import is_settled_by_source, take_any
@@ -216,7 +216,7 @@ def _spawn(coro: Any, name: Any, depth: int) -> Line | None:
     if note is None:
         return None
     line = Line(state.tracer, str(name) if name else getattr(coro, "__name__", "task") + "#")
-    note((SPAWN, current(), line, *place(frame_at(depth))))
+    note((SPAWN, starting(line), line, *place(frame_at(depth))))
     return line
 
 
@@ -416,7 +416,7 @@ def _group_leave(original: Any) -> Any:
             if note is not None:
                 for line, called in self.__dict__.pop("_itc_lines", ()):
                     if line.tracer is state.tracer:
-                        note((TAKE_END, current(), line, *place(frame_at(1))))
+                        note((TAKE_END, joining(line), line, *place(frame_at(1))))
                     for token in called:
                         take(token)
 

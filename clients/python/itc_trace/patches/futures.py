@@ -14,7 +14,7 @@ from typing import Any
 
 from ..handed_on import called, handed_at, watched_place
 from ..lines import CALLBACK, FINISH, RESULT, SPAWN, SUBMIT, TAKE_END, WORKER, LateJob, Line, Token, state
-from ..noting import current, enter, frame_at, is_internal, local, mark, place, take
+from ..noting import current, enter, frame_at, is_internal, joining, local, mark, place, starting, take
 from ..web import incoming_at
 from .base import Patches, like
 from .exits import await_at_exit
@@ -66,7 +66,7 @@ def take_any(future: Any, depth: int = 2) -> None:
     if line is not None and not isinstance(future, base.Future):
         note = state.note
         if note is not None and line.tracer is state.tracer:
-            note((TAKE_END, current(), line, *place(frame_at(depth))))
+            note((TAKE_END, joining(line), line, *place(frame_at(depth))))
     elif hasattr(future, "_itc_sources"):
         take_result(future, depth + 1)
 
@@ -243,7 +243,7 @@ def _begin_job(item: Any, future: Any, pool: Any, name: str) -> None:
     item._itc_is_after_worker = getattr(pool, "_initializer", None) is not None
     pool.__dict__.setdefault("_itc_jobs", []).append(line)
     await_at_exit(line)
-    note((SPAWN, current(), line, *place(frame_at(4))))
+    note((SPAWN, starting(line), line, *place(frame_at(4))))
 
 
 def _item_run(original: Any) -> Any:
@@ -297,4 +297,4 @@ def _take_jobs(jobs: list[Line]) -> None:
     for line in list(jobs):
         note = state.note
         if note is not None and line.tracer is state.tracer:
-            note((TAKE_END, current(), line, *where))
+            note((TAKE_END, joining(line), line, *where))

@@ -16,7 +16,7 @@ from typing import Any
 
 from ..handed_on import HANDED, called, handed_at, watched_place
 from ..lines import CALLED, FINISH, MARK, RESULT, SPAWN, SUBMIT, TAKE_END, WORKER, LateJob, Line, Token, What, state
-from ..noting import current, enter, frame_at, line_of_now, local, mark, place, take
+from ..noting import current, enter, frame_at, joining, line_of_now, local, mark, place, take
 from .base import Patches, like
 from .later import once_imported
 from .queues import plain_simple_queue
@@ -98,7 +98,7 @@ def _take_jobs(jobs: Iterable[Line | Token | None]) -> None:
         if not isinstance(job, Line):
             take(job)
         elif note is not None and job.tracer is state.tracer:
-            note((TAKE_END, current(), job, *where))
+            note((TAKE_END, joining(job), job, *where))
 
 
 # Jobs
@@ -184,6 +184,7 @@ class _Jobs:
             return _Job(awaited, job[1], None, number, has_initializer)
         line = Line(tracer, f"{self._name_of(job)}#")
         line.must_finish = True
+        line.lent = awaited.lent
         line.watch(result)
         pool.__dict__.setdefault("_itc_jobs", []).append(line)
         note((SPAWN, self._parent(pool, awaited), line, *_place()))
@@ -223,6 +224,7 @@ class _Awaited:
 
     def __init__(self) -> None:
         self.submitted = _mark(SUBMIT)
+        self.lent = () if self.submitted is None else self.submitted.line.held
         self.jobs: dict[int, Line | Token | None] = {}
         self.called: Token | None = None
         self.order: list[int] | None = None

@@ -9,7 +9,7 @@ from typing import Any
 
 from ..handed_on import called, handed_at
 from ..lines import BARRIER, EVENT, FINISH, JOIN, NOTIFY, SEMAPHORE, SPAWN, Line, state
-from ..noting import current, enter, frame_at, is_internal, local, mark, place, take, thread_name
+from ..noting import enter, frame_at, is_internal, joining, local, mark, place, starting, take, thread_name
 from .base import Patches, like
 from .exits import await_at_exit
 from .locks import TracedLock, TracedRLock, is_of_condition, traced_rlock
@@ -104,7 +104,7 @@ def _start(original: Any) -> Any:
         if not self.daemon:
             await_at_exit(line)
         self.__dict__["_itc_line"] = line  # The program's own class may refuse attributes.
-        note((SPAWN, current(), line, *place(frame_at(1))))
+        note((SPAWN, starting(line), line, *place(frame_at(1))))
         return original(self)  # type: ignore[no-any-return]
 
     return start
@@ -174,7 +174,7 @@ def _note_join(thread: threading.Thread, line: Line) -> None:
         return
     if thread.__dict__.pop("_itc_is_adopted", False):
         note((FINISH, line, True, False))  # It began before tracing did, so nobody noted its end.
-    note((JOIN, current(), line, *place(frame_at(2))))
+    note((JOIN, joining(line), line, *place(frame_at(2))))
 
 
 def _start_plain(original: Any) -> Any:
@@ -195,7 +195,7 @@ def _start_plain(original: Any) -> Any:
             finally:
                 _note_end(line)
 
-        note((SPAWN, current(), line, *place(frame)))
+        note((SPAWN, starting(line), line, *place(frame)))
         return original(like(function, run), *words)  # type: ignore[no-any-return]
 
     return start_new_thread
