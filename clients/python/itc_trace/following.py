@@ -72,6 +72,8 @@ class _Following:
     """Whether the program has made what orders processes, or what they share, and is not followed."""
     has_children: bool = False
     names: SharedNames | None = None
+    made: dict[str, SharedNames] = field(default_factory=dict)
+    """The names that this process has made, which are `names` from then on."""
     numbers: itertools.count[int] = field(default_factory=lambda: itertools.count(1))
 
 
@@ -120,7 +122,10 @@ def shared_names() -> SharedNames | None:
     """The names of messages that processes share. None if children are not traced."""
     if _following.names is None and _following.traced is not None:
         with contextlib.suppress(OSError):
-            _following.names = SharedNames()
+            made = SharedNames()
+            _following.names = _following.made.setdefault("names", made)
+            if _following.names is not made:
+                made.remove()  # Another thread was first.
     return _following.names
 
 

@@ -86,10 +86,9 @@ class Process:
                 _write_line(f"{self.name} | {text}", output)
 
     def _wait(self, readers: list[threading.Thread]) -> None:
-        status = self._process.wait()
+        self.status = self._process.wait()
         for reader in readers:
             reader.join(1)  # A process that it left behind may hold its output open.
-        self.status = status
         self._told.put(self)
         self._is_told.set()
 
@@ -234,9 +233,9 @@ class Running:
 
     def _kill_all(self) -> None:
         for process in self.processes:
-            if process.is_running:
+            if process.status is None:  # One that has ended may not be told of yet.
                 self._miss(Cause.KILLED, f"process {process.name} did not end within {GRACE_SECONDS:.0f} s, and was killed")
-                process.end(signal.SIGKILL)
+            process.end(signal.SIGKILL)
 
     @contextlib.contextmanager
     def _heeding_signals(self) -> Iterator[None]:

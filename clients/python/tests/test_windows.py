@@ -14,10 +14,11 @@ from multiprocessing.pool import ThreadPool
 from typing import Any
 from unittest import mock
 
-from itc_trace import touch
+from itc_trace import following, touch
 from itc_trace.lines import LateJob, Token, state
 from itc_trace.patches import futures, thread_pools
 from itc_trace.patches import threads as traced_threads
+from itc_trace.system import Running
 from itc_trace.verdict import Cause
 
 from .support import WAIT, Step, TracedCase, wait_until
@@ -433,6 +434,28 @@ class Ends(TracedCase):
         with tracing() as traced:
             scenario()
         return list(traced.races().unseen)
+
+
+class Processes(unittest.TestCase):
+    def test_two_threads_that_make_the_shared_names_have_the_same(self) -> None:
+        found: list[Any] = []
+        plain, others = following.SharedNames, [lambda: found.append(following.shared_names())]
+
+        def interrupted() -> Any:
+            while others:
+                in_thread(others.pop())
+            return plain()
+
+        with mock.patch.object(following, "_following", following._Following(mock.Mock())), mock.patch.object(following, "SharedNames", interrupted):
+            found.append(following.shared_names())
+            self.addCleanup(found[0].remove)
+        self.assertIs(found[0], found[1])
+
+    def test_a_process_that_has_ended_is_not_told_of_as_killed(self) -> None:
+        running = Running(mock.Mock(), 0, "")
+        running.processes = [mock.Mock(status=status, is_running=True) for status in (0, None)]
+        running._kill_all()
+        self.assertEqual(len(running.unseen), 1)
 
 
 class Loops(TracedCase):
