@@ -4,15 +4,11 @@ from __future__ import annotations
 
 import _thread
 import asyncio
-import functools
-import linecache
 import math
 import queue
-import re
-import sys
 import threading
 from collections import deque
-from types import MethodType
+from types import FunctionType, MethodType
 from typing import Any
 
 from ..lines import DONE_ITEM, QUEUE, ROOM, Token, state
@@ -29,7 +25,7 @@ MOST_PLACES = 16
 """Who puts into a queue of more places comes after nobody: such a queue bounds memory, and to tell it would take an event an item."""
 
 
-_CONDITIONS = re.compile(r"\.(not_empty|not_full|all_tasks_done)\b")
+_CONDITIONS = frozenset({"not_empty", "not_full", "all_tasks_done"})
 _INSIDE = ("_init", "_put", "_get", "_qsize")
 """Methods that a queue calls while it holds its own lock."""
 
@@ -51,7 +47,7 @@ def _begin(original: Any) -> Any:
     def __init__(self: Any, maxsize: int = 0) -> None:
         original(self, maxsize)
         frame, kind = frame_at(1), type(self)
-        if any(getattr(getattr(kind, name), "__module__", "") != "queue" for name in _INSIDE) or _waits_by_itself(kind, frame):
+        if any(getattr(getattr(kind, name), "__module__", "") != "queue" for name in _INSIDE) or _waits_by_itself(kind):
             _trace_lock(self, frame)
         elif not is_internal(frame):
             self.mutex = traced_lock(frame, _Mutex, self.mutex)
@@ -59,16 +55,10 @@ def _begin(original: Any) -> Any:
     return __init__
 
 
-def _waits_by_itself(kind: type, frame: Any) -> bool:
-    """Whether code of the program may wait at the conditions of the queue, or notify those who wait."""
-    files = {getattr(sys.modules.get(one.__module__), "__file__", None) for one in kind.__mro__ if one.__module__ not in ("queue", "builtins")}
-    files |= set() if frame is None or is_internal(frame) else {frame.f_code.co_filename}
-    return any(_names_conditions(file) for file in files if isinstance(file, str))
-
-
-@functools.cache
-def _names_conditions(file: str) -> bool:
-    return any(_CONDITIONS.search(line) for line in linecache.getlines(file))
+def _waits_by_itself(kind: type) -> bool:
+    """Whether a method of the program's own class may wait at the conditions of the queue, or notify those who wait."""
+    own = [function for one in kind.__mro__ if one.__module__ != "queue" for function in vars(one).values()]
+    return any(not _CONDITIONS.isdisjoint(function.__code__.co_names) for function in own if type(function) is FunctionType)
 
 
 class _Mutex(TracedLock):
