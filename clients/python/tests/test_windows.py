@@ -136,6 +136,18 @@ class Events(TracedCase):
         self.assert_ordered(scenario)
 
 
+    def test_an_event_from_before_the_tracing_gives_order_too(self) -> None:
+        event = threading.Event()
+        event._cond._waiters = deque()  # type: ignore[attr-defined]
+
+        def scenario() -> None:
+            threading.Thread(target=lambda: (wait_until(lambda: event._cond._waiters), write(), event.set())).start()  # type: ignore[attr-defined]
+            event.wait()
+            read()
+
+        self.assert_ordered(scenario)
+
+
 class Semaphores(TracedCase):
     def test_a_permit_is_not_that_of_who_acquired_before(self) -> None:
         semaphore, acquired = threading.Semaphore(1), []
@@ -497,6 +509,26 @@ class Loops(TracedCase):
             await asyncio.wait(tasks)
 
         self.assert_race(lambda: asyncio.run(main()))
+
+    def test_an_event_of_a_loop_from_before_the_tracing_gives_order_too(self) -> None:
+        async def look(event: asyncio.Event) -> None:
+            await event.wait()
+            read()
+
+        async def main() -> None:
+            for begins_early in (True, False):
+                event = asyncio.Event()
+                event._waiters = deque()  # type: ignore[attr-defined]
+                looking = asyncio.create_task(look(event))
+                await asyncio.sleep(0)
+                if begins_early:
+                    event._waiters = deque(event._waiters)  # type: ignore[attr-defined]
+                write()
+                event.set()
+                await looking
+
+        self.races(lambda: asyncio.run(main()))
+        self.assertEqual([row.label for row in self.rows].count("see event set"), 2)
 
     def test_a_named_task_may_be_made_of_a_coroutine_by_its_keyword(self) -> None:
         async def main() -> str:

@@ -639,6 +639,7 @@ def _event_set(original: Any) -> Any:
     def set(self: Any) -> None:
         if state.note is not None and not self._value and not self._itc_is_silent:
             self._itc_token = mark(EVENT)
+            self._waiters = Waiters.of(self._waiters)
             self._waiters.are_notified(self._itc_token, len(self._waiters))
         original(self)
 
@@ -650,11 +651,14 @@ def _event_wait(original: Any) -> Any:
 
     async def wait(self: Any) -> Any:
         is_set, token = self._value, self._itc_token
+        if state.note is not None and not self._itc_is_silent:
+            self._waiters = Waiters.of(self._waiters)
         try:
             told = await original(self)
         finally:
-            if not is_set and type(self._waiters) is Waiters:
-                token = self._waiters.woken()
+            if not is_set:
+                known = self._waiters.woken() if type(self._waiters) is Waiters else None
+                token = known or self._itc_token  # Tracing may have begun meanwhile.
         take(token)
         return told
 

@@ -280,7 +280,13 @@ def _event_begin(original: Any) -> Any:
 
 
 def _is_noted(event: Any) -> bool:
-    return state.note is not None and type(event._cond._waiters) is _EventWaiters
+    """Whether it is an event of the program. One that was made before this package was there gets what it needs."""
+    if state.note is None or event._itc_is_silent:
+        return False
+    if type(event._cond._waiters) is not _EventWaiters:
+        with event._cond:
+            event._cond._waiters = _EventWaiters.of(event._cond._waiters)
+    return True
 
 
 def _event_set(original: Any) -> Any:
@@ -306,7 +312,9 @@ def _event_wait(original: Any) -> Any:
 
     def wait(self: Any, timeout: float | None = None) -> bool:
         if not _is_noted(self):
-            return bool(original(self, timeout))
+            is_on = bool(original(self, timeout))
+            take(self._itc_token if is_on else None)  # Tracing may have begun meanwhile.
+            return is_on
         with self._cond:
             is_on, token = bool(self._flag), self._itc_token
             if not is_on:

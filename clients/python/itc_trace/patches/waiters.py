@@ -17,6 +17,15 @@ class Waiters(deque[Any]):
         self._mine: dict[Line, Any] = {}
         self._tokens: dict[int, Token | None] = {}
 
+    @classmethod
+    def of(cls, waiters: deque[Any]) -> Waiters:
+        """The same ones. Those who wait already are not known."""
+        if type(waiters) is cls:
+            return waiters
+        made = cls()
+        made.extend(waiters)
+        return made
+
     def append(self, waiter: Any) -> None:
         if state.note is not None:
             self._mine[current()] = waiter
