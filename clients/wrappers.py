@@ -117,6 +117,8 @@ def check(ran: "subprocess.CompletedProcess[str]", status: int, races: set[str],
     found = ran.returncode, listed(ran.stderr, "race"), listed(ran.stderr, "possible race")
     if found != (status, races, possible):
         raise Wrong(f"{found} in place of {(status, races, possible)}\n{ran.stdout}{ran.stderr}")
+    if status != INCOMPLETE and re.search("^itc_trace: incomplete: ", ran.stderr, re.M):  # A race has the same status then.
+        raise Wrong(f"the run was not seen whole\n{ran.stdout}{ran.stderr}")
 
 
 def check_orders(programs: Programs, statuses: dict[str, int]) -> None:
