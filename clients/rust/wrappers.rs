@@ -17,6 +17,8 @@ use std::{fs, iter, panic, thread as plain};
 const MANY: usize = 100_000;
 const FEW: usize = 3_000;
 const SOME: usize = 1_000;
+/// More than a trace has room for.
+const TURNS: usize = 20_000;
 /// Names of tasks: too long, the same again, without letters, and those of tasks that are there already.
 const ODD: [&str; 7] = [LONG, LONG, "", "_", "ü 1-2", "root", "others"];
 const LONG: &str = "aaaaaaaaaaaaaaaaaaaaaaaaaaaaaaaaaaaaaaaaaaaaaaaaaaaaaaaaaaaa";
@@ -56,6 +58,7 @@ fn locked() {
         let _held = lock.lock().unwrap();
         sell();
     });
+    lock_turns(TURNS); // A lock that nobody else acquires leaves nothing in the trace.
 }
 
 /// Two threads acquire one lock by turns.
@@ -352,9 +355,9 @@ fn filling() {
     }
 }
 
-fn lock_turns() {
+fn lock_turns(turns: usize) {
     let lock = Mutex::new(());
-    for _ in 0..MANY {
+    for _ in 0..turns {
         let _held = lock.lock().unwrap();
         touch("stock", true);
     }
@@ -566,7 +569,7 @@ fn main() {
         "writer_goes_on" => writer_goes_on(),
         "many" => many(),
         "filling" => filling(),
-        "lock_turns" => lock_turns(),
+        "lock_turns" => lock_turns(MANY),
         "lock_handed" => lock_handed(),
         "channel_turns" => channel_turns(),
         "across" => across(),

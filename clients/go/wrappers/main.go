@@ -22,6 +22,8 @@ const (
 	many = 100_000
 	few  = 3_000
 	some = 1_000
+	// turns are more than a trace has room for.
+	turns = 20_000
 )
 
 // odd are names of tasks: too long, the same again, without letters, and those of tasks that are there already.
@@ -75,6 +77,7 @@ func locked() {
 		defer lock.Unlock()
 		sell()
 	})
+	lockTurns(turns) // A lock that nobody else acquires leaves nothing in the trace.
 }
 
 // contended has two goroutines acquire one lock by turns.
@@ -425,9 +428,9 @@ func filling() {
 	}
 }
 
-func lockTurns() {
+func lockTurns(turns int) {
 	var lock itctrace.Mutex
-	for turn := 0; turn < many; turn++ {
+	for turn := 0; turn < turns; turn++ {
 		lock.Lock()
 		itctrace.Touch("stock", true)
 		lock.Unlock()
@@ -610,7 +613,7 @@ func main() {
 		"before_end":     beforeEnd,
 		"many":           touchMany,
 		"filling":        filling,
-		"lock_turns":     lockTurns,
+		"lock_turns":     func() { lockTurns(many) },
 		"lock_handed":    lockHandOvers,
 		"channel_turns":  channelTurns,
 		"across":         across,

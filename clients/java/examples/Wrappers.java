@@ -42,6 +42,8 @@ public final class Wrappers {
     private static final int MANY = 100_000;
     private static final int FEW = 3_000;
     private static final int SOME = 1_000;
+    /** More than a trace has room for. */
+    private static final int TURNS = 20_000;
     /** Names of tasks: too long, the same again, without letters, and those of tasks that are there already. */
     private static final List<String> ODD = List.of("a".repeat(60), "a".repeat(60), "", "_", "ü 1-2", "root", "others");
     private static final String ODD_THING = "\"naïve\"\t\\ 😀";
@@ -97,6 +99,7 @@ public final class Wrappers {
                         lock.unlock();
                     }
                 });
+        lockTurns(TURNS); // A lock that nobody else acquires leaves nothing in the trace.
     }
 
     /** Two threads acquire one lock by turns. */
@@ -675,9 +678,9 @@ public final class Wrappers {
         }
     }
 
-    private static void lockTurns() {
+    private static void lockTurns(int turns) {
         Lock lock = Traced.lock(new ReentrantLock());
-        for (int turn = 0; turn < MANY; turn++) {
+        for (int turn = 0; turn < turns; turn++) {
             lock.lock();
             Traced.touch("stock", true);
             lock.unlock();
@@ -872,7 +875,7 @@ public final class Wrappers {
             case "before_end" -> beforeEnd();
             case "many" -> many();
             case "filling" -> filling();
-            case "lock_turns" -> lockTurns();
+            case "lock_turns" -> lockTurns(MANY);
             case "lock_handed" -> lockHanded();
             case "channel_turns" -> channelTurns();
             case "across" -> across();
