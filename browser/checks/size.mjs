@@ -37,13 +37,14 @@ const steps = async (plan) => {
   return { longest: times[0], middle: times[times.length >> 1].least, most, reached };
 };
 
+/** How long it takes until the page is shown and its check goes on in a worker, so that the page answers. */
 async function openingsOfPage(tab, html) {
   const times = [];
   for (let turn = 0; turn < 3; turn++) {
     await tab.navigate("about:blank");
     const begin = performance.now();
     await tab.navigate(`file://${html}`);
-    await tab.until(() => typeof page !== "undefined" && page.isShown === true);
+    await tab.until(() => typeof page !== "undefined" && page.isShown === true && (page.worker !== null || page.verdict !== null));
     await tab.frame();
     times.push(performance.now() - begin);
   }
