@@ -50,7 +50,7 @@ OWN = {
     "go": {"wait_group": NO_RACE, "rendezvous": NO_RACE, "full_channel": NO_RACE, "closed_channel": NO_RACE, "context": NO_RACE,
            "late_cancel": RACES, "http": NO_RACE, "http_race": RACES},
 }
-LINES = ("odd_names", "hand_off", "tried_lock", "condition", "other_calls")
+LINES = ("odd_names", "hand_off", "tried_lock", "writer_goes_on", "condition", "other_calls")
 OWN_LINES = {"java": ("executor",)}
 """Programs whose events each have a line of their own. They touch one thing."""
 PYTHON = """import itc_trace

@@ -397,10 +397,12 @@ func web(client *http.Client) {
 	}
 }
 
-// answerHere answers a request in this goroutine, which goes on as itself then.
+// answerHere answers a request in this goroutine, which goes on as itself then. The response is a message, also if nobody writes it.
 func answerHere() {
-	handler := itctrace.Handler(http.NotFoundHandler())
-	handler.ServeHTTP(httptest.NewRecorder(), httptest.NewRequest("GET", "/", nil))
+	handler := itctrace.Handler(http.HandlerFunc(func(http.ResponseWriter, *http.Request) { readStock() }))
+	response := httptest.NewRecorder()
+	handler.ServeHTTP(response, httptest.NewRequest("GET", "/", nil))
+	itctrace.Incoming(response.Header().Get(itctrace.Header))
 	writeStock()
 }
 
