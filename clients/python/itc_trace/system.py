@@ -61,7 +61,8 @@ class Process:
         self.is_ended_by_us = False
         self._told = told
         self._ready = threading.Event()
-        self._is_told = threading.Event()
+        self.is_running = True
+        """Whether its end is not told yet. Whoever takes it out of the queue tells it."""
         try:
             self._process = subprocess.Popen(
                 words, cwd=described.directory, env=environment, stdin=subprocess.DEVNULL, stdout=subprocess.PIPE,
@@ -90,12 +91,6 @@ class Process:
         for reader in readers:
             reader.join(1)  # A process that it left behind may hold its output open.
         self._told.put(self)
-        self._is_told.set()
-
-    @property
-    def is_running(self) -> bool:
-        """Whether its end is not told yet."""
-        return not self._is_told.is_set()
 
     def is_ready(self) -> bool:
         """Whether it has written the line, or listens at the port, that those who come after it wait for."""
@@ -140,7 +135,7 @@ class Running:
                     self._next()
             finally:
                 self._end_all()
-                while self._are_running() or not self._told.empty():  # Several may have ended at once.
+                while self._are_running():
                     self._next()
 
     def _are_running(self) -> bool:
@@ -199,6 +194,7 @@ class Running:
         except Empty:
             return
         if isinstance(ended, Process):
+            ended.is_running = False
             self._tell_end(ended)
 
     def _is_over(self) -> bool:
