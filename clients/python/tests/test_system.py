@@ -193,6 +193,10 @@ for thread in threads: thread.join()
         self.assertEqual(sorted(told), sorted(f"itc_trace: process {name} ended with status 3" for name in names))
         self.assertEqual(ran.returncode, 3)
 
+    def test_the_end_of_a_process_may_be_taken_at_once(self) -> None:
+        ran = run_python("-c", SLOW_QUEUE, self.file(one={"command": ["sh", "-c", "exit 3"], "traced": False}))
+        self.assertEqual(ran.returncode, 3, ran.stderr)
+
     def test_signals_end_it_and_its_processes(self) -> None:
         for number in (signal.SIGTERM, signal.SIGINT):
             server = self.python("server", SERVER, str(self.enterContext(kept_port())))
@@ -289,6 +293,17 @@ def tell_slowly(self, process):
     time.sleep(1)
     tell_end(self, process)
 system.Running._tell_end = tell_slowly
+sys.argv[1:1] = ["system"]
+sys.exit(__main__.main())
+"""
+SLOW_QUEUE = """
+import queue, sys, time
+from itc_trace import system, __main__
+class SlowQueue(queue.SimpleQueue):
+    def put(self, item):
+        super().put(item)
+        time.sleep(1)
+system.SimpleQueue = SlowQueue
 sys.argv[1:1] = ["system"]
 sys.exit(__main__.main())
 """
