@@ -73,6 +73,14 @@ class Between:
     def __getattr__(self, name: str) -> Any:
         return getattr(self._condition, name)
 
+    @property
+    def _waiters(self) -> Any:
+        return self._condition._waiters
+
+    @_waiters.setter
+    def _waiters(self, waiters: Any) -> None:
+        self._condition._waiters = waiters
+
 
 def write() -> None:
     touch("page", write=True)
@@ -134,7 +142,6 @@ class Events(TracedCase):
             read()
 
         self.assert_ordered(scenario)
-
 
     def test_an_event_from_before_the_tracing_gives_order_too(self) -> None:
         event = threading.Event()
