@@ -157,9 +157,11 @@ class Events(TracedCase):
 
 class Semaphores(TracedCase):
     def test_a_permit_is_not_that_of_who_acquired_before(self) -> None:
-        semaphore, acquired = threading.Semaphore(1), []
+        acquired: list[bool] = []
 
         def scenario() -> None:
+            semaphore = threading.Semaphore(1)
+
             def others() -> None:
                 done_by(write, semaphore.release)()
                 done_by(lambda: acquired.append(semaphore.acquire()), read)()
@@ -171,9 +173,9 @@ class Semaphores(TracedCase):
         self.assertEqual(acquired, [True])
 
     def test_a_permit_is_not_that_of_who_has_not_released_yet(self) -> None:
-        semaphore = threading.Semaphore(0)
-
         def scenario() -> None:
+            semaphore = threading.Semaphore(0)
+
             def others() -> None:
                 done_by(write, semaphore.release)()
                 done_by(semaphore.acquire, read)()
@@ -184,9 +186,8 @@ class Semaphores(TracedCase):
         self.assert_ordered(scenario)
 
     def test_a_release_that_is_refused_leaves_the_permits_of_others(self) -> None:
-        semaphore = threading.BoundedSemaphore(1)
-
         def scenario() -> None:
+            semaphore = threading.BoundedSemaphore(1)
             self.assertRaises(ValueError, semaphore.release)
             semaphore.acquire()
             done_by(write, semaphore.release)()
