@@ -675,9 +675,12 @@ class WhatIsTouched(unittest.TestCase):
     def test_attributes_that_are_keys(self) -> None:
         table = "class Table(dict):\n    __getattr__ = dict.GET\n    __setattr__ = dict.__setitem__\n    kind = 1\ntable = Table(left=2)\nkeep.append(table)\n"
         for get in ("__getitem__", "get"):
-            before, element = table.replace("GET", get), "a Table['left']"
-            self.assert_touches("table.left", (element, "read"), ("a Table", "lookup"), before=before)
-            self.assert_touches("table.left = 1", (element, "write"), ("a Table", "replacement"), before=before)
+            before, element = table.replace("GET", get), "Table['left']"
+            both = (element, "read"), (element, "write"), ("Table", "lookup"), ("Table", "replacement")
+            self.assert_touches("table.left", (element, "read"), ("Table", "lookup"), before=before)
+            self.assert_touches("table.left = 1", (element, "write"), ("Table", "replacement"), before=before)
+            self.assert_touches("table.left += 1", *both, before=before)
+            self.assert_touches("table.left += shop.count", *both, ("Shop.count", "read"), before=before)
             self.assert_touches("table.kind", before=before)
 
     def test_variables_that_are_bound_behind_a_start(self) -> None:

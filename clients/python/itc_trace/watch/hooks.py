@@ -211,7 +211,7 @@ def _touch_field(one: Any, site: int, access: Access | None = None) -> None:
     if found == OF_METHOD:
         _touch_field(one.__func__, site, access if is_named else None)
     elif found == AS_KEY:
-        _touch_key(one, owner_of(one, ""), access.name, kinds, DICT, site, False)
+        _touch_key(one, owner_of(one, name_of(kind)), access.name, kinds, DICT, site, False)
     elif found == OF_MODULE:
         _touch_module(one, access.name, kinds, mark, site)
     elif found == OF_TYPE:
@@ -879,8 +879,8 @@ def _touch_key(one: Any, owner: Owner, key: Any, kinds: str, family: int, site: 
     is_simple = value is not UNKNOWN
     is_there = is_simple and (_has_key(one, key) if family == DICT else set.__contains__(one, key))
     access = ACCESSES[site]
-    if kinds == "rw" and access.what != "element" and is_there:
-        kinds = "r"
+    if kinds == "rw" and access.what not in BY_ASSIGNMENT and is_there:
+        kinds = "r"  # `setdefault` changes nothing.
     elif kinds == "r" and not is_there and is_simple and access.what == "element" and issubclass(type(one), defaultdict):
         kinds = "rw"
     change = ADDITION if kinds == "d" or not is_there else REPLACEMENT
@@ -892,6 +892,8 @@ def _touch_key(one: Any, owner: Owner, key: Any, kinds: str, family: int, site: 
     saw(owner, mark, (key_late, of_key, name, kinds, change, site), is_repeated and is_there and kinds != "d" and is_kept)
 
 
+BY_ASSIGNMENT = ("element", "field")
+"""Places that write what they read, whether the key is there or not."""
 _VARIABLES_OF_SYSTEM = value_of_field(os.environ, VARIABLES)
 
 
