@@ -504,6 +504,28 @@ class WhatIsTouched(unittest.TestCase):
         self.assert_touches("'left' in shop.stock", of_field, read, ("Shop.stock", "lookup"))
         self.assert_touches("shop.stock['LEFT'.lower()]", of_field, read, ("Shop.stock", "lookup"))
 
+    def test_setdefault_adds_or_looks_at_once(self) -> None:
+        of_field, look = ("Shop.stock", "read"), ("Shop.stock", "lookup")
+        self.assert_touches("shop.stock.setdefault('left', 1)", of_field, look, ("Shop.stock['left']", "lookup"))
+        added = look, ("Shop.stock", "addition"), ("Shop.stock['new']", "addition")
+        for line in ("shop.stock.setdefault('new', 1)", "shop.stock.setdefault('NEW'.lower(), 1)", "dict.setdefault(shop.stock, 'new', 1)"):
+            with self.subTest(line=line):
+                self.assert_touches(line, of_field, *added)
+        for made in ("collections.OrderedDict()", "collections.Counter()", "Own()"):
+            before = f"import collections\nclass Own(dict): pass\ntable = {made}\nkeep.append(table)"
+            with self.subTest(made=made):
+                self.assert_touches("table.setdefault('a', 1)", ("table", "lookup"), ("table", "addition"), ("table['a']", "addition"), before=before)
+                self.assert_touches("table.setdefault('a', 1)", ("table", "lookup"), ("table['a']", "lookup"), before=before + "\ntable['a'] = 1")
+        for made in ("collections.UserDict()", "weakref.WeakValueDictionary()", "collections.ChainMap({})"):
+            before = f"import collections, weakref\ntable = {made}\nkeep.append(table)"
+            written = ("table", "lookup"), ("table", "addition"), ("table['a']", "read"), ("table['a']", "write")
+            with self.subTest(made=made):
+                self.assert_touches("table.setdefault('a', shop)", *written, before=before)
+        own = "class Key:\n    def __hash__(self): return 1\n    def __eq__(self, other): return True\nkey, table = Key(), {}\nkeep += [key, table]"
+        self.assert_touches(
+            "table.setdefault(key, 1)", ("table", "lookup"), ("table", "addition"), ("table[a Key]", "read"), ("table[a Key]", "write"), before=own,
+        )
+
     def test_shapes(self) -> None:
         of_field = ("Shop.items", "read")
         for line, kind in (

@@ -38,7 +38,7 @@ from .kinds import DEEP as DEEP_SITES
 from .kinds import (
     BUFFER, BY_FIELDS, COMPARED, DEQUE, DICT, EACH, IN_PLACE_METHODS, KEYED, LIST, OF_FILE, OF_GENERATOR, ORDERED, SHOWN, WHOLE, WRITTEN,
 )
-from .late import LOOKING, NOTHING, READ_ONLY, again, by_kinds, note_shared, saw, share, shorten
+from .late import ADDED, FOUND, LOOKING, NOTHING, READ_ONLY, again, by_kinds, note_shared, saw, share, shorten
 from .late import cell as cell_late
 from .late import index as index_late
 from .late import key as key_late
@@ -826,7 +826,7 @@ def _touch_keyed(one: Any, key: Any, site: int, limit: int, ways: str | None = N
         if getrefcount(one) <= limit:
             return
         owner = owner_of(one, access.text)
-    kinds = ways or KEYED.get(access.name, {}).get(family, "")
+    kinds = ways or (AT_ONCE if access.name == SETDEFAULT and access.what != "element" else KEYED.get(access.name, {}).get(family, ""))
     is_repeated = ways is None or ways == access.kinds  # Else it depends on what has the container inside, too.
     if not kinds or family == BUFFER:
         _touch_shape(owner, WHOLE[family].get(access.name or "__contains__"), site)
@@ -843,6 +843,8 @@ def _touch_inside(one: Any, key: Any, access: Access, site: int) -> bool:
         return False
     if access.what == "element":
         ways = without_own(kind, access.kinds)
+    elif access.name == SETDEFAULT:
+        ways = "rw"
     if ways == "" or access.what == "method" and has_watched_method(kind, access.name):
         return False
     for inside in inside_of(one, ways or access.name):
@@ -879,8 +881,9 @@ def _touch_key(one: Any, owner: Owner, key: Any, kinds: str, family: int, site: 
     is_simple = value is not UNKNOWN
     is_there = is_simple and (_has_key(one, key) if family == DICT else set.__contains__(one, key))
     access = ACCESSES[site]
-    if kinds == "rw" and access.what not in BY_ASSIGNMENT and is_there:
-        kinds = "r"  # `setdefault` changes nothing.
+    if access.name == SETDEFAULT and access.what not in BY_ASSIGNMENT:
+        at_once = kinds == AT_ONCE and is_simple
+        kinds = (FOUND if at_once else READ_ONLY) if is_there else ADDED if at_once else "rw"
     elif kinds == "r" and not is_there and is_simple and access.what == "element" and issubclass(type(one), defaultdict):
         kinds = "rw"
     change = ADDITION if kinds == "d" or not is_there else REPLACEMENT
@@ -893,7 +896,8 @@ def _touch_key(one: Any, owner: Owner, key: Any, kinds: str, family: int, site: 
 
 
 BY_ASSIGNMENT = ("element", "field")
-"""Places that write what they read, whether the key is there or not."""
+SETDEFAULT, AT_ONCE = "setdefault", "at once"
+"""The method that looks for a key and adds it: at once, if the container is the language's own, and no key has code of the program."""
 _VARIABLES_OF_SYSTEM = value_of_field(os.environ, VARIABLES)
 
 
@@ -1260,7 +1264,7 @@ def _what_of_key(kind: type, family: int, access: Access) -> What:
     if not is_method and access.words:
         return OTHER, None, access.text, ""
     if kind is dict and kinds:
-        if_there = "r" if kinds == "rw" and is_method else kinds
+        kinds, if_there = (ADDED, FOUND) if access.name == SETDEFAULT and is_method else (kinds, kinds)
         return OF_DICT, (key_late, kinds, ADDITION if kinds == "d" else REPLACEMENT, if_there, ADDITION), access.text, ""
     if kind is list and kinds in ("r", "w", "rw"):
         return OF_LIST, (index_late, kinds), access.text, ""

@@ -26,8 +26,11 @@ Touches = dict[Any, Touched]
 READ_ONLY = "r"
 SHORTENED_AT = 64
 """So many more stretches have touched an owner when it is tried to keep them in short."""
-LOOKING = frozenset(("r", "rw", "c"))
-CHANGING = frozenset(("w", "rw", "d"))
+ADDED, FOUND = "added", "found"
+"""What `setdefault` does to a key. The two are told apart from a write and a read, since it looks and adds at once: two of them do not race."""
+LOOKING = frozenset(("r", "rw", "c", ADDED, FOUND))
+CHANGING = frozenset(("w", "rw", "d", ADDED))
+_OF_ELEMENTS = {"r": READ, ADDED: ADDITION, FOUND: LOOKUP}
 
 stretch_of = STRETCHES.get
 
@@ -97,7 +100,7 @@ def key(owner: Owner, told: Touches, line: Line | None, mark: Any, name: Any, ki
 def _add_element(touches: Touches, whole: int, mark: Any, element: Any, kinds: str, site: int) -> None:
     if kinds == "rw":
         touches[whole, mark, READ] = element, READ, site
-    touches[whole, mark] = element, READ if kinds == "r" else WRITE, site
+    touches[whole, mark] = element, _OF_ELEMENTS.get(kinds, WRITE), site
 
 
 def nothing(owner: Owner, told: Touches, line: Line | None) -> Touches:
