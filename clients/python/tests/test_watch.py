@@ -526,6 +526,17 @@ class WhatIsTouched(unittest.TestCase):
             "table.setdefault(key, 1)", ("table", "lookup"), ("table", "addition"), ("table[a Key]", "read"), ("table[a Key]", "write"), before=own,
         )
 
+    def test_fields_have_the_names_that_the_program_has(self) -> None:
+        functions = "def count():\n    count.calls += 1\ncount.calls = 0"
+        self.assert_touches("count()", ("count.calls", "read"), ("count.calls", "write"), before=functions)
+        private = "class Safe:\n    def __init__(self): self.__code = 1\n    def look(self): return self.__code\n"
+        self.assert_touches("safe.look()", ("Safe.__code", "read"), before=private + "safe = Safe()")
+        self.assert_touches("safe.look()", ("Safe.__code", "read"), before=private + "class Larger(Safe): pass\nsafe = Larger()")
+        self.assert_touches("one.look()", ("safe.__code", "read"), before=private.replace("Safe", "safe") + "one = safe()")
+        for name in ("_sum__all", "_Sum", "_Sum__all__", "_"):
+            with self.subTest(name=name):
+                self.assert_touches(f"shop.{name}", (f"Shop.{name}", "read"), before=f"shop.{name} = 1")
+
     def test_shapes(self) -> None:
         of_field = ("Shop.items", "read")
         for line, kind in (

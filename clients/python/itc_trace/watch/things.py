@@ -7,12 +7,13 @@ What cannot, as a list or a dict, is held from its first touch among several tas
 from __future__ import annotations
 
 import os
+import re
 import weakref
 from builtins import id, len, min, next, repr, type
 from collections import deque
 from collections.abc import Callable
 from sys import getrefcount
-from types import CodeType
+from types import CodeType, FunctionType
 from typing import Any, NamedTuple
 
 from ..conflicts import MAKING
@@ -279,8 +280,22 @@ def _added(owner: Owner, mark: Any, made: Any, told: dict[Any, Touched], line: L
 
 def field_of(owner: Owner, class_name: str, name: str, told: dict[Any, Touched], line: Line | None) -> Thing:
     return owner.things.get(name) or _added(  # type: ignore[return-value]
-        owner, name, Thing(next(_numbers), f"{class_name}.{name}", owner.made), told, line,
+        owner, name, Thing(next(_numbers), _field_named(owner, class_name, name), owner.made), told, line,
     )
+
+
+_PRIVATE = re.compile(r"_([^\W_]\w*?)(__\w*[^\W_]_?)")
+
+
+def _field_named(owner: Owner, class_name: str, name: str) -> str:
+    """The name of a field as the program has it: that of a function is called by the function, and `_Shop__left` is `__left`."""
+    one = owner.reference() if class_name == FunctionType.__name__ and owner.reference is not None else None
+    if type(one) is FunctionType:
+        return f"{one.__name__}.{name}"
+    private = _PRIVATE.fullmatch(name)
+    if private is not None and (private[1] == class_name.lstrip("_") or private[1][0].isupper()):
+        return f"{private[1]}.{private[2]}"
+    return f"{class_name}.{name}"
 
 
 SHAPE = ("shape",)
