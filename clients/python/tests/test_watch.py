@@ -537,6 +537,17 @@ class WhatIsTouched(unittest.TestCase):
             with self.subTest(name=name):
                 self.assert_touches(f"shop.{name}", (f"Shop.{name}", "read"), before=f"shop.{name} = 1")
 
+    def test_rows_are_written_into_buffers(self) -> None:
+        before = "import csv, io\ntext = io.StringIO()\nrows, named = csv.writer(text), csv.DictWriter(text, ['a'])\nkeep += [rows, named]"
+        for line in (
+            "rows.writerow([1])", "rows.writerows([[1], [2]])", "named.writeheader()", "named.writerow({'a': 1})", "list(map(rows.writerow, [[1]]))",
+        ):
+            with self.subTest(line=line):
+                self.assert_touches(line, ("text", "addition"), before=before)
+        self.assert_touches("csv.writer(text)\ncsv.DictWriter(text, ['a'])\nrows == named, str(rows)", before=before)
+        file = "import csv\nfile = open('/dev/null', 'w')\nrows, named = csv.writer(file), csv.DictWriter(file, ['a'])\nkeep += [rows, named]"
+        self.assert_touches("rows.writerow([1])\nnamed.writeheader()\nfile.close()", before=file)
+
     def test_shapes(self) -> None:
         of_field = ("Shop.items", "read")
         for line, kind in (

@@ -6,6 +6,7 @@ It is decided once for each place and type. Nothing here runs code of the progra
 from __future__ import annotations
 
 import _csv
+import csv
 import functools
 import io
 import itertools
@@ -51,12 +52,12 @@ NO_FAMILY = -1
 _METHODS_OF = {"r": "__getitem__", "w": "__setitem__", "d": "__delitem__", "c": "__contains__"}
 """What is called for each way to touch an element."""
 
-DATA, MAPS, VARIABLES, REFERRED = "data", "maps", "_data", "referred"
+DATA, MAPS, VARIABLES, WRITER, REFERRED, WRITTEN_TO = "data", "maps", "_data", "writer", "referred", "written to"
 _WITH_ONE_INSIDE: tuple[tuple[type, str], ...] = (
     (UserDict, DATA), (UserList, DATA), (weakref.WeakValueDictionary, DATA), (weakref.WeakKeyDictionary, DATA), (weakref.WeakSet, DATA),
-    (ChainMap, MAPS), (type(os.environ), VARIABLES),
+    (ChainMap, MAPS), (type(os.environ), VARIABLES), (csv.DictWriter, WRITER), (type(_csv.writer(io.StringIO())), WRITTEN_TO),
 )
-"""Containers of the library that are written in Python, and the field in which each has its elements."""
+"""Containers of the library that are written in Python, and the field in which each has its elements. A writer of rows has what it writes to."""
 
 _BY_KEYS = (
     type({}.keys()), type(OrderedDict().keys()), type(iter({})), type(iter(OrderedDict())), type(reversed({})), types.MappingProxyType,

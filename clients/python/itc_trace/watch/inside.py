@@ -9,12 +9,12 @@ from dataclasses import _FIELD, Field  # type: ignore[attr-defined]
 from gc import get_referents
 from itertools import tee
 from sys import getrefcount
-from types import SimpleNamespace
+from types import BuiltinMethodType, SimpleNamespace
 from typing import Any, NamedTuple
 
 from .decisions import (
-    COMPOSED, MAPS, REFERRED, ROWS_OF_ITERATORS, STEPPED, VIEWS, class_with, family_of, field_inside, fields_of, has_watched_method, ids_of, is_made,
-    is_watched_class, vars_of,
+    COMPOSED, MAPS, REFERRED, ROWS_OF_ITERATORS, STEPPED, VIEWS, WRITER, WRITTEN_TO, class_with, family_of, field_inside, fields_of,
+    has_watched_method, ids_of, is_made, is_watched_class, vars_of,
 )
 from .kinds import COMPARED, DECLARED, EACH, ORDERED, SHOWN, WRITTEN
 
@@ -31,12 +31,16 @@ def inside_of(one: Any, way: str = "") -> Iterator[Any]:
     if name == REFERRED:
         yield from (part for part in get_referents(one) if family_of(type(part)) is not None)
         return
+    if name == WRITTEN_TO:
+        files = [part.__self__ for part in get_referents(one) if type(part) is BuiltinMethodType]
+        yield from (file for file in files if family_of(type(file)) is not None)
+        return
     found = fields_of(one)
     value = found[name] if name in found else None
     for part in _parts_of(value, way) if name == MAPS else [value]:
         if family_of(type(part)) is not None:
             yield part
-        elif name == MAPS:
+        elif name in (MAPS, WRITER):
             yield from inside_of(part, way)
 
 

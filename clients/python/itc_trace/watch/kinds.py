@@ -40,13 +40,14 @@ WHOLE: dict[int, dict[str, str]] = {
         **dict.fromkeys("insert remove rotate reverse clear".split(), REWRITE),
     },
     BUFFER: {
-        **dict.fromkeys(("write", "writelines"), ADDITION), **dict.fromkeys(("getvalue", "getbuffer"), ITERATION), "tell": LENGTH,
+        **dict.fromkeys("write writelines writerow writerows writeheader".split(), ADDITION),
+        **dict.fromkeys(("getvalue", "getbuffer"), ITERATION), "tell": LENGTH,
         **dict.fromkeys("read read1 readline readlines readinto __iter__ __next__ __contains__ seek truncate".split(), REWRITE),
     },
 }
 """What each method does to the shape of a container. The ends of a deque are made for several threads, so they do not conflict.
 
-A buffer is a text or bytes in memory. What is written stands at its end mostly, and who reads moves its position.
+A buffer is a text or bytes in memory. What is written stands at its end mostly, and who reads moves its position. Rows come by a writer of `csv`.
 """
 
 KEYED: dict[str, dict[int, str]] = {
@@ -89,6 +90,9 @@ _READING = frozenset(
     "urllib.parse html fnmatch".split()
 )
 """Modules whose functions look at what they are given, and do not change it."""
+
+_KEEPING = frozenset(("csv.writer", "csv.DictWriter"))
+"""Those that keep what they are given, and look at it later."""
 
 _KNOWN = {
     **IN_PLACE_FUNCTIONS, "struct.pack_into": REWRITE, "itertools.chain.from_iterable": ITERATION,
@@ -141,6 +145,6 @@ CONSUMING = {
 
 def known_function(name: str | None) -> str | None:
     """What a function of the library does to the container that it is given first."""
-    if name is None or name.startswith("."):
+    if name is None or name.startswith(".") or name in _KEEPING:
         return None
     return _KNOWN.get(name) or (ITERATION if name.rpartition(".")[0] in _READING else None)

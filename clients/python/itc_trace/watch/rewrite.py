@@ -59,7 +59,8 @@ OF_OBJECT = {"__getattribute__": "r", "__setattr__": "w", "__delattr__": "w"}
 """Methods of `object` that do the same for a class with methods of its own."""
 WORDS_OF_OBJECT = {"__getattribute__": 1, "__setattr__": 2, "__delattr__": 1}
 """What each is given behind the object. If the class is named in front of it, the object comes first."""
-MAKERS = frozenset("dict list set bytearray deque defaultdict OrderedDict Counter".split())
+MAKERS_OF_MODULES = frozenset("deque defaultdict OrderedDict Counter StringIO BytesIO".split())
+MAKERS = MAKERS_OF_MODULES | frozenset("dict list set bytearray".split())
 OPERATORS = {
     "operator.setitem": "__setitem__", "operator.getitem": "__getitem__", "operator.delitem": "__delitem__",
     "operator.contains": "__contains__",
@@ -121,7 +122,10 @@ def _pair(node: Any, twin: Any) -> bool:
 
 def _is_new(value: Any) -> bool:
     """Whether the expression makes a container."""
-    return isinstance(value, DISPLAYS) or isinstance(value, ast.Call) and isinstance(value.func, ast.Name) and value.func.id in MAKERS
+    if not isinstance(value, ast.Call):
+        return isinstance(value, DISPLAYS)
+    func = value.func
+    return isinstance(func, ast.Name) and func.id in MAKERS or isinstance(func, ast.Attribute) and func.attr in MAKERS_OF_MODULES
 
 
 def _is_super(node: Any) -> bool:
