@@ -548,6 +548,16 @@ class WhatIsTouched(unittest.TestCase):
         file = "import csv\nfile = open('/dev/null', 'w')\nrows, named = csv.writer(file), csv.DictWriter(file, ['a'])\nkeep += [rows, named]"
         self.assert_touches("rows.writerow([1])\nnamed.writeheader()\nfile.close()", before=file)
 
+    def test_what_a_template_puts_in(self) -> None:
+        of_field, look = ("Shop.items", "read"), ("Shop.items", "iteration")
+        before = "import string\ntext = string.Template('$a')"
+        for line in (
+            "text.substitute(a=shop.items)", "text.safe_substitute(a=shop.items)", "string.Template('$a').substitute(a=shop.items)",
+            "text.substitute({}, a=shop.items)", "(text or None).substitute(a=shop.items)",
+        ):
+            with self.subTest(line=line):
+                self.assert_touches(line, of_field, look, before=before)
+
     def test_shapes(self) -> None:
         of_field = ("Shop.items", "read")
         for line, kind in (

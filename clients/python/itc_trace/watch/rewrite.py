@@ -59,6 +59,7 @@ OF_OBJECT = {"__getattribute__": "r", "__setattr__": "w", "__delattr__": "w"}
 """Methods of `object` that do the same for a class with methods of its own."""
 WORDS_OF_OBJECT = {"__getattribute__": 1, "__setattr__": 2, "__delattr__": 1}
 """What each is given behind the object. If the class is named in front of it, the object comes first."""
+TEMPLATES = frozenset(("substitute", "safe_substitute"))
 MAKERS_OF_MODULES = frozenset("deque defaultdict OrderedDict Counter StringIO BytesIO".split())
 MAKERS = MAKERS_OF_MODULES | frozenset("dict list set bytearray".split())
 OPERATORS = {
@@ -835,6 +836,8 @@ class Rewriter:
             called = self._called(func)
             node.func = self._hook("Y", func, called) if name in STORED_FIELDS and not self._is_foreign(owner) else called
             node.args = [self._argument(one, func, owner) for one in given]
+            if name in TEMPLATES:
+                return self._call_template(node, func)
             self._keep_owner(func, node)
         elif name in KEYED and node.args and not isinstance(node.args[0], ast.Starred):
             self._call_keyed(node, func, self._site(node, "method", "", name, self._text(owner)))
@@ -848,6 +851,16 @@ class Rewriter:
             self._keep_owner(func, node)
         for keyword in node.keywords:
             self._keyword(keyword)
+        return node
+
+    def _call_template(self, node: ast.Call, func: ast.Attribute) -> ast.Call:
+        """What a template puts in by its name is looked at, too."""
+        for keyword in node.keywords:
+            if keyword.arg is None:
+                self._keyword(keyword)
+            else:
+                keyword.value = self._argument(keyword.value, func, func.value)
+        self._keep_owner(func, node)
         return node
 
     def _is_of_fields(self, node: Any) -> bool:
@@ -966,7 +979,7 @@ class Rewriter:
 
     def _keep_owner(self, func: ast.Attribute, node: ast.Call) -> None:
         """Has the object kept whose method is called, until what it is given is there."""
-        for one in node.args:
+        for one in (*node.args, *(keyword.value for keyword in node.keywords)):
             if isinstance(one, ast.Call) and isinstance(one.func, ast.Name) and one.func.id == f"{PREFIX}X":
                 func.value = self._hook("p", func.value, func.value, one.args[1], 0)
 
