@@ -558,6 +558,13 @@ class WhatIsTouched(unittest.TestCase):
             with self.subTest(line=line):
                 self.assert_touches(line, of_field, look, before=before)
 
+    def test_elements_that_a_function_looks_at_have_a_name(self) -> None:
+        for line, whole in (
+            ("list(map(len, keep))", "iteration"), ("max(keep, key=len)", "iteration"), ("sorted(keep, key=len)", "iteration"), ("keep.sort(key=len)", "rewrite"),
+        ):
+            with self.subTest(line=line):
+                self.assert_touches(line, ("keep[..]", "length"), ("keep", whole), before="keep[:] = [[1], [2]]")
+
     def test_shapes(self) -> None:
         of_field = ("Shop.items", "read")
         for line, kind in (

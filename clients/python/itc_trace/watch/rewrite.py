@@ -734,10 +734,17 @@ class Rewriter:
         return isinstance(node.func, ast.Name) and node.func.id == "print" and self._is_builtin("print")
 
     def _name_handed(self, node: ast.Call) -> None:
-        """Keeps the names of containers whose methods are arguments."""
+        """Keeps the names of containers whose methods are arguments, and of what a function that is one looks at."""
         for one in (*node.args, *(keyword.value for keyword in node.keywords)):
             if isinstance(one, ast.Attribute) and one.attr in METHODS:
                 NAMES_OF_HANDED[self._file, node.lineno, one.attr] = self._text(one.value)
+            elif isinstance(one, ast.Name) and one.id in READERS and self._is_builtin(one.id):
+                self._name_elements(node, one.id, next((other for other in node.args if other is not one), getattr(node.func, "value", None)))
+
+    def _name_elements(self, node: ast.Call, name: str, given: Any) -> None:
+        """Keeps the name of what a function of the language looks at, if it is given each element: `map(len, queues)`."""
+        if isinstance(given, GIVEN):
+            NAMES_OF_HANDED[self._file, node.lineno, f"builtins.{name}"] = f"{self._text(given)}[..]"
 
     def _handed(self, node: Any) -> Any:
         """What is called by its name, or handed to a function that calls it: it may be a method of a container."""
