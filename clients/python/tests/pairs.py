@@ -753,6 +753,26 @@ GROUPS = (
         match line:
             case [1, *_]: pass
     """)),
+    Group("an element of a deque is changed", "from collections import deque\nline = deque([1, 2, 3])", "line[0] = 5", _listed("""
+        line[0]
+        line[-3]
+        line[0] = 6
+        line[-3] = 6
+        line[0] += 1
+        line[0], other = 6, 7
+        list(line)
+        line.rotate(1)
+        del line[2]
+        match line:
+            case [1, *_]: pass
+    """)),
+    Group("another element of a deque is changed", "from collections import deque\nline = deque([1, 2, 3])", "line[0] = 5", _listed("""
+        line[1]
+        line[-1]
+        line[1] = 6
+        line[-1] += 1
+        len(line)
+    """), is_race=False),
     Group("bytes and arrays are read", "from array import array\nraw, cells = bytearray(b'abcdefgh'), array('i', [1, 2])",
           "raw[0] = 65\ncells[0] = 7", _listed("""
         raw[0]

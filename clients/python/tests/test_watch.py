@@ -537,6 +537,16 @@ class WhatIsTouched(unittest.TestCase):
             with self.subTest(name=name):
                 self.assert_touches(f"shop.{name}", (f"Shop.{name}", "read"), before=f"shop.{name} = 1")
 
+    def test_elements_of_a_deque(self) -> None:
+        before, length, new = "import collections\nline = collections.deque([1, 2, 3])\nkeep.append(line)", ("line", "length"), ("line", "replacement")
+        for place in ("0", "-3"):
+            with self.subTest(place=place):
+                self.assert_touches(f"line[{place}]", length, ("line[0]", "read"), before=before)
+                self.assert_touches(f"line[{place}] += 1", length, new, ("line[0]", "read"), ("line[0]", "write"), before=before)
+        self.assert_touches("line[0] = 1", new, ("line[0]", "write"), before=before)
+        self.assert_touches("line[-3] = 1", length, new, ("line[0]", "write"), before=before)
+        self.assert_touches("del line[0]", ("line", "rewrite"), before=before)
+
     def test_rows_are_written_into_buffers(self) -> None:
         before = "import csv, io\ntext = io.StringIO()\nrows, named = csv.writer(text), csv.DictWriter(text, ['a'])\nkeep += [rows, named]"
         for line in (

@@ -14,7 +14,7 @@ import types
 from array import array
 from builtins import any, id, issubclass, len, map, next, setattr, type, zip
 from _thread import get_ident
-from collections import defaultdict
+from collections import defaultdict, deque
 from collections.abc import Callable, Iterable, Iterator
 from operator import itemgetter
 from sys import _getframe, getrefcount
@@ -41,6 +41,7 @@ from .kinds import (
 from .late import ADDED, FOUND, LOOKING, NOTHING, READ_ONLY, again, by_kinds, note_shared, saw, share, shorten
 from .late import cell as cell_late
 from .late import index as index_late
+from .late import index_of_deque as index_of_deque_late
 from .late import key as key_late
 from .late import named_field as field_late
 from .late import shape as shape_late
@@ -51,7 +52,7 @@ from .seen import NEVER
 from .templates import Path, field_paths
 from .things import MADE, OWNERS, Made, Owner, let_go_of_some, made_by, made_here, maker_now, mark_of, owner_of, variable_of
 
-INDEXED = (list, bytearray, array)
+INDEXED = (list, bytearray, array, deque)
 FLAT = PLAIN - {id(tuple), id(frozenset)}
 """Types whose values have nothing inside that could change."""
 LOOKED_THROUGH_AT_ONCE = 64
@@ -866,14 +867,13 @@ def _touch_index(one: Any, owner: Owner, key: Any, kinds: str, family: int, site
         _touch_shape(owner, ITERATION if kinds in LOOKING else REWRITE, site, is_repeated)
         return
     mark = site, key
-    if family == DEQUE:
-        kind = LENGTH if kinds == "r" else REPLACEMENT if kinds in ("w", "rw") else REWRITE
-        saw(owner, mark, (shape_late, mark, kind, site))
-    elif kinds == "d":
-        saw(owner, mark, (shape_late, (site, REMOVAL), REMOVAL, site))
+    if kinds == "d":
+        kind = REWRITE if family == DEQUE else REMOVAL
+        saw(owner, mark, (shape_late, (site, kind), kind, site))
     else:
         place = key if key >= 0 else key + next(base.__len__(one) for base in INDEXED if issubclass(type(one), base))
-        saw(owner, mark, (index_late, key, place, kinds, site), key >= 0 and is_repeated)
+        late = index_of_deque_late if family == DEQUE else index_late
+        saw(owner, mark, (late, key, place, kinds, site), key >= 0 and is_repeated)
 
 
 def _touch_key(one: Any, owner: Owner, key: Any, kinds: str, family: int, site: int, is_repeated: bool) -> None:

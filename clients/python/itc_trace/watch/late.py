@@ -69,6 +69,16 @@ def cell(owner: Owner, told: Touches, line: Line | None, site: int) -> Touches:
     return by_kinds(owner.base + site, owner.things[access.name], access.kinds, site)
 
 
+def index_of_deque(owner: Owner, told: Touches, line: Line | None, key: int, place: int, kinds: str, site: int) -> Touches:
+    """An index of a deque, which grows and shrinks at both ends: what stands there depends on the length."""
+    touches = index(owner, told, line, key, place, kinds, site)
+    if kinds != "w":
+        whole = owner.base + site
+        del touches[whole, LOOKUP]
+        touches[whole, LENGTH] = shape_of(owner, told, line), LENGTH, site
+    return touches
+
+
 def index(owner: Owner, told: Touches, line: Line | None, key: int, place: int, kinds: str, site: int) -> Touches:
     """An index of a list. One from the end depends on the length."""
     whole, of_list = owner.base + site, shape_of(owner, told, line)
