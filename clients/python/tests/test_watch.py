@@ -529,6 +529,8 @@ class WhatIsTouched(unittest.TestCase):
     def test_fields_have_the_names_that_the_program_has(self) -> None:
         functions = "def count():\n    count.calls += 1\ncount.calls = 0"
         self.assert_touches("count()", ("count.calls", "read"), ("count.calls", "write"), before=functions)
+        sell = "def sell(self): pass\nsell.__qualname__ = 'Shop.sell'\nsell.calls = 0\nShop.sell = sell"
+        self.assert_touches("Shop.sell.calls", ("Shop.sell", "read"), ("Shop.sell.calls", "read"), before=sell)
         private = "class Safe:\n    def __init__(self): self.__code = 1\n    def look(self): return self.__code\n"
         self.assert_touches("safe.look()", ("Safe.__code", "read"), before=private + "safe = Safe()")
         self.assert_touches("safe.look()", ("Safe.__code", "read"), before=private + "class Larger(Safe): pass\nsafe = Larger()")
@@ -546,6 +548,16 @@ class WhatIsTouched(unittest.TestCase):
         self.assert_touches("line[0] = 1", new, ("line[0]", "write"), before=before)
         self.assert_touches("line[-3] = 1", length, new, ("line[0]", "write"), before=before)
         self.assert_touches("del line[0]", ("line", "rewrite"), before=before)
+
+    def test_containers_of_a_class_have_its_name(self) -> None:
+        before = "class Store:\n    rows, sizes = [], {}\n    class Part:\n        ids: list = []\nkeep += [Store.rows, Store.sizes, Store.Part.ids]"
+        for line, name in (("Store.rows.append(1)", "rows"), ("Store().sizes.clear()", "sizes"), ("Store.Part.ids.append(1)", "ids")):
+            with self.subTest(line=line):
+                owner = "Part" if name == "ids" else "Store"
+                kind = "rewrite" if name == "sizes" else "addition"
+                looked = [("Store.sizes", "read")] if name == "sizes" else [(f"{owner}.{name}", "read")]
+                extra = [("Store.Part", "read")] if name == "ids" else []
+                self.assert_touches(line, *looked, *extra, (f"{owner}.{name}", kind), before=before)
 
     def test_rows_are_written_into_buffers(self) -> None:
         before = "import csv, io\ntext = io.StringIO()\nrows, named = csv.writer(text), csv.DictWriter(text, ['a'])\nkeep += [rows, named]"

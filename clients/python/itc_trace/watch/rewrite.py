@@ -489,7 +489,9 @@ class Rewriter:
         """A new container, passed through a hook that keeps where it was made, and for which name."""
         if not _is_new(value) or not isinstance(target, REACHED):
             return value
-        return self._hook("n", value, self._child(value), self._site(value, "made", "", "", self._text(target)))
+        is_of_class = self._scope.kind == CLASS and isinstance(target, ast.Name)
+        name = f"{self._scope.class_name}.{target.id}" if is_of_class else self._text(target)
+        return self._hook("n", value, self._child(value), self._site(value, "made", "", "", name))
 
     # Compound statements
 

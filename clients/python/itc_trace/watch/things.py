@@ -291,7 +291,7 @@ def _field_named(owner: Owner, class_name: str, name: str) -> str:
     """The name of a field as the program has it: that of a function is called by the function, and `_Shop__left` is `__left`."""
     one = owner.reference() if class_name == FunctionType.__name__ and owner.reference is not None else None
     if type(one) is FunctionType:
-        return f"{one.__name__}.{name}"
+        return f"{one.__qualname__.rpartition('<locals>.')[2]}.{name}"
     private = _PRIVATE.fullmatch(name)
     if private is not None and (private[1] == class_name.lstrip("_") or private[1][0].isupper()):
         return f"{private[1]}.{private[2]}"
