@@ -753,6 +753,12 @@ GROUPS = (
         match line:
             case [1, *_]: pass
     """)),
+    Group("rows are looked at", "rows = [[1, 2], [3, 4]]", "rows[0][1] = 5", _listed("""
+        list(zip(*rows))
+        list(map(max, *rows))
+        for one in zip(*rows): pass
+        list(map(sum, zip(*rows)))
+    """)),
     Group("an element of a deque is changed", "from collections import deque\nline = deque([1, 2, 3])", "line[0] = 5", _listed("""
         line[0]
         line[-3]

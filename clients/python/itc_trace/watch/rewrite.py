@@ -823,6 +823,9 @@ class Rewriter:
     def _looked_at(self, node: Any, name: str, depth: str) -> ast.expr:
         if name in STEPPERS and isinstance(node, GIVEN) and not self._is_made(node):
             return self._operand(node, "f", self._site_of_whole(node, READERS[name]))
+        if isinstance(node, ast.Starred) and name in STEPPERS:
+            node.value = self._operand(node.value, "h", self._site_of_whole(node.value, KEYS, EACH))
+            return node
         if isinstance(node, ast.Starred) or name in STEPPERS:
             return self._child(node)  # type: ignore[no-any-return]
         return self._whole(node, READERS[name], SHOWING.get(name, depth), METHODS_OF_READERS.get(name))  # type: ignore[no-any-return]
