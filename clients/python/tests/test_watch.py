@@ -586,6 +586,14 @@ class WhatIsTouched(unittest.TestCase):
         ):
             with self.subTest(line=line):
                 self.assert_touches(line, ("keep[..]", "length"), ("keep", whole), before="keep[:] = [[1], [2]]")
+        for line in ("list(map(itemgetter('n'), rows))", "sorted(rows, key=itemgetter('n'))", "max(rows, key=itemgetter('n'))"):
+            with self.subTest(line=line):
+                touched = ("rows", "iteration"), ("rows[..]", "lookup"), ("rows[..]['n']", "read")
+                self.assert_touches(line, *touched, before="from operator import itemgetter\nrows = [{'n': 1}]\nkeep[:] = rows")
+        self.assert_touches("list(map(dict.copy, rows))", ("rows", "iteration"), ("rows[..]", "iteration"), before="rows = [{'n': 1}]\nkeep[:] = rows")
+        rows = "rows = {'a': [1]}\nkeep.append(rows['a'])\nkeep.append(rows)"
+        self.assert_touches("rows.get('a').append(1)", ("rows", "lookup"), ("rows['a']", "read"), ("rows['a']", "addition"), before=rows)
+        self.assert_touches("rows.setdefault('A'.lower(), []).append(1)", ("rows", "lookup"), ("rows['a']", "lookup"), ("rows[..]", "addition"), before=rows)
 
     def test_shapes(self) -> None:
         of_field = ("Shop.items", "read")

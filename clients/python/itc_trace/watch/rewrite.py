@@ -59,6 +59,7 @@ OF_OBJECT = {"__getattribute__": "r", "__setattr__": "w", "__delattr__": "w"}
 """Methods of `object` that do the same for a class with methods of its own."""
 WORDS_OF_OBJECT = {"__getattribute__": 1, "__setattr__": 2, "__delattr__": 1}
 """What each is given behind the object. If the class is named in front of it, the object comes first."""
+TAKING = frozenset(("get", "setdefault"))
 TEMPLATES = frozenset(("substitute", "safe_substitute"))
 MAKERS_OF_MODULES = frozenset("deque defaultdict OrderedDict Counter StringIO BytesIO".split())
 MAKERS = MAKERS_OF_MODULES | frozenset("dict list set bytearray".split())
@@ -303,6 +304,10 @@ class Rewriter:
         if isinstance(node, ast.Subscript):
             inside = repr(node.slice.value) if isinstance(node.slice, ast.Constant) else ".."
             return f"{self._text(node.value)}[{inside}]"
+        if isinstance(node, ast.Call) and isinstance(node.func, ast.Attribute) and node.func.attr in TAKING and node.args:
+            inside = repr(node.args[0].value) if isinstance(node.args[0], ast.Constant) else ".."
+            whole = self._text(node.func.value)
+            return f"{whole}[{inside}]" if whole else ""
         return ""
 
     def _variable(self, node: Any, name: str, kinds: str) -> ast.expr:
@@ -738,15 +743,20 @@ class Rewriter:
     def _name_handed(self, node: ast.Call) -> None:
         """Keeps the names of containers whose methods are arguments, and of what a function that is one looks at."""
         for one in (*node.args, *(keyword.value for keyword in node.keywords)):
-            if isinstance(one, ast.Attribute) and one.attr in METHODS:
+            if isinstance(one, ast.Call) and self._import_of(one.func) == "operator.itemgetter":
+                self._name_elements(node, one, "__getitem__")
+            elif isinstance(one, ast.Attribute) and one.attr in METHODS and self._is_container_class(one.value):
+                self._name_elements(node, one, one.attr)
+            elif isinstance(one, ast.Attribute) and one.attr in METHODS:
                 NAMES_OF_HANDED[self._file, node.lineno, one.attr] = self._text(one.value)
             elif isinstance(one, ast.Name) and one.id in READERS and self._is_builtin(one.id):
-                self._name_elements(node, one.id, next((other for other in node.args if other is not one), getattr(node.func, "value", None)))
+                self._name_elements(node, one, f"builtins.{one.id}")
 
-    def _name_elements(self, node: ast.Call, name: str, given: Any) -> None:
-        """Keeps the name of what a function of the language looks at, if it is given each element: `map(len, queues)`."""
+    def _name_elements(self, node: ast.Call, function: Any, name: str) -> None:
+        """Keeps the name of what a function looks at, if it is given each element of what the call has beside it: `map(len, queues)`."""
+        given: Any = next((other for other in node.args if other is not function), getattr(node.func, "value", None))
         if isinstance(given, GIVEN):
-            NAMES_OF_HANDED[self._file, node.lineno, f"builtins.{name}"] = f"{self._text(given)}[..]"
+            NAMES_OF_HANDED[self._file, node.lineno, name] = f"{self._text(given)}[..]"
 
     def _handed(self, node: Any) -> Any:
         """What is called by its name, or handed to a function that calls it: it may be a method of a container."""
