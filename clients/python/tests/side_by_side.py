@@ -33,6 +33,8 @@ LONGEST = (
 )
 """The longest of the other classes, which come next: so none runs alone at the end."""
 RAN = re.compile(r"^Ran (\d+) tests? in .*\n\nOK(?: \(skipped=(\d+).*\))?$", re.MULTILINE)
+SAMPLE = re.compile(r"^(?:.* \.\.\. )?(sample: .*)$", re.MULTILINE)
+"""What a test says of those that it has drawn."""
 SKIPPED = re.compile(r" \.\.\. skipped ['\"](.*)['\"]$", re.MULTILINE)
 
 
@@ -48,10 +50,11 @@ class Ended(NamedTuple):
     skipped: list[str]
     """Why tests were skipped."""
     said: str
+    """All that it wrote."""
 
     def told(self, how: str) -> str:
-        skipped = "".join(f"\nskipped: {self.job}: {why}" for why in self.skipped)
-        return f"{self.job}: {self.passed} {how}, {self.seconds:.0f} s, {self.used:.0f} s of a processor{skipped}"
+        further = [f"skipped: {self.job}: {why}" for why in self.skipped] + SAMPLE.findall(self.said)
+        return "\n".join([f"{self.job}: {self.passed} {how}, {self.seconds:.0f} s, {self.used:.0f} s of a processor", *further])
 
 
 def jobs() -> list[str]:

@@ -1,6 +1,7 @@
 """Each program of `programs` is run, and what the run says is what is due by the program's own text.
 
-ITC_PROGRAM_RUNS says how often each is run, once where it is not set. ITC_PROGRAMS is a pattern of the names of those to run.
+ITC_PROGRAM_RUNS says how often each is run, once where it is not set. ITC_PROGRAMS is a pattern of the names of those to run. Most runs are
+forks: see `forked_runs`.
 """
 
 from __future__ import annotations
@@ -9,13 +10,15 @@ import fnmatch
 import json
 import os
 import subprocess
+import sys
 import unittest
-from collections.abc import Callable, Iterable
+from collections.abc import Iterable
 from concurrent.futures import ThreadPoolExecutor
 from pathlib import Path
 
 from .due import Due, Place, due_of, faults, told_by
-from .support import PACKAGE, PROGRAM_RUNS, run_python, run_traced
+from .forked_runs import run_program, sample
+from .support import PACKAGE, PROGRAM_RUNS, run_python
 
 PATTERN = os.environ.get("ITC_PROGRAMS", "*")
 AT_ONCE = 2
@@ -29,10 +32,10 @@ def programs(folder: Path) -> list[Path]:
     return [path for path in sorted(folder.glob("[a-z]*.py")) if fnmatch.fnmatch(path.stem, PATTERN)]
 
 
-def run_all(run: Callable[..., Ended], paths: Iterable[Path]) -> list[tuple[Path, Ended]]:
+def run_all(paths: Iterable[Path]) -> list[tuple[Path, Ended]]:
     """Runs each, a few at a time."""
     with ThreadPoolExecutor(AT_ONCE) as pool:
-        running = [(path, pool.submit(run, str(path))) for path in paths]
+        running = [(path, pool.submit(run_program, path, place)) for place, path in enumerate(paths)]
     return [(path, job.result()) for path, job in running]
 
 
@@ -84,7 +87,8 @@ class Programs(unittest.TestCase):
 
     def assert_due(self, paths: list[Path]) -> None:
         judged = {path: due_of(path) for path in paths}
-        for path, ended in run_all(run_traced, [path for path in judged for _ in range(PROGRAM_RUNS)]):
+        print(sample(), file=sys.stderr)
+        for path, ended in run_all([path for path in judged for _ in range(PROGRAM_RUNS)]):
             with self.subTest(program=path.stem):
                 wrong = faults(judged[path], ended.returncode, ended.stderr)
                 self.assertEqual(wrong, [], f"\n{ended.stdout}{ended.stderr}")
