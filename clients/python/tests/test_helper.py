@@ -13,6 +13,7 @@ from pathlib import Path
 
 from itc_trace.watch import helper
 
+from .forked_runs import run_program, sample
 from .support import PACKAGE, PROGRAM_RUNS, WAIT, ProgramCase, run_traced
 from .test_programs import PROGRAMS, programs
 
@@ -27,11 +28,11 @@ NO_HELPER = "there is no compiler here, or another Python"
 Noted = frozenset[tuple[str, str, str, int]]
 
 
-def noted(program: Path, form: str) -> Noted:
-    """The things that tasks share, with what was done to each, and where."""
+def noted(program: Path, form: str, place: int) -> Noted:
+    """The things that tasks share, with what was done to each, and where. The place is that of the program among all of its test."""
     with tempfile.TemporaryDirectory() as folder:
         journal = Path(folder, "journal")
-        run_traced("--journal", str(journal), str(program), ITC_TRACE_PURE=FORMS[form])
+        run_program(program, place, "--journal", str(journal), ITC_TRACE_PURE=FORMS[form])
         rows = [json.loads(line) for line in journal.read_text().splitlines()]
     return frozenset((row["name"], row["kind"], os.path.basename(row["file"]), row["line"]) for row in rows if row.get("thing") and "name" in row)
 
@@ -80,12 +81,13 @@ LOOKED_AT = """
 @unittest.skipUnless(HAS_HELPER, NO_HELPER)
 class BothForms(ProgramCase):
     def test_they_note_the_same_of_unchanged_programs(self) -> None:
-        for program in programs(PROGRAMS / "unchanged")[::EACH]:
+        print(sample(), file=sys.stderr)
+        for place, program in enumerate(programs(PROGRAMS / "unchanged")[::EACH]):
             with self.subTest(program=program.stem):
                 found: dict[str, set[Noted]] = {form: set() for form in FORMS}
                 for _ in range(TRIES):
                     for form, known in found.items():
-                        known.add(noted(program, form))
+                        known.add(noted(program, form, place))
                     if set.intersection(*found.values()):
                         break
                 self.assertTrue(set.intersection(*found.values()), found)
@@ -118,7 +120,7 @@ class BothForms(ProgramCase):
                 thread.join()
         """
         program = Path(self.program(textwrap.dedent(text)))
-        first, second = (noted(program, form) for form in FORMS)
+        first, second = (noted(program, form, 0) for form in FORMS)
         self.assertEqual(first, second)
         looked_at = {name for name, _, _, _ in first}
         self.assertEqual({"Point.x", "nested[..]", "bag", "bag['a']", "items", "lines", "table", "table['b']"}, looked_at)

@@ -40,7 +40,7 @@ def run_all(paths: Iterable[Path]) -> list[tuple[Path, Ended]]:
 
 
 EACH_IN_A_CHILD = """
-import itc_trace, json, os, sys, types
+import json, os, sys, types
 def run(program):
     module = sys.modules["__main__"] = types.ModuleType("__main__")
     sys.argv, sys.path[0], module.__file__ = [program], os.path.dirname(program), program
@@ -60,7 +60,7 @@ for program in sys.argv[1:]:
         said = errors.read()
     print(json.dumps((program, (os.waitstatus_to_exitcode(os.waitpid(child, 0)[1]), said))), flush=True)
 """
-"""Runs each program as Python does, in a child of one process: to begin Python and this package takes longer than most of them."""
+"""Runs each program as Python does, in a child of one process: to begin Python takes longer than most of them."""
 
 
 class Programs(unittest.TestCase):
@@ -71,11 +71,15 @@ class Programs(unittest.TestCase):
         self.assert_due(programs(PROGRAMS / "unchanged"))
 
     def test_programs_end_well_where_nothing_is_traced(self) -> None:
-        paths = [str(path) for path in (*programs(PROGRAMS), *programs(PROGRAMS / "unchanged"))]
+        marked, unchanged = ([str(path) for path in programs(folder)] for folder in (PROGRAMS, PROGRAMS / "unchanged"))
         with ThreadPoolExecutor(AT_ONCE) as pool:
-            ended = list(pool.map(lambda first: run_python("-c", EACH_IN_A_CHILD, *paths[first::AT_ONCE]), range(AT_ONCE)))
+            running = [
+                pool.submit(run_python, "-c", f"import itc_trace{EACH_IN_A_CHILD}", *marked),  # It is imported once for all of them.
+                pool.submit(run_python, "-c", EACH_IN_A_CHILD, *unchanged),
+            ]
+        ended = [job.result() for job in running]
         told = dict(json.loads(line) for one in ended for line in one.stdout.splitlines())
-        self.assertEqual(sorted(told), sorted(paths), [one.stderr for one in ended])
+        self.assertEqual(sorted(told), sorted([*marked, *unchanged]), [one.stderr for one in ended])
         for path, (status, errors) in told.items():
             with self.subTest(program=path):
                 self.assertEqual((status, errors), (0, ""))
