@@ -24,6 +24,7 @@ OF_PROGRAM = frozenset(sys.modules) - {"itc_trace.launch"}
 """The modules that the program's process begins with. It runs the last one as `__main__`."""
 
 import itc_trace.__main__  # noqa: E402
+import itc_trace.ending  # noqa: E402
 
 del sys.modules["itc_trace.__main__"], itc_trace.__main__  # The command's process runs this one as `__main__`.
 
@@ -115,7 +116,8 @@ def leave(status: object) -> NoReturn:
     """The end of the command without the end of all its modules, which takes as long as the command. That of the program is whole."""
     threading._shutdown()  # type: ignore[attr-defined]
     atexit._run_exitfuncs()
-    sys.stdout.flush(), sys.stderr.flush()
+    sys.stdout.flush()
+    sys.stderr.flush()
     os._exit(status if isinstance(status, int) else int(status is not None))
 
 

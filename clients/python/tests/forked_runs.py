@@ -48,14 +48,16 @@ class ForkServer:
             try:
                 socket.send_fds(self._door, [json.dumps(words).encode()], [for_output, for_errors])
             finally:
-                os.close(for_output), os.close(for_errors)
+                os.close(for_output)
+                os.close(for_errors)
             process = self._reply()
             killing = threading.Timer(LONGEST, os.kill, (process, signal.SIGKILL))
             killing.start()
             complaint = pool.submit(complained.read)
-            text = said.read()
-            status = self._reply()
-            killing.cancel()
+            try:
+                text, status = said.read(), self._reply()
+            finally:
+                killing.cancel()
             return subprocess.CompletedProcess(words, status, text, complaint.result())
 
     def _reply(self) -> int:
