@@ -60,7 +60,6 @@ ENDS = {
     "with a daemon": "import threading, time\nthreading.Thread(target=time.sleep, args=(60,), daemon=True).start()\nprint('made')",
     "with a warning": "import warnings\nwarnings.warn('old', DeprecationWarning)\nwarnings.warn('new')",
     "where the text is wrong": "print('made'",
-    "by what it reads": "import sys\nprint(repr(sys.stdin.read()))",
 }
 
 
