@@ -5,10 +5,11 @@ A thread that is traced does no more than append a note to one list. Another thr
 
 from __future__ import annotations
 
+import itertools
 import weakref
 from collections.abc import Callable
 from types import CodeType
-from typing import TYPE_CHECKING, Any, NamedTuple
+from typing import TYPE_CHECKING, Any
 
 if TYPE_CHECKING:
     from .lock_identity import LockIdentity, Signal
@@ -20,18 +21,21 @@ MARK, TAKE, TAKE_END, SPAWN, FINISH, JOIN, TOUCH, LATE, GONE, SEND, RECV, STOP, 
 
 Note = tuple[Any, ...]
 
+_numbers = itertools.count(1)
 
-class What(NamedTuple):
+
+class What:
     """What a message stands for: the first part of its name, and the words for its sending and its receiving."""
 
-    hint: str
-    giving: str
-    taking: str
+    __slots__ = ("hint", "giving", "taking")
 
-    @property
-    def lock(self) -> None:
-        """It is no hand-over of a lock."""
-        return None
+    lock = None
+    """It is no hand-over of a lock."""
+
+    def __init__(self, hint: str, giving: str, taking: str) -> None:
+        self.hint = hint
+        self.giving = giving
+        self.taking = taking
 
 
 NOTIFY = What("notify", "notify", "wake up")
@@ -56,19 +60,20 @@ OUTSIDE = What("out", "send to another process", "receive from another process")
 
 
 class Line:
-    """The events of one task, in their order. All but the first nine fields belong to the thread that reports.
+    """The events of one task, in their order. All but the first ten fields belong to the thread that reports.
 
     `held` has the locks that the task holds now, in the order of their acquiring.
     """
 
     __slots__ = (
-        "tracer", "hint", "waiting", "reference", "must_finish", "held", "lent", "section", "job",
+        "number", "tracer", "hint", "waiting", "reference", "must_finish", "held", "lent", "section", "job",
         "name", "count", "message", "lock", "sent", "pending", "known", "known_by_locks", "parent", "parent_count", "touches",
         "end_token", "is_finished", "has_ended", "is_gone", "joined_by", "joined_at", "joined", "first_taker",
         "is_forgotten", "is_process",
     )
 
     def __init__(self, tracer: Tracer | None, hint: str) -> None:
+        self.number = next(_numbers)
         self.tracer = tracer
         self.hint = hint
         self.waiting = 0
@@ -80,7 +85,7 @@ class Line:
         self.lent: tuple[LockIdentity, ...] = ()
         """The locks that the task held which started it."""
         self.section: Section | None = None
-        """The section of a lock that it has left, if it has done nothing else since."""
+        """The section of a lock that it has left, or its last token of another kind, if it has done nothing else since."""
         self.name = ""
         self.count = 0
         self.message: str | None = None
@@ -140,13 +145,15 @@ class Token:
     `lock` says which of them only luck puts in order.
     """
 
-    __slots__ = ("line", "what", "code", "instruction", "count", "message", "time", "__weakref__")
+    __slots__ = ("line", "what", "code", "instruction", "last_taker", "count", "message", "time", "__weakref__")
 
     def __init__(self, line: Line, what: What | LockIdentity | Signal, code: CodeType | None, instruction: int) -> None:
         self.line = line
         self.what = what
         self.code = code
         self.instruction = instruction
+        self.last_taker = 0
+        """The number of the line that has taken it last."""
         self.count = 0
         self.message: str | None = None
         self.time = 0.0
@@ -157,7 +164,7 @@ class Section:
     """What a task did with a lock held, and the token of its release.
 
     If the task acquires the lock again before anybody else, and has done nothing in between, it goes on in the section: the stretch
-    and the token stay, and nothing is noted.
+    and the token stay, and nothing is noted. A token that is no lock's has one without a stretch: it stays for who comes again.
     """
 
     __slots__ = ("token", "stretch", "is_entered_again")

@@ -9,11 +9,12 @@ import threading
 from _thread import get_ident
 from asyncio.events import _get_running_loop
 from collections.abc import Callable, Hashable
+from sys import _getframe
 from types import CodeType, FrameType
 from typing import Any
 
 from .conflicts import MAKING, READ, WRITE
-from .lines import MARK, RESULT, SPAWN, TAKE, TOUCH, Line, Note, Token, What, state
+from .lines import MARK, RESULT, SPAWN, TAKE, TOUCH, Line, Note, Section, Token, What, state
 from .stretches import STRETCHES, TURNS, Across, Stretch, Touched, leave
 
 local = threading.local()
@@ -43,7 +44,7 @@ _task_of = _task_getter()
 def frame_at(depth: int) -> FrameType | None:
     """The frame so many calls above the caller. None, where the interpreter itself has called, as at the program's end."""
     try:
-        return sys._getframe(depth + 1)
+        return _getframe(depth + 1)
     except ValueError:
         return None
 
@@ -61,9 +62,12 @@ def is_internal(frame: FrameType | None) -> bool:
 
 def place(frame: FrameType | None) -> tuple[CodeType | None, int]:
     """Where the program itself stands: the innermost frame that is not internal."""
-    while frame is not None and is_internal(frame):
+    while frame is not None:
+        is_known = _internal_names.get(frame.f_globals.get("__name__"))
+        if not (is_internal(frame) if is_known is None else is_known):
+            return frame.f_code, frame.f_lasti
         frame = frame.f_back
-    return (None, 0) if frame is None else (frame.f_code, frame.f_lasti)
+    return None, 0
 
 
 def current() -> Line:
@@ -191,13 +195,29 @@ def failed(fault: Exception) -> None:
 
 
 def mark(what: What, depth: int = 2) -> Token | None:
-    """A token for the place where the current task is now, for others to take. None where tracing is off."""
+    """A token for the place where the current task is now, for others to take. None where tracing is off.
+
+    A task that has done nothing since its last token, and comes to the same line for the same, is still at the place of that one.
+    """
     note = state.note
     if note is None:
         return None
     try:
-        token = Token(current(), what, *place(frame_at(depth)))
+        try:
+            code, instruction = place(_getframe(depth))
+        except ValueError:
+            code, instruction = None, 0
+        line = line_of_now()
+        section = line.section
+        if section is not None:
+            token = section.token
+            if token.what is what and token.instruction == instruction and token.code is code:
+                return token
+        leave()
+        line.section = None
+        token = Token(line, what, code, instruction)
         note((MARK, token))
+        line.section = Section(token, None)
         return token
     except Exception as fault:
         failed(fault)
@@ -206,19 +226,34 @@ def mark(what: What, depth: int = 2) -> Token | None:
 
 def take(token: Token | None, depth: int = 2) -> None:
     """From now on the current task comes after the place of the token."""
-    take_at(token, frame_at(depth))
+    if token is not None and (line := _taker(token)) is not None:
+        _note_take(line, token, frame_at(depth))
 
 
 def take_at(token: Token | None, frame: FrameType | None) -> None:
-    note = state.note
-    if note is None or token is None or token.line.tracer is not state.tracer:
-        return
+    """The same, at the place of this frame."""
+    if token is not None and (line := _taker(token)) is not None:
+        _note_take(line, token, frame)
+
+
+def _taker(token: Token) -> Line | None:
+    """The current task. None if it comes after the place of the token already, as its own task, or as the last one that has taken it."""
+    if state.note is None or token.line.tracer is not state.tracer:
+        return None
     line = line_of_now()
-    if line is not token.line:
+    if line is token.line:
+        return None
+    if token.line.lent and token.what is RESULT:
+        _enclose(line, token.line)
+    return None if token.last_taker == line.number else line
+
+
+def _note_take(line: Line, token: Token, frame: FrameType | None) -> None:
+    note = state.note
+    if note is not None:
         leave()
         line.section = None
-        if token.line.lent and token.what is RESULT:
-            _enclose(line, token.line)
+        token.last_taker = line.number
         note((TAKE, line, token, *place(frame)))
 
 

@@ -297,6 +297,7 @@ class Tracer:
                 state.tracer = None
         if not self._is_over:
             if ends:
+                self.main.section = None
                 self._note_now((FINISH, self.main, True, False))
             self._note_now((STOP,))
             self.hurry()

@@ -128,6 +128,7 @@ def take_done() -> None:
     for line in _done:
         note = state.note
         if note is not None and line.tracer is state.tracer:
+            line.tracer.main.section = None
             note((JOIN, line.tracer.main, line, None, 0))
 
 

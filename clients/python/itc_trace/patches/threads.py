@@ -127,6 +127,7 @@ def _bootstrap(original: Any) -> Any:
 
 
 def _note_end(line: Line) -> None:
+    line.section = None
     note = state.note
     if note is not None and line.tracer is state.tracer:
         note((FINISH, line, True, line.waiting > 1))
