@@ -8,7 +8,7 @@ import math
 import queue
 import threading
 from collections import deque
-from types import FunctionType, MethodType
+from types import FunctionType
 from typing import Any
 
 from ..lines import DONE_ITEM, QUEUE, ROOM, Token, state
@@ -98,25 +98,35 @@ def _trace_lock(one: Any, frame: Any) -> None:
 
 
 class Items:
-    """The tokens of what lies in a queue, by the identity of the items."""
+    """The tokens of what lies in a queue, by the identity of the items. A thing that lies there several times has several."""
 
     def __init__(self, is_stack: bool) -> None:
-        self._tokens: dict[int, deque[Token | None]] = {}
+        self._tokens: dict[int, Token | deque[Token | None] | None] = {}
         self._is_stack = is_stack
 
     def add(self, item: object, token: Token | None) -> None:
+        number = id(item)
         with _guard:
-            self._tokens.setdefault(id(item), deque()).append(token)
+            tokens = self._tokens
+            if number not in tokens:
+                tokens[number] = token
+                return
+            known = tokens[number]
+            if type(known) is deque:
+                known.append(token)
+            else:
+                tokens[number] = deque((known, token))
 
     def remove(self, item: object, from_end: bool = False) -> Token | None:
-        """The token of an item that has been taken out. Where one thing lies there twice, the queue's order decides."""
+        """The token of an item that has been taken out. If one thing lies there twice, the queue's order decides."""
+        number = id(item)
         with _guard:
-            tokens = self._tokens.get(id(item))
-            if not tokens:
-                return None
+            tokens = self._tokens.pop(number, None)
+            if type(tokens) is not deque:
+                return tokens
             token = tokens.pop() if self._is_stack or from_end else tokens.popleft()
-            if not tokens:
-                del self._tokens[id(item)]
+            if tokens:
+                self._tokens[number] = tokens
             return token
 
 
@@ -155,12 +165,12 @@ def room_of(one: Any, size: int) -> Room:
 
 def _put_item(one: Any, item: Any, put: Any) -> None:
     """The library puts the item, while nobody else has the queue. Else two threads that put one thing might be taken for each other."""
-    if has_few_places(one):
+    if 0 < one.maxsize <= MOST_PLACES:
         room_of(one, one._qsize()).use()
-    items = items_of(one)
+    items = one.__dict__.get("_itc_items") or items_of(one)
     items.add(item, mark(QUEUE, 3))
     try:
-        put(item)
+        put(one, item)
     except BaseException:
         items.remove(item, from_end=True)
         raise
@@ -168,9 +178,12 @@ def _put_item(one: Any, item: Any, put: Any) -> None:
 
 def _get_item(one: Any, get: Any) -> Any:
     """The library takes an item out, while nobody else has the queue."""
-    room = room_of(one, one._qsize()) if has_few_places(one) else None
-    item = get()
-    take(items_of(one).remove(item), 3)
+    room = room_of(one, one._qsize()) if 0 < one.maxsize <= MOST_PLACES else None
+    item = get(one)
+    items = one.__dict__.get("_itc_items")
+    token = None if items is None else items.remove(item)
+    if token is not None:
+        take(token, 3)
     if room is not None:
         room.make()
     return item
@@ -181,7 +194,7 @@ def _put_inside(original: Any) -> Any:
         if state.note is None or type(self)._put not in _own_steps:
             original(self, item)
         else:
-            _put_item(self, item, MethodType(original, self))
+            _put_item(self, item, original)
 
     return _put
 
@@ -190,7 +203,7 @@ def _get_inside(original: Any) -> Any:
     def _get(self: Any) -> Any:
         if state.note is None or type(self)._get not in _own_steps:
             return original(self)
-        return _get_item(self, MethodType(original, self))
+        return _get_item(self, original)
 
     return _get
 
@@ -210,10 +223,18 @@ class _Seen:
         setattr(self._itc_queue, name, value)
 
     def _put(self, item: Any) -> None:
-        _put_item(self._itc_queue, item, self._itc_queue._put)
+        _put_item(self._itc_queue, item, _put_by_program)
 
     def _get(self) -> Any:
-        return _get_item(self._itc_queue, self._itc_queue._get)
+        return _get_item(self._itc_queue, _get_by_program)
+
+
+def _put_by_program(one: Any, item: Any) -> None:
+    one._put(item)
+
+
+def _get_by_program(one: Any) -> Any:
+    return one._get()
 
 
 def _put(original: Any) -> Any:
