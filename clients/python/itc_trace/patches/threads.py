@@ -15,6 +15,7 @@ from .exits import await_at_exit
 from .locks import TracedLock, TracedRLock, is_of_condition, traced_rlock
 from .waiters import Waiters
 
+_PLAIN_LOCK: Any = _thread.LockType
 _PLAIN_RLOCK: Any = vars(_thread)["RLock"]
 
 MOST_PERMITS = 65536
@@ -227,8 +228,10 @@ def _condition_begin(original: Any) -> Any:
 
 def _condition_notify(original: Any) -> Any:
     def notify(self: Any, n: int = 1) -> None:
-        waiters = self._waiters
-        is_of_condition(self._lock)
+        lock, waiters = self._lock, self._waiters
+        if not waiters and type(lock) is _PLAIN_LOCK and type(self) is threading.Condition and lock.locked():
+            return  # Nobody waits, and the lock is the library's own: there is nothing to do and nothing to tell.
+        is_of_condition(lock)
         if waiters and type(waiters) is Waiters and self._is_owned():
             waiters.are_notified(mark(NOTIFY), n)
         original(self, n)
