@@ -164,10 +164,10 @@ def _parse_request(original: Any) -> Any:
             asked = self.headers.get(HEADER)
             exchange = _asked.pop(asked, None)
             _answers(self, asked, exchange)
-            if exchange is None:
-                incoming_at(asked, _frame())
-            else:
+            if exchange is not None:
                 take_at(exchange.asked, _frame())
+            elif asked is not None:
+                incoming_at(asked, _frame())
         return is_one
 
     return parse_request
