@@ -5,6 +5,7 @@ from __future__ import annotations
 import json
 from collections.abc import Iterable, Iterator
 from dataclasses import dataclass
+from json.encoder import encode_basestring_ascii as text_of
 from types import CodeType
 from typing import TYPE_CHECKING, Any, NamedTuple
 
@@ -16,6 +17,9 @@ from .verdict import BREAKS_OFF, Cause, PassedOver, Unseen
 
 if TYPE_CHECKING:
     from .lock_identity import LockIdentity
+
+MOST_NAMED = 4096
+"""So many texts of named things are kept, not to make each anew."""
 
 
 class Row(NamedTuple):
@@ -277,6 +281,8 @@ class TouchTexts:
         self._places = places
         self._prefix = prefix
         self._owner = owner or prefix.rstrip("_")
+        self._named: dict[tuple[Any, ...], str] = {}
+        """Of things that the program has named."""
         self._things: dict[int, str] = {}
         self._sites: dict[int, str] = {}
         self._locks: dict[int, str] = {}
@@ -284,14 +290,23 @@ class TouchTexts:
     def text(self, touch: Touch) -> str:
         thing, kind, site, held, loop, turn, _ = touch
         if isinstance(thing, str):
-            code, instruction, label = site
-            named = f'"thing":{json.dumps(self._name(thing))},"kind":"{kind}",{self._places.text(code, instruction)}'
-            told = f'{named},"label":{json.dumps(label or f"{kind} {thing}")},"function":{json.dumps(code.co_qualname if code else "")}'
+            told = self._touch_of_named(thing, kind, *site)
         else:
-            told = f'{self._thing(thing)},"kind":"{kind}",{self._site(site)},"label":{json.dumps(f"{kind} {thing.name}")}'
+            told = f'{self._thing(thing)},"kind":"{kind}",{self._site(site)},"label":{text_of(f"{kind} {thing.name}")}'
         locks = f',"held":[{",".join([self.lock(one) for one in held])}]' if held else ""
         when = f',"loop":{loop},"turn":{turn}' if loop else ""
         return f"{told}{locks}{when}}}\n"
+
+    def _touch_of_named(self, thing: str, kind: str, code: CodeType | None, instruction: int, label: str | None) -> str:
+        key = thing, type(thing), kind, id(code), instruction, label
+        told = self._named.get(key)
+        if told is None:
+            named = f'"thing":{json.dumps(self._name(thing))},"kind":"{kind}",{self._places.text(code, instruction)}'
+            words = f'"label":{json.dumps(label or f"{kind} {thing}")},"function":{json.dumps(code.co_qualname if code else "")}'
+            if len(self._named) >= MOST_NAMED:
+                self._named.clear()
+            told = self._named[key] = f"{named},{words}"
+        return told
 
     def _name(self, thing: str) -> str:
         """The name of a thing, which is of this process if it is not one across all."""
@@ -299,6 +314,7 @@ class TouchTexts:
 
     def forget(self) -> None:
         """Forgets the texts of things and locks, which may be no more."""
+        self._named.clear()
         self._things.clear()
         self._locks.clear()
 

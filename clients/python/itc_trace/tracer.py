@@ -5,7 +5,6 @@ from __future__ import annotations
 import _thread
 import contextlib
 import itertools
-import json
 import re
 import socket
 import sys
@@ -20,7 +19,7 @@ from .collector import HOST, MOST_TASKS
 from .dividing import Report
 from .faults import FULL, Fault, nobody_listens, refusal
 from .following import ChildProcess
-from .journal import Places, TouchTexts, border_row
+from .journal import Places, TouchTexts, border_row, text_of
 from .journal_file import JournalFile
 from .lines import END, FINISH, GONE, JOIN, RESULT, SPAWN, STOP, TAKE, TAKE_END, TOUCH, LateJob, Line, Note, Token, state
 from .lock_identity import LockIdentity
@@ -417,14 +416,14 @@ class Tracer:
 
     def _report_some(self) -> None:
         batch = self._next_notes()
-        handlers = self._handlers
+        handlers, goes_on, parts = self._handlers, self._goes_on, self._parts
         while batch:
             self._time, note = batch.popleft()
             handlers[note[0]](*note[1:])
-            while self._goes_on:
-                self._touch(self._goes_on.pop())
-            if self._parts is not None and self._parts.is_full and not self._all_sent:
-                self._divide(self._parts)
+            while goes_on:
+                self._touch(goes_on.pop())
+            if parts is not None and parts.is_full and not self._all_sent:
+                self._divide(parts)
         self._gone_soon.clear()
         self._flush()
         if len(self._touch_events) > MOST_UNWRITTEN:
@@ -437,10 +436,11 @@ class Tracer:
         notes, takes = self.notes, self._takes_left
         for _ in range(min(len(notes), NOTES_AT_ONCE)):
             try:
-                batch.append(notes.popleft())
+                timed = notes.popleft()
             except IndexError:
                 break
-            note = batch[-1][1]
+            batch.append(timed)
+            note = timed[1]
             kind = note[0]
             if kind == TAKE:
                 takes[note[2].line] += 1
@@ -493,9 +493,10 @@ class Tracer:
                 lock: LockIdentity | None = None, time: float = 0.0) -> Outstanding:
         if line.touches is not None:
             self._end_touches(line)
-        report = self._put(Report(kind, line.name, name), code, instruction, label, lock, time or self._time)
+        told = Report(kind, line.name, name)
+        report = self._put(told, code, instruction, label, lock, time or self._time)
         if self._parts is not None:
-            self._parts.divider.report(Report(kind, line.name, name))
+            self._parts.divider.report(told)
         line.count += 1
         line.message = None
         return report
@@ -965,5 +966,5 @@ class Tracer:
             part, of = part_text(self.part), f',"of":"{report.name}"' if report.name else ""
         return (
             f'{{"event":{event},{part}{time_text(report.time)}"task":"{report.task}","thing":null,"kind":"{report.kind}",{place},'
-            f'"label":{json.dumps(report.label)}{lock}{of}}}\n'
+            f'"label":{text_of(report.label)}{lock}{of}}}\n'
         )
