@@ -11,6 +11,7 @@ from concurrent.futures import Future, ThreadPoolExecutor
 from typing import Any
 
 from itc_trace import touch
+from itc_trace.patches.queues import items_of
 
 from .support import PART_EVENTS, WAIT, Step, TracedCase, in_turn, wait_until
 from .test_threads import write
@@ -93,6 +94,134 @@ class Queues(TracedCase):
             in_turn(lambda: put("x"), lambda: put("y"), get)
 
         self.assert_racing_things("y", scenario)
+
+    def test_the_same_item_often_is_told_apart(self) -> None:
+        makes: list[tuple[Any, str]] = [(queue.Queue, "y z"), (queue.LifoQueue, "x y")]
+        for make, racing in makes:
+            with self.subTest(make=make):
+
+                def scenario() -> None:
+                    one = make()
+
+                    def put(thing: str) -> None:
+                        write(thing)
+                        one.put(None)
+
+                    def get() -> None:
+                        one.get()
+                        for thing in "xyz":
+                            write(thing)
+
+                    in_turn(*(lambda thing=thing: put(thing) for thing in "xyz"), get)
+
+                self.assert_racing_things(racing, scenario)
+
+    def test_items_that_a_task_puts_with_nothing_in_between_have_one_place(self) -> None:
+        def scenario() -> None:
+            one: queue.Queue[int] = queue.Queue()
+
+            def put(touched: int | None) -> None:
+                for number in range(4):
+                    if number == touched:
+                        write()
+                    one.put(number)
+
+            for touched, places in ((None, 1), (2, 2)):
+                put(touched)
+                self.assertEqual(len({items_of(one).remove(one.queue[number]) for number in range(4)}), places)
+                one.queue.clear()
+
+        self.races(scenario)
+
+    def test_an_item_comes_after_what_was_done_before_it_at_a_line_that_has_put_another_one(self) -> None:
+        for gets, told in ((1, self.assert_race), (2, self.assert_ordered)):
+            with self.subTest(gets=gets):
+
+                def scenario() -> None:
+                    one: queue.Queue[int] = queue.Queue()
+
+                    def first() -> None:
+                        for number in range(2):
+                            if number == 1:
+                                write()
+                            one.put(number)
+
+                    def second() -> None:
+                        for _ in range(gets):
+                            one.get()
+                        write()
+
+                    in_turn(first, second)
+
+                told(scenario)
+
+    def test_what_a_task_learns_between_two_items_of_a_line_is_handed_on(self) -> None:
+        for gets, told in ((1, self.assert_race), (2, self.assert_ordered)):
+            with self.subTest(gets=gets):
+
+                def scenario() -> None:
+                    one: queue.Queue[int] = queue.Queue()
+                    other: queue.Queue[int] = queue.Queue()
+                    has_put, is_told, is_ready = Step(), Step(), Step()
+
+                    def tell() -> None:
+                        has_put.wait()
+                        write()
+                        other.put(1)
+                        is_told.done()
+
+                    def hand_on() -> None:
+                        for number in range(2):
+                            one.put(number)
+                            if number == 0:
+                                has_put.done()
+                                is_told.wait()
+                                other.get()
+                        is_ready.done()
+
+                    def use() -> None:
+                        is_ready.wait()
+                        for _ in range(gets):
+                            one.get()
+                        write()
+
+                    threads = [threading.Thread(target=one) for one in (tell, hand_on, use)]
+                    for thread in threads:
+                        thread.start()
+                    for thread in threads:
+                        thread.join(WAIT)
+
+                told(scenario)
+
+    def test_who_takes_a_second_item_of_one_place_learns_nothing_later(self) -> None:
+        def scenario() -> None:
+            one: queue.Queue[int] = queue.Queue()
+
+            def first() -> None:
+                write("x")
+                for number in range(2):
+                    one.put(number)
+                write("y")
+
+            def second() -> None:
+                one.get()
+                write("x")
+                one.get()
+                write("y")
+
+            in_turn(first, second)
+
+        self.assert_racing_things("y", scenario)
+
+    def test_a_condition_of_a_queue_that_is_not_held_cannot_be_notified(self) -> None:
+        def scenario() -> None:
+            one: queue.Queue[int] = queue.Queue()
+            with self.assertRaises(RuntimeError):
+                one.not_empty.notify()
+            with one.not_empty:
+                one.not_empty.notify()
+
+        self.races(scenario)
 
     def test_join_comes_after_every_item_that_is_done(self) -> None:
         def scenario() -> None:
