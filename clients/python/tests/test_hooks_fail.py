@@ -69,7 +69,7 @@ class FailingHooks(ProgramCase):
         self.assertIn("itc_trace: incomplete: TypeError in a hook: unhashable type: 'list'", ran.stderr)
 
     def test_a_failing_hook_is_no_all_clear(self) -> None:
-        for name in ("place", "current", "touch_at"):
+        for name in ("place", "line_of_now", "touch_at"):
             with self.subTest(name=name):
                 with tracing() as traced:
                     touch("x", write=True)
