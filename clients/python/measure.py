@@ -6,6 +6,7 @@ Usage: python3 measure.py [cost] [relay] [races]
 
 import asyncio
 import http.server
+import inspect
 import json
 import multiprocessing
 import os
@@ -182,8 +183,12 @@ JOBS = {
 
 
 def measure_one(job: str) -> None:
-    """Prints the processor time of the job traced, with all that is reported of it, in microseconds for a turn."""
-    traced = tracing().start()
+    """Prints the processor time of the job traced, with all that is reported of it, in microseconds for a turn.
+
+    Nothing is watched, since packages of before do not watch.
+    """
+    watches = "watched" in inspect.signature(tracing).parameters
+    traced = (tracing(watched=None) if watches else tracing()).start()
     start = time.process_time()
     JOBS[job](TURNS)
     traced.stop()
