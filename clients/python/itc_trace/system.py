@@ -131,7 +131,7 @@ class Running:
                     if self._is_ending or not self._are_ready(described.after):
                         break
                     self.processes.append(self._start(described))
-                while self._are_running() and not self._is_over():
+                while not self._is_ending and self._are_running() and not self._is_over():
                     self._next()
             finally:
                 self._end_all()

@@ -211,6 +211,10 @@ for thread in threads: thread.join()
             self.assertEqual(system.returncode, Verdict.INCOMPLETE, told)
             self.assertIn(f"incomplete: this system was ended by {number.name}", told)
 
+    def test_a_signal_while_a_process_is_being_started_ends_that_process_too(self) -> None:
+        ran = run_python("-c", SIGNAL_AT_START, self.file(one={"command": ["sleep", "600"], "traced": False}))
+        self.assert_incomplete(ran, "this system was ended by SIGTERM")
+
     def test_a_process_that_does_not_end_is_killed(self) -> None:
         stubborn = ["sh", "-c", "trap '' TERM; echo begun; while :; do sleep 0.1; done"]
         ran = run_python("-c", SHORT_GRACE, self.file(
@@ -304,6 +308,17 @@ class SlowQueue(queue.SimpleQueue):
         super().put(item)
         time.sleep(1)
 system.SimpleQueue = SlowQueue
+sys.argv[1:1] = ["system"]
+sys.exit(__main__.main())
+"""
+SIGNAL_AT_START = """
+import os, signal, sys
+from itc_trace import __main__, system
+class Started(system.Process):
+    def __init__(self, *words):
+        super().__init__(*words)
+        os.kill(os.getpid(), signal.SIGTERM)  # The system has not noted this process yet.
+system.Process = Started
 sys.argv[1:1] = ["system"]
 sys.exit(__main__.main())
 """
