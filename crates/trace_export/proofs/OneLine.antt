@@ -197,6 +197,23 @@ line_object others rest = let all = line_append (piece_byte 123 refl) rest in al
 
 -- ---- the line of an event
 
+-- the members of an event's line, from each of them on
+module _ (listed : Listed) where
+  abbrev pub from_task : Members
+  from_task = member (codes "task") (string listed.task) no_members
+
+  abbrev pub from_stamp : Members
+  from_stamp = member (codes "stamp") (string listed.stamp) from_task
+
+  abbrev pub from_preds : Members
+  from_preds = member (codes "preds") (array (numbers_json listed.preds)) from_stamp
+
+  abbrev pub from_name : Members
+  from_name = member (codes "name") (string (name_text listed.name)) from_preds
+
+  abbrev pub from_kind : Members
+  from_kind = member (codes "kind") (string (kind_text listed.kind)) from_name
+
 -- what is listed has plain words and small numbers
 pub record IsPlainListed (listed : Listed) : Type 0 where
   pub event : listed.event < 10 ^ 5
@@ -206,39 +223,24 @@ pub record IsPlainListed (listed : Listed) : Type 0 where
   pub task : ArePlain listed.task × (length listed.task ≤ 24)
 
 module _ (listed : Listed) (plain : IsPlainListed listed) where
-  abbrev from_task : Members
-  from_task = member (codes "task") (string listed.task) no_members
-
-  abbrev from_stamp : Members
-  from_stamp = member (codes "stamp") (string listed.stamp) from_task
-
-  abbrev from_preds : Members
-  from_preds = member (codes "preds") (array (numbers_json listed.preds)) from_stamp
-
-  abbrev from_name : Members
-  from_name = member (codes "name") (string (name_text listed.name)) from_preds
-
-  abbrev from_kind : Members
-  from_kind = member (codes "kind") (string (kind_text listed.kind)) from_name
-
-  line_from_stamp : IsLine (members_text true from_stamp) 36950
+  line_from_stamp : IsLine (members_text true (from_stamp listed)) 36950
   line_from_stamp = line_within
-      (line_member true (codes "stamp") (string listed.stamp) from_task refl (omega arith) (piece_quoted listed.stamp 36855 plain.stamp.0 plain.stamp.1)
+      (line_member true (codes "stamp") (string listed.stamp) (from_task listed) refl (omega arith) (piece_quoted listed.stamp 36855 plain.stamp.0 plain.stamp.1)
       (line_member true (codes "task") (string listed.task) no_members refl (omega arith) (piece_quoted listed.task 24 plain.task.0 plain.task.1) line_end))
       (omega arith)
 
-  line_from_name : IsLine (members_text true from_name) 37100
+  line_from_name : IsLine (members_text true (from_name listed)) 37100
   line_from_name = line_within
-      (line_member true (codes "name") (string (name_text listed.name)) from_preds refl (omega arith) (piece_quoted (name_text listed.name) 24 plain.name.0 plain.name.1)
-      (line_member true (codes "preds") (array (numbers_json listed.preds)) from_stamp refl (omega arith) (piece_numbers listed.preds plain.preds.0 plain.preds.1) line_from_stamp))
+      (line_member true (codes "name") (string (name_text listed.name)) (from_preds listed) refl (omega arith) (piece_quoted (name_text listed.name) 24 plain.name.0 plain.name.1)
+      (line_member true (codes "preds") (array (numbers_json listed.preds)) (from_stamp listed) refl (omega arith) (piece_numbers listed.preds plain.preds.0 plain.preds.1) line_from_stamp))
       (omega arith)
 
   -- the text of such an event is a line that is short enough
   pub listed_is_line : IsLine (compact_text (listed_json listed)) 65536
   listed_is_line = line_within
-      (line_object (member (codes "event") (number (unsigned listed.event)) from_kind)
-      (line_member false (codes "event") (number (unsigned listed.event)) from_kind refl (omega arith) (piece_decimal listed.event plain.event)
-      (line_member true (codes "kind") (string (kind_text listed.kind)) from_name refl (omega arith) (piece_kind listed.kind) line_from_name)))
+      (line_object (member (codes "event") (number (unsigned listed.event)) (from_kind listed))
+      (line_member false (codes "event") (number (unsigned listed.event)) (from_kind listed) refl (omega arith) (piece_decimal listed.event plain.event)
+      (line_member true (codes "kind") (string (kind_text listed.kind)) (from_name listed) refl (omega arith) (piece_kind listed.kind) line_from_name)))
       (omega arith)
 
 -- ---- the line of a header

@@ -34,7 +34,7 @@ use Rattle.trace_export.specs.DueLine.{IsSpelled, Strips, StripsOn, due_line, du
 use Rattle.trace_export.specs.Listing.{Listed, IsReadAgain, listed_json, numbers_json}
 use Rattle.trace_export.specs.Loading.{request_for}
 use Rattle.trace_export.proofs.GoodStamps.{stamp_is_plain}
-use Rattle.trace_export.proofs.OneLine.{ArePlain, escape-plain, name_is_plain}
+use Rattle.trace_export.proofs.OneLine.{ArePlain, escape-plain, from_kind, from_name, from_preds, from_stamp, from_task, name_is_plain}
 use Rattle.trace_export.proofs.WrittenRows.{IsUtf8-name}
 
 -- ---- reading
@@ -129,38 +129,23 @@ member_utf8 later key d others named value rest =
     (IsUtf8-append (compact_text d) (members_text true others) value rest)))
 
 module _ (listed : Listed) (texts : HasTexts listed) where
-  abbrev from_task : Members
-  from_task = member (codes "task") (string listed.task) no_members
-
-  abbrev from_stamp : Members
-  from_stamp = member (codes "stamp") (string listed.stamp) from_task
-
-  abbrev from_preds : Members
-  from_preds = member (codes "preds") (array (numbers_json listed.preds)) from_stamp
-
-  abbrev from_name : Members
-  from_name = member (codes "name") (string (name_text listed.name)) from_preds
-
-  abbrev from_kind : Members
-  from_kind = member (codes "kind") (string (kind_text listed.kind)) from_name
-
-  stamp_and_task : IsUtf8 (members_text true from_stamp)
+  stamp_and_task : IsUtf8 (members_text true (from_stamp listed))
   stamp_and_task =
-      member_utf8 true (codes "stamp") (string listed.stamp) from_task (IsUtf8-are_ascii (codes "stamp") refl) (IsUtf8-quoted listed.stamp texts.stamp)
+      member_utf8 true (codes "stamp") (string listed.stamp) (from_task listed) (IsUtf8-are_ascii (codes "stamp") refl) (IsUtf8-quoted listed.stamp texts.stamp)
       (member_utf8 true (codes "task") (string listed.task) no_members (IsUtf8-are_ascii (codes "task") refl) (IsUtf8-quoted listed.task texts.task)
       (IsUtf8-are_ascii (125 ∷ []) refl))
 
-  name_and_others : IsUtf8 (members_text true from_name)
+  name_and_others : IsUtf8 (members_text true (from_name listed))
   name_and_others =
-      member_utf8 true (codes "name") (string (name_text listed.name)) from_preds (IsUtf8-are_ascii (codes "name") refl) (IsUtf8-quoted (name_text listed.name) texts.name)
-      (member_utf8 true (codes "preds") (array (numbers_json listed.preds)) from_stamp (IsUtf8-are_ascii (codes "preds") refl)
+      member_utf8 true (codes "name") (string (name_text listed.name)) (from_preds listed) (IsUtf8-are_ascii (codes "name") refl) (IsUtf8-quoted (name_text listed.name) texts.name)
+      (member_utf8 true (codes "preds") (array (numbers_json listed.preds)) (from_stamp listed) (IsUtf8-are_ascii (codes "preds") refl)
       (byte_utf8 91 (items_text false (numbers_json listed.preds)) (IsUtf8-are_ascii (91 ∷ []) refl) (numbers_utf8 false listed.preds texts.small.preds)) stamp_and_task)
 
   listed_utf8 : IsUtf8 (compact_text (listed_json listed))
   listed_utf8 =
-      byte_utf8 123 (members_text false (member (codes "event") (number (unsigned listed.event)) from_kind)) (IsUtf8-are_ascii (123 ∷ []) refl)
-      (member_utf8 false (codes "event") (number (unsigned listed.event)) from_kind (IsUtf8-are_ascii (codes "event") refl) (decimal_utf8 listed.event texts.small.event)
-      (member_utf8 true (codes "kind") (string (kind_text listed.kind)) from_name (IsUtf8-are_ascii (codes "kind") refl) (IsUtf8-quoted (kind_text listed.kind) (kind_utf8 listed.kind)) name_and_others))
+      byte_utf8 123 (members_text false (member (codes "event") (number (unsigned listed.event)) (from_kind listed))) (IsUtf8-are_ascii (123 ∷ []) refl)
+      (member_utf8 false (codes "event") (number (unsigned listed.event)) (from_kind listed) (IsUtf8-are_ascii (codes "event") refl) (decimal_utf8 listed.event texts.small.event)
+      (member_utf8 true (codes "kind") (string (kind_text listed.kind)) (from_name listed) (IsUtf8-are_ascii (codes "kind") refl) (IsUtf8-quoted (kind_text listed.kind) (kind_utf8 listed.kind)) name_and_others))
 
   -- the text of such an event is read again as it
   pub is_read : IsReadAgain listed
