@@ -1,7 +1,7 @@
 use Rattle.std.proofs.Common.{◌≡◌, ◌+◌, refl, ap, arith, rules, Some, Err}
 use Rattle.std.specs.List.{slice_get}
 use Rattle.trace_export.proofs.ReadAgain.{read_all, read_next}
-use Rattle.trace_export.proofs.WrittenRows.{IfErr-equal, breaks_header, breaks_next, row_at, wrote_header, wrote_next}
+use Rattle.trace_export.proofs.WrittenRows.{IfErr-equal, breaks_header, breaks_next, row_at, wrote_all, wrote_header, wrote_next}
 use Rattle.trace_export.proofs.exporting.export_rows.Goals as goal
 use Rattle.trace_export.proofs.exporting.export_rows.Given.{Over}
 use Rattle.trace_export.proofs.exporting.export_rows.Goals.{After-write_row}
@@ -33,6 +33,9 @@ loop-row-preserved g c =
       read_next c.args.rows.now (g.T.StampTexts.texts c.args.stamps.now) c.loop-row.count (c.loop-row.count + 1) c.row-item.result (omega arith) (this_row g at.After-write_row)
           c.loop-row.invariant.2 c.in_ok-write_row.ensures.read,
     )
+
+pub returns-clause-whole : goal.returns-clause-whole
+returns-clause-whole g c = wrote_all c.loop-row.invariant.1 (omega (arith, c.loop-row-test.false, c.loop-row.invariant.0))
 
 pub returns-clause-read : goal.returns-clause-read
 returns-clause-read g c =
