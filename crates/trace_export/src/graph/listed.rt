@@ -52,46 +52,19 @@ impl Graph {
         match line_of(alloc, &json, is_first) {
             Err(reason) => Ok(Err(reason)),
             Ok(ReadLine::Header(header)) => Ok(Ok(Some(header))),
-            Ok(ReadLine::Event(listed)) => match self.add_listed(alloc, &listed)? {
-                Some(reason) => Ok(Err(reason)),
-                None => Ok(Ok(None)),
-            },
+            Ok(ReadLine::Event(listed)) => {
+                let join = self.join_before(alloc, &listed);
+                match self.add_listed(alloc, &listed, &join)? {
+                    Some(reason) => Ok(Err(reason)),
+                    None => Ok(Ok(None)),
+                }
+            }
         }
     }
 
-    /// Adds the listed event if it may come next, else tells why it is refused. The graph has the events that it had if
-    /// memory runs out.
+    /// Adds the listed event if it may come next, else tells why it is refused. Its tree is read beside this one. The graph has
+    /// the events that it had if memory runs out.
     fn add_listed(
-        &mut self,
-        alloc: Global,
-        listed: &EventLine<'_>,
-    ) -> Result<Option<Reason>, Memory>
-        requires graph { IsKeptGraph self.old }
-        ensures right { IfOk result (λ fault. IfNone fault ((placed : Placed) × ComesNext self.old.placed.items (listed_of listed.now) placed
-            × IsOrderedNext self.old.placed.items placed
-            × (self.new.placed.items ≡ self.old.placed.items ++ placed ∷ []) × IsKeptGraph self.new)) }
-        ensures refused { IfOk result (λ fault. IfSome fault (λ reason. IsRefusedFor reason self.old.placed.items (listed_of listed.now)
-            × (self.new.placed.items ≡ self.old.placed.items))) }
-        ensures memory { IfErr result (λ _. (self.new.placed.items ≡ self.old.placed.items) × IsKeptGraph self.new) }
-    {
-        let join = self.join_before(alloc, listed);
-        self.add_beside(alloc, listed, &join)
-    }
-
-    /// The join of the trees of the events that the listed one follows, which its tree is like. It is 0 everywhere if the
-    /// event may not come next.
-    fn join_before(&self, alloc: Global, listed: &EventLine<'_>) -> EvTree {
-        let number = self.len() as u64 + 1;
-        let is_next = listed.event == number && number <= Limits::MOST_EVENTS;
-        if is_next && are_increasing_before(&listed.preds, number) {
-            self.join_of(alloc, &listed.preds)
-        } else {
-            EvTree::leaf(0)
-        }
-    }
-
-    /// Adds the listed event as [`Graph::add_listed`] does. Its tree is read beside this one.
-    fn add_beside(
         &mut self,
         alloc: Global,
         listed: &EventLine<'_>,
@@ -116,6 +89,18 @@ impl Graph {
                 };
                 Ok(fault)
             }
+        }
+    }
+
+    /// The join of the trees of the events that the listed one follows, which its tree is like. It is 0 everywhere if the
+    /// event may not come next.
+    fn join_before(&self, alloc: Global, listed: &EventLine<'_>) -> EvTree {
+        let number = self.len() as u64 + 1;
+        let is_next = listed.event == number && number <= Limits::MOST_EVENTS;
+        if is_next && are_increasing_before(&listed.preds, number) {
+            self.join_of(alloc, &listed.preds)
+        } else {
+            EvTree::leaf(0)
         }
     }
 }
