@@ -84,38 +84,28 @@ impl Hints {
         false
     }
 
-    /// Whether this tree, of the event, is below the other one, which has these sides.
+    /// Whether one of these trees is below the other. The event's is the lower one if it `is_lower`, else the upper one. The
+    /// other one has these sides.
+    #[inline(always)]
     pub(crate) fn is_below(
         &mut self,
         event: usize,
-        tree: &EvTree,
-        other: &EvTree,
+        is_lower: bool,
+        lower: &EvTree,
+        upper: &EvTree,
         other_sides: &mut Sides,
     ) -> bool
-        ensures below { IsTrue result ↔ IsBelow tree.now other.now }
+        ensures below { IsTrue result ↔ IsBelow lower.now upper.now }
         ensures points { self.new.points ≡ self.old.points }
     {
         if event == 0 || self.sides.len() < event {
-            return tree.leq(other);
+            return lower.leq(upper);
         }
-        is_below(tree, &mut self.sides[event - 1], other, other_sides)
-    }
-
-    /// Whether this tree, of the event, is above the other one, which has these sides.
-    pub(crate) fn is_above(
-        &mut self,
-        event: usize,
-        tree: &EvTree,
-        other: &EvTree,
-        other_sides: &mut Sides,
-    ) -> bool
-        ensures above { IsTrue result ↔ IsBelow other.now tree.now }
-        ensures points { self.new.points ≡ self.old.points }
-    {
-        if event == 0 || self.sides.len() < event {
-            return other.leq(tree);
+        if is_lower {
+            is_below(lower, &mut self.sides[event - 1], upper, other_sides)
+        } else {
+            is_below(lower, other_sides, upper, &mut self.sides[event - 1])
         }
-        is_below(other, other_sides, tree, &mut self.sides[event - 1])
     }
 }
 

@@ -134,7 +134,7 @@ impl Graph {
         if !are_or_reach(&placed.preds, event, &self.reaching[event - 1]) {
             return false;
         }
-        hints.is_above(event, &self.at(event).tree, &placed.tree, own)
+        hints.is_below(event, false, &placed.tree, &self.at(event).tree, own)
     }
 
     /// Whether the tree is above that of the first event which does not reach it, of the chain that ends with this one. All that
@@ -177,7 +177,7 @@ impl Graph {
         if hints.is_higher(event, tree) {
             return false;
         }
-        hints.is_below(event, &self.at(event).tree, tree, own)
+        hints.is_below(event, true, &self.at(event).tree, tree, own)
     }
 }
 
