@@ -1,14 +1,13 @@
 //! The requests that make the rows of an export.
 ghost use Rattle.std.specs.Prelude.{◌≡◌, ◌<◌, ◌++◌, All, None, Some, IfErr, IfOk, IsErrOf, OnOk, codes};
 ghost use Rattle.line_protocol.specs.Writing.{EndsInFault, WritesPart, WritesWhole};
-ghost use Rattle.trace_types.specs.text.Text.{kind_text};
 ghost use Rattle.trace_export.specs.Export.{BreaksLines, WritesLines};
 ghost use Rattle.trace_export.specs.Listing.{FitsKind};
 ghost use Rattle.trace_export.specs.Loading.{request_for, request_line, request_lines};
 
 use crate::ExportFault;
 use line_protocol::{Sink, write_bytes};
-use std::alloc::Global;
+use std::alloc::{AllocError, Global};
 use trace_types::{Kind, Memory, Name, Request, Row};
 
 /// Room for the longest line of a request.
@@ -69,44 +68,22 @@ fn line_of(alloc: Global, tenant: &Name, row: &Row) -> Result<Vec<u8>, Memory>
     requires { FitsKind row.now.kind row.now.name }
     ensures { IfOk result (λ line. line.items ≡ request_line tenant.now row.now) }
 {
-    match &row.name {
-        None => line_alone(alloc, tenant, row.kind, &row.task),
-        Some(name) => line_naming(alloc, tenant, row.kind, &row.task, name),
+    let mut line = Vec::with_capacity(alloc, LINE_BYTES)?;
+    line.extend_from_slice(tenant.as_bytes())?;
+    add_word(&mut line, row.kind.text().as_bytes())?;
+    add_word(&mut line, row.task.as_bytes())?;
+    if let Some(name) = &row.name {
+        add_word(&mut line, name.as_bytes())?;
     }
-}
-
-/// The line of a request that names nothing beside its task.
-fn line_alone(alloc: Global, tenant: &Name, kind: Kind, task: &Name) -> Result<Vec<u8>, Memory>
-    ensures { IfOk result (λ line. line.items ≡ tenant.now ++ codes " " ++ kind_text kind ++ codes " " ++ task.now ++ codes "\n") }
-{
-    let mut line = Vec::with_capacity(alloc, LINE_BYTES)?;
-    line.extend_from_slice(tenant.as_bytes())?;
-    line.push(b' ')?;
-    line.extend_from_slice(kind.text().as_bytes())?;
-    line.push(b' ')?;
-    line.extend_from_slice(task.as_bytes())?;
     line.push(b'\n')?;
     Ok(line)
 }
 
-/// The line of a request that names another task or a message.
-fn line_naming(
-    alloc: Global,
-    tenant: &Name,
-    kind: Kind,
-    task: &Name,
-    name: &Name,
-) -> Result<Vec<u8>, Memory>
-    ensures { IfOk result (λ line. line.items ≡ tenant.now ++ codes " " ++ kind_text kind ++ codes " " ++ task.now ++ codes " " ++ name.now ++ codes "\n") }
+/// Adds a blank and the word.
+#[inline(always)]
+fn add_word(line: &mut Vec<u8>, word: &[u8]) -> Result<(), AllocError>
+    ensures { OnOk result (line.new.items ≡ line.old.items ++ codes " " ++ word.now) }
 {
-    let mut line = Vec::with_capacity(alloc, LINE_BYTES)?;
-    line.extend_from_slice(tenant.as_bytes())?;
     line.push(b' ')?;
-    line.extend_from_slice(kind.text().as_bytes())?;
-    line.push(b' ')?;
-    line.extend_from_slice(task.as_bytes())?;
-    line.push(b' ')?;
-    line.extend_from_slice(name.as_bytes())?;
-    line.push(b'\n')?;
-    Ok(line)
+    line.extend_from_slice(word)
 }
