@@ -1,23 +1,21 @@
 -- A line that is the one that is due to a tenant is right, and the tenant has its row.
-use Rattle.std.proofs.Common.{◌≡◌, [], ◌∷◌, ◌++◌, length, inr, Option, Result, IfNone, IfOk, IfSome, sym, ap, subst, ◌∙◌, arith, length-append}
+use Rattle.std.proofs.Common.{◌≡◌, [], ◌∷◌, ◌++◌, length, inr, Option, sym, ap, subst, ◌∙◌, arith, length-append}
 use Rattle.std.proofs.lemmas.List.{reverse-append}
 use Rattle.trace_types.specs.tenant.Rows.{history_of}
 use Rattle.trace_types.specs.tenant.Tenant.{Tenant, AreLegal}
 use Rattle.trace_types.specs.text.Name.{Text}
 use Rattle.tenant_ledger.specs.Legal.{IsLegal}
 use Rattle.tenant_ledger.proofs.clock.Legality.{IsLegal_from_AreLegal}
-use Rattle.trace_export.specs.Checked.{IsFollowing, IsRefused, IsRightAfter}
+use Rattle.trace_export.specs.Checked.{IsFollowing, IsRightAfter}
 use Rattle.trace_export.specs.Edges.{Placing}
 use Rattle.trace_export.specs.Following.{IsFollowed, placed_of, placing_of}
 use Rattle.trace_export.specs.Loading.{limits_under}
 use Rattle.trace_export.specs.Rebuilding.{IsEventMade, IsLineMade}
 use Rattle.trace_export.specs.Verdict.{IsRightNext}
-use Rattle.trace_export.specs.declared.checked.Checked.{Checked}
 use Rattle.trace_export.specs.declared.checked.Checked.TheVariants.{Due}
 use Rattle.trace_export.specs.declared.follower.Follower.{Follower}
 use Rattle.trace_export.specs.declared.graph.Graph.{Graph}
 use Rattle.trace_export.specs.declared.header.Header.{Header}
-use Rattle.trace_export.specs.declared.reason.Reason.{Reason}
 use Rattle.trace_export.proofs.Headings.{event_is_no_header}
 use Rattle.trace_export.proofs.LegalRows.{AreSound, legal_rows_are_sound}
 use Rattle.trace_export.proofs.LoadedEvents.{right_next}
@@ -63,15 +61,7 @@ kept_if_due old new graph line following event legal =
       };
     })
 
--- what holds behind other lines holds behind these, if they have the same header and list the same events
-pub right_still : {E : Type 0} (result : Result (Checked × Option Reason) E) (header header' : Option Header) (placing placing' : Placing) (line : Text) → header' ≡ header → placing' ≡ placing
-    → IfOk result (λ taken. IfNone taken.1 (IsRightAfter header' placing' line taken.0)) → IfOk result (λ taken. IfNone taken.1 (IsRightAfter header placing line taken.0))
-right_still result header header' placing placing' line same lists known =
-    subst (λ (found : Option Header). IfOk result (λ taken. IfNone taken.1 (IsRightAfter found placing line taken.0))) same
-    (subst (λ (found : Placing). IfOk result (λ taken. IfNone taken.1 (IsRightAfter header' found line taken.0))) lists known)
-
-pub refused_still : {E : Type 0} (result : Result (Checked × Option Reason) E) (header header' : Option Header) (placing placing' : Placing) (line : Text) → header' ≡ header → placing' ≡ placing
-    → IfOk result (λ taken. IfSome taken.1 (λ reason. IsRefused reason header' placing' line)) → IfOk result (λ taken. IfSome taken.1 (λ reason. IsRefused reason header placing line))
-refused_still result header header' placing placing' line same lists known =
-    subst (λ (found : Option Header). IfOk result (λ taken. IfSome taken.1 (λ reason. IsRefused reason found placing line))) same
-    (subst (λ (found : Placing). IfOk result (λ taken. IfSome taken.1 (λ reason. IsRefused reason header' found line))) lists known)
+-- what holds behind the lines that are listed of a tenant holds behind those that led to it
+pub holds_listed : (P : Option Header → Placing → Type 0) (old new : Follower) (placing : Placing) → new ≡ old → placing ≡ placing_of (history_of new.ledger.rows) → P new.header placing
+    → P old.header (placing_of (history_of old.ledger.rows))
+holds_listed P old new placing same lists known = subst (λ (found : Follower). P found.header (placing_of (history_of found.ledger.rows))) same (subst (P new.header) lists known)

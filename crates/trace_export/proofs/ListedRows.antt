@@ -1,8 +1,7 @@
 -- What an export lists of a tenant's events, one by one.
-use Rattle.std.proofs.Common.{◌≡◌, ℕ, suc, ◌+◌, ◌-◌, ◌<◌, ◌≤◌, true, List, [], ◌∷◌, ◌++◌, length, take, Some, inl, inr, sym, ap, ◌∙◌, arith}
+use Rattle.std.proofs.Common.{◌≡◌, ℕ, suc, ◌+◌, ◌-◌, ◌<◌, ◌≤◌, true, List, [], ◌∷◌, ◌++◌, length, take, Some, sym, ap, ◌∙◌, arith}
 use Rattle.std.specs.List.{slice_index_or}
 use Rattle.std.proofs.Math.Seq.{take-suc}
-use Rattle.std.proofs.lemmas.Bool.{cases_eq}
 use Rattle.std.proofs.lemmas.List.{length-reverse, take_all}
 use Rattle.std.proofs.lemmas.Option.{same_Some}
 use Rattle.trace_types.specs.clock.Clock.{tree_clock}
@@ -12,11 +11,10 @@ use Rattle.trace_types.specs.tenant.Rows.{History, history_of, is_event, row_of}
 use Rattle.trace_types.specs.declared.row.Row.{Row}
 use Rattle.tenant_ledger.proofs.keeping.Told.{row_is_kept}
 use Rattle.trace_export.specs.Edges.{IsPlaced, Placing, listed_preds, placed_at}
-use Rattle.trace_export.specs.Following.{placed_of, placing_of}
+use Rattle.trace_export.specs.Following.{placing_of}
 use Rattle.trace_export.specs.declared.placed.Placed.{Placed}
-use Rattle.trace_export.proofs.Connecting.{length-with_next, placed_at-earlier, placed_at-next, with_next}
 use Rattle.trace_export.proofs.LoadedEvents.{row_of-newest, row_of-older}
-use Rattle.trace_export.proofs.Placings.{length-placing, trees_are}
+use Rattle.trace_export.proofs.Placings.{each_listed, length-placing, trees_are}
 
 -- as many events are listed as there are rows
 pub counted : (rows : List Row) → length (placing_of (history_of rows)) ≡ length rows
@@ -24,20 +22,11 @@ counted rows = length-placing (history_of rows) ∙ length-reverse rows
 
 -- the listed edges are those of the rows
 preds_listed : (history : History) (event : ℕ) (row : Row) → IsPlaced (placing_of history) event → row_of history event ≡ Some row → listed_preds (placing_of history) event ≡ row.preds
-preds_listed [] event row placed is = absurd (omega (arith, placed.0, placed.1))
-preds_listed (newest ∷ earlier) event row placed is =
-    let before = placing_of earlier in
-    let this = placed_of newest earlier in
-    let len = length-placing earlier in
-    elim (cases_eq event (suc (length earlier))) [
-      | inl new ↦
-          let at : event ≡ suc (length before) = omega (arith, new, len) in
-          let same : newest ≡ row = same_Some newest row (sym (row_of-newest newest earlier event new) ∙ is) in
-          ap (λ number. listed_preds (with_next before this) number) at ∙ ap (λ (found : Placed). found.preds) (placed_at-next before this) ∙ ap (λ (found : Row). found.preds) same
-      | inr old ↦
-          let within : IsPlaced before event = (placed.0, omega (arith, placed.1, old, len, length-with_next before this)) in
-          ap (λ (found : Placed). found.preds) (placed_at-earlier before this event within) ∙ preds_listed earlier event row within (sym (row_of-older newest earlier event old) ∙ is)
-    ]
+preds_listed history event row placed is =
+    each_listed (λ (history : History) (event : ℕ) (found : Placed). (row : Row) → row_of history event ≡ Some row → found.preds ≡ row.preds)
+    (λ newest earlier event new row is. ap (λ (found : Row). found.preds) (same_Some newest row (sym (row_of-newest newest earlier event new) ∙ is)))
+    (λ newest earlier event found old known row is. known row (sym (row_of-older newest earlier event old) ∙ is))
+    history event placed row is
 
 -- the event at a place is listed with the predecessors of the row there, and with what the event knows
 pub placed_is : (rows : List Row) (place event : ℕ) (row : Row) (preds : List ℕ) (tree : EventTree) → place < length rows → event ≡ suc place → is_event (history_of rows) event ≡ true

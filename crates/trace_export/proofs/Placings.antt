@@ -1,5 +1,5 @@
 -- The graph that the export of a legal history lists: its trees compare as its edges say.
-use Rattle.std.proofs.Common.{◌≡◌, ℕ, suc, true, List, [], ◌∷◌, length, refl, sym, ap, subst, ◌∙◌, inl, inr, eqb, arith}
+use Rattle.std.proofs.Common.{◌≡◌, ◌≢◌, ℕ, suc, true, List, [], ◌∷◌, length, refl, sym, ap, subst, ◌∙◌, inl, inr, eqb, arith}
 use Rattle.std.specs.List.{Contains}
 use Rattle.std.proofs.lemmas.Bool.{cases_eq, cond-true, cond-false, eq-eqb, ne_eqb}
 use Rattle.std.proofs.lemmas.Bool.Decides.{nat_tests}
@@ -7,13 +7,14 @@ use Rattle.trace_types.specs.clock.Clock.{tree_clock}
 use Rattle.trace_types.specs.clock.Stamps.{tree_of}
 use Rattle.trace_types.specs.tenant.Rows.{History, is_event}
 use Rattle.trace_types.specs.tenant.Reachability.{predecessors_of, LeadsBack}
+use Rattle.trace_types.specs.declared.row.Row.{Row}
 use Rattle.trace_types.proofs.Reachability.{predecessors_of_before, reaches_iff}
 use Rattle.event_tree.specs.Comparison.{IsBelow}
 use Rattle.tenant_ledger.specs.Legal.{IsLegal}
 use Rattle.tenant_ledger.proofs.clock.Consequences.{below_iff_reaches}
 use Rattle.tenant_ledger.proofs.clock.TreeClock.{tree_clock_laws}
 use Rattle.tenant_ledger.proofs.clock.Upheld.{invariant_upheld}
-use Rattle.trace_export.specs.Edges.{IsPlaced, listed_preds, listed_tree, IsWayBack, IsConnected, ComparesAsConnected, AreOrderedAlike}
+use Rattle.trace_export.specs.Edges.{IsPlaced, placed_at, listed_preds, listed_tree, IsWayBack, IsConnected, ComparesAsConnected, AreOrderedAlike}
 use Rattle.trace_export.specs.Following.{placed_of, placing_of}
 use Rattle.trace_export.specs.declared.placed.Placed.{Placed}
 use Rattle.trace_export.proofs.Connecting.{with_next, length-with_next, placed_at-earlier, placed_at-next}
@@ -23,41 +24,40 @@ pub length-placing : (history : History) → length (placing_of history) ≡ len
 length-placing [] = refl
 length-placing (row ∷ earlier) = omega (arith, length-with_next (placing_of earlier) (placed_of row earlier), length-placing earlier)
 
+-- What holds of the newest event as it is listed, and of an earlier one as it did before, holds of each.
+module _ (Holds : History → ℕ → Placed → Type 0)
+    (newest : (row : Row) (earlier : History) (event : ℕ) → event ≡ suc (length earlier) → Holds (row ∷ earlier) event (placed_of row earlier))
+    (older : (row : Row) (earlier : History) (event : ℕ) (placed : Placed) → event ≢ suc (length earlier) → Holds earlier event placed → Holds (row ∷ earlier) event placed) where
+  pub each_listed : (history : History) (event : ℕ) → IsPlaced (placing_of history) event → Holds history event (placed_at (placing_of history) event)
+  each_listed [] event placed = absurd (omega (arith, placed.0, placed.1))
+  each_listed (row ∷ earlier) event placed =
+      let before = placing_of earlier in
+      let this = placed_of row earlier in
+      let len = length-placing earlier in
+      elim (cases_eq event (suc (length earlier))) [
+        | inl new ↦
+            let at : event ≡ suc (length before) = omega (arith, new, len) in
+            subst (Holds (row ∷ earlier) event) (sym (ap (placed_at (with_next before this)) at ∙ placed_at-next before this)) (newest row earlier event new)
+        | inr old ↦
+            let within : IsPlaced before event = (placed.0, omega (arith, placed.1, old, len, length-with_next before this)) in
+            subst (Holds (row ∷ earlier) event) (sym (placed_at-earlier before this event within)) (older row earlier event (placed_at before event) old (each_listed earlier event within))
+      ]
+
 -- the listed edges are the predecessors
 pub preds_are : (history : History) → AreSound history → (event : ℕ) → IsPlaced (placing_of history) event → listed_preds (placing_of history) event ≡ predecessors_of history event
-preds_are [] sound event placed = absurd (omega (arith, placed.0, placed.1))
-preds_are (row ∷ earlier) sound event placed =
-    let before = placing_of earlier in
-    let this = placed_of row earlier in
-    let len = length-placing earlier in
-    elim (cases_eq event (suc (length earlier))) [
-      | inl new ↦
-          let at : event ≡ suc (length before) = omega (arith, new, len) in
-          ap (λ number. listed_preds (with_next before this) number) at ∙ ap (λ (found : Placed). found.preds) (placed_at-next before this)
-          ∙ sound.0.preds ∙ sym (cond-true (eqb event (suc (length earlier))) _ _ (eq-eqb event (suc (length earlier)) new))
-      | inr old ↦
-          let within : IsPlaced before event = (placed.0, omega (arith, placed.1, old, len, length-with_next before this)) in
-          ap (λ (found : Placed). found.preds) (placed_at-earlier before this event within) ∙ preds_are earlier sound.1 event within
-          ∙ sym (cond-false (eqb event (suc (length earlier))) _ _ (ne_eqb event (suc (length earlier)) old))
-    ]
+preds_are history sound event placed =
+    each_listed (λ (history : History) (event : ℕ) (found : Placed). AreSound history → found.preds ≡ predecessors_of history event)
+    (λ row earlier event new sound. sound.0.preds ∙ sym (cond-true (eqb event (suc (length earlier))) _ _ (eq-eqb event (suc (length earlier)) new)))
+    (λ row earlier event found old known sound. known sound.1 ∙ sym (cond-false (eqb event (suc (length earlier))) _ _ (ne_eqb event (suc (length earlier)) old)))
+    history event placed sound
 
 -- and the listed trees what the events know
 pub trees_are : (history : History) (event : ℕ) → IsPlaced (placing_of history) event → listed_tree (placing_of history) event ≡ tree_of tree_clock history event
-trees_are [] event placed = absurd (omega (arith, placed.0, placed.1))
-trees_are (row ∷ earlier) event placed =
-    let before = placing_of earlier in
-    let this = placed_of row earlier in
-    let len = length-placing earlier in
-    elim (cases_eq event (suc (length earlier))) [
-      | inl new ↦
-          let at : event ≡ suc (length before) = omega (arith, new, len) in
-          ap (λ number. listed_tree (with_next before this) number) at ∙ ap (λ (found : Placed). found.tree) (placed_at-next before this)
-          ∙ ap (tree_of tree_clock (row ∷ earlier)) (sym new)
-      | inr old ↦
-          let within : IsPlaced before event = (placed.0, omega (arith, placed.1, old, len, length-with_next before this)) in
-          ap (λ (found : Placed). found.tree) (placed_at-earlier before this event within) ∙ trees_are earlier event within
-          ∙ sym (cond-false (eqb event (suc (length earlier))) _ _ (ne_eqb event (suc (length earlier)) old))
-    ]
+trees_are history event placed =
+    each_listed (λ (history : History) (event : ℕ) (found : Placed). found.tree ≡ tree_of tree_clock history event)
+    (λ row earlier event new. ap (tree_of tree_clock (row ∷ earlier)) (sym new))
+    (λ row earlier event found old known. known ∙ sym (cond-false (eqb event (suc (length earlier))) _ _ (ne_eqb event (suc (length earlier)) old)))
+    history event placed
 
 -- an event before one that is placed is placed
 before_placed : (history : History) (event pred : ℕ) → Contains (predecessors_of history event) pred → IsPlaced (placing_of history) pred

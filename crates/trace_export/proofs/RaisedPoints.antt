@@ -4,8 +4,10 @@ use Rattle.std.proofs.lemmas.Bool.{cases_eq, cases_lt}
 use Rattle.std.proofs.lemmas.List.{get_or_append_left, get_or-append-add, get_or-set_same, get_or-set_other, get_or_past}
 use Rattle.event_tree.specs.declared.point.RaisedPoint.{RaisedPoint}
 use Rattle.trace_export.specs.Edges.{Placing, IsPlaced, listed_tree}
-use Rattle.trace_export.specs.Graph.{ArePoints}
+use Rattle.trace_export.specs.Graph.{ArePoints, IsKeptGraph}
 use Rattle.trace_export.specs.Raised.{IsForgotten, IsPointOf, IsPutAt}
+use Rattle.trace_export.specs.declared.graph.Graph.{Graph}
+use Rattle.trace_export.specs.declared.hints.Hints.{Hints}
 use Rattle.trace_export.specs.declared.placed.Placed.{Placed}
 use Rattle.trace_export.proofs.Alike.{tree_earlier}
 use Rattle.trace_export.proofs.Connecting.{with_next, length-with_next}
@@ -59,3 +61,15 @@ points_forgotten points points' placing place are (inr forgotten) = subst (λ (t
     | inr other ↦ subst (λ (found : Option RaisedPoint). IsPointOf found (listed_tree placing event)) (sym (get_or-set_other points place (event - 1) None None other)) (are.1 event within)
   ],
 )
+
+-- what is kept has other hints
+pub with_points : (graph : Graph) (hints : Hints) → IsKeptGraph graph → ArePoints hints.points.items graph.placed.items → IsKeptGraph (record graph { hints = hints })
+with_points graph hints kept points = record {
+  lines = kept.lines;
+  few = kept.few;
+  room = kept.room;
+  chains = kept.chains;
+  chained = kept.chained;
+  ends_room = kept.ends_room;
+  points = points;
+}

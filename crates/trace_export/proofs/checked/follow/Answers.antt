@@ -1,8 +1,6 @@
-use Rattle.std.proofs.Common.{ap, ◌∙◌}
-use Rattle.trace_types.specs.tenant.Rows.{history_of}
-use Rattle.trace_export.specs.Following.{placing_of}
-use Rattle.trace_export.specs.declared.follower.Follower.{Follower}
-use Rattle.trace_export.proofs.Followed.{kept_if_due, refused_still, right_still}
+use Rattle.std.proofs.Common.{IfNone, IfOk, IfSome}
+use Rattle.trace_export.specs.Checked.{IsRefused, IsRightAfter}
+use Rattle.trace_export.proofs.Followed.{holds_listed, kept_if_due}
 use Rattle.trace_export.proofs.checked.follow.Goals as goal
 
 pub returns-then-is_due-clause-right : goal.returns-then-is_due-clause-right
@@ -11,14 +9,10 @@ returns-then-is_due-clause-right c =
 
 pub returns-clause-right : goal.returns-clause-right
 returns-clause-right c =
-    let same = c.follow_with_room-follower.ensures.left c.if-is_due.false in
-    right_still c.compare.result c.args.follower.header c.follow_with_room-follower.result.0.header (placing_of (history_of c.args.follower.ledger.rows)) c.list.new.self.placed.items c.args.line.now
-    (ap (λ (found : Follower). found.header) same)
-    (c.in_ok-list.ensures.placed ∙ ap (λ (found : Follower). placing_of (history_of found.ledger.rows)) same) c.compare.ensures.right
+    holds_listed (λ header placing. IfOk c.compare.result (λ taken. IfNone taken.1 (IsRightAfter header placing c.args.line.now taken.0))) c.args.follower c.follow_with_room-follower.result.0
+    c.list.new.self.placed.items (c.follow_with_room-follower.ensures.left c.if-is_due.false) c.in_ok-list.ensures.placed c.compare.ensures.right
 
 pub returns-clause-faulty : goal.returns-clause-faulty
 returns-clause-faulty c =
-    let same = c.follow_with_room-follower.ensures.left c.if-is_due.false in
-    refused_still c.compare.result c.args.follower.header c.follow_with_room-follower.result.0.header (placing_of (history_of c.args.follower.ledger.rows)) c.list.new.self.placed.items c.args.line.now
-    (ap (λ (found : Follower). found.header) same)
-    (c.in_ok-list.ensures.placed ∙ ap (λ (found : Follower). placing_of (history_of found.ledger.rows)) same) c.compare.ensures.faulty
+    holds_listed (λ header placing. IfOk c.compare.result (λ taken. IfSome taken.1 (λ reason. IsRefused reason header placing c.args.line.now))) c.args.follower c.follow_with_room-follower.result.0
+    c.list.new.self.placed.items (c.follow_with_room-follower.ensures.left c.if-is_due.false) c.in_ok-list.ensures.placed c.compare.ensures.faulty

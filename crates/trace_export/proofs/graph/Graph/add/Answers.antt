@@ -8,7 +8,7 @@ use Rattle.trace_export.specs.Verdict.{IsOrderedNext}
 use Rattle.trace_export.specs.declared.placed.Placed.{Placed}
 use Rattle.trace_export.proofs.Alike.{tree_next}
 use Rattle.trace_export.proofs.Ordering.{reaching_next}
-use Rattle.trace_export.proofs.RaisedPoints.{points_put}
+use Rattle.trace_export.proofs.RaisedPoints.{points_put, with_points}
 use Rattle.trace_export.proofs.graph.Graph.add.Goals as goal
 
 pub is_ordered-is_ordered-requires-clause-reaching :
@@ -51,13 +51,6 @@ returns-clause-added c = λ _.
     ap (λ n. listed_tree after (suc n)) place ∙ ap (λ (placing : Placing). listed_tree placing (suc (length before))) c.put.ensures.placed ∙ tree_next before c.args.placed in
     let low : c.len-place.result < length after = omega (arith, place, ap length c.put.ensures.placed, length-append before (c.args.placed ∷ [])) in (
       c.put.ensures.placed ∙ ap (λ (placing : Placing). placing ++ c.args.placed ∷ []) (c.make_room.ensures.placed ∙ ap (λ (placed : Vec Placed Global). placed.items) c.complete.ensures.placed),
-      record {
-        lines = kept.lines;
-        few = kept.few;
-        room = kept.room;
-        chains = kept.chains;
-        chained = kept.chained;
-        ends_room = kept.ends_room;
-        points = points_put c.put.new.self.hints.points.items c.put-2.new.self.points.items after c.len-place.result c.first_hints-own.result.1 kept.points low (subst (IsPointOf c.first_hints-own.result.1) (sym tree) c.first_hints-own.ensures) c.put-2.ensures;
-      },
+      with_points c.put.new.self c.put-2.new.self kept
+          (points_put c.put.new.self.hints.points.items c.put-2.new.self.points.items after c.len-place.result c.first_hints-own.result.1 kept.points low (subst (IsPointOf c.first_hints-own.result.1) (sym tree) c.first_hints-own.ensures) c.put-2.ensures),
     )

@@ -2,7 +2,7 @@ use Rattle.std.proofs.Common.{◌≡◌, ◌+◌, ◌∙◌, suc, length, ap, su
 use Rattle.trace_export.specs.Edges.{listed_tree}
 use Rattle.trace_export.specs.Raised.{IsPointOf}
 use Rattle.trace_export.specs.declared.placed.Placed.{Placed}
-use Rattle.trace_export.proofs.RaisedPoints.{points_put}
+use Rattle.trace_export.proofs.RaisedPoints.{points_put, with_points}
 use Rattle.trace_export.proofs.graph.Graph.find_hints.Goals as goal
 
 pub loop-place-preserved : goal.loop-place-preserved
@@ -14,13 +14,6 @@ loop-place-preserved c =
     record {
       placed = c.loop-place.invariant.placed;
       reaching = c.loop-place.invariant.reaching;
-      graph = record {
-        lines = old.lines;
-        few = old.few;
-        room = old.room;
-        chains = old.chains;
-        chained = old.chained;
-        ends_room = old.ends_room;
-        points = points_put c.loop-place.self.hints.points.items c.put.new.self.points.items placing c.loop-place.place c.first_hints-sides.result.1 old.points (omega (arith, c.loop-place-test.true, c.len-place-end.ensures, ap (λ (placed : Vec Placed Global). length placed.items) c.loop-place.invariant.placed)) (subst (IsPointOf c.first_hints-sides.result.1) tree c.first_hints-sides.ensures) c.put.ensures;
-      };
+      graph = with_points c.loop-place.self c.put.new.self old
+          (points_put c.loop-place.self.hints.points.items c.put.new.self.points.items placing c.loop-place.place c.first_hints-sides.result.1 old.points (omega (arith, c.loop-place-test.true, c.len-place-end.ensures, ap (λ (placed : Vec Placed Global). length placed.items) c.loop-place.invariant.placed)) (subst (IsPointOf c.first_hints-sides.result.1) tree c.first_hints-sides.ensures) c.put.ensures);
     }
