@@ -1,5 +1,3 @@
-mod PatientTexts
-mod ChunkLines
 mod Fresh
 mod Isolation
 mod Leading

@@ -5,5 +5,3 @@ pub mod Counted
 pub mod Tenants
 pub mod Isolation
 pub mod Answered
-pub mod Chunks
-pub mod Chunking

@@ -7,12 +7,12 @@ ghost use Rattle.trace_world.specs.Answered.{AnswersFound, AnswersRequest, Carri
 ghost use Rattle.trace_world.specs.Counted.{CanCount};
 
 use crate::ledger_stamps::stamp_parts;
-use crate::stamp_answer::write_stamp;
 use crate::{Counts, World};
 use line_protocol::{
     Sink, WriteFault, is_count, read_addressed, read_order, read_request, split_first,
     write_answer, write_count, write_order,
 };
+use stamp_reply::write_stamp_answer;
 use std::sync::Wait;
 use trace_types::{Code, Name, Reply, Request};
 
@@ -104,7 +104,7 @@ fn tell_stamp<W: Sink>(
     match stamp_parts(world.ledger(tenant), event) {
         Some((id, tree)) => {
             counts.count_answered();
-            write_stamp(writer, world.name(tenant), id, tree)
+            write_stamp_answer(writer, world.name(tenant), id, tree)
         }
         None => refuse(writer, counts, world.name(tenant).as_bytes(), Code::NoEvent),
     }

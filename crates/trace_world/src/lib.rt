@@ -22,15 +22,12 @@
 #![tactic(auto)]
 
 mod answer;
-mod chunk;
-mod chunk_writer;
 mod counts;
 mod exporting;
 pub mod laws;
 mod ledger_stamps;
 mod replaying;
 mod replaying_bytes;
-mod stamp_answer;
 mod world;
 
 pub use counts::Counts;

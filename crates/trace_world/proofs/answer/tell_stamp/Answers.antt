@@ -16,7 +16,7 @@ returns-in-Some g c =
       reply = told;
       named = c.name.ensures;
       does = StepsOne-stays c.args.world.now c.args.tenant c.ledger.result.now (request.Stamp c.args.event) told c.ledger.ensures (rw c.in-Some.is at c.stamp_parts.ensures);
-      tells = tells (g.W.Sink.seen c.args.writer.now) (g.W.Sink.seen c.write_stamp.new.writer) c.name.result.now told _ _ c.write_stamp.result (c.count_answered.ensures.stamp text) c.write_stamp.ensures;
+      tells = tells (g.W.Sink.seen c.args.writer.now) (g.W.Sink.seen c.write_stamp_answer.new.writer) c.name.result.now told _ _ c.write_stamp_answer.result (c.count_answered.ensures.stamp text) c.write_stamp_answer.ensures;
     }
 
 pub returns-in-None : goal.returns-in-None

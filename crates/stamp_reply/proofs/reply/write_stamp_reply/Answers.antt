@@ -2,8 +2,8 @@ use Rattle.std.proofs.Common.{◌++◌, ◌∙◌, Ok, Err, codes, subst, sym}
 use Rattle.trace_types.specs.text.StampText.{stamp_text}
 use Rattle.line_protocol.specs.Writing.{Writes}
 use Rattle.line_protocol.specs.declared.write_fault.WriteFault.{WriteFault}
-use Rattle.trace_world.proofs.ChunkLines.{Writes-line, Writes-stopped}
-use Rattle.trace_world.proofs.stamp_answer.write_reply.Goals as goal
+use Rattle.stamp_reply.proofs.ChunkLines.{Writes-line, Writes-stopped}
+use Rattle.stamp_reply.proofs.reply.write_stamp_reply.Goals as goal
 
 pub returns-in-Some : goal.returns-in-Some
 returns-in-Some g c =

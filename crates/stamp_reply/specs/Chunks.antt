@@ -3,7 +3,7 @@ use Rattle.std.specs.Prelude.{◌≡◌, ◌<◌, ◌++◌, Ok, Err}
 use Rattle.trace_types.specs.text.Name.{Text}
 use Rattle.line_protocol.specs.Sink.{Taken}
 use Rattle.line_protocol.specs.Writing.{Gathers, TriesToWrite, WritesFront}
-use Rattle.trace_world.specs.declared.chunk_writer.ChunkWriter.{ChunkWriter}
+use Rattle.stamp_reply.specs.declared.chunk_writer.ChunkWriter.{ChunkWriter}
 
 module _ {W : Type 0} where
   -- With what patience there was, the text was written or is held behind what was held.

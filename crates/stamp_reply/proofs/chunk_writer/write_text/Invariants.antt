@@ -3,7 +3,7 @@ use Rattle.line_protocol.specs.declared.write_fault.WriteFault.{WriteFault}
 use Rattle.line_protocol.specs.Patience.{waits_since_bytes}
 use Rattle.line_protocol.specs.Writing.{TriesToWrite}
 use Rattle.line_protocol.proofs.WritingLemmas.{Wrote}
-use Rattle.trace_world.proofs.chunk_writer.write_text.Given as goal
+use Rattle.stamp_reply.proofs.chunk_writer.write_text.Given as goal
 
 abbrev pub invariant-loop-rest : goal.invariant-loop-rest
 invariant-loop-rest g l = record {

@@ -3,7 +3,7 @@ use Rattle.std.proofs.lemmas.List.{take_rest}
 use Rattle.std.proofs.lemmas.Result.{err_from_is_err_and}
 use Rattle.line_protocol.proofs.PatienceLemmas.{TriesToWrite-none, TriesToWrite-ok, TriesToWrite-err, TriesToWrite-then}
 use Rattle.line_protocol.proofs.WritingLemmas.{Wrote-start, Wrote-more, some_taken}
-use Rattle.trace_world.proofs.chunk_writer.write_text.Goals as goal
+use Rattle.stamp_reply.proofs.chunk_writer.write_text.Goals as goal
 
 pub loop-rest-init : goal.loop-rest-init
 loop-rest-init g c = record {

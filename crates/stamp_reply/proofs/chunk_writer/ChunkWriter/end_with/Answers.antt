@@ -1,6 +1,6 @@
 use Rattle.std.proofs.Common.{[], ◌∷◌}
-use Rattle.trace_world.proofs.ChunkLines.{gathers-then}
-use Rattle.trace_world.proofs.chunk_writer.ChunkWriter.end_with.Goals as goal
+use Rattle.stamp_reply.proofs.ChunkLines.{gathers-then}
+use Rattle.stamp_reply.proofs.chunk_writer.ChunkWriter.end_with.Goals as goal
 
 pub returns-clause-gathers : goal.returns-clause-gathers
 returns-clause-gathers g c =

@@ -1,9 +1,9 @@
 use Rattle.std.proofs.Common.{◌++◌, codes}
 use Rattle.stamp_codec.proofs.Spelled.{on_none}
 use Rattle.trace_types.specs.text.StampText.{stamp_text}
-use Rattle.trace_world.specs.Chunking.{GathersOn-both, StopsGathering-front, StopsGathering-others}
-use Rattle.trace_world.proofs.ChunkLines.{gathers-then, same_writer}
-use Rattle.trace_world.proofs.stamp_answer.spell_reply.Goals as goal
+use Rattle.stamp_reply.specs.Chunking.{GathersOn-both, StopsGathering-front, StopsGathering-others}
+use Rattle.stamp_reply.proofs.ChunkLines.{gathers-then, same_writer}
+use Rattle.stamp_reply.proofs.reply.spell_reply.Goals as goal
 
 pub returns-in_err-take_all-clause-gathers : goal.returns-in_err-take_all-clause-gathers
 returns-in_err-take_all-clause-gathers g c =

@@ -4,8 +4,8 @@ use Rattle.trace_types.specs.text.Name.{Text}
 use Rattle.line_protocol.specs.Sink.{Taken}
 use Rattle.line_protocol.proofs.GatherLemmas.{Gathers-more, Gathers-front, WritesFront-held}
 use Rattle.line_protocol.proofs.PatienceLemmas.{TriesToWrite-then}
-use Rattle.trace_world.specs.Chunks.{GathersOn, StopsGathering}
-use Rattle.trace_world.specs.declared.chunk_writer.ChunkWriter.{ChunkWriter}
+use Rattle.stamp_reply.specs.Chunks.{GathersOn, StopsGathering}
+use Rattle.stamp_reply.specs.declared.chunk_writer.ChunkWriter.{ChunkWriter}
 
 module _ {W : Type 0} {took : W → Taken} where
   -- what was taken leaves patience

@@ -7,10 +7,10 @@ use Rattle.line_protocol.specs.Patience.{waits_since_bytes}
 use Rattle.line_protocol.specs.Writing.{Gathers, TriesToWrite, Writes, WritesFront, WritesText}
 use Rattle.line_protocol.specs.declared.write_fault.WriteFault.{WriteFault}
 use Rattle.line_protocol.proofs.PatienceLemmas.{TriesToWrite-ok, TriesToWrite-err}
-use Rattle.trace_world.proofs.PatientTexts.{Writes-patiently}
-use Rattle.trace_world.specs.Chunks.{GathersOn, StopsGathering}
-use Rattle.trace_world.specs.Chunking.{GathersOn-both, StopsGathering-others}
-use Rattle.trace_world.specs.declared.chunk_writer.ChunkWriter.{ChunkWriter}
+use Rattle.stamp_reply.proofs.PatientTexts.{Writes-patiently}
+use Rattle.stamp_reply.specs.Chunks.{GathersOn, StopsGathering}
+use Rattle.stamp_reply.specs.Chunking.{GathersOn-both, StopsGathering-others}
+use Rattle.stamp_reply.specs.declared.chunk_writer.ChunkWriter.{ChunkWriter}
 
 -- a text was taken, and then another or not all of it
 pub gathers-then : {W : Type 0} (took : W → Taken) (before between after : ChunkWriter W) (first others : Text) (result : Option (Unit {0})) → GathersOn took before between first

@@ -1,6 +1,6 @@
 use Rattle.std.proofs.Common.{[], refl}
-use Rattle.trace_world.proofs.ChunkLines.{gathers-then, writes_through}
-use Rattle.trace_world.proofs.chunk_writer.ChunkWriterTakeBytes.take_all.Goals as goal
+use Rattle.stamp_reply.proofs.ChunkLines.{gathers-then, writes_through}
+use Rattle.stamp_reply.proofs.chunk_writer.ChunkWriterTakeBytes.take_all.Goals as goal
 
 pub returns : goal.returns
 returns g c =

@@ -1,6 +1,6 @@
 use Rattle.std.proofs.Common.{rules}
 use Rattle.line_protocol.proofs.PatienceLemmas.{OnlyWrites-once}
-use Rattle.trace_world.proofs.chunk_writer.write_once.Goals as goal
+use Rattle.stamp_reply.proofs.chunk_writer.write_once.Goals as goal
 
 pub returns-in-Ok-eq0-clause-tries : goal.returns-in-Ok-eq0-clause-tries
 returns-in-Ok-eq0-clause-tries g c = record {

@@ -2,7 +2,7 @@
 ghost use Rattle.std.specs.Prelude.{◌≡◌, ◌+◌, ◌<◌, ◌≤◌, [], ◌∷◌, ◌++◌, IfOk, IfSome, MatchOption, OnErr, OnOk, length, take};
 ghost use Rattle.line_protocol.specs.Patience.{waits_since_bytes};
 ghost use Rattle.line_protocol.specs.Writing.{TriesToWrite, WritesText};
-ghost use Rattle.trace_world.specs.Chunks.{GathersOn, StopsGathering};
+ghost use Rattle.stamp_reply.specs.Chunks.{GathersOn, StopsGathering};
 
 use crate::chunk::Chunk;
 use line_protocol::{Sink, Stop, WriteFault};
@@ -79,8 +79,8 @@ impl<'a, W: Sink> ChunkWriter<'a, W> {
 }
 
 impl<'a, W: Sink> TakeBytes for ChunkWriter<'a, W> {
-    ghost use Rattle.trace_world.specs.Chunks.{GathersOn, StopsGathering};
-    ghost use Rattle.trace_world.specs.Chunking.{GathersOn-both, StopsGathering-front, StopsGathering-others};
+    ghost use Rattle.stamp_reply.specs.Chunks.{GathersOn, StopsGathering};
+    ghost use Rattle.stamp_reply.specs.Chunking.{GathersOn-both, StopsGathering-front, StopsGathering-others};
 
     ghost takes = { λ before after bytes. GathersOn W.seen before after bytes };
 

@@ -1,0 +1,2 @@
+mod PatientTexts
+mod ChunkLines
