@@ -1,11 +1,16 @@
 -- What a view sees once it entered, and what it may put together.
 use Rattle.std.proofs.Common.{◌≡◌, ℕ, Bool, false, MatchBool, IsTrue, List, [], ◌∷◌, ◌+◌, ◌*◌, ◌≤◌, refl, sym, ◌∙◌, subst, inl, inr, arith}
-use Rattle.std.specs.Prelude.{Option, Some, None}
+use Rattle.std.specs.Prelude.{Option, Some, None, Result, Ok, Err, MatchResult}
 use mathlib.Core.List.{IsPrefix}
 use Rattle.logbook.specs.Pages.{Book}
 use Rattle.tenant_ledger.proofs.Words.{Limits, Row, Tenant, Request, Reply, Refused, Answers, AreLegal, is_report}
 use Rattle.trace_types.specs.tenant.Limits.{are_limits}
+use Rattle.trace_types.specs.clock.Id.{Id}
+use Rattle.trace_types.specs.clock.EventTree.{EventTree}
+use Rattle.trace_types.specs.text.StampText.{stamp_text}
+use Rattle.trace_types.specs.declared.code.Code.{Code}
 use Rattle.trace_types.specs.declared.code.Code.TheVariants.{ViewOnly}
+use Rattle.trace_types.specs.declared.reply.Reply.TheVariants as variants
 use Rattle.trace_types.specs.declared.request.Request.TheVariants.{Stamp}
 use Rattle.tenant_ledger.specs.Size.{IsShort, spawns_up_to, stamp_bytes}
 use Rattle.tenant_ledger.proofs.size.Replies.{short_answer}
@@ -86,6 +91,18 @@ pub responds : (old new : Known) (home : List ℕ) (known now : Option Sight) (p
 responds old new home known now published request reply query of begin entered answered is =
     subst (λ (report : Bool). MatchBool report ((reply ≡ Refused ViewOnly) × (new ≡ old)) (LooksUp old request reply new)) (sym query)
     (subst (λ (known : Known). LooksUp old request reply known) (sym is) (looks_up old home known now published request reply of begin entered answered))
+
+-- and so does one that gives the parts of a stamp, or says why not
+pub parts_respond : (old new : Known) (home : List ℕ) (known now : Option Sight) (published : Published) (event : ℕ) (found : Result (Id × EventTree) Code)
+    → IsOfDesk old.book old.limits home known → BeginWithEach old.seen old.met → HasEntered known old.seen published now
+    → MatchResult found (λ parts. Answers (published_tenant published.events) (Stamp event) (variants.Stamp (stamp_text parts.0 parts.1)))
+    (λ code. Answers (published_tenant published.events) (Stamp event) (Refused code))
+    → new ≡ record { seen = published.front.rows; met = []; limits = old.limits; book = published.front.book }
+    → MatchResult found (λ parts. Responds old (Stamp event) (variants.Stamp (stamp_text parts.0 parts.1)) new) (λ code. Responds old (Stamp event) (Refused code) new)
+parts_respond old new home known now published event (Ok parts) of begin entered answered is =
+    responds old new home known now published (Stamp event) (variants.Stamp (stamp_text parts.0 parts.1)) refl of begin entered answered is
+parts_respond old new home known now published event (Err code) of begin entered answered is =
+    responds old new home known now published (Stamp event) (Refused code) refl of begin entered answered is
 
 module _ (old : Known) (reply : Reply) (new : Known) (event : ℕ)
     (are : IsTrue (are_limits old.limits.events old.limits.tasks old.limits.messages)) where

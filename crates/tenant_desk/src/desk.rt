@@ -1,6 +1,7 @@
 //! Desks, which alone take the reports of their tenants.
-ghost use Rattle.std.specs.Prelude.{◌≡◌, ◌∷◌, ◌++◌, [], true, false, IfOk};
+ghost use Rattle.std.specs.Prelude.{◌≡◌, ◌∷◌, ◌++◌, [], true, false, IfOk, MatchOption};
 ghost use Rattle.trace_types.specs.tenant.Tenant.{Answers, AreLegal, Steps, fresh, is_report};
+ghost use Rattle.trace_types.specs.text.StampText.{stamp_text};
 ghost use Rattle.trace_types.specs.text.Text.{CanBeWritten};
 ghost use Rattle.tenant_desk.specs.Events.{AreSound, published_tenant};
 ghost use Rattle.tenant_desk.specs.Desks.{IsDone, IsEventOf, AllArePublished};
@@ -11,11 +12,14 @@ use crate::events::Events;
 use crate::in_place::put_reply;
 use crate::publisher::Publisher;
 use crate::views::Views;
+use event_tree::EvTree;
+use id_tree::IdTree;
 use std::alloc::Global;
 use std::marker::Model;
 use std::mem::ManuallyDrop;
 use std::sync::{Arc, Wait};
-use tenant_ledger::{Keep, Ledger, Own, Prepared, Shared, SharedIds, answer};
+use tenant_ledger::{Keep, Ledger, MeantId, Own, Prepared, Shared, SharedIds, answer};
+use trace_query::Meant;
 use trace_types::{Code, Limits, Memory, Reply, Request};
 
 /// What is to be published of a report, whose tree this share keeps. Returns `Memory` if it runs out of memory.
@@ -135,6 +139,22 @@ impl Desk {
         } else {
             self.ask(request, reply);
         }
+    }
+
+    /// The id and the tree of the event's stamp, or `None` if there is no such event. [`Desk::call`] answers the stamp with
+    /// their text. It asks for no memory.
+    pub fn stamp_parts(&self, event: u64) -> Option<(&IdTree, &EvTree)>
+        ensures steps { MatchOption result (Steps self.now.tenant (Request.Stamp event) (Reply.Refused Code.NoEvent) self.now.tenant)
+            (λ parts. Steps self.now.tenant (Request.Stamp event) (Reply.Stamp (stamp_text parts.0.now parts.1.now)) self.now.tenant) }
+        ensures legal { AreLegal self.now.tenant.limits self.now.tenant.rows }
+        ensures published { self.now.published ≡ self.now.tenant.rows }
+    {
+        let Some(ledger) = &self.ledger else {
+            unreachable!()
+        };
+        let id = ledger.id(event)?;
+        let tree = ledger.tree(event)?;
+        Some((id.id_value(), tree.tree_value()))
     }
 
     /// Answers a query by what is published, and looks orders up in the cache. The ledger answers `message`, since it keeps

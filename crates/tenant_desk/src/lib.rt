@@ -34,6 +34,7 @@ mod published;
 mod publisher;
 mod rule;
 mod span;
+mod stamp_parts;
 mod told;
 mod view;
 mod views;

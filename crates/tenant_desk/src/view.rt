@@ -3,6 +3,7 @@ ghost use Rattle.std.specs.Prelude.{◌≡◌, [], IfOk, MatchResult};
 ghost use Rattle.std.specs.Arc.{arc_value};
 ghost use Rattle.left_right.specs.Sides.{view as known_at};
 ghost use Rattle.trace_types.specs.tenant.Tenant.{Answers};
+ghost use Rattle.trace_types.specs.text.StampText.{stamp_text};
 ghost use Rattle.tenant_ledger.specs.Size.{IsShort};
 ghost use Rattle.tenant_desk.specs.Events.{AreSound, published_tenant};
 ghost use Rattle.tenant_desk.specs.Rules.{HasEntered, IsOfLog, StaysOf};
@@ -15,6 +16,9 @@ use crate::in_place::put_reply;
 use crate::met::Met;
 use crate::publisher::{DeskReader, DeskReading, Publisher};
 use crate::rule::Seeing;
+use crate::stamp_parts::shared_parts;
+use event_tree::EvTree;
+use id_tree::IdTree;
 use std::marker::Model;
 use std::sync::{Arc, Wait};
 use tenant_ledger::{Keep, Own, Shared, answer};
@@ -180,6 +184,37 @@ impl View {
         let _ = self.limits.events();
         let _ = rt;
         self.respond(request, true, reply);
+    }
+
+    /// The id and the tree of the event's stamp, at the list that is published then. [`View::ask`] answers the stamp with
+    /// their text. They are equal ones that the caller keeps, so no desk waits until they are written. It waits for nobody,
+    /// and asks for no memory.
+    ///
+    /// Returns the code of the refusal: `NoPlace` (422) if the desk is gone, and `NoEvent` (404) if there is no such event.
+    /// It is `NoMemory` (507) if a part would stand in more trees than can be counted.
+    #[tactic(auto, using(crate::proofs::Viewing::of_log, crate::proofs::Viewing::entered_desk))]
+    pub fn stamp_parts(&mut self, event: u64) -> Result<(IdTree, EvTree), Code>
+        ensures answer { MatchResult result (λ parts. Responds self.old (Request.Stamp event) (Reply.Stamp (stamp_text parts.0 parts.1)) self.new)
+            (λ code. Responds self.old (Request.Stamp event) (Reply.Refused code) self.new) }
+        ensures book { self.new.book ≡ self.old.book }
+    {
+        let Some(reader) = self.reader.take() else {
+            unreachable!()
+        };
+        match enter(reader, &self.seen) {
+            Ok(reading) => {
+                let parts = shared_parts(&reading.get().events, event);
+                let (reader, seen) = leave(reading);
+                self.reader = Some(reader);
+                self.seen = seen;
+                self.met.clear();
+                parts
+            }
+            Err(reader) => {
+                self.reader = Some(reader);
+                Err(Code::NoPlace)
+            }
+        }
     }
 
     /// Answers as [`View::ask`] does, by the cache that all tenants share or without it.

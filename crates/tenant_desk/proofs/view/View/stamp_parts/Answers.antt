@@ -1,0 +1,55 @@
+use Rattle.std.proofs.Common.{◌≡◌, [], sym, ap, ◌∙◌, subst}
+use Rattle.std.specs.Arc.{arc_value}
+use Rattle.std.specs.Prelude.{Some, MatchResult}
+use Rattle.left_right.specs.Sides.{view as known_at}
+use Rattle.trace_types.specs.tenant.Tenant.{Answers}
+use Rattle.trace_types.specs.text.StampText.{stamp_text}
+use Rattle.trace_types.specs.declared.request.Request.TheVariants.{Stamp}
+use Rattle.trace_types.specs.declared.reply.Reply.TheVariants as reply
+use Rattle.tenant_desk.specs.Events.{published_tenant}
+use Rattle.tenant_desk.specs.Histories.{Line}
+use Rattle.tenant_desk.specs.Rules.{IsOfDesk}
+use Rattle.tenant_desk.specs.Views.{Known, Responds}
+use Rattle.tenant_desk.specs.declared.published.Published.{Published}
+use Rattle.tenant_desk.proofs.Cases.{value_there}
+use Rattle.tenant_desk.proofs.Viewing.{entered_desk, parts_respond}
+use Rattle.tenant_desk.proofs.view.View.stamp_parts.Goals as goal
+
+pub invariant_of-self-in-Err : goal.invariant_of-self-in-Err
+invariant_of-self-in-Err c =
+    let inside = c.self.inside in
+    let is : inside.reader ≡ Some c.in-Some.reader = sym c.take.ensures.value ∙ c.in-Some.is in
+    let of = value_there inside.reader c.in-Some.reader is
+    (λ reader. IsOfDesk inside.seen.book inside.limits (arc_value inside.shared).trees (known_at reader.place)) c.self.invariant.1 in
+    (c.self.invariant.0, c.in-Err.ensures _ _ _ of)
+
+pub returns-in-Ok-clause-answer : goal.returns-in-Ok-clause-answer
+returns-in-Ok-clause-answer c =
+    let inside = c.self.inside in
+    let event = c.args.event in
+    let found = c.shared_parts-parts.result in
+    let published = c.in-Ok.reading.part.value in
+    let old : Known = record { seen = inside.seen.rows; met = inside.met; limits = inside.limits; book = inside.seen.book } in
+    let new : Known = record { seen = c.leave-reader.result.1.rows; met = c.clear.new.self; limits = inside.limits; book = c.leave-reader.result.1.book } in
+    let is : inside.reader ≡ Some c.in-Some.reader = sym c.take.ensures.value ∙ c.in-Some.is in
+    let of = value_there inside.reader c.in-Some.reader is
+    (λ reader. IsOfDesk inside.seen.book inside.limits (arc_value inside.shared).trees (known_at reader.place)) c.self.invariant.1 in
+    let answered = subst (λ (entered : Published). MatchResult found (λ parts. Answers (published_tenant entered.events) (Stamp event) (reply.Stamp (stamp_text parts.0 parts.1)))
+    (λ code. Answers (published_tenant entered.events) (Stamp event) (reply.Refused code))) c.get.ensures c.shared_parts-parts.ensures in
+    let front = c.leave-reader.ensures.front in
+    let met = c.clear.ensures in
+    let is_new : new ≡ record { seen = published.front.rows; met = []; limits = inside.limits; book = published.front.book } =
+    λ i. record { seen = (front i).rows; met = met i; limits = inside.limits; book = (front i).book } in
+    subst (λ (before : Known). MatchResult found (λ parts. Responds before (Stamp event) (reply.Stamp (stamp_text parts.0 parts.1)) new)
+    (λ code. Responds before (Stamp event) (reply.Refused code) new)) c.self.view_is
+    (parts_respond old new (arc_value inside.shared).trees _ _ published event found of c.self.invariant.0 c.in-Ok.ensures answered is_new)
+
+pub returns-in-Ok-clause-book : goal.returns-in-Ok-clause-book
+returns-in-Ok-clause-book c =
+    let inside = c.self.inside in
+    let published = c.in-Ok.reading.part.value in
+    let is : inside.reader ≡ Some c.in-Some.reader = sym c.take.ensures.value ∙ c.in-Some.is in
+    let of = value_there inside.reader c.in-Some.reader is
+    (λ reader. IsOfDesk inside.seen.book inside.limits (arc_value inside.shared).trees (known_at reader.place)) c.self.invariant.1 in
+    let same = entered_desk inside.seen.book inside.limits (arc_value inside.shared).trees _ _ published of c.in-Ok.ensures.sees in
+    ap (λ (line : Line). line.book) c.leave-reader.ensures.front ∙ same.0 ∙ ap (λ (before : Known). before.book) c.self.view_is
