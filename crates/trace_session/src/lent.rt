@@ -1,7 +1,12 @@
 //! What sessions borrow.
-ghost use Rattle.std.specs.Prelude.{◌≡◌};
+ghost use Rattle.std.specs.Prelude.{◌≡◌, Some};
+ghost use Rattle.trace_session.specs.Outputs.{GoesThroughGate};
+ghost use Rattle.trace_session.specs.Sessions.{AnswersInTime};
 ghost use Rattle.trace_session.specs.Witnesses.{told_of};
 
+use crate::output::Output;
+use crate::{Gate, SessionFault};
+use line_protocol::Sink;
 use std::sync::Wait;
 use tenant_desk::{Desk, Told, View};
 use trace_types::{Code, Reply, Request};
@@ -39,6 +44,19 @@ pub(crate) trait Lent: Sized {
         ensures limits { (tenant_of self.new).limits ≡ (tenant_of self.old).limits }
         ensures book { book_of self.new ≡ book_of self.old };
 
+    /// Answers the request for the stamp of this event, and writes the reply. A stamp goes from its id and its tree to the
+    /// output.
+    fn answer_stamp<W: Sink, T: Wait, G: Gate>(
+        &mut self,
+        event: u64,
+        output: &mut Output<'_, W, T, G>,
+    ) -> Result<(), SessionFault>
+        ensures does { AnswersInTime does (Some (Request.Stamp event)) self.old self.new (W.seen output.old.writer.now) (W.seen output.new.writer.now) result }
+        ensures gate { GoesThroughGate W.seen G.lets_out G.holds_back output.old output.new result }
+        ensures sound { is_sound self.old → is_sound self.new }
+        ensures limits { (tenant_of self.new).limits ≡ (tenant_of self.old).limits }
+        ensures book { book_of self.new ≡ book_of self.old };
+
     /// Tells of the rows that it knows of.
     fn tell(&self) -> Told
         ensures { result ≡ told_of tenant_of book_of self.now };
@@ -64,6 +82,17 @@ impl Lent for Desk {
         self.call_into(rt, request, reply);
     }
 
+    fn answer_stamp<W: Sink, T: Wait, G: Gate>(
+        &mut self,
+        event: u64,
+        output: &mut Output<'_, W, T, G>,
+    ) -> Result<(), SessionFault> {
+        match self.stamp_parts(event) {
+            Some((id, tree)) => output.put_out_stamp(id, tree),
+            None => output.put_out(&Reply::Refused(Code::NoEvent)),
+        }
+    }
+
     fn tell(&self) -> Told {
         Desk::tell(self)
     }
@@ -87,6 +116,17 @@ impl Lent for View {
 
     fn answer<T: Wait>(&mut self, rt: &T, request: &Request, reply: &mut Reply) {
         self.ask_cached_into(rt, request, reply);
+    }
+
+    fn answer_stamp<W: Sink, T: Wait, G: Gate>(
+        &mut self,
+        event: u64,
+        output: &mut Output<'_, W, T, G>,
+    ) -> Result<(), SessionFault> {
+        match self.stamp_parts(event) {
+            Ok((id, tree)) => output.put_out_stamp(&id, &tree),
+            Err(code) => output.put_out(&Reply::Refused(code)),
+        }
     }
 
     fn tell(&self) -> Told {

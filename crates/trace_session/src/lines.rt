@@ -146,6 +146,10 @@ impl<'a, W: Sink, T: Wait, G: Gate> Output<'a, W, T, G> {
                 self.put_out(&Reply::Refused(Code::SessionOver))?;
                 Ok(Some(SessionEnd::Over))
             }
+            Asked::Request(Some(Request::Stamp(event))) => {
+                lent.answer_stamp(*event, self)?;
+                Ok(None)
+            }
             Asked::Request(request) => {
                 let mut reply = Reply::Refused(Code::Line);
                 reply_to(self.rt, lent, request, &mut reply);
