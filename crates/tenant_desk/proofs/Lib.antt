@@ -2,6 +2,7 @@ pub mod Adding
 pub mod Beginnings
 pub mod Cases
 pub mod Crossing
+pub mod Entries
 pub mod Indexing
 pub mod PublishedIds
 pub mod PublishedNext

@@ -2,7 +2,6 @@
 use Rattle.std.proofs.Common.{◌≡◌, ℕ, Bool, false, MatchBool, IsTrue, List, [], ◌∷◌, ◌+◌, ◌*◌, ◌≤◌, refl, sym, ◌∙◌, subst, inl, inr, arith}
 use Rattle.std.specs.Prelude.{Option, Some, None, Result, Ok, Err, MatchResult}
 use mathlib.Core.List.{IsPrefix}
-use Rattle.logbook.specs.Pages.{Book}
 use Rattle.tenant_ledger.proofs.Words.{Limits, Row, Tenant, Request, Reply, Refused, Answers, AreLegal, is_report}
 use Rattle.trace_types.specs.tenant.Limits.{are_limits}
 use Rattle.trace_types.specs.clock.Id.{Id}
@@ -16,6 +15,7 @@ use Rattle.tenant_ledger.specs.Size.{IsShort, spawns_up_to, stamp_bytes}
 use Rattle.tenant_ledger.proofs.size.Replies.{short_answer}
 use Rattle.tenant_ledger.proofs.size.StampTexts.{stamp_text_within_spawns}
 use Rattle.tenant_desk.specs.Events.{published_tenant}
+use Rattle.tenant_desk.specs.Histories.{Log}
 use Rattle.tenant_desk.specs.Rules.{IsOfDesk, IsOfLog, StaysOf, HasEntered, Sees}
 use Rattle.tenant_desk.specs.Views.{Known, BeginWithEach, LooksUp, Responds}
 use Rattle.tenant_desk.specs.declared.published.Published.{Published}
@@ -35,17 +35,17 @@ pub put_shorter : (seen told : List Row) (lists : List (List Row)) → IsPrefix 
 put_shorter seen told lists shorter begin = (shorter, (begins_with_itself seen, begin))
 
 -- what is known of a desk is known of its log
-pub of_log : (book : Book) (limits : Limits) (home : List ℕ) (known : Option Sight) → IsOfDesk book limits home known → IsOfLog book known
+pub of_log : (book : Log) (limits : Limits) (home : List ℕ) (known : Option Sight) → IsOfDesk book limits home known → IsOfLog book known
 of_log book limits home None of = absurd of
 of_log book limits home (Some sight) of = of.0
 
 -- what was entered is of the log of which something was known
-pub entered_log : (book : Book) (known now : Option Sight) (published : Published) → IsOfLog book known → Sees known published published now → published.front.book ≡ book
+pub entered_log : (book : Log) (known now : Option Sight) (published : Published) → IsOfLog book known → Sees known published published now → published.front.book ≡ book
 entered_log book None now published of sees = absurd of
 entered_log book (Some sight) now published of sees = sym sees.2.0.0 ∙ of
 
 -- and of the desk: the same limits, and trees that lie there
-pub entered_desk : (book : Book) (limits : Limits) (home : List ℕ) (known now : Option Sight) (published : Published) → IsOfDesk book limits home known
+pub entered_desk : (book : Log) (limits : Limits) (home : List ℕ) (known now : Option Sight) (published : Published) → IsOfDesk book limits home known
     → Sees known published published now → (published.front.book ≡ book) × (published.events.limits ≡ limits) × (published.events.home ≡ home)
 entered_desk book limits home None now published of sees = absurd of
 entered_desk book limits home (Some sight) now published of sees = (sym sees.2.0.0 ∙ of.0, sym sees.2.0.1 ∙ of.1, sym sees.2.0.2 ∙ of.2)
@@ -55,7 +55,7 @@ pub stays_of : (known now : Option Sight) (published : Published) → Sees known
 stays_of known now published sees book limits home of =
     subst (IsOfDesk book limits home) (sym sees.1) (entered_desk book limits home known now published of sees)
 
-pub known_of_entered : (book : Book) (limits : Limits) (home : List ℕ) (known now : Option Sight) (published : Published) → IsOfDesk book limits home known
+pub known_of_entered : (book : Log) (limits : Limits) (home : List ℕ) (known now : Option Sight) (published : Published) → IsOfDesk book limits home known
     → Sees known published published now → IsOfDesk published.front.book limits home now
 known_of_entered book limits home known now published of sees =
     let is = entered_desk book limits home known now published of sees in

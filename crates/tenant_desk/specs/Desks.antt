@@ -1,6 +1,5 @@
 -- What a tenant's desk is.
 use Rattle.std.specs.Prelude.{◌≡◌, ◌⊎◌, ℕ, suc, List, [], ◌∷◌, length, Some}
-use Rattle.logbook.specs.Pages.{Book}
 use Rattle.trace_types.specs.clock.Clock.{tree_clock}
 use Rattle.trace_types.specs.clock.Stamps.{id_of, tree_of}
 use Rattle.trace_types.specs.tenant.Rows.{history_of}
@@ -12,6 +11,7 @@ use Rattle.trace_types.specs.declared.row.Row.{Row}
 use Rattle.tenant_ledger.specs.Ledger.{MayHavePoint, start_of}
 use Rattle.tenant_ledger.specs.Upcoming.{Upcoming}
 use Rattle.tenant_desk.specs.Events.{published_tenant}
+use Rattle.tenant_desk.specs.Histories.{Log}
 use Rattle.tenant_desk.specs.declared.event.Event.{Event}
 use Rattle.tenant_desk.specs.declared.published.Published.{Published}
 
@@ -19,14 +19,14 @@ use Rattle.tenant_desk.specs.declared.published.Published.{Published}
 pub record Desk : Type 0 where
   pub tenant : Tenant
   pub published : List Row
-  pub book : Book
+  pub book : Log
 
 -- Stands for a desk that is in a call. None is seen so.
 abbrev pub no_desk : Desk
 no_desk = record {
   tenant = record { limits = record { events = 0; tasks = 0; messages = 0 }; rows = [] };
   published = [];
-  book = record { number = 0; log_name = 0; cells_name = 0 };
+  book = record { identity = record { number = 0; log_name = 0; cells_name = 0 }; tenant = [] };
 }
 
 -- All events of the desk's tenant are published, as kept at this place, and their rows are legal, and those of the log.

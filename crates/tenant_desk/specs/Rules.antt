@@ -3,10 +3,10 @@ use Rattle.std.specs.Prelude.{◌≡◌, ℕ, List, Option, Some, None}
 use mathlib.Core.List.{IsPrefix}
 use mathlib.Core.Option.{some}
 use lib.ListN.{get_elem?}
-use Rattle.logbook.specs.Pages.{Book}
 use Rattle.trace_types.specs.tenant.Limits.{Limits}
 use Rattle.trace_types.specs.declared.row.Row.{Row}
 use Rattle.tenant_desk.specs.Events.{AreSound}
+use Rattle.tenant_desk.specs.Histories.{Log}
 use Rattle.tenant_desk.specs.declared.published.Published.{Published}
 use Rattle.tenant_desk.specs.declared.rule.Sight.{Sight}
 
@@ -15,7 +15,7 @@ abbrev pub sight_of : Published → Sight
 sight_of published = record { front = published.front; limits = published.events.limits; home = published.events.home }
 
 -- what is known is of this desk
-abbrev pub IsOfDesk : Book → Limits → List ℕ → Option Sight → Type 0
+abbrev pub IsOfDesk : Log → Limits → List ℕ → Option Sight → Type 0
 IsOfDesk book limits home None = ⊥
 IsOfDesk book limits home (Some sight) = (sight.front.book ≡ book) × (sight.limits ≡ limits) × (sight.home ≡ home)
 
@@ -45,13 +45,13 @@ pub record Follows (before after : Published) : Type 0 where
   pub begins : IsPrefix before.front.rows after.front.rows
 
 -- what is known is of this log
-abbrev pub IsOfLog : Book → Option Sight → Type 0
+abbrev pub IsOfLog : Log → Option Sight → Type 0
 IsOfLog book None = ⊥
 IsOfLog book (Some sight) = sight.front.book ≡ book
 
 -- what is known is still of the desk of which it was
 abbrev pub StaysOf : Option Sight → Option Sight → Type 0
-StaysOf before now = (book : Book) (limits : Limits) (home : List ℕ) → IsOfDesk book limits home before → IsOfDesk book limits home now
+StaysOf before now = (book : Log) (limits : Limits) (home : List ℕ) → IsOfDesk book limits home before → IsOfDesk book limits home now
 
 -- All that is published was entered and is seen, and it begins with these rows.
 pub record HasEntered (before : Option Sight) (rows : List Row) (published : Published) (now : Option Sight) : Type 0 where

@@ -1,7 +1,6 @@
 -- What a view of a tenant is, and what its calls do.
 use Rattle.std.specs.Prelude.{◌≡◌, ℕ, ◌∷◌, List, [], length, nat_lt, if◌then◌else◌, ◌⊎◌, MatchBool}
 use mathlib.Core.List.{IsPrefix}
-use Rattle.logbook.specs.Pages.{Book}
 use Rattle.trace_types.specs.tenant.Limits.{Limits}
 use Rattle.trace_types.specs.tenant.Tenant.{AreLegal, Answers, is_report}
 use Rattle.trace_types.specs.declared.code.Code.TheVariants.{NoPlace, ViewOnly}
@@ -9,14 +8,14 @@ use Rattle.trace_types.specs.declared.reply.Reply.{Reply}
 use Rattle.trace_types.specs.declared.reply.Reply.TheVariants.{Refused}
 use Rattle.trace_types.specs.declared.request.Request.{Request}
 use Rattle.trace_types.specs.declared.row.Row.{Row}
-use Rattle.tenant_desk.specs.Histories.{Line}
+use Rattle.tenant_desk.specs.Histories.{Line, Log}
 
 -- A view: the rows that it knows of, the lists that were put together since it last entered, and the desk that it is of.
 pub record Known : Type 0 where
   pub seen : List Row
   pub met : List (List Row)
   pub limits : Limits
-  pub book : Book
+  pub book : Log
 
 -- the rows begin with each of the lists
 abbrev pub BeginWithEach : List Row → List (List Row) → Type 0
@@ -59,8 +58,8 @@ pub record Learns (old : Known) (told : Line) (new : Known) : Type 0 where
 pub record Remaining : Type 0 where
   pub left : ℕ
   pub limits : Limits
-  pub book : Book
+  pub book : Log
 
 -- a view that has seen nothing
-abbrev pub new_view : Limits → Book → Known
+abbrev pub new_view : Limits → Log → Known
 new_view limits book = record { seen = []; met = []; limits = limits; book = book }

@@ -20,7 +20,7 @@ use std::mem::ManuallyDrop;
 use std::sync::{Arc, Wait};
 use tenant_ledger::{Keep, Ledger, MeantId, Own, Prepared, Shared, SharedIds, answer};
 use trace_query::Meant;
-use trace_types::{Code, Limits, Memory, Reply, Request};
+use trace_types::{Code, Limits, Memory, Name, Reply, Request};
 
 /// What is to be published of a report, whose tree this share keeps. Returns `Memory` if it runs out of memory.
 fn event_of<R: Wait>(
@@ -229,7 +229,8 @@ impl Desk {
 
 /// A desk of a tenant without rows, and its eight views. Returns `Memory` if it runs out of memory.
 ///
-/// It takes room for as many events, tasks and messages as the limits allow.
+/// It takes room for as many events, tasks and messages as the limits allow. Its log names `root` as the tenant. Use
+/// [`named_desk_and_views`] for tenants with names.
 pub fn desk_and_views<R: Wait>(
     rt: &R,
     alloc: Global,
@@ -240,8 +241,25 @@ pub fn desk_and_views<R: Wait>(
     ensures published { IfOk result (λ made. made.0.published ≡ []) }
     ensures views { IfOk result (λ made. made.1 ≡ record { left = 8; limits = limits; book = made.0.book }) }
 {
+    named_desk_and_views(rt, alloc, &Name::root(), limits, shared)
+}
+
+/// A desk of the tenant of this name, and its eight views, as [`desk_and_views`] makes them. Their log names this tenant, so
+/// it is none of another name.
+pub fn named_desk_and_views<R: Wait>(
+    rt: &R,
+    alloc: Global,
+    name: &Name,
+    limits: Limits,
+    shared: Arc<Shared>,
+) -> Result<(Desk, Views), Memory>
+    ensures tenant { IfOk result (λ made. made.0.tenant ≡ fresh limits) }
+    ensures published { IfOk result (λ made. made.0.published ≡ []) }
+    ensures views { IfOk result (λ made. made.1 ≡ record { left = 8; limits = limits; book = made.0.book }) }
+    ensures log { IfOk result (λ made. made.0.book.tenant ≡ name.now) }
+{
     let ledger = Ledger::with_share(alloc, limits, SharedIds(Arc::try_clone(&shared)?))?;
-    let mut publisher = Publisher::new(rt, alloc, limits, &shared.home())?;
+    let mut publisher = Publisher::new(rt, alloc, name, limits, &shared.home())?;
     match Views::new(alloc, limits, &shared, &mut publisher) {
         Ok(views) => {
             let desk = Desk {

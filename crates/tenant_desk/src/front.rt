@@ -3,35 +3,53 @@ ghost use Rattle.std.specs.Prelude.{◌≡◌, ◌<◌, [], length, IfSome, Matc
 ghost use mathlib.Core.List.{IsPrefix};
 ghost use Rattle.tenant_desk.specs.Histories.{head_of, longer_by};
 
-use logbook::{Gain, Offer, Plain, Play, Rule, Seen, Start, Word};
+use logbook::{Gain, Offer, Opening, Plain, Play, Rule, Seen, Start, Word};
 use std::marker::Model;
-use trace_types::Row;
+use trace_types::{Name, Row};
 
-/// The rule of a log: its length is stored.
+/// An entry of a log. Entries stand in proofs alone, and take no memory.
+pub(crate) enum Entry {
+    /// The tenant whose log it is. A log begins with it.
+    Tenant(Name),
+    /// A row behind those before.
+    Row(Row),
+}
+
+/// The rule of a log: the number of its rows is stored.
 pub(crate) struct Counted;
 
-impl Rule<Row, u64> for Counted {
+impl Rule<Entry, u64> for Counted {
     ghost use Rattle.std.specs.Prelude.{[]};
     ghost use base.Fml.{ftrue};
     ghost use Rattle.tenant_desk.specs.Histories.{IsCounted};
 
-    ghost holds = { λ cells rows. IsCounted cells rows };
+    ghost holds = { λ cells entries. IsCounted cells entries };
 
     ghost first = { [] };
 
-    ghost hinted = { λ count rows. Unit {0} };
+    ghost hinted = { λ count entries. Unit {0} };
 
-    ghost shows = { λ rows. [] };
+    ghost shows = { λ entries. [] };
 
-    ghost keeps = { λ names rows. ftrue };
+    ghost keeps = { λ names entries. ftrue };
 
-    ghost moves = { λ row before after answer. Unit {0} };
+    ghost moves = { λ entry before after answer. Unit {0} };
+}
+
+/// The log of a tenant without rows.
+struct Naming;
+
+impl Opening<Name, Entry> for Naming {
+    ghost use Rattle.std.specs.Prelude.{◌∷◌, []};
+    ghost use Rattle.tenant_desk.specs.declared.front.Entry.TheVariants as entry;
+
+    ghost log = { λ words tenant. entry.Tenant tenant ∷ [] };
 }
 
 /// A step that trades nothing.
 struct Untraded;
 
-impl Gain<Row, u64> for Untraded {
+impl Gain<Entry, u64> for Untraded {
     ghost use base.Fml.{ftrue};
 
     ghost after = { λ names about answer. ftrue };
@@ -40,53 +58,56 @@ impl Gain<Row, u64> for Untraded {
 /// The step that adds a row.
 struct Adding;
 
-impl Play<Row, u64> for Adding {
+impl Play<Entry, u64> for Adding {
     ghost use Rattle.tenant_desk.specs.Histories.{Adds};
 
     ghost then = { Adds };
 }
 
-impl Plain<Row, Row, u64> for Adding {
+impl Plain<Row, Entry, u64> for Adding {
     ghost use Rattle.std.specs.Prelude.{None};
+    ghost use Rattle.tenant_desk.specs.declared.front.Entry.TheVariants as entry;
 
-    ghost ask = { λ row. row };
+    ghost ask = { λ row. entry.Row row };
 
     ghost state = { λ row. None };
 }
 
-/// The length of a log. Nothing else is stored of a log.
-pub(crate) type Head = Word<Row, u64, Counted>;
+/// The number of the rows of a log. Nothing else is stored of a log.
+pub(crate) type Head = Word<Entry, u64, Counted>;
 
-/// The rows of a log up to some point, which the log has reached. A clause sees the rows, and which log it is.
+/// The rows of a log up to some point, which the log has reached. A clause sees the rows, which log it is, and whose.
 ///
 /// It is the number of the rows, and takes no memory.
 #[derive(Drop)]
 pub(crate) struct Front {
     count: u64,
-    seen: Seen<Row, u64, Counted>,
+    seen: Seen<Entry, u64, Counted>,
 }
 
 impl Model for Front {
     ghost use Rattle.std.specs.Prelude.{◌≡◌, length};
-    ghost use Rattle.tenant_desk.specs.Histories.{Line};
+    ghost use Rattle.tenant_desk.specs.Histories.{IsNamed, Line, rows_in, tenant_in};
 
     ghost Value = { Line };
 
-    ghost view = { λ f. record { rows = f.seen.log; book = f.seen.book } };
+    ghost view = { λ f. record { rows = rows_in f.seen.log; book = record { identity = f.seen.book; tenant = tenant_in f.seen.log } } };
 
-    ghost invariant = { λ f. f.count ≡ length f.seen.log };
+    ghost invariant = { λ f. (f.count ≡ length (rows_in f.seen.log)) × IsNamed f.seen.log };
 }
 
 /// No log is longer.
 const MOST_ROWS: u64 = 1 << 62;
 
-/// A new log, without rows.
-pub(crate) fn new_log() -> (Head, Front)
+/// A new log of this tenant, without rows.
+pub(crate) fn new_log(tenant: &Name) -> (Head, Front)
     ensures head { result.0 ≡ head_of result.1.book }
     ensures rows { result.1.rows ≡ [] }
+    ensures tenant { result.1.book.tenant ≡ tenant.now }
 {
-    let (seen, mut first, _second) = Seen::open(Start::alone(), 0, 0);
-    (Word::tracked(0, &mut first), Front { count: 0, seen })
+    let (seen, mut pens) = Seen::open_row::<Name, Naming>(tenant, Start::alone(), 1);
+    let mut pen = pens.take();
+    (Word::tracked(0, &mut pen), Front { count: 0, seen })
 }
 
 impl Front {
@@ -112,6 +133,15 @@ impl Front {
         other.count <= self.count
     }
 
+    /// Shows that a log is of one tenant: two fronts of one log name the same.
+    pub(crate) fn agrees(&self, other: &Front)
+        requires { other.now.book.identity ≡ self.now.book.identity }
+        ensures { other.now.book.tenant ≡ self.now.book.tenant }
+    {
+        let mut both = self.seen.again();
+        both.learn(&other.seen);
+    }
+
     /// Adds a row to the log. Returns `None` if there is a row behind these already, or no number is left.
     pub(crate) fn grown(&self, head: &Head, row: &Row) -> Option<Front>
         requires { head.now ≡ head_of self.now.book }
@@ -122,7 +152,7 @@ impl Front {
             return None;
         }
         let mut seen = self.seen.again();
-        let mut offer: Offer<Row, u64, Counted, Untraded> = seen.plain::<Untraded, Row, Adding>(
+        let mut offer: Offer<Entry, u64, Counted, Untraded> = seen.plain::<Untraded, Row, Adding>(
             row,
         );
         let mut pen = seen.no_pen();

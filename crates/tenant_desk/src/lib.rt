@@ -39,7 +39,7 @@ mod told;
 mod view;
 mod views;
 
-pub use desk::{Desk, desk_and_views};
+pub use desk::{Desk, desk_and_views, named_desk_and_views};
 pub use told::Told;
 pub use view::View;
 pub use views::Views;

@@ -16,7 +16,7 @@ use left_right::writer::Writer;
 use std::alloc::Global;
 use std::marker::Model;
 use std::sync::Wait;
-use trace_types::{Limits, Memory};
+use trace_types::{Limits, Memory, Name};
 use tree_forest::Home;
 
 type DeskWriter = Writer<Published, Operation, Knows, Publishing>;
@@ -111,17 +111,20 @@ fn new_writer(
 }
 
 impl Publisher {
-    /// Shows no events. Returns `Memory` if it runs out of memory. All memory that publishing takes later is taken here.
+    /// Shows no events of this tenant. Returns `Memory` if it runs out of memory. All memory that publishing takes later is
+    /// taken here.
     pub(crate) fn new<R: Wait>(
         rt: &R,
         alloc: Global,
+        tenant: &Name,
         limits: Limits,
         home: &Home,
     ) -> Result<Publisher, Memory>
         ensures events { IfOk result (λ publisher. publisher.events ≡ no_events home.now limits) }
         ensures rows { IfOk result (λ publisher. publisher.front.rows ≡ []) }
+        ensures tenant { IfOk result (λ publisher. publisher.front.book.tenant ≡ tenant.now) }
     {
-        let (head, front) = new_log();
+        let (head, front) = new_log(tenant);
         let mut writer = new_writer(alloc, limits, home, &front)?;
         // The second operation stands in the log behind the first one, as that of a report behind the last report's.
         if !show_again(rt, &mut writer) || !show_again(rt, &mut writer) {

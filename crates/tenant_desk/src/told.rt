@@ -5,7 +5,8 @@ ghost use mathlib.Core.List.{IsPrefix};
 use crate::front::Front;
 use std::marker::Model;
 
-/// The rows that a desk had, or that a view knew of, when it told of them. A clause sees the rows, and which log has them.
+/// The rows that a desk had, or that a view knew of, when it told of them. A clause sees the rows, which log has them, and
+/// which tenant that log names.
 ///
 /// It is the number of the rows, and takes no memory. Only a log that has reached these rows can be told of so.
 #[derive(Drop)]
@@ -22,6 +23,14 @@ impl Model for Told {
 }
 
 impl Told {
+    /// Shows that a log is of one tenant: two that tell of one log name the same. So logs of two tenants are two logs.
+    pub fn agrees(&self, other: &Told)
+        requires { other.now.book.identity ≡ self.now.book.identity }
+        ensures { other.now.book.tenant ≡ self.now.book.tenant }
+    {
+        self.front.agrees(&other.front);
+    }
+
     /// Whether the other, of the same log, tells of no more rows than this one. Then these rows begin with the other's, else
     /// the other's begin with these.
     pub fn covers(&self, other: &Told) -> bool

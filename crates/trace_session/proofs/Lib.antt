@@ -3,6 +3,7 @@ mod FirstLines
 mod Following
 mod Goings
 mod Lists
+mod OwnLogs
 mod Reading
 mod Refusing
 mod Running

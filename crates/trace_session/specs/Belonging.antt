@@ -1,15 +1,15 @@
 -- What belongs to a tenant.
 use Rattle.std.specs.Prelude.{◌≡◌, IfSome, All}
-use Rattle.logbook.specs.Pages.{Book}
 use Rattle.trace_types.specs.tenant.Tenant.{Tenant}
 use Rattle.tenant_desk.specs.Desks.{Desk}
+use Rattle.tenant_desk.specs.Histories.{Log}
 use Rattle.tenant_desk.specs.Views.{Known}
 use Rattle.trace_session.specs.Hubs.{Owner}
 use Rattle.trace_session.specs.Lent.{IsSoundDesk, IsSoundView, tenant_seen}
 use Rattle.trace_session.specs.Resting.{Rests}
 
 -- It is sound, its rows stand in this tenant's log, and it has this tenant's limits.
-pub record Belongs {A : Type 0} (IsSound : A → Type 0) (tenant_of : A → Tenant) (book_of : A → Book) (owner : Owner) (lent : A) : Type 0 where
+pub record Belongs {A : Type 0} (IsSound : A → Type 0) (tenant_of : A → Tenant) (book_of : A → Log) (owner : Owner) (lent : A) : Type 0 where
   pub sound : IsSound lent
   pub limits : (tenant_of lent).limits ≡ owner.limits
   pub book : book_of lent ≡ owner.book

@@ -1,6 +1,5 @@
 -- What a session on a hub did.
 use Rattle.std.specs.Prelude.{◌≡◌, Result, Ok, Err, [], ◌∷◌, ◌⊎◌, Option, Some, None, MatchOption}
-use Rattle.logbook.specs.Pages.{Book}
 use Rattle.trace_types.specs.tenant.Tenant.{Tenant}
 use Rattle.trace_types.specs.text.Name.{Text}
 use Rattle.trace_types.specs.declared.code.Code.{Code}
@@ -12,6 +11,7 @@ use Rattle.line_protocol.specs.LineReading.{AllWereMade, Finds, FindsNone, Gives
 use Rattle.line_protocol.specs.Sink.{Taken}
 use Rattle.line_protocol.specs.declared.line.Line.TheVariants as line
 use Rattle.line_protocol.specs.declared.read_fault.ReadFault.TheVariants as read
+use Rattle.tenant_desk.specs.Histories.{Log}
 use Rattle.trace_session.specs.Belonging.{Belongs}
 use Rattle.trace_session.specs.Hubs.{Hub, Owner, tenant_named}
 use Rattle.trace_session.specs.Lent.{AsksView, IsSoundDesk, IsSoundView, TakesRequest, tenant_seen}
@@ -51,7 +51,7 @@ pub record IsTurnedAway (code : Code) (witness : Option Witness) (before after :
 
 -- What was lent belongs to this tenant, and what the session left of it does. The session was held with it. The witness is
 -- of the rows of both, which the tenant's log has reached.
-pub record IsHeld {S : Type 0} (IsSound : S → Type 0) (tenant_of : S → Tenant) (book_of : S → Book) (Does : S → Request → Reply → S → Type 0) (owner : Owner) (witness : Option Witness) (before after : State) (result : Result SessionEnd SessionFault) : Type 0 where
+pub record IsHeld {S : Type 0} (IsSound : S → Type 0) (tenant_of : S → Tenant) (book_of : S → Log) (Does : S → Request → Reply → S → Type 0) (owner : Owner) (witness : Option Witness) (before after : State) (result : Result SessionEnd SessionFault) : Type 0 where
   pub lent : S
   pub left : S
   pub lent_belongs : Belongs IsSound tenant_of book_of owner lent
@@ -60,7 +60,7 @@ pub record IsHeld {S : Type 0} (IsSound : S → Type 0) (tenant_of : S → Tenan
   pub session : Session Does lent left before after result
 
 -- It was not there to be lent, and the session was refused with this code; or the session was held with it.
-abbrev pub Lends : {S : Type 0} → (S → Type 0) → (S → Tenant) → (S → Book) → (S → Request → Reply → S → Type 0) → Code → Owner → Option Witness → State → State → Result SessionEnd SessionFault → Type 0
+abbrev pub Lends : {S : Type 0} → (S → Type 0) → (S → Tenant) → (S → Log) → (S → Request → Reply → S → Type 0) → Code → Owner → Option Witness → State → State → Result SessionEnd SessionFault → Type 0
 Lends IsSound tenant_of book_of Does code owner witness before after result = IsTurnedAway code witness before after result ⊎ IsHeld IsSound tenant_of book_of Does owner witness before after result
 
 -- The session asked for the desk of this tenant, or for a view.

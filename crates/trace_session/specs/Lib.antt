@@ -8,6 +8,7 @@ pub mod Hubs
 pub mod Lent
 pub mod Openings
 pub mod Outputs
+pub mod OwnLogs
 pub mod Reading
 pub mod Resting
 pub mod RunsThrough

@@ -1,9 +1,9 @@
 -- What rests of one tenant.
 use Rattle.std.specs.Prelude.{◌≡◌, List, [], Option, IsSomeAnd, All, length}
-use Rattle.logbook.specs.Pages.{Book}
 use Rattle.trace_types.specs.tenant.Limits.{Limits}
 use Rattle.trace_types.specs.tenant.Tenant.{fresh}
 use Rattle.tenant_desk.specs.Desks.{Desk}
+use Rattle.tenant_desk.specs.Histories.{Log}
 use Rattle.tenant_desk.specs.Views.{Known, new_view}
 
 -- the desk of the tenant, if no session has it, and the views that none has, the one that is lent next behind all others
@@ -12,13 +12,13 @@ pub record Rests : Type 0 where
   pub views : List Known
 
 -- a new desk: it has no rows, these limits, and this log
-pub record IsNewDesk (limits : Limits) (log : Book) (desk : Desk) : Type 0 where
+pub record IsNewDesk (limits : Limits) (log : Log) (desk : Desk) : Type 0 where
   pub tenant : desk.tenant ≡ fresh limits
   pub published : desk.published ≡ []
   pub book : desk.book ≡ log
 
 -- What rests is a new desk of this log, and eight views of that desk, which have seen nothing.
-pub record IsWhole (limits : Limits) (book : Book) (rests : Rests) : Type 0 where
+pub record IsWhole (limits : Limits) (book : Log) (rests : Rests) : Type 0 where
   pub desk : IsSomeAnd rests.desk (IsNewDesk limits book)
   pub count : length rests.views ≡ 8
   pub views : All (λ view. view ≡ new_view limits book) rests.views

@@ -1,8 +1,7 @@
 -- What shows with which rows a session was held.
 use Rattle.std.specs.Prelude.{◌≡◌, Option, IsSomeAnd}
-use Rattle.logbook.specs.Pages.{Book}
 use Rattle.trace_types.specs.tenant.Tenant.{Tenant}
-use Rattle.tenant_desk.specs.Histories.{Line}
+use Rattle.tenant_desk.specs.Histories.{Line, Log}
 
 -- the rows with which a session began, those which it left, and which log has reached them
 pub record Witness : Type 0 where
@@ -10,10 +9,10 @@ pub record Witness : Type 0 where
   pub ended : Line
 
 -- what is told of a desk or a view: the rows that it knows of, and its log
-abbrev pub told_of : {S : Type 0} → (S → Tenant) → (S → Book) → S → Line
+abbrev pub told_of : {S : Type 0} → (S → Tenant) → (S → Log) → S → Line
 told_of tenant_of book_of lent = record { rows = (tenant_of lent).rows; book = book_of lent }
 
 -- There is a witness of what was lent and of what was left of it.
-abbrev pub IsWitnessed : {S : Type 0} → (S → Tenant) → (S → Book) → S → S → Option Witness → Type 0
+abbrev pub IsWitnessed : {S : Type 0} → (S → Tenant) → (S → Log) → S → S → Option Witness → Type 0
 IsWitnessed tenant_of book_of lent left witness =
     IsSomeAnd witness (λ one. (one.began ≡ told_of tenant_of book_of lent) × (one.ended ≡ told_of tenant_of book_of left))

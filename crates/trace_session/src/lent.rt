@@ -17,7 +17,7 @@ pub(crate) trait Lent: Sized {
     ghost use Rattle.trace_types.specs.declared.request.Request.{Request};
     ghost use Rattle.trace_types.specs.declared.reply.Reply.{Reply};
     ghost use Rattle.trace_types.specs.tenant.Tenant.{Tenant};
-    ghost use Rattle.logbook.specs.Pages.{Book};
+    ghost use Rattle.tenant_desk.specs.Histories.{Log};
 
     // the request may be answered so, and leave it so
     ghost does: { Self → Request → Reply → Self → Type 0 };
@@ -29,7 +29,7 @@ pub(crate) trait Lent: Sized {
     ghost tenant_of: { Self → Tenant };
 
     // the log in which those rows stand
-    ghost book_of: { Self → Book };
+    ghost book_of: { Self → Log };
 
     // the code of a session that is refused since there is none
     ghost NONE_LEFT: { Code };

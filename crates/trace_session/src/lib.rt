@@ -7,8 +7,9 @@
 //! as the desk takes its request or as the view answers it. Exactly these replies are written, a line each, or a prefix
 //! of them at a fault. [`laws::reports_run`] says that a session that reports gives the replies of a run from the rows of
 //! its desk. [`session`] is held with a desk or a view of the tenant that its first line names. The rows of all that a
-//! tenant lends stand in one log, which the hub keeps for that tenant. [`witnessed_session`] also gives a [`Witness`] of the
-//! rows of that log with which the session began, and of those with which it ended.
+//! tenant lends stand in one log, which the hub keeps for that tenant. [`laws::tenants_have_their_own_logs`] says that no
+//! other tenant of the hub has that log. [`witnessed_session`] also gives a [`Witness`] of the rows of the log with which the
+//! session began, and of those with which it ended.
 //!
 //! ```
 //! use line_protocol::{FromReader, IntoWriter};

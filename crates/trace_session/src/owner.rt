@@ -6,7 +6,7 @@ use trace_types::{Limits, Name};
 
 /// Whose something is: the name of a tenant, its limits, and its log. A clause sees which log that is.
 ///
-/// The rows of a tenant's desk stand in its log, and so do those of its views. Each desk has a log of its own.
+/// The rows of a tenant's desk stand in its log, and so do those of its views.
 #[derive(Drop)]
 pub(crate) struct Owner {
     pub(crate) name: Name,

@@ -9,9 +9,9 @@ ghost use Rattle.trace_session.specs.Resting.{IsWhole};
 use std::alloc::Global;
 use std::marker::Model;
 use std::sync::{Arc, Wait};
-use tenant_desk::{Desk, Told, View, Views, desk_and_views};
+use tenant_desk::{Desk, Told, View, Views, named_desk_and_views};
 use tenant_ledger::Shared;
-use trace_types::{Limits, Memory};
+use trace_types::{Limits, Memory, Name};
 
 /// The desk and the views of one tenant, as far as no session has them.
 ///
@@ -33,16 +33,18 @@ impl Model for Resting {
 }
 
 impl Resting {
-    /// A new desk and its eight views, and what that desk tells of. Returns `Memory` if it runs out of memory.
+    /// A new desk of this tenant and its eight views, and what that desk tells of. Returns `Memory` if it runs out of memory.
     pub(crate) fn new<R: Wait>(
         rt: &R,
         alloc: Global,
+        name: &Name,
         limits: Limits,
         shared: Arc<Shared>,
     ) -> Result<(Resting, Told), Memory>
-        ensures { IfOk result (λ made. IsWhole limits made.1.book made.0) }
+        ensures whole { IfOk result (λ made. IsWhole limits made.1.book made.0) }
+        ensures log { IfOk result (λ made. made.1.book.tenant ≡ name.now) }
     {
-        let (desk, views) = desk_and_views(rt, alloc, limits, shared)?;
+        let (desk, views) = named_desk_and_views(rt, alloc, name, limits, shared)?;
         match all_views(alloc, views) {
             Ok(views) => {
                 let told = desk.tell();

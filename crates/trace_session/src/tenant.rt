@@ -44,9 +44,10 @@ impl Tenant {
     ) -> Result<Tenant, Memory>
         ensures name { IfOk result (λ tenant. tenant.name ≡ name) }
         ensures limits { IfOk result (λ tenant. tenant.limits ≡ limits) }
+        ensures log { IfOk result (λ tenant. tenant.book.tenant ≡ name) }
     {
         let shared = Arc::try_clone(shared)?;
-        let (resting, told) = Resting::new(rt, alloc, limits, shared)?;
+        let (resting, told) = Resting::new(rt, alloc, &name, limits, shared)?;
         let owner = Owner { name, limits, told };
         match Shelf::new(alloc, &owner, resting) {
             Ok(shelf) => Ok(Tenant { owner, shelf }),

@@ -1,11 +1,16 @@
 use Rattle.std.proofs.Common.{ap, subst, List, refl}
 use mathlib.Core.List.{IsPrefix}
-use Rattle.trace_types.specs.declared.row.Row.{Row}
+use Rattle.tenant_desk.specs.Histories.{rows_in}
+use Rattle.tenant_desk.specs.declared.front.Entry.{Entry}
 use Rattle.tenant_desk.proofs.Beginnings.{longer_begins}
+use Rattle.tenant_desk.proofs.Entries.{rows_begin}
 use Rattle.tenant_desk.proofs.front.Front.covers.Goals as goal
 
 pub returns : goal.returns
 returns c =
+    let own = c.self.inside.seen.log in
+    let others = c.other.inside.seen.log in
     let both = c.learn.new.self.log in
-    let own : IsPrefix c.self.inside.seen.log both = subst (λ (rows : List Row). IsPrefix rows both) (ap (λ seen. seen.log) c.again-both.ensures) c.learn.ensures.2 in
-    rw (← c.self.view_is, ← c.other.view_is, c.self.invariant, c.other.invariant) (longer_begins c.self.inside.seen.log c.other.inside.seen.log both own c.learn.ensures.3 _ refl)
+    let begins : IsPrefix own both = subst (λ (entries : List Entry). IsPrefix entries both) (ap (λ seen. seen.log) c.again-both.ensures) c.learn.ensures.2 in
+    rw (← c.self.view_is, ← c.other.view_is, c.self.invariant.0, c.other.invariant.0)
+        (longer_begins (rows_in own) (rows_in others) (rows_in both) (rows_begin own both begins) (rows_begin others both c.learn.ensures.3) _ refl)
