@@ -13,4 +13,4 @@ returns c =
     let both = c.learn.new.self.log in
     let begins : IsPrefix own both = subst (λ (entries : List Entry). IsPrefix entries both) (ap (λ seen. seen.log) c.again-both.ensures) c.learn.ensures.2 in
     rw (← c.self.view_is, ← c.other.view_is, c.self.invariant.0, c.other.invariant.0)
-        (longer_begins (rows_in own) (rows_in others) (rows_in both) (rows_begin own both begins) (rows_begin others both c.learn.ensures.3) _ refl)
+    (longer_begins (rows_in own) (rows_in others) (rows_in both) (rows_begin own both begins) (rows_begin others both c.learn.ensures.3) _ refl)
