@@ -1,5 +1,5 @@
 -- The line of a listed event is read again as it, by the grammar of JSON alone: no call has to read it.
-use Rattle.std.proofs.Common.{◌≡◌, ◌≢◌, ℕ, ◌^◌, ◌<◌, ◌≤◌, ◌==◌, ◌↔◌, Bor, Bool, true, false, IsTrue, List, [], ◌∷◌, ◌++◌, ◌-◌, length, Option, None, Some, IfSome, option_and_then, refl, subst, sym, ap, ◌∙◌, arith, append_assoc, append-nil, codes, IsUtf8}
+use Rattle.std.proofs.Common.{◌≡◌, ◌≢◌, ℕ, ◌^◌, ◌<◌, ◌≤◌, ◌==◌, ◌↔◌, Bor, Bool, true, false, IsTrue, List, [], ◌∷◌, ◌++◌, length, Option, None, Some, IfSome, option_and_then, refl, subst, sym, ap, ◌∙◌, arith, append_assoc, append-nil, codes, IsUtf8}
 use Rattle.std.specs.Fmt.{decimal}
 use Rattle.std.specs.List.{All}
 use Rattle.std.proofs.lemmas.Bool.{eqb-true}

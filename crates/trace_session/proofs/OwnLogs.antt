@@ -12,7 +12,7 @@ use Rattle.trace_types.specs.declared.code.Code.TheVariants.{NoTenant}
 use Rattle.trace_types.specs.declared.request.Request.{Request}
 use Rattle.trace_types.specs.declared.reply.Reply.{Reply}
 use Rattle.tenant_desk.specs.Histories.{Line, Log}
-use Rattle.trace_session.specs.Conversations.{IsTurnedAway, Lends, LendsTo, Opens}
+use Rattle.trace_session.specs.Conversations.{IsTurnedAway, Lends, LendsTo}
 use Rattle.trace_session.specs.Hubs.{Hub, IsHubOf, Owner, tenant_named}
 use Rattle.trace_session.specs.OwnLogs.{IsWitnessOf}
 use Rattle.trace_session.specs.State.{State}
