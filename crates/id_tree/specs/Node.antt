@@ -3,8 +3,8 @@ use Rattle.std.specs.Prelude.{◌≡◌}
 use Rattle.trace_types.specs.clock.Digest.{digest_of_both}
 use Rattle.trace_types.specs.clock.Id as plain
 use Rattle.id_tree.specs.Digest.{digest}
-use Rattle.id_tree.specs.declared.tree.Node.{Node}
-use Rattle.id_tree.specs.declared.tree.Node.TheVariants.{Zero, One, Pair}
+use Rattle.id_tree.specs.declared.id_tree.Node.{Node}
+use Rattle.id_tree.specs.declared.id_tree.Node.TheVariants.{Zero, One, Pair}
 
 -- the plain id
 abbrev pub id_of_node : Node → plain.Id

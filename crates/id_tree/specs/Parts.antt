@@ -1,7 +1,7 @@
 -- What is shown by the parts of an id that are lent.
 use Rattle.trace_types.specs.clock.Id as plain
-use Rattle.id_tree.specs.declared.tree.Parts.{Parts}
-use Rattle.id_tree.specs.declared.tree.Parts.TheVariants.{Zero, One, Pair}
+use Rattle.id_tree.specs.declared.id_tree.Parts.{Parts}
+use Rattle.id_tree.specs.declared.id_tree.Parts.TheVariants.{Zero, One, Pair}
 
 -- the id whose parts they are
 abbrev pub id_of_parts : Parts → plain.Id

@@ -21,7 +21,7 @@
 //! ```
 #![tactic(auto)]
 
-pub use tree::{IdTree, Parts};
+pub use id_tree::{IdTree, Parts};
 
+mod id_tree;
 pub mod laws;
-mod tree;

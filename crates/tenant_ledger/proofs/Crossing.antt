@@ -2,7 +2,7 @@
 -- of them runs out of steps.
 use denote.Param.Send.{IsSend, IsSync, sendable}
 use Rattle.std.proofs.Crossing.{crosses}
-use Rattle.id_tree.proofs.tree.IdTree.TheLaws.TheKnot as ids
+use Rattle.id_tree.proofs.id_tree.IdTree.TheLaws.TheKnot as ids
 use Rattle.event_tree.proofs.ev_tree.EvTree.TheLaws.TheKnot as trees
 use Rattle.tree_forest.proofs.forest.Forest.TheSendSync as forest
 use Rattle.order_cache.proofs.cache.OrderCache.TheSendSync as cache

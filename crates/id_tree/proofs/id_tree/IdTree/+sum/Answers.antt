@@ -2,7 +2,7 @@ use Rattle.std.proofs.Common.{rules}
 use Rattle.trace_types.specs.clock.Points.{Left, Right}
 use Rattle.id_tree.proofs.Normal.{leaf_halves}
 use Rattle.id_tree.proofs.Sum.{AreDisjoint-half}
-use Rattle.id_tree.proofs.tree.IdTree.+sum.Goals as goal
+use Rattle.id_tree.proofs.id_tree.IdTree.+sum.Goals as goal
 
 pub sum-requires : goal.sum-requires
 sum-requires t c =

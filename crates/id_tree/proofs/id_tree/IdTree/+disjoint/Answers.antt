@@ -1,6 +1,6 @@
 use Rattle.std.proofs.Common.{refl}
 use Rattle.id_tree.proofs.Sum.{AreDisjoint-Pair-right, overlap-One-One, overlap-One-Pair, overlap-Pair, overlap-Pair-One}
-use Rattle.id_tree.proofs.tree.IdTree.+disjoint.Goals as goal
+use Rattle.id_tree.proofs.id_tree.IdTree.+disjoint.Goals as goal
 
 pub returns-then-disjoint : goal.returns-then-disjoint
 returns-then-disjoint t c =
