@@ -26,7 +26,7 @@ mod forest;
 mod home;
 mod mark;
 mod shape;
-mod stamps;
+mod stamp_shapes;
 mod tree;
 
 pub use forest::Forest;
