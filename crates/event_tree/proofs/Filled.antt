@@ -6,8 +6,8 @@ use Rattle.trace_types.specs.clock.Norm.{norm}
 use Rattle.trace_types.specs.clock.Fill.{node_filled, fill}
 use Rattle.event_tree.specs.Filled.{filled_over, is_filled, Rises, GivesFilled}
 use Rattle.event_tree.specs.Raised.{RisesSomewhere}
-use Rattle.event_tree.specs.declared.ev_tree.begun.Begun.{Begun}
-use Rattle.event_tree.specs.declared.ev_tree.begun.Begun.TheVariants.{Unfilled, Filled}
+use Rattle.event_tree.specs.declared.ev_tree.filling.Begun.{Begun}
+use Rattle.event_tree.specs.declared.ev_tree.filling.Begun.TheVariants.{Unfilled, Filled}
 use Rattle.event_tree.proofs.Bounds.{minimum-le-maximum}
 use Rattle.event_tree.proofs.Canonical.{same_from_values}
 use Rattle.event_tree.proofs.Decided.{below_or_above}

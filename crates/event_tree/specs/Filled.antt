@@ -3,8 +3,8 @@ use Rattle.std.specs.Prelude.{◌≡◌, Bool, true, false, Option}
 use Rattle.trace_types.specs.clock.EventTree.{EventTree}
 use Rattle.trace_types.specs.clock.Grow.{Cost}
 use Rattle.event_tree.specs.Raised.{RisesSomewhere}
-use Rattle.event_tree.specs.declared.ev_tree.begun.Begun.{Begun}
-use Rattle.event_tree.specs.declared.ev_tree.begun.Begun.TheVariants.{Unfilled, Filled}
+use Rattle.event_tree.specs.declared.ev_tree.filling.Begun.{Begun}
+use Rattle.event_tree.specs.declared.ev_tree.filling.Begun.TheVariants.{Unfilled, Filled}
 
 -- the tree that is there after filling
 abbrev pub filled_over : Begun → EventTree → EventTree

@@ -20,13 +20,13 @@ use std::sync::Arc;
 use trace_types::{Memory, Order};
 
 mod above;
-mod begun;
 mod comparison;
 mod events;
+mod filling;
 mod forking;
 mod growth;
 mod joining;
-mod risen;
+mod point_search;
 mod values;
 
 /// An event tree in normal form, whose greatest value is below 2^64 (Almeida, Baquero and Fonte 2008).

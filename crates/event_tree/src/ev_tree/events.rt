@@ -7,7 +7,7 @@ ghost use Rattle.event_tree.specs.Grew.{GrewAt};
 ghost use Rattle.event_tree.specs.Height.{height};
 ghost use Rattle.event_tree.specs.Risen.{IsRaisedAt};
 
-use super::begun::Begun;
+use super::filling::Begun;
 use super::growth::Growth;
 use super::{Children, EvTree, Node};
 use crate::{Point, RaisedPoint};

@@ -9,7 +9,7 @@ ghost use Rattle.event_tree.specs.Height.{height};
 ghost use Rattle.event_tree.specs.Grew.{GrewAt};
 ghost use Rattle.event_tree.specs.PointCode.{halves_of};
 
-use super::begun::Cost;
+use super::filling::Cost;
 use super::{EvTree, Node};
 use crate::point::LEVELS;
 use crate::{Point, RaisedPoint};

@@ -1,4 +1,4 @@
-//! Points that events raised.
+//! The search for a point that an event raised.
 ghost use Rattle.std.specs.Prelude.{◌≡◌, ◌+◌, ◌^◌, ◌<◌, ◌≤◌, ◌↔◌, IfSome, IfNone, IsTrue};
 ghost use Rattle.trace_types.specs.clock.Id.{Zero};
 ghost use Rattle.trace_types.specs.clock.EventTree.{Leaf, value, minimum, maximum};

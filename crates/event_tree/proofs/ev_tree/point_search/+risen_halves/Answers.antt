@@ -4,8 +4,8 @@ use Rattle.event_tree.proofs.Bounds.{minimum-le-maximum}
 use Rattle.event_tree.proofs.Grown.{maximum-opened}
 use Rattle.event_tree.proofs.Risen.{risen_flat, risen_left, risen_right, within_left, within_right, none_risen, doubles}
 use Rattle.event_tree.proofs.Walk.{below_from_ranges}
-use Rattle.event_tree.proofs.ev_tree.risen.+risen_halves.Goals.{risen_halves-then-is_zero-via-then-is_zero, risen_halves-then-is_zero-via-else-is_zero+then-after-max}
-use Rattle.event_tree.proofs.ev_tree.risen.+risen_halves.Goals as goal
+use Rattle.event_tree.proofs.ev_tree.point_search.+risen_halves.Goals.{risen_halves-then-is_zero-via-then-is_zero, risen_halves-then-is_zero-via-else-is_zero+then-after-max}
+use Rattle.event_tree.proofs.ev_tree.point_search.+risen_halves.Goals as goal
 
 pub risen_halves-overflow_add-before : goal.risen_halves-overflow_add-before
 risen_halves-overflow_add-before t c = omega (arith, minimum-le-maximum c.args.before.tree.now)
