@@ -6,8 +6,8 @@ ghost use Rattle.tree_forest.specs.Kept.{IsOf};
 ghost use Rattle.order_cache.specs.Capacity.{IsCapacity};
 
 use crate::CacheFault;
-use crate::compared::Compared;
-use crate::extent::Extent;
+use crate::compared_pair::Compared;
+use crate::home_and_capacity::Extent;
 use crate::remembered::Remembered;
 use counted_slot::{Counted, FREE, PRESENT, TAKEN};
 use event_tree::EvTree;

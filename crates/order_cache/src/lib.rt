@@ -31,8 +31,8 @@
 
 mod cache;
 mod cache_fault;
-mod compared;
-mod extent;
+mod compared_pair;
+mod home_and_capacity;
 mod remembered;
 
 pub use cache::OrderCache;

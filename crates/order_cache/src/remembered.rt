@@ -3,8 +3,8 @@ ghost use Rattle.std.specs.Prelude.{◌≡◌, IfOk, IfSome};
 ghost use Rattle.event_tree.specs.Comparison.{StandsAs};
 ghost use Rattle.tree_forest.specs.Kept.{IsOf};
 
-use crate::compared::Compared;
-use crate::extent::Extent;
+use crate::compared_pair::Compared;
+use crate::home_and_capacity::Extent;
 use counted_slot::Fits;
 use event_tree::EvTree;
 use lru::LruCache;
