@@ -3,10 +3,10 @@ use Rattle.std.proofs.Common.{◌≡◌, ◌≢◌, ℕ, suc, ◌-◌, Bool, tru
 use Rattle.std.proofs.lemmas.Bool.{ne_eqb}
 use Rattle.stamp_codec.specs.Flat.{OpensNowhere, IsOutside, IsFlat}
 use Rattle.stamp_codec.specs.Scan.{awaiting, is_digit_byte, stepped}
-use Rattle.stamp_codec.specs.declared.shape.Part.TheVariants.{Id, Tree}
-use Rattle.stamp_codec.specs.declared.shape.Scan.{Scan}
-use Rattle.stamp_codec.specs.declared.shape.Awaited.{Awaited}
-use Rattle.stamp_codec.specs.declared.shape.Awaited.TheVariants.{Start, Node, NodeEnd, LeafDigits, Number, NumberDigits, Comma, Nothing}
+use Rattle.stamp_codec.specs.declared.scan.Part.TheVariants.{Id, Tree}
+use Rattle.stamp_codec.specs.declared.scan.Scan.{Scan}
+use Rattle.stamp_codec.specs.declared.scan.Awaited.{Awaited}
+use Rattle.stamp_codec.specs.declared.scan.Awaited.TheVariants.{Start, Node, NodeEnd, LeafDigits, Number, NumberDigits, Comma, Nothing}
 
 -- the scan, if there is one, is flat
 abbrev IfFlat : Option Scan → Type 0

@@ -7,13 +7,13 @@ use Rattle.trace_types.specs.clock.Id.{Zero, One, Pair}
 use Rattle.stamp_codec.specs.StampText.{Written, Number, Fork, HasNumbers, id_text, written_text, IsShaped}
 use Rattle.stamp_codec.specs.Faults.{Begins, IsShapeFault}
 use Rattle.stamp_codec.specs.Scan.{stepped}
-use Rattle.stamp_codec.specs.declared.shape.Part.{Part}
-use Rattle.stamp_codec.specs.declared.shape.Part.TheVariants.{Id, Tree}
-use Rattle.stamp_codec.specs.declared.shape.nesting.Side.{Side}
-use Rattle.stamp_codec.specs.declared.shape.nesting.Side.TheVariants.{Left, Right}
-use Rattle.stamp_codec.specs.declared.shape.Scan.{Scan}
-use Rattle.stamp_codec.specs.declared.shape.Awaited.{Awaited}
-use Rattle.stamp_codec.specs.declared.shape.Awaited.TheVariants as awaits
+use Rattle.stamp_codec.specs.declared.scan.Part.{Part}
+use Rattle.stamp_codec.specs.declared.scan.Part.TheVariants.{Id, Tree}
+use Rattle.stamp_codec.specs.declared.scan.nesting.Side.{Side}
+use Rattle.stamp_codec.specs.declared.scan.nesting.Side.TheVariants.{Left, Right}
+use Rattle.stamp_codec.specs.declared.scan.Scan.{Scan}
+use Rattle.stamp_codec.specs.declared.scan.Awaited.{Awaited}
+use Rattle.stamp_codec.specs.declared.scan.Awaited.TheVariants as awaits
 use Rattle.stamp_codec.proofs.Steps.{Piece, Byte, AnId, ATree, ANumber, SomeDigits, Make, closing, expected, MakeNext, steps}
 
 -- whatever is to come, some text makes it

@@ -5,13 +5,13 @@ use Rattle.trace_types.specs.clock.Id as ids
 use Rattle.trace_types.specs.clock.Id.{Zero, One, Pair}
 use Rattle.stamp_codec.specs.StampText.{Written, Number, Fork, HasNumbers, AreDigits, IsWrittenNumber, id_text, written_text}
 use Rattle.stamp_codec.specs.Scan.{awaiting, closed, number_begun, is_digit_byte, stepped}
-use Rattle.stamp_codec.specs.declared.shape.Part.{Part}
-use Rattle.stamp_codec.specs.declared.shape.Part.TheVariants.{Id, Tree}
-use Rattle.stamp_codec.specs.declared.shape.nesting.Side.{Side}
-use Rattle.stamp_codec.specs.declared.shape.nesting.Side.TheVariants.{Left, Right}
-use Rattle.stamp_codec.specs.declared.shape.Scan.{Scan}
-use Rattle.stamp_codec.specs.declared.shape.Awaited.{Awaited}
-use Rattle.stamp_codec.specs.declared.shape.Awaited.TheVariants as awaits
+use Rattle.stamp_codec.specs.declared.scan.Part.{Part}
+use Rattle.stamp_codec.specs.declared.scan.Part.TheVariants.{Id, Tree}
+use Rattle.stamp_codec.specs.declared.scan.nesting.Side.{Side}
+use Rattle.stamp_codec.specs.declared.scan.nesting.Side.TheVariants.{Left, Right}
+use Rattle.stamp_codec.specs.declared.scan.Scan.{Scan}
+use Rattle.stamp_codec.specs.declared.scan.Awaited.{Awaited}
+use Rattle.stamp_codec.specs.declared.scan.Awaited.TheVariants as awaits
 use Rattle.stamp_codec.proofs.Parts.{heads, pair_text, pair_text-append, number_first, fork_behind, digit_test, digit_true}
 
 -- A byte, or some text of a kind.

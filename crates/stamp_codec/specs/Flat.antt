@@ -1,8 +1,8 @@
 -- Texts without parentheses, and the scan of such a text.
 use Rattle.std.specs.Prelude.{◌≡◌, ◌≢◌, ℕ, List, [], slice_index}
-use Rattle.stamp_codec.specs.declared.shape.Awaited.{Awaited}
-use Rattle.stamp_codec.specs.declared.shape.Awaited.TheVariants.{Start, Node, NodeEnd, LeafDigits, Number, NumberDigits, Comma, Nothing}
-use Rattle.stamp_codec.specs.declared.shape.Scan.{Scan}
+use Rattle.stamp_codec.specs.declared.scan.Awaited.{Awaited}
+use Rattle.stamp_codec.specs.declared.scan.Awaited.TheVariants.{Start, Node, NodeEnd, LeafDigits, Number, NumberDigits, Comma, Nothing}
+use Rattle.stamp_codec.specs.declared.scan.Scan.{Scan}
 
 -- no byte of the text opens a parenthesis
 abbrev pub OpensNowhere : List ℕ → Type 0

@@ -1,12 +1,12 @@
 -- One step of the scan for shape: what is awaited after a byte, or nothing where no stamp goes on with it.
 use Rattle.std.specs.Prelude.{◌≡◌, ℕ, Bool, true, false, ◌==◌, ◌&&◌, nat_le, if◌then◌else◌, List, [], ◌∷◌, Option, Some, None}
-use Rattle.stamp_codec.specs.declared.shape.Part.{Part}
-use Rattle.stamp_codec.specs.declared.shape.Part.TheVariants.{Id, Tree}
-use Rattle.stamp_codec.specs.declared.shape.nesting.Side.{Side}
-use Rattle.stamp_codec.specs.declared.shape.nesting.Side.TheVariants.{Left, Right}
-use Rattle.stamp_codec.specs.declared.shape.Awaited.{Awaited}
-use Rattle.stamp_codec.specs.declared.shape.Awaited.TheVariants.{Start, Node, NodeEnd, LeafDigits, Number, NumberDigits, Comma, Nothing}
-use Rattle.stamp_codec.specs.declared.shape.Scan.{Scan}
+use Rattle.stamp_codec.specs.declared.scan.Part.{Part}
+use Rattle.stamp_codec.specs.declared.scan.Part.TheVariants.{Id, Tree}
+use Rattle.stamp_codec.specs.declared.scan.nesting.Side.{Side}
+use Rattle.stamp_codec.specs.declared.scan.nesting.Side.TheVariants.{Left, Right}
+use Rattle.stamp_codec.specs.declared.scan.Awaited.{Awaited}
+use Rattle.stamp_codec.specs.declared.scan.Awaited.TheVariants.{Start, Node, NodeEnd, LeafDigits, Number, NumberDigits, Comma, Nothing}
+use Rattle.stamp_codec.specs.declared.scan.Scan.{Scan}
 
 -- the scan that awaits this inside these parentheses
 abbrev pub awaiting : Awaited → List Side → Scan

@@ -7,9 +7,9 @@ ghost use Rattle.stamp_codec.specs.declared.stamp.Stamp.{Stamp};
 ghost use Rattle.stamp_codec.specs.Flat.{OpensNowhere};
 ghost use Rattle.stamp_codec.specs.Reading.{ReadsStamp, Refuses, SpellsNormal, GivesStamp, IsNoMemory};
 
-use crate::at_once::{Unread, stamp_at_once};
-use crate::look::first_fault;
-use crate::shape::shape_fault;
+use crate::first_fault::first_fault;
+use crate::one_pass::{Unread, stamp_at_once};
+use crate::scan::shape_fault;
 use crate::{Stamp, StampFault};
 use event_tree::EvTree;
 use std::alloc::Global;

@@ -4,9 +4,9 @@ ghost use Rattle.stamp_codec.specs.Faults.{greatest_sum};
 ghost use Rattle.stamp_codec.specs.Looks.{EndsDigits};
 ghost use Rattle.stamp_codec.specs.Refused.{NoNumber};
 ghost use Rattle.stamp_codec.specs.Scan.{is_digit_byte};
-ghost use Rattle.stamp_codec.specs.declared.at_once.Unread.TheVariants.{Refused};
+ghost use Rattle.stamp_codec.specs.declared.one_pass.Unread.TheVariants.{Refused};
 
-use crate::at_once::Unread;
+use crate::one_pass::Unread;
 
 /// Takes a number and this byte behind it. The number is at most `most`.
 #[inline(always)]
