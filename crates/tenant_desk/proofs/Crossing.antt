@@ -14,7 +14,7 @@ use Rattle.tree_forest.proofs.home.Home.TheSendSync as home
 use Rattle.tenant_ledger.proofs.Crossing.{id_tree_send, id_tree_sync, ev_tree_send, ev_tree_sync, shared_send, shared_sync, shared_ids_send}
 use Rattle.event_tree.specs.contracts.ev_tree.EvTree as EvTree
 use Rattle.id_tree.specs.contracts.IdTree as IdTree
-use Rattle.trace_query.specs.contracts.deciding.Deciding as Deciding
+use Rattle.trace_query.specs.contracts.deciding_point.Deciding as Deciding
 use Rattle.tree_forest.specs.contracts.tree.Tree as Tree
 use Rattle.tenant_desk.proofs.index.Index.TheSendSync as index
 use Rattle.tenant_desk.specs.contracts.desk.Desk as Desk

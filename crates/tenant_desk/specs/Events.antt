@@ -8,7 +8,7 @@ use Rattle.trace_types.specs.clock.EventTree.{EventTree}
 use Rattle.trace_types.specs.clock.Id.{Id}
 use Rattle.trace_types.specs.clock.Stamps.{tree_of}
 use Rattle.trace_types.specs.declared.row.Row.{Row}
-use Rattle.trace_query.specs.declared.deciding.Deciding.{Deciding}
+use Rattle.trace_query.specs.declared.deciding_point.Deciding.{Deciding}
 use Rattle.tree_forest.specs.Kept.{Kept}
 use Rattle.tenant_ledger.specs.Ledger.{of_each, start_of, id_after, ArePoints}
 use Rattle.tenant_desk.specs.declared.event.Event.{Event}

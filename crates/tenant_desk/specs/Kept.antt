@@ -6,7 +6,7 @@ use Rattle.trace_types.specs.tenant.Rows.{history_of}
 use Rattle.trace_types.specs.clock.EventTree.{EventTree}
 use Rattle.trace_types.specs.clock.Id.{Id}
 use Rattle.trace_types.specs.declared.row.Row.{Row}
-use Rattle.trace_query.specs.declared.deciding.Deciding.{Deciding}
+use Rattle.trace_query.specs.declared.deciding_point.Deciding.{Deciding}
 use Rattle.tree_forest.specs.Kept.{Kept}
 use Rattle.tenant_desk.specs.Indexes.{IsIndexOf}
 use Rattle.tenant_desk.specs.declared.index.Index.{Index}

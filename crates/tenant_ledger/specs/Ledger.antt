@@ -22,7 +22,7 @@ use Rattle.trace_types.specs.declared.request.Reported.{Reported}
 use Rattle.trace_types.specs.declared.request.Request.{Request}
 use Rattle.trace_types.specs.declared.code.Code.TheVariants.{NoTask, TaskExists, TaskEnded, NoMessage, MessageExists, AlreadyReceived, NotEnded, AlreadyJoined, EventsFull, TasksFull, MessagesFull}
 use Rattle.trace_query.specs.Deciding.{point_in}
-use Rattle.trace_query.specs.declared.deciding.Deciding.{Deciding}
+use Rattle.trace_query.specs.declared.deciding_point.Deciding.{Deciding}
 use Rattle.tenant_ledger.specs.Laws.{IsRaisedBy}
 use Rattle.tenant_ledger.specs.declared.book.task.Task.{Task}
 use Rattle.tenant_ledger.specs.declared.book.report.Report.{Report}

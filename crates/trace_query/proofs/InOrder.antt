@@ -10,7 +10,7 @@ use Rattle.event_tree.specs.Comparison.{IsBelow}
 use Rattle.trace_query.specs.Compared.{is_below}
 use Rattle.trace_query.specs.Deciding.{IsDecidedBy, DecideInOrder, point_in}
 use Rattle.trace_query.specs.Queries.{has_tree, tree_at, StandInOrder, trees_before, ListsExactly}
-use Rattle.trace_query.specs.declared.deciding.Deciding.{Deciding}
+use Rattle.trace_query.specs.declared.deciding_point.Deciding.{Deciding}
 use Rattle.trace_query.proofs.ComparedTrees.{is_below_iff}
 use Rattle.trace_query.proofs.Listed.{event_bounds, event_from_bounds}
 use Rattle.trace_query.proofs.Gathered.{refuted, refuted_by, listed_to, unlisted, found_before, ArePlaced, IsOtherStanding, here, tree_in_place}

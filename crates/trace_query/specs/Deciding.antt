@@ -5,7 +5,7 @@ use Rattle.trace_types.specs.clock.Points.{Point}
 use Rattle.trace_types.specs.clock.EventTree.{EventTree, value}
 use Rattle.event_tree.specs.Comparison.{IsBelow}
 use Rattle.trace_query.specs.Queries.{has_tree, tree_at}
-use Rattle.trace_query.specs.declared.deciding.Deciding.{Deciding}
+use Rattle.trace_query.specs.declared.deciding_point.Deciding.{Deciding}
 
 -- the first tree is below the second where it is no greater at the point
 abbrev pub DecidesBelow : Point → EventTree → EventTree → Type 0

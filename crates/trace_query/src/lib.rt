@@ -28,20 +28,20 @@
 #![tactic(auto)]
 
 mod cached;
-mod causal;
 mod compare;
-mod deciding;
+mod deciding_point;
+mod kept_tree;
 pub mod laws;
-mod meant;
 mod plain;
 mod queries;
+mod queries_by_points;
 mod query_fault;
 
 pub use cached::Cached;
-pub use causal::{concurrent_by_points, cut_by_points, past_by_points};
 pub use compare::Compare;
-pub use deciding::Deciding;
-pub use meant::Meant;
+pub use deciding_point::Deciding;
+pub use kept_tree::Meant;
 pub use plain::Plain;
 pub use queries::{concurrent_with, cut, order, past};
+pub use queries_by_points::{concurrent_by_points, cut_by_points, past_by_points};
 pub use query_fault::QueryFault;

@@ -2,7 +2,7 @@
 use Rattle.std.proofs.Common.{◌≡◌, ◌≢◌, ℕ, zero, suc, List, [], ◌∷◌, ◌++◌, length, Option, Some, None, Result, Ok, Err, IfOk, IfSome, refl, sym, ap, ◌∙◌, subst, inl, inr, arith}
 use Rattle.tenant_ledger.proofs.Words.{cases_eq, length-append, transport, Id, EventTree, History, Row, tree_clock, tree_of, acting_id, value, Contents, MayHavePoint, MayRaise, ArePoints, history_in, row_of_report, Report}
 use Rattle.trace_query.specs.Deciding.{point_in}
-use Rattle.trace_query.specs.declared.deciding.Deciding.{Deciding}
+use Rattle.trace_query.specs.declared.deciding_point.Deciding.{Deciding}
 use Rattle.event_tree.specs.Risen.{IsRaisedAt}
 use Rattle.trace_types.specs.clock.Points.{Point}
 use Rattle.tenant_ledger.specs.Laws.{IsRaisedBy, known_before_event}

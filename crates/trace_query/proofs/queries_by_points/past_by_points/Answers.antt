@@ -2,9 +2,9 @@ use Rattle.std.proofs.Common.{◌≡◌, ◌+◌, ◌-◌, ◌<◌, true, map, a
 use Rattle.trace_types.specs.declared.order.Order.TheVariants.{Before}
 use Rattle.trace_query.proofs.Gathered.{ArePlaced, refuted_by, listed_one, listed_none, refused_one}
 use Rattle.trace_query.proofs.InOrder.{found_earlier, earlier_many, placed_earlier, earlier_before, decided_earlier}
-use Rattle.trace_query.proofs.causal.past_by_points.Given.{Over}
-use Rattle.trace_query.proofs.causal.past_by_points.Goals.{After-index-earlier-place, then-is_below_later+in_ok-map_err, else-is_below_later}
-use Rattle.trace_query.proofs.causal.past_by_points.Goals as goal
+use Rattle.trace_query.proofs.queries_by_points.past_by_points.Given.{Over}
+use Rattle.trace_query.proofs.queries_by_points.past_by_points.Goals.{After-index-earlier-place, then-is_below_later+in_ok-map_err, else-is_below_later}
+use Rattle.trace_query.proofs.queries_by_points.past_by_points.Goals as goal
 
 -- what is compared, an earlier event's tree with that of the event
 placed : (g : Over) (c : After-index-earlier-place g) → (c.loop-place.place + 1 < c.args.event)

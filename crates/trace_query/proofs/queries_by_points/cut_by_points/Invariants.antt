@@ -1,6 +1,6 @@
 use Rattle.std.proofs.Common.{◌≡◌, map, vec_len}
 use Rattle.trace_query.proofs.LastEvents.{IsGathered}
-use Rattle.trace_query.proofs.causal.cut_by_points.Given as goal
+use Rattle.trace_query.proofs.queries_by_points.cut_by_points.Given as goal
 
 abbrev pub invariant-loop-place : goal.invariant-loop-place
 invariant-loop-place g l =

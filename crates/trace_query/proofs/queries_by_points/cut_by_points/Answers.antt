@@ -4,9 +4,9 @@ use Rattle.trace_query.proofs.Gathered.{ArePlaced, refuted_by}
 use Rattle.trace_query.proofs.InOrder.{decided_earlier}
 use Rattle.trace_query.proofs.Listed.{event_bounds}
 use Rattle.trace_query.proofs.LastEvents.{refused, IsInside, inside, gathered_itself, passed_marked, passed_apart, listed_one, under_place, gathered_all}
-use Rattle.trace_query.proofs.causal.cut_by_points.Given.{Over}
-use Rattle.trace_query.proofs.causal.cut_by_points.Goals.{After-index, After-index-kept-place, else-not-index-via-then-not-index+else-is_below_later, else-not-index-via-else-not-index}
-use Rattle.trace_query.proofs.causal.cut_by_points.Goals as goal
+use Rattle.trace_query.proofs.queries_by_points.cut_by_points.Given.{Over}
+use Rattle.trace_query.proofs.queries_by_points.cut_by_points.Goals.{After-index, After-index-kept-place, else-not-index-via-then-not-index+else-is_below_later, else-not-index-via-else-not-index}
+use Rattle.trace_query.proofs.queries_by_points.cut_by_points.Goals as goal
 
 -- the place is that of an earlier event, and the marks have its task
 seen : (g : Over) (c : After-index g) → (c.loop-place.place < c.args.event)

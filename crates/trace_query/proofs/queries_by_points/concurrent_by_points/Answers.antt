@@ -4,9 +4,9 @@ use Rattle.std.proofs.lemmas.Cmp.{ranked}
 use Rattle.trace_types.specs.declared.order.Order.TheVariants.{Concurrent}
 use Rattle.trace_query.proofs.Gathered.{ArePlaced, IsOtherStanding, refuted_by, listed_one, listed_none, refused_one, found_all}
 use Rattle.trace_query.proofs.InOrder.{earlier_apart, later_apart, decided_earlier, decided_later}
-use Rattle.trace_query.proofs.causal.concurrent_by_points.Given.{Over}
-use Rattle.trace_query.proofs.causal.concurrent_by_points.Goals.{After-index-kept-place, in-Less, in-Equal, in-Greater, then-is_apart+in_ok-map_err, else-is_apart}
-use Rattle.trace_query.proofs.causal.concurrent_by_points.Goals as goal
+use Rattle.trace_query.proofs.queries_by_points.concurrent_by_points.Given.{Over}
+use Rattle.trace_query.proofs.queries_by_points.concurrent_by_points.Goals.{After-index-kept-place, in-Less, in-Equal, in-Greater, then-is_apart+in_ok-map_err, else-is_apart}
+use Rattle.trace_query.proofs.queries_by_points.concurrent_by_points.Goals as goal
 
 -- what is compared
 placed : (g : Over) (c : After-index-kept-place g) → ArePlaced g.K.Meant.tree c.args.kept.now c.args.event c.loop-place.place c.index-kept-place.result c.in_ok-tree.tree.now
