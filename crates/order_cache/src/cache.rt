@@ -4,19 +4,47 @@ ghost use Rattle.std.specs.NonZero.{non_zero_usize_get};
 ghost use Rattle.event_tree.specs.Comparison.{StandsAs};
 ghost use Rattle.tree_forest.specs.Kept.{IsOf};
 ghost use Rattle.order_cache.specs.Capacity.{IsCapacity};
+ghost use Rattle.order_cache.specs.declared.cache.CacheFault.TheVariants.{Memory as OutOfMemory};
 
-use crate::CacheFault;
 use crate::compared_pair::Compared;
 use crate::home_and_capacity::Extent;
 use crate::remembered::Remembered;
 use counted_slot::{Counted, FREE, PRESENT, TAKEN};
 use event_tree::EvTree;
-use std::alloc::Global;
+use std::alloc::{AllocError, Global};
 use std::marker::Model;
 use std::num::NonZeroUsize;
 use std::sync::atomic::{AtomicU64, Ordering};
-use trace_types::Order;
+use thiserror::Error;
+use trace_types::{Memory, Order};
 use tree_forest::{Forest, Home, Tree};
+
+/// Why a cache of comparisons is not made.
+#[derive(Clone, Copy, Debug, PartialEq, Eq, Error)]
+pub enum CacheFault {
+    /// The capacity is 0, or above 65536.
+    #[error("bad capacity")]
+    Capacity,
+    /// The call ran out of memory.
+    #[error("no memory")]
+    Memory,
+}
+
+impl From<AllocError> for CacheFault {
+    ghost from_gives = { λ _ fault. fault ≡ OutOfMemory };
+
+    fn from(_refused: AllocError) -> CacheFault {
+        CacheFault::Memory
+    }
+}
+
+impl From<Memory> for CacheFault {
+    ghost from_gives = { λ _ fault. fault ≡ OutOfMemory };
+
+    fn from(_refused: Memory) -> CacheFault {
+        CacheFault::Memory
+    }
+}
 
 /// Remembers how pairs of trees of one forest stand to each other. A clause sees the forest's home, and the capacity.
 ///

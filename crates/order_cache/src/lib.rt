@@ -30,10 +30,8 @@
 #![tactic(auto)]
 
 mod cache;
-mod cache_fault;
 mod compared_pair;
 mod home_and_capacity;
 mod remembered;
 
-pub use cache::OrderCache;
-pub use cache_fault::CacheFault;
+pub use cache::{CacheFault, OrderCache};
