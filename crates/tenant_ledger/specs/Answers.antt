@@ -10,8 +10,8 @@ use Rattle.trace_types.specs.declared.order.Order.{Order}
 use Rattle.trace_types.specs.declared.reply.Reply.{Reply}
 use Rattle.trace_types.specs.declared.reply.Reply.TheVariants as reply
 use Rattle.trace_types.specs.declared.task_state.TaskState.{TaskState}
-use Rattle.trace_query.specs.declared.query_fault.QueryFault.{QueryFault}
-use Rattle.trace_query.specs.declared.query_fault.QueryFault.TheVariants.{Unknown, Memory}
+use Rattle.trace_query.specs.declared.queries.QueryFault.{QueryFault}
+use Rattle.trace_query.specs.declared.queries.QueryFault.TheVariants.{Unknown, Memory}
 
 -- how far the task has come and its last event, where there is such a task
 abbrev pub task_due : History → Text → Option (TaskState × ℕ)

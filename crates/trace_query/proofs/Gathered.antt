@@ -14,8 +14,8 @@ use Rattle.event_tree.specs.Comparison.{StandsAs}
 use Rattle.event_tree.proofs.Standing.{stand_one_way}
 use Rattle.trace_query.specs.Compared.{tree_order}
 use Rattle.trace_query.specs.Queries.{has_tree, tree_at, order_between, is_other_standing, others_standing, order_due, ListsExactly}
-use Rattle.trace_query.specs.declared.query_fault.QueryFault.{QueryFault}
-use Rattle.trace_query.specs.declared.query_fault.QueryFault.TheVariants.{Unknown, Memory}
+use Rattle.trace_query.specs.declared.queries.QueryFault.{QueryFault}
+use Rattle.trace_query.specs.declared.queries.QueryFault.TheVariants.{Unknown, Memory}
 use Rattle.trace_query.proofs.ComparedTrees.{stands_as_compared}
 use Rattle.trace_query.proofs.Listed.{event_from_bounds, is_other_standing_iff, others_are_exact}
 

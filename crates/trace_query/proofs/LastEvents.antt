@@ -15,8 +15,8 @@ use Rattle.event_tree.specs.Comparison.{IsBelow}
 use Rattle.trace_query.specs.Compared.{is_below}
 use Rattle.trace_query.specs.Queries.{has_tree, events_of, tree_at, task_at, ComeBefore, is_outdated_by_trees, cut_by_trees, StandInOrder, ListsExactly}
 use Rattle.trace_query.specs.Laws.{IsLastBelow}
-use Rattle.trace_query.specs.declared.query_fault.QueryFault.{QueryFault}
-use Rattle.trace_query.specs.declared.query_fault.QueryFault.TheVariants.{Unknown, Memory}
+use Rattle.trace_query.specs.declared.queries.QueryFault.{QueryFault}
+use Rattle.trace_query.specs.declared.queries.QueryFault.TheVariants.{Unknown, Memory}
 use Rattle.trace_query.proofs.ComparedTrees.{is_below_iff}
 use Rattle.trace_query.proofs.Listed.{event_bounds, event_from_bounds, Contains-events}
 use Rattle.trace_query.proofs.Gathered.{ArePlaced, refuted, refuted_by, tree_in_place}

@@ -4,7 +4,7 @@ use Rattle.trace_types.specs.declared.order.Order.TheVariants.{Before, Concurren
 use Rattle.trace_types.specs.clock.EventTree.{EventTree, Leaf, Node}
 use Rattle.trace_query.specs.Compared.{tree_order}
 use Rattle.trace_query.specs.Queries.{StandInOrder, trees_before, concurrent_of, cut_by_trees, order_due, fault_due}
-use Rattle.trace_query.specs.declared.query_fault.QueryFault.TheVariants.{Unknown, Memory}
+use Rattle.trace_query.specs.declared.queries.QueryFault.TheVariants.{Unknown, Memory}
 use Rattle.trace_query.proofs.InOrder.{stand_in_order}
 
 pub tree_order-210-202 : tree_order (Node 2 (Leaf 1) (Leaf 0)) (Node 2 (Leaf 0) (Leaf 2)) ≡ Concurrent

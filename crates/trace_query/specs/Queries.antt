@@ -7,8 +7,8 @@ use Rattle.trace_types.specs.declared.order.Order.{Order}
 use Rattle.trace_types.specs.declared.order.Order.TheVariants.{Before, Concurrent}
 use Rattle.event_tree.specs.Comparison.{IsBelow}
 use Rattle.trace_query.specs.Compared.{is_below, tree_order, is_order}
-use Rattle.trace_query.specs.declared.query_fault.QueryFault.{QueryFault}
-use Rattle.trace_query.specs.declared.query_fault.QueryFault.TheVariants.{Unknown, Memory}
+use Rattle.trace_query.specs.declared.queries.QueryFault.{QueryFault}
+use Rattle.trace_query.specs.declared.queries.QueryFault.TheVariants.{Unknown, Memory}
 
 -- whether there is an event of this number
 abbrev pub has_tree : List EventTree → ℕ → Bool

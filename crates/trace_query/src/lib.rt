@@ -35,13 +35,11 @@ pub mod laws;
 mod plain;
 mod queries;
 mod queries_by_points;
-mod query_fault;
 
 pub use cached::Cached;
 pub use compare::Compare;
 pub use deciding_point::Deciding;
 pub use kept_tree::Meant;
 pub use plain::Plain;
-pub use queries::{concurrent_with, cut, order, past};
+pub use queries::{QueryFault, concurrent_with, cut, order, past};
 pub use queries_by_points::{concurrent_by_points, cut_by_points, past_by_points};
-pub use query_fault::QueryFault;

@@ -3,10 +3,31 @@ ghost use Rattle.std.specs.Prelude.{◌≡◌, ◌↔◌, Contains, IfOk, IfErr,
 ghost use Rattle.std.specs.List.{All};
 ghost use Rattle.event_tree.specs.Comparison.{IsBelow};
 ghost use Rattle.trace_query.specs.Queries.{has_tree, tree_at, trees_before, concurrent_of, others_standing, order_due, ComeBefore, ListsExactly, cut_by_trees};
+ghost use Rattle.trace_query.specs.declared.queries.QueryFault.TheVariants.{Memory as OutOfMemory};
 
-use crate::{Compare, Meant, QueryFault};
+use crate::{Compare, Meant};
 use std::alloc::Global;
+use thiserror::Error;
 use trace_types::{Memory, Order};
+
+/// Why a query about events is not answered.
+#[derive(Clone, Copy, Debug, PartialEq, Eq, Error)]
+pub enum QueryFault {
+    /// There is no event of this number.
+    #[error("no event")]
+    Unknown,
+    /// The query ran out of memory.
+    #[error("no memory")]
+    Memory,
+}
+
+impl From<Memory> for QueryFault {
+    ghost from_gives = { λ _ fault. fault ≡ OutOfMemory };
+
+    fn from(_refused: Memory) -> QueryFault {
+        QueryFault::Memory
+    }
+}
 
 /// How the first event stands to the second, as their trees do. Returns `Unknown` if either is no event.
 ///

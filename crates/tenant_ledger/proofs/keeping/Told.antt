@@ -13,8 +13,8 @@ use Rattle.trace_query.proofs.ComparedTrees.{tree_order_stands}
 use Rattle.trace_query.proofs.Told.{told_by_orders, told_by_reach}
 use Rattle.trace_types.proofs.Reachability.{reaches_newest, reaches_earlier}
 use Rattle.trace_query.specs.declared.deciding_point.Deciding.{Deciding}
-use Rattle.trace_query.specs.declared.query_fault.QueryFault.{QueryFault}
-use Rattle.trace_query.specs.declared.query_fault.QueryFault.TheVariants.{Unknown}
+use Rattle.trace_query.specs.declared.queries.QueryFault.{QueryFault}
+use Rattle.trace_query.specs.declared.queries.QueryFault.TheVariants.{Unknown}
 use Rattle.event_tree.proofs.Standing.{stand_one_way}
 use Rattle.tenant_ledger.proofs.keeping.Kept.{one_tree, tree_at_event}
 use Rattle.tenant_ledger.proofs.clock.Events.{event_bounds, event_from_bounds}
