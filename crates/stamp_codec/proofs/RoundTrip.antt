@@ -13,7 +13,7 @@ use Rattle.stamp_codec.specs.Faults.{most_nested, greatest_sum, tree_start, IsId
 use Rattle.stamp_codec.proofs.Parts.{first_child, second_child, second_id, AreDigits-number}
 use Rattle.stamp_codec.specs.Bounds.{id_height, IsBounded, as_written}
 use Rattle.stamp_codec.specs.Reading.{SpellsNormal, GivesStamp}
-use Rattle.stamp_codec.specs.declared.fault.StampFault.{StampFault}
+use Rattle.stamp_codec.specs.declared.reading.StampFault.{StampFault}
 use Rattle.stamp_codec.specs.declared.stamp.Stamp.{Stamp}
 
 -- these digits are what std means by digits

@@ -5,8 +5,8 @@ use Rattle.trace_types.specs.clock.EventTree.{EventTree}
 use Rattle.stamp_codec.specs.StampText.{Written, SpellsStamp, written_tree}
 use Rattle.stamp_codec.specs.Faults.{IsShapeFault, IsLeast, IsTooLargeAt, IsNotNormalAt}
 use Rattle.stamp_codec.specs.declared.stamp.Stamp.{Stamp}
-use Rattle.stamp_codec.specs.declared.fault.StampFault.{StampFault}
-use Rattle.stamp_codec.specs.declared.fault.StampFault.TheVariants.{Shape, TooLarge, NotNormal, Memory}
+use Rattle.stamp_codec.specs.declared.reading.StampFault.{StampFault}
+use Rattle.stamp_codec.specs.declared.reading.StampFault.TheVariants.{Shape, TooLarge, NotNormal, Memory}
 
 -- the text is shaped as this id and this tree, and neither nests too deep nor sums too high
 pub record SpellsBounded (text : List ℕ) (id : Id) (tree : Written) : Type 0 where

@@ -28,8 +28,7 @@
 //! ```
 #![tactic(auto)]
 
-pub use fault::StampFault;
-pub use reading::{read_stamp, read_stamp_beside};
+pub use reading::{StampFault, read_stamp, read_stamp_beside};
 pub use spelling::{TakeBytes, spell_parts};
 pub use stamp::Stamp;
 pub use stripping::strip_parts;
@@ -39,7 +38,6 @@ mod bounds;
 mod child;
 mod cursor;
 mod depth;
-mod fault;
 mod first_fault;
 pub mod laws;
 mod one_pass;
