@@ -8,7 +8,7 @@ use Rattle.trace_types.specs.clock.Fill.{fill}
 use Rattle.trace_types.specs.clock.Grow.{grown}
 use Rattle.trace_types.specs.clock.Event.{is_same_tree, normalised, event}
 use Rattle.event_tree.specs.Raised.{RisesSomewhere}
-use Rattle.event_tree.specs.Tables.{FollowsEventTable}
+use Rattle.event_tree.specs.Tables.{IsPublishedEvent}
 use Rattle.event_tree.proofs.Raising.{IsRaised}
 use Rattle.event_tree.proofs.Filled.{IsOtherwise, fills, otherwise_fill}
 use Rattle.event_tree.proofs.Grown.{raised_grown, maximum-grown-le, rises_grown, cost-some, normal_normalised, value-normalised, maximum-normalised-le}
@@ -46,8 +46,8 @@ event_by_fill id tree rises = event_by_test id tree (λ equal. omega (arith, ris
 pub event_by_growth : (id : Id) (tree : EventTree) → fill id tree ≡ tree → event id tree ≡ normalised (grown id tree)
 event_by_growth id tree same = rw (same, is_same-itself tree) refl
 
-pub follows_event_table : FollowsEventTable
-follows_event_table = record { filled = event_by_test; grows = event_by_growth }
+pub is_published_event : IsPublishedEvent
+is_published_event = record { filled = event_by_test; grows = event_by_growth }
 
 -- what an event does to a tree
 pub record Raises (id : Id) (before after : EventTree) : Type 0 where

@@ -8,20 +8,20 @@ use Rattle.trace_types.specs.clock.Grow.{root_number, left_of, right_of}
 use Rattle.event_tree.specs.Grew.{IsRaisedTo, GrewAt}
 use Rattle.event_tree.specs.Height.{height}
 use Rattle.event_tree.specs.PointCode.{halves_of}
-use Rattle.event_tree.specs.declared.ev_tree.growth.Place.{Place}
+use Rattle.event_tree.specs.declared.ev_tree.growth.GrownPoint.{GrownPoint}
 use Rattle.event_tree.proofs.Bounds.{value-le-maximum}
 use Rattle.event_tree.proofs.Grown.{value-opened, maximum-opened, normal_left_of, normal_right_of}
 use Rattle.event_tree.proofs.NormLemmas.{norm-leaves, value-norm}
 use Rattle.event_tree.proofs.Risen.{height-left, height-right}
 
 -- a tree that is made one number grew at its root
-pub grew_whole : (tree : EventTree) (place : Place) → place.halves ≡ 0 → place.value ≡ maximum tree + 1 → GrewAt 0 tree (Leaf (maximum tree + 1)) place
-grew_whole tree place first above = record {
+pub grew_whole : (tree : EventTree) (there : GrownPoint) → there.halves ≡ 0 → there.value ≡ maximum tree + 1 → GrewAt 0 tree (Leaf (maximum tree + 1)) there
+grew_whole tree there first above = record {
   high = omega arith;
   bounded = omega (arith, above);
   told = λ few. record {
     small = rw first (omega arith);
-    raised = λ levels enough. omega (arith, above, value-le-maximum tree (halves_of levels place.halves));
+    raised = λ levels enough. omega (arith, above, value-le-maximum tree (halves_of levels there.halves));
     reached = λ levels enough. sym above;
   };
 }
@@ -74,23 +74,23 @@ height-numbers : (half : Half) (n v : ℕ) → v ≢ 0 → height (norm n (at_ha
 height-numbers Left n v some = rw (norm-leaves n v 0 some) (omega arith)
 height-numbers Right n v some = rw (norm-leaves n 0 v (λ none. some (sym none))) (omega arith)
 
-module _ (half : Half) (steps : ℕ) (tree child : EventTree) (place here : Place)
-    (grew : GrewAt steps (child_of half tree) child place) (value_is : here.value ≡ root_number tree + place.value) where
+module _ (half : Half) (steps : ℕ) (tree child : EventTree) (there here : GrownPoint)
+    (grew : GrewAt steps (child_of half tree) child there) (value_is : here.value ≡ root_number tree + there.value) where
   bounded_above : here.value ≤ maximum tree + 1
   bounded_above = omega (arith, value_is, grew.bounded, maximum-child_of-le half tree)
 
-  module _ (normal : IsNormal tree) (child_normal : IsNormal child) (halves_is : here.halves ≡ 2 * (place.halves % 2 ^ 127) + at_half half 0 1) (few : steps + 1 ≤ 128) where
-    told : IsRaisedTo steps (child_of half tree) child place
+  module _ (normal : IsNormal tree) (child_normal : IsNormal child) (halves_is : here.halves ≡ 2 * (there.halves % 2 ^ 127) + at_half half 0 1) (few : steps + 1 ≤ 128) where
+    told : IsRaisedTo steps (child_of half tree) child there
     told = grew.told (omega (arith, few))
 
-    small_below : place.halves < 2 ^ 127
+    small_below : there.halves < 2 ^ 127
     small_below =
         let fits : steps ≤ 127 = omega (arith, few) in
         let bits : 2 ^ steps ≤ 2 ^ 127 = pow-le-pow_right (omega arith) fits in
         omega (arith, told.small, bits)
 
-    begins : (levels : ℕ) → halves_of (suc levels) here.halves ≡ half ∷ halves_of levels place.halves
-    begins levels = halves_of-in_half half levels place.halves here.halves small_below halves_is
+    begins : (levels : ℕ) → halves_of (suc levels) here.halves ≡ half ∷ halves_of levels there.halves
+    begins levels = halves_of-in_half half levels there.halves here.halves small_below halves_is
 
     pub raised_above : IsRaisedTo (steps + 1) tree (with_child half tree child) here
     raised_above = record {
@@ -100,34 +100,34 @@ module _ (half : Half) (steps : ℕ) (tree child : EventTree) (place here : Plac
       raised = λ levels enough.
           let suc_is : levels ≡ suc (levels - 1) = omega (arith, enough) in
           rw (suc_is, begins (levels - 1))
-          (omega (arith, value_is, value-child_of half tree (halves_of (levels - 1) place.halves), told.raised (levels - 1) (omega (arith, enough))));
+          (omega (arith, value_is, value-child_of half tree (halves_of (levels - 1) there.halves), told.raised (levels - 1) (omega (arith, enough))));
       reached = λ levels enough.
           let suc_is : levels ≡ suc (levels - 1) = omega (arith, enough) in
           rw (suc_is, begins (levels - 1))
-          (omega (arith, value_is, value-with_child half tree child (halves_of (levels - 1) place.halves) normal child_normal, told.reached (levels - 1) (omega (arith, enough))));
+          (omega (arith, value_is, value-with_child half tree child (halves_of (levels - 1) there.halves) normal child_normal, told.reached (levels - 1) (omega (arith, enough))));
     }
 
 -- the node over what grew is higher, or the tree was
-higher : (half : Half) (steps : ℕ) (tree child : EventTree) (place : Place) → GrewAt steps (child_of half tree) child place
+higher : (half : Half) (steps : ℕ) (tree child : EventTree) (there : GrownPoint) → GrewAt steps (child_of half tree) child there
     → steps + 1 ≤ max (height tree) (height (with_child half tree child))
-higher Left steps (Node n l r) (Leaf v) place grew = omega (arith, grew.high)
-higher Right steps (Node n l r) (Leaf v) place grew = omega (arith, grew.high)
-higher Left steps (Leaf n) (Leaf v) place grew =
+higher Left steps (Node n l r) (Leaf v) there grew = omega (arith, grew.high)
+higher Right steps (Node n l r) (Leaf v) there grew = omega (arith, grew.high)
+higher Left steps (Leaf n) (Leaf v) there grew =
     let told = grew.told (omega (arith, grew.high)) in
     omega (arith, grew.high, height-numbers Left n v (omega (arith, told.raised steps (omega arith), told.reached steps (omega arith))))
-higher Right steps (Leaf n) (Leaf v) place grew =
+higher Right steps (Leaf n) (Leaf v) there grew =
     let told = grew.told (omega (arith, grew.high)) in
     omega (arith, grew.high, height-numbers Right n v (omega (arith, told.raised steps (omega arith), told.reached steps (omega arith))))
-higher Left steps tree (Node m l r) place grew = omega (arith, grew.high, height-left tree, height-beside Left (root_number tree) (Node m l r) (right_of tree) (omega arith))
-higher Right steps tree (Node m l r) place grew = omega (arith, grew.high, height-right tree, height-beside Right (root_number tree) (Node m l r) (left_of tree) (omega arith))
+higher Left steps tree (Node m l r) there grew = omega (arith, grew.high, height-left tree, height-beside Left (root_number tree) (Node m l r) (right_of tree) (omega arith))
+higher Right steps tree (Node m l r) there grew = omega (arith, grew.high, height-right tree, height-beside Right (root_number tree) (Node m l r) (left_of tree) (omega arith))
 
 -- what grew on one side grew so in the node
-pub grew_above : (half : Half) (steps : ℕ) (tree child : EventTree) (place here : Place) → IsNormal tree → IsNormal child
-    → GrewAt steps (child_of half tree) child place
-    → here.halves ≡ 2 * (place.halves % 2 ^ 127) + at_half half 0 1 → here.value ≡ root_number tree + place.value
+pub grew_above : (half : Half) (steps : ℕ) (tree child : EventTree) (there here : GrownPoint) → IsNormal tree → IsNormal child
+    → GrewAt steps (child_of half tree) child there
+    → here.halves ≡ 2 * (there.halves % 2 ^ 127) + at_half half 0 1 → here.value ≡ root_number tree + there.value
     → GrewAt (steps + 1) tree (with_child half tree child) here
-grew_above half steps tree child place here normal child_normal grew halves_is value_is = record {
-  high = higher half steps tree child place grew;
-  bounded = bounded_above half steps tree child place here grew value_is;
-  told = raised_above half steps tree child place here grew value_is normal child_normal halves_is;
+grew_above half steps tree child there here normal child_normal grew halves_is value_is = record {
+  high = higher half steps tree child there grew;
+  bounded = bounded_above half steps tree child there here grew value_is;
+  told = raised_above half steps tree child there here grew value_is normal child_normal halves_is;
 }

@@ -9,7 +9,7 @@ use Rattle.event_tree.specs.Comparison.{IsBelow}
 use Rattle.trace_types.specs.clock.Grow.{root_number, left_of, right_of, expansion, is_cheaper, cheaper, dearer, cost, grown}
 use Rattle.trace_types.specs.clock.Event.{normalised}
 use Rattle.event_tree.specs.Raised.{RisesSomewhere}
-use Rattle.event_tree.specs.Tables.{FollowsGrowTable}
+use Rattle.event_tree.specs.Tables.{IsPublishedGrow}
 use Rattle.event_tree.proofs.Bounds.{value-le-maximum, on_either_side}
 use Rattle.event_tree.proofs.Canonical.{same_from_values}
 use Rattle.event_tree.proofs.NormLemmas.{value-norm, normal_norm}
@@ -120,8 +120,8 @@ grown_left il ir n l r left = (rw left refl, rw left refl)
 grown_right : (il ir : Id) (n : ℕ) (l r : EventTree) → is_cheaper (cost il l) (cost ir r) ≡ false → (grown (Pair il ir) (Node n l r) ≡ Node n l (grown ir r)) × (cost (Pair il ir) (Node n l r) ≡ dearer 0 1 (cost ir r))
 grown_right il ir n l r right = (rw right refl, rw right refl)
 
-pub follows_grow_table : FollowsGrowTable
-follows_grow_table = record {
+pub is_published_grow : IsPublishedGrow
+is_published_grow = record {
   number = λ n. (refl, refl);
   expanded = λ il ir n. (refl, dearer_twice (cheaper (cost il (Leaf 0)) (cost ir (Leaf 0))));
   left_free = λ ir n l r. (refl, refl);

@@ -5,7 +5,7 @@ use Rattle.trace_types.specs.clock.EventTree.{EventTree, Leaf, Node, value, mini
 use Rattle.trace_types.specs.clock.Norm.{norm}
 use Rattle.trace_types.specs.clock.Join.{lifted, joined_number, joined, join}
 use Rattle.event_tree.specs.Lifted.{IsLiftedBelow}
-use Rattle.event_tree.specs.Tables.{FollowsJoinTable}
+use Rattle.event_tree.specs.Tables.{IsPublishedJoin}
 use Rattle.event_tree.proofs.Bounds.{minimum-le-value, value-le-maximum, reaches_maximum}
 use Rattle.event_tree.proofs.Canonical.{same_from_values}
 use Rattle.event_tree.proofs.NormLemmas.{value-norm, normal_norm}
@@ -141,8 +141,8 @@ joined-sides m n l r l' r' =
     by_half m n Left x y v w v' w' left right = left
     by_half m n Right x y v w v' w' left right = right
 
-pub follows_join_table : FollowsJoinTable
-follows_join_table = record {
+pub is_published_join : IsPublishedJoin
+is_published_join = record {
   numbers = λ m n. same_from_values (join (Leaf m) (Leaf n)) (Leaf (max m n)) (normal_joined 0 (Leaf m) 0 (Leaf n)) tt (λ point. omega (arith, value-joined 0 (Leaf m) 0 (Leaf n) point));
   number_first = λ m n l r. same_join (Leaf m) (Node n l r) (Node m (Leaf 0) (Leaf 0)) (Node n l r) (λ point. omega (arith, value-over_0 m point));
   number_second = λ m l r n. same_join (Node m l r) (Leaf n) (Node m l r) (Node n (Leaf 0) (Leaf 0)) (λ point. omega (arith, value-over_0 n point));

@@ -11,7 +11,7 @@ use Rattle.event_tree.specs.Grew.{GrewAt}
 use Rattle.event_tree.specs.PointCode.{halves_of}
 use Rattle.event_tree.specs.Raised.{StaysOutside}
 use Rattle.event_tree.specs.Risen.{IsRaisedAt}
-use Rattle.event_tree.specs.declared.ev_tree.growth.Place.{Place}
+use Rattle.event_tree.specs.declared.ev_tree.growth.GrownPoint.{GrownPoint}
 use Rattle.event_tree.specs.declared.point.RaisedPoint.{RaisedPoint}
 use Rattle.event_tree.proofs.Events.{event_by_fill, event_by_growth}
 use Rattle.event_tree.proofs.Filled.{node_filled-both, normal_fill, otherwise_fill}
@@ -59,14 +59,14 @@ module _ (id : Id) (n : ℕ) (l r : EventTree) (normal : IsNormal (Node n l r)) 
               rw (event_by_fill (Pair id Zero) (Node n l r) (rw fill_left above), fill_left, event_by_fill id l rises) refl
         ]
 
--- where a tree grew, the place that is told is raised, and has its value
-module _ (id : Id) (before after : EventTree) (outside : StaysOutside id before after) (steps : ℕ) (place : Place) (grew : GrewAt steps before after place) where
-  raised_there : steps ≤ 128 → IsRaisedAt id before after (halves_of 128 place.halves)
+-- where a tree grew, the point that is told is raised, and has its value
+module _ (id : Id) (before after : EventTree) (outside : StaysOutside id before after) (steps : ℕ) (there : GrownPoint) (grew : GrewAt steps before after there) where
+  raised_there : steps ≤ 128 → IsRaisedAt id before after (halves_of 128 there.halves)
   raised_there few =
       let told = grew.told few in
-      raised_at id before after outside (halves_of 128 place.halves) (omega (arith, told.raised 128 few, told.reached 128 few))
+      raised_at id before after outside (halves_of 128 there.halves) (omega (arith, told.raised 128 few, told.reached 128 few))
 
-  pub raised_where : (found : Option RaisedPoint) → IfSome found (λ raised. raised.point ≡ halves_of 128 place.halves) → IfSome found (λ raised. steps ≤ 128)
+  pub raised_where : (found : Option RaisedPoint) → IfSome found (λ raised. raised.point ≡ halves_of 128 there.halves) → IfSome found (λ raised. steps ≤ 128)
       → IfSome found (λ raised. IsRaisedAt id before after raised.point)
   raised_where None point few = tt
   raised_where (Some raised) point few = rw point (raised_there few)

@@ -195,7 +195,7 @@ impl EvTree {
     }
 
     /// Whether no value of this tree is above that of `other` at the same point. It walks both trees up to the first
-    /// place that refutes it, and takes no memory.
+    /// part that refutes it, and takes no memory.
     pub fn leq(&self, other: &EvTree) -> bool
         ensures { IsTrue result ↔ IsBelow self.now other.now }
     {
@@ -204,9 +204,9 @@ impl EvTree {
         is_below(self, 0, other, 0)
     }
 
-    /// Answers as [`EvTree::leq`] does, by the same walk. If some value is above, the path leads to such a place.
+    /// Answers as [`EvTree::leq`] does, by the same walk. If some value is above, the path leads to such a point.
     ///
-    /// Only that path takes memory. After an `AllocError` the path leads to some place.
+    /// Only that path takes memory. After an `AllocError` the path leads to some point.
     pub fn leq_or_path(&self, other: &EvTree, path: &mut Path) -> Result<bool, AllocError>
         ensures below { IfOk result (λ below. IsTrue below ↔ IsBelow self.now other.now) }
         ensures above { IfOk result (λ below. below ≡ false → value other.now path.new < value self.now path.new) }

@@ -4,7 +4,7 @@ ghost use Rattle.event_tree.specs.Laws.{NormalIsCanonical, NormKeepsValues, Norm
 ghost use Rattle.event_tree.specs.Laws.{JoinHasTheGreater, JoinIsNormal};
 ghost use Rattle.event_tree.specs.Laws.{FillLowersNone, FillStaysOutside, FillIsNormal};
 ghost use Rattle.event_tree.specs.Laws.{EventLowersNone, EventStaysOutside, EventRises, EventIsBounded, EventIsNormal};
-ghost use Rattle.event_tree.specs.Tables.{FollowsJoinTable, FollowsGrowTable, FollowsEventTable};
+ghost use Rattle.event_tree.specs.Tables.{IsPublishedJoin, IsPublishedGrow, IsPublishedEvent};
 
 /// Two normal trees with equal values at every point are the same tree.
 pub fn canonical()
@@ -33,11 +33,11 @@ pub fn same_is_equal()
     ensures { SameIsEqual }
 {}
 
-/// `join`, `grown` and `event` follow the published tables row by row.
+/// `join`, `grown` and `event` are those of the published tables, row by row.
 pub fn tables()
-    ensures join { FollowsJoinTable }
-    ensures grow { FollowsGrowTable }
-    ensures event { FollowsEventTable }
+    ensures join { IsPublishedJoin }
+    ensures grow { IsPublishedGrow }
+    ensures event { IsPublishedEvent }
 {}
 
 /// The join has at each point the greater value.

@@ -35,7 +35,7 @@ impl Path {
         }
     }
 
-    /// Makes this path equal to the other. After an `AllocError` this path leads to some place.
+    /// Makes this path equal to the other. After an `AllocError` this path leads to some point.
     pub fn copy_from(&mut self, other: &Path) -> Result<(), AllocError>
         ensures { IfOk result (λ done. self.new ≡ other.now) }
     {

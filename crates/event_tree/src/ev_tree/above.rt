@@ -1,4 +1,4 @@
-//! Places at which a tree is above another one.
+//! Points at which a tree is above another one.
 ghost use Rattle.std.specs.Prelude.{◌≡◌, ◌+◌, ◌^◌, ◌<◌, ◌≤◌, ◌↔◌, ◌∷◌, [], max, length, IfNone, IfOk, IfSome, IsTrue};
 ghost use Rattle.trace_types.specs.clock.Points.{Point as Halves};
 ghost use Rattle.trace_types.specs.clock.EventTree.{value, minimum, maximum};
@@ -13,11 +13,11 @@ use crate::{Path, RaisedPoint};
 use std::alloc::AllocError;
 
 impl EvTree {
-    /// A point at which this tree is above `other`, and the value there. It is the place to which [`EvTree::leq_or_path`]
+    /// A point at which this tree is above `other`, and the value there. It is the point to which [`EvTree::leq_or_path`]
     /// leads the path, by the same walk.
     ///
-    /// It finds none if this tree is nowhere above the other, or if that place lies below the 128 levels of a [`Point`].
-    /// In the second case the path leads there. Only the path takes memory. After an `AllocError` it leads to some place.
+    /// It finds none if this tree is nowhere above the other, or if that point lies below the 128 levels of a [`Point`].
+    /// In the second case the path leads there. Only the path takes memory. After an `AllocError` it leads to some point.
     ///
     /// [`Point`]: crate::Point
     pub fn point_above(

@@ -99,7 +99,7 @@ impl EvTree {
         requires some { id.now ≢ Zero }
         requires fits { maximum self.now + 1 < 2 ^ 64 }
         ensures exact { IfOk result (λ grew. made.new ≡ event id.now self.now) }
-        ensures grew { IfOk result (λ grew. IsTrue grew → GrewAt growth.new.steps self.now made.new growth.new.place) }
+        ensures grew { IfOk result (λ grew. IsTrue grew → GrewAt growth.new.steps self.now made.new growth.new.point) }
         ensures whole { id.now ≡ One → IsOk result }
     {
         match (id.parts(), &self.node) {
@@ -128,7 +128,7 @@ impl EvTree {
         requires some { id.now ≢ Zero }
         requires fits { maximum self.now + 1 < 2 ^ 64 }
         ensures exact { IfOk result (λ grew. made.new ≡ event id.now self.now) }
-        ensures grew { IfOk result (λ grew. IsTrue grew → GrewAt growth.new.steps self.now made.new growth.new.place) }
+        ensures grew { IfOk result (λ grew. IsTrue grew → GrewAt growth.new.steps self.now made.new growth.new.point) }
         ensures whole { id.now ≡ One → IsOk result }
     {
         let mut found = Begun::Unfilled(None);
@@ -165,7 +165,7 @@ impl Children {
         requires fits { base + max (maximum self.now.left) (maximum self.now.right) + 1 < 2 ^ 64 }
         ensures exact { IfOk result (λ grew. made.new ≡ event (Pair Zero id.now) (plain_Node base self.now.left self.now.right)) }
         ensures grew { IfOk result (λ grew. IsTrue grew
-            → GrewAt growth.new.steps (plain_Node base self.now.left self.now.right) made.new growth.new.place) }
+            → GrewAt growth.new.steps (plain_Node base self.now.left self.now.right) made.new growth.new.point) }
     {
         id_tree::laws::each_tree_is_normal(id);
         let grew = self.right.event_into(alloc, id, growth, made)?;
@@ -193,7 +193,7 @@ impl Children {
         requires fits { base + max (maximum self.now.left) (maximum self.now.right) + 1 < 2 ^ 64 }
         ensures exact { IfOk result (λ grew. made.new ≡ event (Pair id.now Zero) (plain_Node base self.now.left self.now.right)) }
         ensures grew { IfOk result (λ grew. IsTrue grew
-            → GrewAt growth.new.steps (plain_Node base self.now.left self.now.right) made.new growth.new.place) }
+            → GrewAt growth.new.steps (plain_Node base self.now.left self.now.right) made.new growth.new.point) }
     {
         id_tree::laws::each_tree_is_normal(id);
         let grew = self.left.event_into(alloc, id, growth, made)?;

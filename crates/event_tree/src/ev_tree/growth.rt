@@ -17,9 +17,9 @@ use id_tree::{IdTree, Parts as IdParts};
 use std::alloc::Global;
 use trace_types::Memory;
 
-/// The place where a tree grew, and the value there.
+/// The point where a tree grew, and the value there.
 #[derive(Clone, Copy)]
-struct Place {
+struct GrownPoint {
     /// The halves on the way down, as the bits of a number with the uppermost as the lowest. Halves below the first 128
     /// are left out.
     halves: u128,
@@ -29,14 +29,14 @@ struct Place {
 /// How many numbers of halves leave room for one half more.
 const WITH_ROOM: u128 = 1 << 127;
 
-impl Place {
+impl GrownPoint {
     /// The root of a tree whose greatest value is 0.
-    const ROOT: Place = Place {
+    const ROOT: GrownPoint = GrownPoint {
         halves: 0,
         value: 0,
     };
 
-    /// Makes this place of one half, 0 for left and 1 for right, a place of the node with the number `root`.
+    /// Makes this point of one half, 0 for left and 1 for right, a point of the node with the number `root`.
     fn lift(&mut self, half: u128, root: u64)
         requires half { half ≤ 1 }
         requires fits { root + self.old.value < 2 ^ 64 }
@@ -51,14 +51,14 @@ impl Place {
 /// Where a tree grew, and how many levels below its root.
 #[derive(Drop)]
 pub(super) struct Growth {
-    place: Place,
+    point: GrownPoint,
     steps: u64,
 }
 
 impl Growth {
     /// Growth of a tree whose greatest value is 0, at its root.
     pub(super) const ROOT: Growth = Growth {
-        place: Place::ROOT,
+        point: GrownPoint::ROOT,
         steps: 0,
     };
 
@@ -67,29 +67,29 @@ impl Growth {
     #[inline(always)]
     pub(super) fn lift(&mut self, grew: bool, half: u128, root: u64) -> Result<(), Memory>
         requires half { half ≤ 1 }
-        requires fits { IsTrue grew → root + self.old.place.value < 2 ^ 64 }
+        requires fits { IsTrue grew → root + self.old.point.value < 2 ^ 64 }
         ensures steps { IfOk result (λ done. IsTrue grew → self.new.steps ≡ self.old.steps + 1) }
-        ensures halves { IfOk result (λ done. IsTrue grew → self.new.place.halves ≡ 2 * (self.old.place.halves % 2 ^ 127) + half) }
-        ensures value { IfOk result (λ done. IsTrue grew → self.new.place.value ≡ root + self.old.place.value) }
+        ensures halves { IfOk result (λ done. IsTrue grew → self.new.point.halves ≡ 2 * (self.old.point.halves % 2 ^ 127) + half) }
+        ensures value { IfOk result (λ done. IsTrue grew → self.new.point.value ≡ root + self.old.point.value) }
     {
         if grew {
             self.steps = self.steps.checked_add(1).ok_or(Memory)?;
-            self.place.lift(half, root);
+            self.point.lift(half, root);
         }
         Ok(())
     }
 
     /// The point that was raised, and the value there, unless it lies below the levels of a point.
     pub(super) fn raised(&self) -> Option<RaisedPoint>
-        ensures point { IfSome result (λ raised. raised.point ≡ halves_of 128 self.now.place.halves) }
-        ensures value { IfSome result (λ raised. raised.value ≡ self.now.place.value) }
+        ensures point { IfSome result (λ raised. raised.point ≡ halves_of 128 self.now.point.halves) }
+        ensures value { IfSome result (λ raised. raised.value ≡ self.now.point.value) }
         ensures few { IfSome result (λ raised. self.now.steps ≤ 128) }
         ensures deep { IfNone result (128 < self.now.steps) }
     {
         if self.steps <= LEVELS {
             Some(RaisedPoint {
-                point: Point::of(self.place.halves),
-                value: self.place.value,
+                point: Point::of(self.point.halves),
+                value: self.point.value,
             })
         } else {
             None
@@ -143,7 +143,7 @@ impl EvTree {
         requires price { price ≡ cost id.now self.now }
         requires fits { maximum self.now + 1 < 2 ^ 64 }
         ensures exact { IfOk result (λ tree. tree ≡ normalised (grown id.now self.now)) }
-        ensures grew { IfOk result (λ tree. GrewAt growth.new.steps self.now tree growth.new.place) }
+        ensures grew { IfOk result (λ tree. GrewAt growth.new.steps self.now tree growth.new.point) }
         ensures whole { id.now ≡ One → IsOk result }
     {
         id_tree::laws::each_tree_is_normal(id);
@@ -151,25 +151,25 @@ impl EvTree {
         let Some(price) = price else {
             unreachable!();
         };
-        let Some(tree) = self.grown_for(alloc, id, price, &zero, &mut growth.place)? else {
+        let Some(tree) = self.grown_for(alloc, id, price, &zero, &mut growth.point)? else {
             unreachable!();
         };
         growth.steps = price.steps;
         Ok(tree)
     }
 
-    /// The tree grown at its root, below an id that owns everything. It grew at `place`.
-    fn grown_whole(&self, place: &mut Place) -> EvTree
+    /// The tree grown at its root, below an id that owns everything. It grew at `point`.
+    fn grown_whole(&self, point: &mut GrownPoint) -> EvTree
         requires { maximum self.now + 1 < 2 ^ 64 }
         ensures tree { result ≡ Leaf (maximum self.now + 1) }
-        ensures place { GrewAt 0 self.now result place.new }
+        ensures point { GrewAt 0 self.now result point.new }
     {
         let value = self.max() + 1;
-        *place = Place { halves: 0, value };
+        *point = GrownPoint { halves: 0, value };
         EvTree::leaf(value)
     }
 
-    /// The grown tree in normal form, if it costs exactly `price`. Then it grew at `place`. There is none for less. `zero`
+    /// The grown tree in normal form, if it costs exactly `price`. Then it grew at `point`. There is none for less. `zero`
     /// stands below a number.
     #[cycle(grown_for)]
     #[inline(always)]
@@ -179,20 +179,20 @@ impl EvTree {
         id: &IdTree,
         price: Cost,
         zero: &EvTree,
-        place: &mut Place,
+        point: &mut GrownPoint,
     ) -> Result<Option<EvTree>, Memory>
         requires least { is_cheaper (cost id.now self.now) (Some price) ≡ false }
         requires fits { maximum self.now + 1 < 2 ^ 64 }
         requires zero { zero.now ≡ Leaf 0 }
         ensures exact { IfOk result (λ found. found ≡ grown_for price id.now self.now) }
-        ensures place { IfOk result (λ found. IfSome found (λ tree. GrewAt price.steps self.now tree place.new)) }
+        ensures point { IfOk result (λ found. IfSome found (λ tree. GrewAt price.steps self.now tree point.new)) }
         ensures whole { id.now ≡ One → IsOk result }
     {
         match id.parts() {
-            IdParts::One if price.is_nothing() => Ok(Some(self.grown_whole(place))),
+            IdParts::One if price.is_nothing() => Ok(Some(self.grown_whole(point))),
             IdParts::Zero | IdParts::One => Ok(None),
             IdParts::Pair(left_id, right_id) => {
-                self.grown_below(alloc, (left_id, right_id), price, zero, place)
+                self.grown_below(alloc, (left_id, right_id), price, zero, point)
             }
         }
     }
@@ -206,28 +206,28 @@ impl EvTree {
         id: (&IdTree, &IdTree),
         price: Cost,
         zero: &EvTree,
-        place: &mut Place,
+        point: &mut GrownPoint,
     ) -> Result<Option<EvTree>, Memory>
         requires least { is_cheaper (cost (Pair id.0.now id.1.now) self.now) (Some price) ≡ false }
         requires fits { maximum self.now + 1 < 2 ^ 64 }
         requires zero { zero.now ≡ Leaf 0 }
         ensures exact { IfOk result (λ found. found ≡ grown_for price (Pair id.entry.0.now id.entry.1.now) self.now) }
-        ensures place { IfOk result (λ found. IfSome found (λ tree. GrewAt price.steps self.now tree place.new)) }
+        ensures point { IfOk result (λ found. IfSome found (λ tree. GrewAt price.steps self.now tree point.new)) }
     {
         let opened = self.opened(zero);
         let Some(price) = price.after_step(opened.expansion) else {
             return Ok(None);
         };
-        if let Some(right) = opened.right.grown_for(alloc, id.1, price, zero, place)? {
-            place.lift(1, opened.root);
+        if let Some(right) = opened.right.grown_for(alloc, id.1, price, zero, point)? {
+            point.lift(1, opened.root);
             let mut tree = opened.left.share(alloc)?;
             tree.fork_with(alloc, opened.root, right)?;
             return Ok(Some(tree));
         }
-        let Some(mut tree) = opened.left.grown_for(alloc, id.0, price, zero, place)? else {
+        let Some(mut tree) = opened.left.grown_for(alloc, id.0, price, zero, point)? else {
             return Ok(None);
         };
-        place.lift(0, opened.root);
+        point.lift(0, opened.root);
         let right = opened.right.share(alloc)?;
         tree.fork_with(alloc, opened.root, right)?;
         Ok(Some(tree))

@@ -23,7 +23,7 @@ Children::event_on_right-returns-clause-grew t c = λ grew.
     let raises = raises_event c.args.id.now c.args.self.now.right c.each_tree_is_normal.ensures c.requires.some c.requires.normal.1 in
     let normal = rw (← c.in_ok-grew.ensures.exact) at raises.normal in
     rw (c.in_ok-fork_with.ensures.exact, c.replace-right.ensures.value, c.replace-right.ensures.after, c.in_ok-share.ensures.exact, c.in_ok-lift.ensures.steps grew)
-    (grew_above Right c.event_into.new.growth.steps (plain_Node c.args.base c.args.self.now.left c.args.self.now.right) c.event_into.new.made c.event_into.new.growth.place c.lift.new.self.place
+    (grew_above Right c.event_into.new.growth.steps (plain_Node c.args.base c.args.self.now.left c.args.self.now.right) c.event_into.new.made c.event_into.new.growth.point c.lift.new.self.point
     c.requires.normal normal (c.in_ok-grew.ensures.grew grew) (c.in_ok-lift.ensures.halves grew) (c.in_ok-lift.ensures.value grew))
 
 pub Children::event_on_left-fork_with-requires : goal.Children::event_on_left-fork_with-requires
@@ -43,5 +43,5 @@ Children::event_on_left-returns-clause-grew t c = λ grew.
     let raises = raises_event c.args.id.now c.args.self.now.left c.each_tree_is_normal.ensures c.requires.some c.requires.normal.0 in
     let normal = rw (← c.in_ok-grew.ensures.exact) at raises.normal in
     rw (c.in_ok-fork_with.ensures.exact, c.in_ok-right.ensures.exact, c.in_ok-lift.ensures.steps grew)
-    (grew_above Left c.event_into.new.growth.steps (plain_Node c.args.base c.args.self.now.left c.args.self.now.right) c.event_into.new.made c.event_into.new.growth.place c.lift.new.self.place
+    (grew_above Left c.event_into.new.growth.steps (plain_Node c.args.base c.args.self.now.left c.args.self.now.right) c.event_into.new.made c.event_into.new.growth.point c.lift.new.self.point
     c.requires.normal normal (c.in_ok-grew.ensures.grew grew) (c.in_ok-lift.ensures.halves grew) (c.in_ok-lift.ensures.value grew))

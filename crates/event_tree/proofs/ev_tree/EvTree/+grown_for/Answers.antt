@@ -67,32 +67,32 @@ grown_below-returns-clause-exact t c =
 
 pub grown_below-lift-requires-clause-fits : goal.grown_below-lift-requires-clause-fits
 grown_below-lift-requires-clause-fits t c =
-    let grew = rw c.in-Some-2.is at c.in_ok-right.ensures.place in
+    let grew = rw c.in-Some-2.is at c.in_ok-right.ensures.point in
     let bounded = rw c.opened-opened.ensures.right at grew.bounded in
     rw c.opened-opened.ensures.root (omega (arith, bounded, maximum-opened c.args.self.now))
 
 pub grown_below-lift-requires-2-clause-fits : goal.grown_below-lift-requires-2-clause-fits
 grown_below-lift-requires-2-clause-fits t c =
-    let grew = rw c.in-Some-3.is at c.in_ok-tree-2.ensures.place in
+    let grew = rw c.in-Some-3.is at c.in_ok-tree-2.ensures.point in
     let bounded = rw c.opened-opened.ensures.left at grew.bounded in
     rw c.opened-opened.ensures.root (omega (arith, bounded, maximum-opened c.args.self.now))
 
-pub grown_below-returns-in-Some-2-clause-place : goal.grown_below-returns-in-Some-2-clause-place
-grown_below-returns-in-Some-2-clause-place t c =
-    let grew = rw (c.in-Some-2.is, c.opened-opened.ensures.right) at c.in_ok-right.ensures.place in
+pub grown_below-returns-in-Some-2-clause-point : goal.grown_below-returns-in-Some-2-clause-point
+grown_below-returns-in-Some-2-clause-point t c =
+    let grew = rw (c.in-Some-2.is, c.opened-opened.ensures.right) at c.in_ok-right.ensures.point in
     let found = rw c.opened-opened.ensures.right at (sym c.in_ok-right.ensures.exact ∙ c.in-Some-2.is) in
     let normal = normal-grown_for c.in-Some.price c.args.id.1.now _ c.in-Some-2.right found in
     let left = c.in_ok-tree.ensures.exact ∙ c.opened-opened.ensures.left in
     rw (c.in_ok-fork_with.ensures.exact, c.opened-opened.ensures.root, left, c.in-Some.ensures.left.1)
-    (grew_above Right c.in-Some.price.steps c.args.self.now c.in-Some-2.right c.grown_for.new.place c.lift.new.self
+    (grew_above Right c.in-Some.price.steps c.args.self.now c.in-Some-2.right c.grown_for.new.point c.lift.new.self
     c.opened-opened.ensures.normal normal grew c.lift.ensures.halves (rw c.opened-opened.ensures.root at c.lift.ensures.value))
 
-pub grown_below-returns-clause-place : goal.grown_below-returns-clause-place
-grown_below-returns-clause-place t c =
-    let grew = rw (c.in-Some-3.is, c.opened-opened.ensures.left) at c.in_ok-tree-2.ensures.place in
+pub grown_below-returns-clause-point : goal.grown_below-returns-clause-point
+grown_below-returns-clause-point t c =
+    let grew = rw (c.in-Some-3.is, c.opened-opened.ensures.left) at c.in_ok-tree-2.ensures.point in
     let found = rw c.opened-opened.ensures.left at (sym c.in_ok-tree-2.ensures.exact ∙ c.in-Some-3.is) in
     let normal = normal-grown_for c.in-Some.price c.args.id.0.now _ c.in-Some-3.tree found in
     let right = c.in_ok-right-2.ensures.exact ∙ c.opened-opened.ensures.right in
     rw (c.in_ok-fork_with-2.ensures.exact, c.opened-opened.ensures.root, right, c.in-Some.ensures.left.1)
-    (grew_above Left c.in-Some.price.steps c.args.self.now c.in-Some-3.tree c.grown_for-2.new.place c.lift-2.new.self
+    (grew_above Left c.in-Some.price.steps c.args.self.now c.in-Some-3.tree c.grown_for-2.new.point c.lift-2.new.self
     c.opened-opened.ensures.normal normal grew c.lift-2.ensures.halves (rw c.opened-opened.ensures.root at c.lift-2.ensures.value))

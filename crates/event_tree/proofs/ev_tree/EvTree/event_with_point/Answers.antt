@@ -8,7 +8,7 @@ returns-then-grew-clause-raised c =
     let raises = raises_event c.args.id.now c.args.tree.now c.each_tree_is_normal.ensures c.requires.some c.normal.ensures.normal in
     let outside = rw (← c.in_ok-grew.ensures.exact) at raises.raised.outside in
     let grew = c.in_ok-grew.ensures.grew c.if-grew.true in
-    raised_where c.args.id.now c.args.tree.now c.event_into.new.made outside c.event_into.new.growth.steps c.event_into.new.growth.place grew c.raised.result c.raised.ensures.point c.raised.ensures.few
+    raised_where c.args.id.now c.args.tree.now c.event_into.new.made outside c.event_into.new.growth.steps c.event_into.new.growth.point grew c.raised.result c.raised.ensures.point c.raised.ensures.few
 
 pub returns-clause-raised : goal.returns-clause-raised
 returns-clause-raised c =

@@ -2,6 +2,6 @@ use Rattle.std.proofs.Common.{refl}
 use Rattle.event_tree.proofs.Growing.{grew_whole}
 use Rattle.event_tree.proofs.ev_tree.EvTree.grown_whole.Goals as goal
 
-pub returns-clause-place : goal.returns-clause-place
-returns-clause-place c =
+pub returns-clause-point : goal.returns-clause-point
+returns-clause-point c =
     rw (c.leaf.ensures, c.max-value.ensures) (grew_whole c.args.self.now _ refl refl)
