@@ -262,6 +262,7 @@ impl EvTree {
         ensures normal { IsNormal self.now }
         ensures fits { maximum self.now < 2 ^ 64 }
     {
+        // The prover learns the invariant of a tree where a field of it is read.
         let _node = &self.node;
     }
 }

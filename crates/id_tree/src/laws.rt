@@ -11,6 +11,7 @@ use crate::IdTree;
 pub fn each_tree_is_normal(id: &IdTree)
     ensures { IsNormalId id.now }
 {
+    // The contract of `parts` tells the prover that the id is normal.
     let _parts = id.parts();
 }
 

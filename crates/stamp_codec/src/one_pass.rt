@@ -63,6 +63,7 @@ pub(crate) fn stamp_at_once(alloc: Global, text: &[u8], tree: &EvTree) -> Result
         &mut made,
     )?;
     read.settle(alloc, tree, &mut made)?;
+    // The contracts of `parts` tell the prover that both are normal.
     let (_halves, _children) = (id.parts(), made.parts());
     if rest.is_empty() {
         Ok(Stamp { id, tree: made })
