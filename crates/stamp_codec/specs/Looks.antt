@@ -31,7 +31,7 @@ abbrev pub IsFirstWith : Option ℕ → (ℕ → Type 0) → Option ℕ → Type
 IsFirstWith known IsAt first = IsFirst (λ place. (known ≡ Some place) ⊎ IsAt place) first
 
 -- what looking over a part gives: no place is too large, the first node that is not normal is known with the one before,
--- and the rest is what follows; or the first place that is too large
+-- and the rest is what stands behind; or the first place that is too large
 abbrev pub Looks : {X : Type 0} → Result X ℕ → (X → Type 0) → (ℕ → Type 0) → (ℕ → Type 0) → Option ℕ → Option ℕ → List ℕ → List ℕ → Type 0
 Looks (Ok seen) IsSeen IsLarge IsUneven known first found rest =
     (found ≡ rest) × ((place : ℕ) → ¬ IsLarge place) × IsFirstWith known IsUneven first × IsSeen seen

@@ -38,7 +38,7 @@ id_begun inside byte =
     else if byte == 49 then Some (awaiting (NodeEnd Id) inside)
     else None
 
--- a number begins; what is awaited then depends on whether digits may follow
+-- a number begins; what is awaited then depends on whether digits may come next
 abbrev pub number_begun : Awaited → Awaited → List Side → ℕ → Option Scan
 number_begun alone with_digits inside byte =
     if byte == 48 then Some (awaiting alone inside)

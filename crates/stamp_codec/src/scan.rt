@@ -24,9 +24,9 @@ enum Awaited {
     Start,
     /// A whole id or tree.
     Node(Part),
-    /// What follows a whole id or tree.
+    /// What stands behind a whole id or tree.
     NodeEnd(Part),
-    /// More digits of a leaf, or what follows it.
+    /// More digits of a leaf, or what stands behind it.
     LeafDigits,
     /// The number of a node, behind its parenthesis.
     Number,
@@ -114,7 +114,7 @@ impl Scan {
         }
     }
 
-    /// Awaits `alone` behind a 0, which no digit follows, and `with_digits` behind another digit.
+    /// Awaits `alone` behind a 0, which stands alone, and `with_digits` behind another digit.
     fn begin_number(&mut self, alone: Awaited, with_digits: Awaited, byte: u8) -> bool
         ensures { GoesOn result self.new (number_begun alone with_digits self.old.inside byte) }
     {

@@ -6,8 +6,8 @@ use crate::spelling::{TakeBytes, spell_parts};
 use event_tree::EvTree;
 use id_tree::IdTree;
 
-/// What follows the text of the stamp that has this id and this tree, as [`crate::write_parts`] gives it. It is `None`
-/// exactly if the bytes do not begin with that text. It takes no memory.
+/// What stands behind the text of the stamp that has this id and this tree, as [`crate::write_parts`] gives it. It is
+/// `None` exactly if the bytes do not begin with that text. It takes no memory.
 pub fn strip_parts<'a>(text: &'a [u8], id: &IdTree, tree: &EvTree) -> Option<&'a [u8]>
     ensures { MatchOption result ((rest : List ℕ) → text.now ≢ text_of_parts id.now tree.now ++ rest)
         (λ rest. text.now ≡ text_of_parts id.now tree.now ++ rest.now) }
@@ -20,7 +20,7 @@ pub fn strip_parts<'a>(text: &'a [u8], id: &IdTree, tree: &EvTree) -> Option<&'a
 /// Bytes that are compared with what is spelled, from the front on.
 #[derive(Drop)]
 struct Front<'a> {
-    /// What follows the bytes that were the same.
+    /// What stands behind the bytes that were the same.
     rest: &'a [u8],
 }
 
