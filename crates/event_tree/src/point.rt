@@ -23,6 +23,18 @@ pub struct RaisedPoint {
     pub value: u64,
 }
 
+impl RaisedPoint {
+    /// An equal value. It takes no memory.
+    pub fn share(&self) -> RaisedPoint
+        ensures { result ≡ self.now }
+    {
+        RaisedPoint {
+            point: self.point.share(),
+            value: self.value,
+        }
+    }
+}
+
 /// How many levels a point has.
 pub(crate) const LEVELS: u64 = 128;
 

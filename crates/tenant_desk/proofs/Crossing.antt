@@ -14,7 +14,7 @@ use Rattle.tree_forest.proofs.home.Home.TheSendSync as home
 use Rattle.tenant_ledger.proofs.Crossing.{id_tree_send, id_tree_sync, ev_tree_send, ev_tree_sync, shared_send, shared_sync, shared_ids_send}
 use Rattle.event_tree.specs.contracts.ev_tree.EvTree as EvTree
 use Rattle.id_tree.specs.contracts.IdTree as IdTree
-use Rattle.trace_query.specs.contracts.deciding_point.Deciding as Deciding
+use Rattle.event_tree.specs.contracts.point.RaisedPoint as RaisedPoint
 use Rattle.tree_forest.specs.contracts.tree.Tree as Tree
 use Rattle.tenant_desk.proofs.index.Index.TheSendSync as index
 use Rattle.tenant_desk.specs.contracts.desk.Desk as Desk
@@ -39,7 +39,7 @@ front_send = search (seen.the_send, sendable, crosses) depth 20
 front_sync : IsSync Front.the_row
 front_sync = search (seen.the_sync, sendable, crosses) depth 20
 
-deciding_sync : IsSync Deciding.the_row
+deciding_sync : IsSync RaisedPoint.the_row
 deciding_sync = search (sendable, crosses) depth 20
 
 events_sync : IsSync Events.the_row
@@ -73,7 +73,7 @@ kept_id_send = search (kept.the_send, sendable, id_tree_send) depth 20
 event_send : IsSend Event.the_row
 event_send = search (sendable, kept_ev_send, kept_id_send, row.the_field_send) depth 20
 
-deciding_send : IsSend Deciding.the_row
+deciding_send : IsSend RaisedPoint.the_row
 deciding_send = search (sendable, crosses) depth 20
 
 events_send : IsSend Events.the_row

@@ -8,7 +8,7 @@ use Rattle.trace_types.specs.clock.EventTree.{EventTree}
 use Rattle.trace_types.specs.clock.Id.{Id}
 use Rattle.trace_types.specs.clock.Stamps.{tree_of}
 use Rattle.trace_types.specs.declared.row.Row.{Row}
-use Rattle.trace_query.specs.declared.deciding_point.Deciding.{Deciding}
+use Rattle.event_tree.specs.declared.point.RaisedPoint.{RaisedPoint}
 use Rattle.tree_forest.specs.Kept.{Kept}
 use Rattle.tenant_ledger.specs.Ledger.{of_each, start_of, id_after, ArePoints}
 use Rattle.tenant_desk.specs.declared.event.Event.{Event}
@@ -19,7 +19,7 @@ pub record Events : Type 0 where
   pub limits : Limits
   pub rows : List Row
   pub trees : List (Kept EventTree)
-  pub points : List (Option Deciding)
+  pub points : List (Option RaisedPoint)
   -- the event that started each event's task, or 0
   pub starts : List ℕ
   pub ids : List (Kept Id)

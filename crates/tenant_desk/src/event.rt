@@ -1,7 +1,6 @@
 //! Published events.
-use event_tree::EvTree;
+use event_tree::{EvTree, RaisedPoint};
 use id_tree::IdTree;
-use trace_query::Deciding;
 use trace_types::Row;
 use tree_forest::Tree;
 
@@ -13,7 +12,7 @@ pub struct Event {
     /// What the event knows, itself included.
     pub tree: Tree<EvTree>,
     /// A point that the event raised, if one was found.
-    pub point: Option<Deciding>,
+    pub point: Option<RaisedPoint>,
     /// The event that started the event's task, or 0.
     pub start: u64,
     /// The id that the event's task has after it.

@@ -7,12 +7,11 @@ ghost use Rattle.tenant_desk.specs.Indexes.{AreWithin};
 use crate::event::Event;
 use crate::index::Index;
 use crate::span::receipts_in;
-use event_tree::EvTree;
+use event_tree::{EvTree, RaisedPoint};
 use id_tree::IdTree;
 use std::alloc::Global;
 use std::marker::Model;
 use tenant_ledger::Records;
-use trace_query::Deciding;
 use trace_types::{Limits, Memory, Name, Receipts, Row, TaskState};
 use tree_forest::{Home, Tree};
 
@@ -27,7 +26,7 @@ pub struct Events {
     home: Home,
     rows: Vec<Row>,
     trees: Vec<Tree<EvTree>>,
-    points: Vec<Option<Deciding>>,
+    points: Vec<Option<RaisedPoint>>,
     /// The event that started each event's task, or 0.
     starts: Vec<u64>,
     ids: Vec<Tree<IdTree>>,
@@ -123,7 +122,7 @@ impl Records for Events {
         &self.trees
     }
 
-    fn points(&self) -> &[Option<Deciding>] {
+    fn points(&self) -> &[Option<RaisedPoint>] {
         &self.points
     }
 

@@ -22,7 +22,7 @@ use Rattle.trace_types.specs.declared.request.Reported.{Reported}
 use Rattle.trace_types.specs.declared.request.Request.{Request}
 use Rattle.trace_types.specs.declared.code.Code.TheVariants.{NoTask, TaskExists, TaskEnded, NoMessage, MessageExists, AlreadyReceived, NotEnded, AlreadyJoined, EventsFull, TasksFull, MessagesFull}
 use Rattle.trace_query.specs.Deciding.{point_in}
-use Rattle.trace_query.specs.declared.deciding_point.Deciding.{Deciding}
+use Rattle.event_tree.specs.declared.point.RaisedPoint.{RaisedPoint}
 use Rattle.tenant_ledger.specs.Laws.{IsRaisedBy}
 use Rattle.tenant_ledger.specs.declared.book.task.Task.{Task}
 use Rattle.tenant_ledger.specs.declared.book.report.Report.{Report}
@@ -48,7 +48,7 @@ pub record Contents : Type 0 where
   pub limits : Limits
   pub rows : List Row
   pub trees : List EventTree
-  pub points : List (Option Deciding)
+  pub points : List (Option RaisedPoint)
   -- the event that started each event's task, or 0
   pub starts : List ℕ
   pub places : List ℕ
@@ -122,17 +122,17 @@ start_of [] event = 0
 start_of (row ∷ earlier) event = if event == suc (length earlier) then start_event (row ∷ earlier) row.task else start_of earlier event
 
 -- a point that the event raised, with the value there of what it knows
-pub record IsPointOf (history : History) (event : ℕ) (deciding : Deciding) : Type 0 where
+pub record IsPointOf (history : History) (event : ℕ) (deciding : RaisedPoint) : Type 0 where
   pub raised : IsRaisedBy history event deciding.point
   pub own : deciding.value ≡ value (tree_of tree_clock history event) deciding.point
 
 -- so it is where the event has a point
-abbrev pub MayHavePoint : History → ℕ → Option Deciding → Type 0
+abbrev pub MayHavePoint : History → ℕ → Option RaisedPoint → Type 0
 MayHavePoint history event None = Unit {0}
 MayHavePoint history event (Some deciding) = IsPointOf history event deciding
 
 -- the points of the events, in their order
-pub record ArePoints (history : History) (points : List (Option Deciding)) : Type 0 where
+pub record ArePoints (history : History) (points : List (Option RaisedPoint)) : Type 0 where
   pub counted : length points ≡ length history
   pub each : (place : ℕ) → MayHavePoint history (suc place) (point_in points place)
 
@@ -264,7 +264,7 @@ abbrev pub tree_of_report : Contents → Report → EventTree
 tree_of_report book report = tree_of tree_clock (row_of_report book report ∷ history_in book) (suc (length (history_in book)))
 
 -- a point that it raised, where one was found
-abbrev pub MayRaise : Contents → Report → Option Deciding → Type 0
+abbrev pub MayRaise : Contents → Report → Option RaisedPoint → Type 0
 MayRaise book report point = MayHavePoint (row_of_report book report ∷ history_in book) (suc (length (history_in book))) point
 
 -- What is to be kept of an event: its row, what it knows, a point that it raised, the ids that it makes, and its tasks.
@@ -273,7 +273,7 @@ pub record Event : Type 0 where
   pub home : List ℕ
   pub row : Row
   pub tree : EventTree
-  pub point : Option Deciding
+  pub point : Option RaisedPoint
   pub ids : List Id
   pub acting : Task
   -- the index of its task
@@ -281,7 +281,7 @@ pub record Event : Type 0 where
   pub named : Option Task
 
 -- what is to be kept of a report, with this point
-abbrev pub event_of : Contents → Report → Option Deciding → Event
+abbrev pub event_of : Contents → Report → Option RaisedPoint → Event
 event_of book report point = record {
   home = book.home;
   row = row_of_report book report;

@@ -9,11 +9,12 @@ ghost use Rattle.trace_types.specs.tenant.Tenant.{Answers, AreLegal, Tenant, rep
 ghost use Rattle.tenant_ledger.specs.Answers.{code_of, is_brief, message_due, order_answer, task_due};
 ghost use Rattle.tenant_ledger.specs.Ledger.{ArePoints, id_after, of_each, start_of};
 
+use event_tree::RaisedPoint;
 use id_tree::IdTree;
 use stamp_codec::write_parts;
 use std::alloc::Global;
 use trace_query::{
-    Compare, Deciding, Meant, QueryFault, concurrent_by_points, cut_by_points, past_by_points,
+    Compare, Meant, QueryFault, concurrent_by_points, cut_by_points, past_by_points,
 };
 use trace_types::{
     Code, Memory, Name, Numbers, Order, Receipts, Reply, Request, Row, TaskState, Text,
@@ -48,7 +49,7 @@ pub trait Records {
         ensures kept { All (keeps self.now) result.now };
 
     /// A point that each event raised, with the value there, in the order of the events. Some events have none.
-    fn points(&self) -> &[Option<Deciding>]
+    fn points(&self) -> &[Option<RaisedPoint>]
         requires { is_sound self.now }
         ensures { ArePoints (history_of (tenant self.now).rows) result.now };
 
@@ -198,7 +199,7 @@ fn cut<R: Records>(records: &R, event: u64) -> Reply
 
 /// What each event knows, and a point of each, as a search by points wants them.
 #[inline(always)]
-fn trees_and_points<R: Records>(records: &R) -> (&[R::Kept], &[Option<Deciding>])
+fn trees_and_points<R: Records>(records: &R) -> (&[R::Kept], &[Option<RaisedPoint>])
     requires { R.is_sound records.now }
     ensures trees { map R.Kept.tree result.0.now ≡ of_each (tree_of tree_clock) (history_of (R.tenant records.now).rows) }
     ensures in_order { StandInOrder (map R.Kept.tree result.0.now) }

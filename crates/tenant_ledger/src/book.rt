@@ -15,6 +15,7 @@ mod task;
 use crate::Stack;
 use crate::share::{Keep, MeantId};
 pub(crate) use draft::Draft;
+use event_tree::RaisedPoint;
 use id_tree::IdTree;
 use ids::Ids;
 use indexmap::IndexMap;
@@ -23,7 +24,6 @@ use report::Report;
 use std::alloc::Global;
 use std::marker::Model;
 pub(crate) use task::Task;
-use trace_query::Deciding;
 use trace_types::{Code, Limits, Memory, Name, Row, TaskState};
 
 /// The rows, and what is kept beside them.
@@ -39,7 +39,7 @@ pub(crate) struct Book<S: Keep> {
     /// What each event knows, in the order of the events.
     trees: Vec<S::Kept>,
     /// A point that each event raised, in the order of the events. Some events have none.
-    points: Vec<Option<Deciding>>,
+    points: Vec<Option<RaisedPoint>>,
     /// The event that started each event's task, or 0, in the order of the events.
     starts: Vec<u64>,
     /// The place of the id of each event's task after it, in the order of the events.

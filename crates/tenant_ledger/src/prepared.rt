@@ -12,10 +12,10 @@ use crate::answers::Records;
 use crate::book::{Book, Draft};
 use crate::share::{Keep, MeantId, Share};
 use crate::{Ledger, PlainShare, Shared, SharedIds};
-use event_tree::EvTree;
+use event_tree::{EvTree, RaisedPoint};
 use std::marker::Model;
 use std::sync::Wait;
-use trace_query::{Deciding, Meant};
+use trace_query::Meant;
 use trace_types::{Memory, Reply, Row};
 use tree_forest::Tree;
 
@@ -55,7 +55,7 @@ impl<S: Keep> Prepared<S> {
     }
 
     /// A point that the report's event raised, with the value there, if one was found.
-    pub fn point(&self) -> Option<Deciding>
+    pub fn point(&self) -> Option<RaisedPoint>
         ensures { MayHavePoint (self.now.row ∷ history_of self.now.tenant.rows) (suc (length self.now.tenant.rows)) result }
     {
         self.draft.point()

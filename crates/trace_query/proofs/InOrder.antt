@@ -10,7 +10,7 @@ use Rattle.event_tree.specs.Comparison.{IsBelow}
 use Rattle.trace_query.specs.Compared.{is_below}
 use Rattle.trace_query.specs.Deciding.{IsDecidedBy, DecideInOrder, point_in}
 use Rattle.trace_query.specs.Queries.{has_tree, tree_at, StandInOrder, trees_before, ListsExactly}
-use Rattle.trace_query.specs.declared.deciding_point.Deciding.{Deciding}
+use Rattle.event_tree.specs.declared.point.RaisedPoint.{RaisedPoint}
 use Rattle.trace_query.proofs.ComparedTrees.{is_below_iff}
 use Rattle.trace_query.proofs.Listed.{event_bounds, event_from_bounds}
 use Rattle.trace_query.proofs.Gathered.{refuted, refuted_by, listed_to, unlisted, found_before, ArePlaced, IsOtherStanding, here, tree_in_place}
@@ -76,7 +76,7 @@ module _ {K : Type 0} {tree : K → EventTree} {kept : List K} {event place : �
   )
 
 module _ {K : Type 0} {tree : K → EventTree} {kept : List K} {event place : ℕ} {other one : K} (placed : ArePlaced tree kept event place other one)
-    (points : List (Option Deciding)) (decided : DecideInOrder (map tree kept) points) where
+    (points : List (Option RaisedPoint)) (decided : DecideInOrder (map tree kept) points) where
   -- the point of an earlier event decides whether its tree is below that of the event
   pub decided_earlier : place + 1 < event → IsDecidedBy (point_in points place) (tree other) (tree one)
   decided_earlier earlier =

@@ -29,7 +29,6 @@
 
 mod cached;
 mod compare;
-mod deciding_point;
 mod kept_tree;
 pub mod laws;
 mod plain;
@@ -38,7 +37,6 @@ mod queries_by_points;
 
 pub use cached::Cached;
 pub use compare::Compare;
-pub use deciding_point::Deciding;
 pub use kept_tree::Meant;
 pub use plain::Plain;
 pub use queries::{QueryFault, concurrent_with, cut, order, past};

@@ -1,14 +1,16 @@
 //! Queries about events whose trees stand in their order. This is what the product uses.
 //!
 //! Event k has the k-th of the kept trees and the k-th of the points, from 1. An event behind the last point has none.
-//! Two events are compared at the earlier one's point, if it has one, and else by their whole trees in one direction.
+//! A later event knows an event exactly if its tree has no less at the event's point. So two events are compared at the
+//! earlier one's point, if it has one, and else by their whole trees in one direction.
 ghost use Rattle.std.specs.Prelude.{◌≡◌, ◌↔◌, IsTrue, length, map};
 ghost use Rattle.event_tree.specs.Comparison.{IsBelow};
 ghost use Rattle.trace_query.specs.Deciding.{IsDecidedBy, DecideInOrder, point_in};
 ghost use Rattle.trace_query.specs.Queries.{ComeBefore, StandInOrder, trees_before, concurrent_of, ListsExactly, cut_by_trees};
 
 use crate::queries::{kept_of, no_marks};
-use crate::{Deciding, Meant, QueryFault};
+use crate::{Meant, QueryFault};
+use event_tree::RaisedPoint;
 use std::alloc::Global;
 use std::cmp::Ordering;
 use trace_types::Memory;
@@ -17,7 +19,7 @@ use trace_types::Memory;
 pub fn past_by_points<K: Meant>(
     alloc: Global,
     kept: &[K],
-    points: &[Option<Deciding>],
+    points: &[Option<RaisedPoint>],
     event: u64,
 ) -> Result<Vec<u64>, QueryFault>
     requires in_order { StandInOrder (map K.tree kept.now) }
@@ -39,7 +41,7 @@ pub fn past_by_points<K: Meant>(
 pub fn concurrent_by_points<K: Meant>(
     alloc: Global,
     kept: &[K],
-    points: &[Option<Deciding>],
+    points: &[Option<RaisedPoint>],
     event: u64,
 ) -> Result<Vec<u64>, QueryFault>
     requires in_order { StandInOrder (map K.tree kept.now) }
@@ -68,7 +70,7 @@ pub fn concurrent_by_points<K: Meant>(
 pub fn cut_by_points<K: Meant>(
     alloc: Global,
     kept: &[K],
-    points: &[Option<Deciding>],
+    points: &[Option<RaisedPoint>],
     tasks: &[u64],
     event: u64,
 ) -> Result<Vec<u64>, QueryFault>
@@ -99,7 +101,7 @@ pub fn cut_by_points<K: Meant>(
 #[inline(always)]
 fn is_below_later<K: Meant>(
     earlier: &K,
-    points: &[Option<Deciding>],
+    points: &[Option<RaisedPoint>],
     place: usize,
     later: &K,
 ) -> bool

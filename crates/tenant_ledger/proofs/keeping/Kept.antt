@@ -2,7 +2,7 @@
 use Rattle.std.proofs.Common.{◌≡◌, ℕ, IsTrue, List, suc, ◌-◌, ◌<◌, ◌≤◌, [], ◌∷◌, ◌++◌, length, map, slice_get, option_map, Option, Some, refl, sym, ap, ◌∙◌, subst, arith}
 use Rattle.tenant_ledger.proofs.Words.{nat_tests, length-append, length-map, length-reverse, reverse-append, map-append, same_Some, slice_get-map, transport, Text, History, history_of, is_event, EventTree, task_count, tree_clock, id_of, tree_of, row_after, Row, IsLegal, Contents, Event, IsKept, IsKeptWith, IsTask, IsReport, IsReady, HasRoom, AreMessages, ArePoints, MayRaise, Notes, history_in, task_in, of_each, id_after, start_of, event_of, with_event, tasks_with, task_count_with, Report}
 use Rattle.message_book.specs.Book as message_book
-use Rattle.trace_query.specs.declared.deciding_point.Deciding.{Deciding}
+use Rattle.event_tree.specs.declared.point.RaisedPoint.{RaisedPoint}
 use Rattle.tenant_ledger.proofs.clock.Events.{event_bounds, tree_of-older}
 use Rattle.tenant_ledger.proofs.clock.Legality.{IsLegal_from_AreLegal}
 use Rattle.tenant_ledger.proofs.keeping.Known.{legal_history}
@@ -67,7 +67,7 @@ module _ (book : Contents) (kept : IsKept book) (report : Report) (is : IsReport
   legal_with_row = subst IsLegal (reverse-append book.rows (row ∷ [])) (IsLegal_from_AreLegal book.limits (book.rows ++ row ∷ []) is.legal)
 
   pub keeps_report : (after : message_book.Book) → Notes report.task report.kind report.name (suc (length book.rows)) book.messages after → 0 < book.kept_ids
-      → (point : Option Deciding) → MayRaise book report point
+      → (point : Option RaisedPoint) → MayRaise book report point
       → IsKeptWith (with_event (event_of book report point) (record book { messages = after })) (tasks_with (event_of book report point) book) (task_count_with (event_of book report point) book)
   keeps_report after notes seeded point raised =
       let event = event_of book report point in
@@ -103,7 +103,7 @@ module _ (book : Contents) (kept : IsKept book) (report : Report) (is : IsReport
 
   -- so it is ready to be added
   pub report_is_ready : (after : message_book.Book) → Notes report.task report.kind report.name (suc (length book.rows)) book.messages after → HasRoom book
-      → (point : Option Deciding) → MayRaise book report point → IsReady (record book { messages = after }) (event_of book report point)
+      → (point : Option RaisedPoint) → MayRaise book report point → IsReady (record book { messages = after }) (event_of book report point)
   report_is_ready after notes room point raised = record {
     home = refl;
     at = is.at;

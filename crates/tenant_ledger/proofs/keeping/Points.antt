@@ -2,7 +2,7 @@
 use Rattle.std.proofs.Common.{◌≡◌, ◌≢◌, ℕ, zero, suc, List, [], ◌∷◌, ◌++◌, length, Option, Some, None, Result, Ok, Err, IfOk, IfSome, refl, sym, ap, ◌∙◌, subst, inl, inr, arith}
 use Rattle.tenant_ledger.proofs.Words.{cases_eq, length-append, transport, Id, EventTree, History, Row, tree_clock, tree_of, acting_id, value, Contents, MayHavePoint, MayRaise, ArePoints, history_in, row_of_report, Report}
 use Rattle.trace_query.specs.Deciding.{point_in}
-use Rattle.trace_query.specs.declared.deciding_point.Deciding.{Deciding}
+use Rattle.event_tree.specs.declared.point.RaisedPoint.{RaisedPoint}
 use Rattle.event_tree.specs.Risen.{IsRaisedAt}
 use Rattle.trace_types.specs.clock.Points.{Point}
 use Rattle.tenant_ledger.specs.Laws.{IsRaisedBy, known_before_event}
@@ -10,11 +10,11 @@ use Rattle.tenant_ledger.proofs.clock.Events.{known_before_new, tree_of-new, tre
 use Rattle.tenant_ledger.proofs.clock.Reaching.{new_event}
 
 -- the point in each place of a list with one more
-point_in-last : (points : List (Option Deciding)) (point : Option Deciding) → point_in (points ++ point ∷ []) (length points) ≡ point
+point_in-last : (points : List (Option RaisedPoint)) (point : Option RaisedPoint) → point_in (points ++ point ∷ []) (length points) ≡ point
 point_in-last [] point = refl
 point_in-last (first ∷ points) point = point_in-last points point
 
-point_in-other : (points : List (Option Deciding)) (point : Option Deciding) (place : ℕ) → place ≢ length points
+point_in-other : (points : List (Option RaisedPoint)) (point : Option RaisedPoint) (place : ℕ) → place ≢ length points
     → point_in (points ++ point ∷ []) place ≡ point_in points place
 point_in-other [] point zero other = absurd (other refl)
 point_in-other [] point (suc place) other = refl
@@ -43,7 +43,7 @@ module _ (row : Row) (history : History) where
         (sym (tree_of-older tree_clock row history event (is_older history event point raised))) raised.raised;
   }
 
-  point_stays : (event : ℕ) (found : Option Deciding) → MayHavePoint history event found → MayHavePoint (row ∷ history) event found
+  point_stays : (event : ℕ) (found : Option RaisedPoint) → MayHavePoint history event found → MayHavePoint (row ∷ history) event found
   point_stays event None none = tt
   point_stays event (Some deciding) is = record {
     raised = raised_stays event deciding.point is.raised;
@@ -51,7 +51,7 @@ module _ (row : Row) (history : History) where
   }
 
   -- the new event has the points with its own
-  pub points_with_one : (points : List (Option Deciding)) (point : Option Deciding) → ArePoints history points
+  pub points_with_one : (points : List (Option RaisedPoint)) (point : Option RaisedPoint) → ArePoints history points
       → MayHavePoint (row ∷ history) (new_event history) point → ArePoints (row ∷ history) (points ++ point ∷ [])
   points_with_one points point before newest = record {
     counted = omega (arith, before.counted, length-append points (point ∷ []));
@@ -68,14 +68,14 @@ module _ (row : Row) (history : History) where
   }
 
 -- the last of the points is that of the newest event
-pub newest_point : (row : Row) (history : History) (points : List (Option Deciding)) (point : Option Deciding) → ArePoints (row ∷ history) (points ++ point ∷ [])
+pub newest_point : (row : Row) (history : History) (points : List (Option RaisedPoint)) (point : Option RaisedPoint) → ArePoints (row ∷ history) (points ++ point ∷ [])
     → MayHavePoint (row ∷ history) (new_event history) point
 newest_point row history points point are =
     let last : length points ≡ length history = omega (arith, are.counted, length-append points (point ∷ [])) in
     subst (MayHavePoint (row ∷ history) (new_event history)) (ap (point_in (points ++ point ∷ [])) (sym last) ∙ point_in-last points point) (are.each (length history))
 
 -- a point that was found of the newest event is one that it raised
-raised_by_newest : (row : Row) (history : History) (found : Option Deciding)
+raised_by_newest : (row : Row) (history : History) (found : Option RaisedPoint)
     → IfSome found (λ deciding. IsRaisedAt (acting_id tree_clock history row) (known_before_new tree_clock row history) (tree_of tree_clock (row ∷ history) (new_event history)) deciding.point)
     → IfSome found (λ deciding. deciding.value ≡ value (tree_of tree_clock (row ∷ history) (new_event history)) deciding.point)
     → MayHavePoint (row ∷ history) (new_event history) found
@@ -88,7 +88,7 @@ raised_by_newest row history (Some deciding) raised own = record {
 -- so is one that was found with the tree that the event of a report was made of
 pub found_by_report : (book : Contents) (report : Report) {id : Id} {known : EventTree} {Fault : Type 0}
     → id ≡ acting_id tree_clock (history_in book) (row_of_report book report) → known ≡ known_before_new tree_clock (row_of_report book report) (history_in book)
-    → (found : Result (EventTree × Option Deciding) Fault) → IfOk found (λ f. f.0 ≡ tree_clock.event id known)
+    → (found : Result (EventTree × Option RaisedPoint) Fault) → IfOk found (λ f. f.0 ≡ tree_clock.event id known)
     → IfOk found (λ f. IfSome f.1 (λ deciding. IsRaisedAt id known f.0 deciding.point)) → IfOk found (λ f. IfSome f.1 (λ deciding. deciding.value ≡ value f.0 deciding.point))
     → IfOk found (λ f. MayRaise book report f.1)
 found_by_report book report id_is known_is (Ok (tree, point)) tree_is raised own =

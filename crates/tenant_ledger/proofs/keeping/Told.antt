@@ -12,7 +12,7 @@ use Rattle.std.specs.Global.{Vec}
 use Rattle.trace_query.proofs.ComparedTrees.{tree_order_stands}
 use Rattle.trace_query.proofs.Told.{told_by_orders, told_by_reach}
 use Rattle.trace_types.proofs.Reachability.{reaches_newest, reaches_earlier}
-use Rattle.trace_query.specs.declared.deciding_point.Deciding.{Deciding}
+use Rattle.event_tree.specs.declared.point.RaisedPoint.{RaisedPoint}
 use Rattle.trace_query.specs.declared.queries.QueryFault.{QueryFault}
 use Rattle.trace_query.specs.declared.queries.QueryFault.TheVariants.{Unknown}
 use Rattle.event_tree.proofs.Standing.{stand_one_way}
@@ -82,7 +82,7 @@ module _ (tenant : Tenant) (trees : List EventTree) (legal : AreLegal tenant.lim
       elim (reaches_forward history later earlier ((below_iff_reaches tree_clock_laws history holds later earlier other_is).0 kept_below)) [ inl same ↦ omega (arith, same, before) | inr after ↦ omega (arith, after.0, before) ]
 
   -- a point that an event raised decides which later events it reaches, and so which trees its own is below
-  pub decide_in_order : (points : List (Option Deciding)) → ArePoints history points → DecideInOrder trees points
+  pub decide_in_order : (points : List (Option RaisedPoint)) → ArePoints history points → DecideInOrder trees points
   decide_in_order points are_points earlier later earlier_is later_is before =
       by (point_in points (earlier - 1)) (subst (λ e. MayHavePoint history e (point_in points (earlier - 1))) number (are_points.each (earlier - 1)))
     where
@@ -98,7 +98,7 @@ module _ (tenant : Tenant) (trees : List EventTree) (legal : AreLegal tenant.lim
       legal_history : IsLegal history
       legal_history = IsLegal_from_AreLegal tenant.limits tenant.rows legal
 
-      by : (found : Option Deciding) → MayHavePoint history earlier found → IsDecidedBy found (tree_at trees earlier) (tree_at trees later)
+      by : (found : Option RaisedPoint) → MayHavePoint history earlier found → IsDecidedBy found (tree_at trees earlier) (tree_at trees later)
       by None none = tt
       by (Some deciding) has = record {
         own = has.own ∙ ap (λ tree. value tree deciding.point) (sym (tree_is_kept earlier one_is));

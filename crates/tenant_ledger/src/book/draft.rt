@@ -1,23 +1,20 @@
 //! Drafts of events.
-ghost use Rattle.std.specs.Prelude.{◌≡◌, ◌≢◌, suc, ◌+◌, ◌^◌, ◌<◌, ◌≤◌, [], true, IfOk, IfErr, OnOk, OnErr, IfSome, IfNone, Some, length, slice_get};
+ghost use Rattle.std.specs.Prelude.{◌≡◌, suc, ◌<◌, ◌≤◌, [], true, IfOk, IfErr, OnOk, OnErr, IfSome, IfNone, Some, length, slice_get};
 ghost use Rattle.trace_types.specs.tenant.Reachability.{increasing};
 ghost use Rattle.trace_types.specs.clock.Clock.{tree_clock};
 ghost use Rattle.trace_types.specs.clock.Stamps.{tree_of, acting_id, takes_in};
 ghost use Rattle.trace_types.specs.tenant.Tenant.{is_report, row_after};
-ghost use Rattle.trace_types.specs.clock.Event.{event};
-ghost use Rattle.trace_types.specs.clock.EventTree.{Leaf, maximum, value};
-ghost use Rattle.trace_types.specs.clock.Id.{Zero};
-ghost use Rattle.event_tree.specs.Risen.{IsRaisedAt};
+ghost use Rattle.trace_types.specs.clock.EventTree.{Leaf};
 ghost use Rattle.tenant_ledger.specs.Ledger.{IsKept, HasRoom, history_in, MayNote, IsReport, row_of_report, tree_of_report, MayRaise, event_of, Notes, Prepares};
 
 use super::{Book, Report, Task};
 use crate::share::{Keep, Share};
 use crate::{MeantId, SharedIds, Stack};
-use event_tree::EvTree;
+use event_tree::{EvTree, RaisedPoint};
 use id_tree::IdTree;
 use std::alloc::Global;
 use std::marker::Model;
-use trace_query::{Deciding, Meant};
+use trace_query::Meant;
 use trace_types::{Code, Kind, Memory, Name, Preds, Request, Row};
 
 /// What is to be kept of an event.
@@ -26,7 +23,7 @@ pub(crate) struct Draft<S: Keep> {
     pub(super) row: Row,
     pub(super) tree: S::Kept,
     /// A point that the event raised, if one was found.
-    pub(super) point: Option<Deciding>,
+    pub(super) point: Option<RaisedPoint>,
     /// The ids that the event makes, which come behind those that the book has.
     pub(super) first: Option<S::Id>,
     pub(super) second: Option<S::Id>,
@@ -75,7 +72,7 @@ impl<S: Keep> Draft<S> {
     }
 
     /// A point that the event raised, if one was found.
-    pub(crate) fn point(&self) -> Option<Deciding>
+    pub(crate) fn point(&self) -> Option<RaisedPoint>
         ensures { result ≡ self.now.point }
     {
         self.point.as_ref().map(|point| point.share())
@@ -175,7 +172,11 @@ impl<S: Keep> Book<S> {
     }
 
     /// What the report's event knows, which is made with this id, and a point that the event raised.
-    fn tree_after(&self, report: &Report, id: &IdTree) -> Result<(EvTree, Option<Deciding>), Memory>
+    fn tree_after(
+        &self,
+        report: &Report,
+        id: &IdTree,
+    ) -> Result<(EvTree, Option<RaisedPoint>), Memory>
         requires book { IsKept self.now }
         requires report { IsReport self.now report.now }
         requires id { id.now ≡ acting_id tree_clock (history_in self.now) (row_of_report self.now report.now) }
@@ -186,9 +187,9 @@ impl<S: Keep> Book<S> {
         let own = self.known(report.acting.last, &start);
         if takes_in(report.kind) {
             let known = own.join(self.alloc, self.known(report.second, &start))?;
-            event_with_point(self.alloc, id, &known)
+            EvTree::event_with_point(self.alloc, id, &known)
         } else {
-            event_with_point(self.alloc, id, own)
+            EvTree::event_with_point(self.alloc, id, own)
         }
     }
 
@@ -272,26 +273,6 @@ impl<S: Keep> Book<S> {
         }
         Ok(())
     }
-}
-
-/// The tree after an event of the id, and a point that the event raised with the value there, if one was found.
-fn event_with_point(
-    alloc: Global,
-    id: &IdTree,
-    known: &EvTree,
-) -> Result<(EvTree, Option<Deciding>), Memory>
-    requires some { id.now ≢ Zero }
-    requires fits { maximum known.now + 1 < 2 ^ 64 }
-    ensures tree { IfOk result (λ found. found.0 ≡ event id.now known.now) }
-    ensures raised { IfOk result (λ found. IfSome found.1 (λ deciding. IsRaisedAt id.now known.now found.0 deciding.point)) }
-    ensures own { IfOk result (λ found. IfSome found.1 (λ deciding. deciding.value ≡ value found.0 deciding.point)) }
-{
-    let (tree, raised) = EvTree::event_with_point(alloc, id, known)?;
-    let deciding = raised.map(|raised| Deciding {
-        value: raised.value,
-        point: raised.point,
-    });
-    Ok((tree, deciding))
 }
 
 /// Whether a report of this kind takes in what its second event knew.

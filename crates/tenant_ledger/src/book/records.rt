@@ -5,9 +5,9 @@ ghost use Rattle.tenant_ledger.specs.Ledger.{IsKept, tenant_of};
 use super::Book;
 use crate::answers::Records;
 use crate::share::{Keep, MeantId};
+use event_tree::RaisedPoint;
 use id_tree::IdTree;
 use std::alloc::Global;
-use trace_query::Deciding;
 use trace_types::{Memory, Name, Receipts, Row, TaskState};
 
 impl<S: Keep> Records for Book<S> {
@@ -31,7 +31,7 @@ impl<S: Keep> Records for Book<S> {
         &self.trees
     }
 
-    fn points(&self) -> &[Option<Deciding>] {
+    fn points(&self) -> &[Option<RaisedPoint>] {
         &self.points
     }
 

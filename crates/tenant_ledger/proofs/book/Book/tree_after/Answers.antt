@@ -30,11 +30,11 @@ returns-then-takes_in-clause-point g c =
     let takes = sym c.takes_in.ensures ∙ c.if-takes_in.true in
     let known = c.in_ok-known.ensures ∙ knows_both c.requires.book c.requires.report takes c.known-own.ensures c.known.ensures in
     let found = c.event_with_point.ensures in
-    found_by_report c.args.self.now c.args.report.now c.requires.id known c.event_with_point.result found.tree found.raised found.own
+    found_by_report c.args.self.now c.args.report.now c.requires.id known c.event_with_point.result found.exact found.raised found.value
 
 pub returns-clause-point : goal.returns-clause-point
 returns-clause-point g c =
     let takes_none = sym c.takes_in.ensures ∙ c.if-takes_in.false in
     let known = knows_own c.requires.book c.requires.report takes_none c.known-own.ensures in
     let found = c.event_with_point-else-takes_in.ensures in
-    found_by_report c.args.self.now c.args.report.now c.requires.id known c.event_with_point-else-takes_in.result found.tree found.raised found.own
+    found_by_report c.args.self.now c.args.report.now c.requires.id known c.event_with_point-else-takes_in.result found.exact found.raised found.value
