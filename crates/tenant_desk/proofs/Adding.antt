@@ -7,8 +7,8 @@ use prog.Atomic.{either}
 use Rattle.logbook.specs.Pages.{Cell, cell, keeps, no_nib, step, Moves, Goes}
 use Rattle.trace_types.specs.declared.row.Row.{Row}
 use Rattle.tenant_desk.specs.Histories.{IsCounted, Adds, rows_in}
-use Rattle.tenant_desk.specs.declared.front.Entry.{Entry}
-use Rattle.tenant_desk.specs.declared.front.Entry.TheVariants as entry
+use Rattle.tenant_desk.specs.declared.row_log.Entry.{Entry}
+use Rattle.tenant_desk.specs.declared.row_log.Entry.TheVariants as entry
 use Rattle.tenant_desk.proofs.Beginnings.{is_all}
 use Rattle.tenant_desk.proofs.Entries.{rows_begin, rows_in-append}
 

@@ -18,10 +18,10 @@ use Rattle.event_tree.specs.contracts.point.RaisedPoint as RaisedPoint
 use Rattle.tree_forest.specs.contracts.tree.Tree as Tree
 use Rattle.tenant_desk.proofs.index.Index.TheSendSync as index
 use Rattle.tenant_desk.specs.contracts.desk.Desk as Desk
-use Rattle.tenant_desk.specs.contracts.event.Event as Event
-use Rattle.tenant_desk.specs.contracts.events.Events as Events
-use Rattle.tenant_desk.specs.contracts.front.Front as Front
-use Rattle.tenant_desk.specs.contracts.met.Met as Met
+use Rattle.tenant_desk.specs.contracts.published_event.Event as Event
+use Rattle.tenant_desk.specs.contracts.event_table.Events as Events
+use Rattle.tenant_desk.specs.contracts.row_log.Front as Front
+use Rattle.tenant_desk.specs.contracts.learned_lists.Met as Met
 use Rattle.tenant_desk.specs.contracts.published.Operation as Operation
 use Rattle.tenant_desk.specs.contracts.published.Published as Published
 use Rattle.tenant_desk.specs.contracts.publisher.Publisher as Publisher

@@ -3,8 +3,8 @@ use Rattle.std.proofs.Common.{◌≡◌, List, [], ◌∷◌, ◌++◌, refl, ap
 use mathlib.Core.List.{IsPrefix}
 use Rattle.trace_types.specs.declared.row.Row.{Row}
 use Rattle.tenant_desk.specs.Histories.{IsNamed, rows_in, tenant_in}
-use Rattle.tenant_desk.specs.declared.front.Entry.{Entry}
-use Rattle.tenant_desk.specs.declared.front.Entry.TheVariants as entry
+use Rattle.tenant_desk.specs.declared.row_log.Entry.{Entry}
+use Rattle.tenant_desk.specs.declared.row_log.Entry.TheVariants as entry
 
 -- more entries add their rows
 pub rows_in-append : (entries more : List Entry) → rows_in (entries ++ more) ≡ rows_in entries ++ rows_in more

@@ -5,7 +5,7 @@ use Rattle.tenant_ledger.proofs.Words.{nat_tests, length-reverse, reverse-append
 use Rattle.tenant_ledger.proofs.keeping.Points.{no_points, points_with_one}
 use Rattle.tenant_desk.specs.Events.{Events, AreSound, no_events, events_with}
 use Rattle.tenant_desk.specs.Publications.{IsNext}
-use Rattle.tenant_desk.specs.declared.event.Event.{Event}
+use Rattle.tenant_desk.specs.declared.published_event.Event.{Event}
 
 -- no events are sound
 pub sound_none : (home : List ℕ) (limits : Limits) → AreSound (no_events home limits)

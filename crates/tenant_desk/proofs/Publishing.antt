@@ -8,10 +8,10 @@ use Rattle.tenant_desk.specs.Events.{Events, AreSound, no_events}
 use Rattle.tenant_desk.specs.Histories.{Line, longer_by}
 use Rattle.tenant_desk.specs.Publications.{IsFor, IsNext, IsShown, left_by, with_next, with_some}
 use Rattle.tenant_desk.specs.Rules.{Holds, Sees, IsPublished, sight_of}
-use Rattle.tenant_desk.specs.declared.event.Event.{Event}
+use Rattle.tenant_desk.specs.declared.published_event.Event.{Event}
 use Rattle.tenant_desk.specs.declared.published.Operation.{Operation}
 use Rattle.tenant_desk.specs.declared.published.Published.{Published}
-use Rattle.tenant_desk.specs.declared.rule.Sight.{Sight}
+use Rattle.tenant_desk.specs.declared.publishing_rule.Sight.{Sight}
 use Rattle.tenant_desk.proofs.PublishedNext.{sound_next, sound_none}
 use Rattle.tenant_desk.proofs.Steps.{follows_itself, sees}
 

@@ -8,7 +8,7 @@ use Rattle.tenant_ledger.specs.Upcoming.{Upcoming}
 use Rattle.tenant_desk.specs.Desks.{IsDone, IsEventOf, AllArePublished}
 use Rattle.tenant_desk.specs.Events.{published_tenant}
 use Rattle.tenant_desk.specs.Publications.{IsNext, with_next}
-use Rattle.tenant_desk.specs.declared.event.Event.{Event}
+use Rattle.tenant_desk.specs.declared.published_event.Event.{Event}
 use Rattle.tenant_desk.specs.declared.published.Published.{Published}
 
 -- The rows that a report leaves are legal.

@@ -7,7 +7,7 @@ use Rattle.left_right.specs.Register.{Admits, TurnsAt, Forks, Merges}
 use Rattle.atomic_table.proofs.Lists.{at_set, at_snoc}
 use Rattle.tenant_desk.specs.Rules.{Fits, Follows, IsPublished, Holds, Sees, sight_of}
 use Rattle.tenant_desk.specs.declared.published.Published.{Published}
-use Rattle.tenant_desk.specs.declared.rule.Sight.{Sight}
+use Rattle.tenant_desk.specs.declared.publishing_rule.Sight.{Sight}
 use Rattle.tenant_desk.proofs.Beginnings.{begins_with_itself, begins_through}
 
 pub follows_itself : (published : Published) → Follows published published

@@ -19,7 +19,7 @@ use Rattle.tenant_desk.specs.Histories.{Log}
 use Rattle.tenant_desk.specs.Rules.{IsOfDesk, IsOfLog, StaysOf, HasEntered, Sees}
 use Rattle.tenant_desk.specs.Views.{Known, BeginWithEach, LooksUp, Responds}
 use Rattle.tenant_desk.specs.declared.published.Published.{Published}
-use Rattle.tenant_desk.specs.declared.rule.Sight.{Sight}
+use Rattle.tenant_desk.specs.declared.publishing_rule.Sight.{Sight}
 use Rattle.tenant_desk.proofs.Beginnings.{begins_with_itself, begins_through}
 
 -- a longer list begins with each that a shorter one begins with

@@ -12,7 +12,7 @@ use Rattle.tenant_ledger.specs.Ledger.{MayHavePoint, start_of}
 use Rattle.tenant_ledger.specs.Upcoming.{Upcoming}
 use Rattle.tenant_desk.specs.Events.{published_tenant}
 use Rattle.tenant_desk.specs.Histories.{Log}
-use Rattle.tenant_desk.specs.declared.event.Event.{Event}
+use Rattle.tenant_desk.specs.declared.published_event.Event.{Event}
 use Rattle.tenant_desk.specs.declared.published.Published.{Published}
 
 -- the tenant, the rows that its views see, and the log in which they stand

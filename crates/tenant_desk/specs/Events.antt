@@ -11,7 +11,7 @@ use Rattle.trace_types.specs.declared.row.Row.{Row}
 use Rattle.event_tree.specs.declared.point.RaisedPoint.{RaisedPoint}
 use Rattle.tree_forest.specs.Kept.{Kept}
 use Rattle.tenant_ledger.specs.Ledger.{of_each, start_of, id_after, ArePoints}
-use Rattle.tenant_desk.specs.declared.event.Event.{Event}
+use Rattle.tenant_desk.specs.declared.published_event.Event.{Event}
 
 -- The rows, and what is kept of each event, in the order of the events. The trees are to lie in the forest of this home.
 pub record Events : Type 0 where

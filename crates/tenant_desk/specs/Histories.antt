@@ -3,8 +3,8 @@ use Rattle.std.specs.Prelude.{ℕ, ◌≡◌, ◌==◌, true, List, [], ◌∷�
 use Rattle.logbook.specs.Pages.{Cell, Step, View, Book, Named}
 use Rattle.trace_types.specs.text.Name.{Text}
 use Rattle.trace_types.specs.declared.row.Row.{Row}
-use Rattle.tenant_desk.specs.declared.front.Entry.{Entry}
-use Rattle.tenant_desk.specs.declared.front.Entry.TheVariants as entry
+use Rattle.tenant_desk.specs.declared.row_log.Entry.{Entry}
+use Rattle.tenant_desk.specs.declared.row_log.Entry.TheVariants as entry
 
 -- Which log it is, and whose: the tenant that its first entry names.
 pub record Log : Type 0 where

@@ -8,8 +8,8 @@ use Rattle.tenant_ledger.specs.Ledger.{MayHavePoint, start_of}
 use Rattle.tenant_desk.specs.Histories.{longer_by}
 use Rattle.tenant_desk.specs.Events.{Events, events_with}
 use Rattle.tenant_desk.specs.Rules.{Follows, IsPublished, sight_of}
-use Rattle.tenant_desk.specs.declared.rule.Sight.{Sight}
-use Rattle.tenant_desk.specs.declared.event.Event.{Event}
+use Rattle.tenant_desk.specs.declared.publishing_rule.Sight.{Sight}
+use Rattle.tenant_desk.specs.declared.published_event.Event.{Event}
 use Rattle.tenant_desk.specs.declared.published.Operation.{Operation}
 use Rattle.tenant_desk.specs.declared.published.Published.{Published}
 

@@ -8,7 +8,7 @@ use Rattle.trace_types.specs.declared.row.Row.{Row}
 use Rattle.tenant_desk.specs.Events.{AreSound}
 use Rattle.tenant_desk.specs.Histories.{Log}
 use Rattle.tenant_desk.specs.declared.published.Published.{Published}
-use Rattle.tenant_desk.specs.declared.rule.Sight.{Sight}
+use Rattle.tenant_desk.specs.declared.publishing_rule.Sight.{Sight}
 
 -- what is known once all that is published is seen
 abbrev pub sight_of : Published → Sight

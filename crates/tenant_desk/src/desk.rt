@@ -7,9 +7,9 @@ ghost use Rattle.tenant_desk.specs.Events.{AreSound, published_tenant};
 ghost use Rattle.tenant_desk.specs.Desks.{IsDone, IsEventOf, AllArePublished};
 
 use crate::Told;
-use crate::event::Event;
-use crate::events::Events;
+use crate::event_table::Events;
 use crate::in_place::put_reply;
+use crate::published_event::Event;
 use crate::publisher::Publisher;
 use crate::views::Views;
 use event_tree::EvTree;

@@ -24,22 +24,22 @@
 #![tactic(auto)]
 
 mod desk;
-mod event;
-mod events;
-mod front;
+mod event_table;
 mod in_place;
 mod index;
-mod met;
+mod learned_lists;
 mod published;
+mod published_event;
 mod publisher;
-mod rule;
+mod publishing_rule;
+mod row_log;
 mod span;
 mod stamp_parts;
-mod told;
+mod told_rows;
 mod view;
 mod views;
 
 pub use desk::{Desk, desk_and_views, named_desk_and_views};
-pub use told::Told;
+pub use told_rows::Told;
 pub use view::View;
 pub use views::Views;

@@ -2,9 +2,9 @@
 ghost use Rattle.std.specs.Prelude.{◌≡◌, IfOk};
 ghost use Rattle.tenant_desk.specs.Publications.{left_by};
 
-use crate::event::Event;
-use crate::events::Events;
-use crate::front::Front;
+use crate::event_table::Events;
+use crate::published_event::Event;
+use crate::row_log::Front;
 use left_right::Absorb;
 use std::alloc::AllocError;
 

@@ -5,11 +5,11 @@ ghost use Rattle.tenant_desk.specs.Events.{AreSound, no_events};
 ghost use Rattle.tenant_desk.specs.Publications.{IsFor, IsNext, IsShown, left_by, with_next};
 ghost use Rattle.tenant_desk.specs.Rules.{IsPublished, sight_of};
 
-use crate::event::Event;
-use crate::events::Events;
-use crate::front::{Front, Head, new_log};
+use crate::event_table::Events;
 use crate::published::{Operation, Published};
-use crate::rule::{Knows, Learning, Noting, Publishing, Seeing};
+use crate::published_event::Event;
+use crate::publishing_rule::{Knows, Learning, Noting, Publishing, Seeing};
+use crate::row_log::{Front, Head, new_log};
 use core::mem::replace_with;
 use left_right::reader::{Reader, Reading};
 use left_right::writer::Writer;

@@ -5,7 +5,7 @@ ghost use Rattle.trace_types.specs.tenant.Tenant.{Answers};
 ghost use Rattle.trace_types.specs.text.StampText.{stamp_text};
 ghost use Rattle.tenant_desk.specs.Events.{AreSound, published_tenant};
 
-use crate::events::Events;
+use crate::event_table::Events;
 use event_tree::EvTree;
 use id_tree::IdTree;
 use tenant_ledger::Records;

@@ -10,12 +10,12 @@ ghost use Rattle.tenant_desk.specs.Rules.{HasEntered, IsOfLog, StaysOf};
 ghost use Rattle.tenant_desk.specs.Views.{Learns, Responds};
 
 use crate::Told;
-use crate::events::Events;
-use crate::front::Front;
+use crate::event_table::Events;
 use crate::in_place::put_reply;
-use crate::met::Met;
+use crate::learned_lists::Met;
 use crate::publisher::{DeskReader, DeskReading, Publisher};
-use crate::rule::Seeing;
+use crate::publishing_rule::Seeing;
+use crate::row_log::Front;
 use crate::stamp_parts::shared_parts;
 use event_tree::EvTree;
 use id_tree::IdTree;

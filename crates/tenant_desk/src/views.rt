@@ -3,8 +3,8 @@ ghost use Rattle.std.specs.Prelude.{◌≡◌, ◌+◌, [], IfOk, MatchOption};
 ghost use Rattle.std.specs.Arc.{arc_value};
 ghost use Rattle.tenant_desk.specs.Views.{new_view};
 
-use crate::front::Front;
 use crate::publisher::{Publisher, VIEWS};
+use crate::row_log::Front;
 use crate::view::View;
 use std::alloc::Global;
 use std::marker::Model;

@@ -1,7 +1,7 @@
 use Rattle.std.proofs.Common.{◌≡◌, sym, ap, ◌∙◌, subst}
 use Rattle.std.specs.Prelude.{All}
 use Rattle.tenant_desk.specs.Events.{Events}
-use Rattle.tenant_desk.proofs.events.EventsRecords.trees.Goals as goal
+use Rattle.tenant_desk.proofs.event_table.EventsRecords.trees.Goals as goal
 
 pub returns-clause-kept : goal.returns-clause-kept
 returns-clause-kept c =

@@ -1,7 +1,7 @@
 //! The lists that a view put together, in proofs alone.
 ghost use Rattle.std.specs.Prelude.{◌≡◌, [], ◌∷◌};
 
-use crate::front::Front;
+use crate::row_log::Front;
 use std::marker::Model;
 use std::snapshot::Snapshot;
 

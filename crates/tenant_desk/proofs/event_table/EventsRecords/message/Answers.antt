@@ -9,7 +9,7 @@ use Rattle.tenant_desk.specs.Spans.{span_of}
 use Rattle.tenant_desk.specs.declared.index.Index.{Index}
 use Rattle.tenant_desk.proofs.Cases.{on_err}
 use Rattle.tenant_desk.proofs.Indexing.{kept_message_due, sent_told, unsent_told}
-use Rattle.tenant_desk.proofs.events.EventsRecords.message.Goals as goal
+use Rattle.tenant_desk.proofs.event_table.EventsRecords.message.Goals as goal
 
 -- what the index has of a message is what the rows say
 kept_is_due : (events seen : Events) (index : Index) (name : Text) (found : FoundMessage) → AreSound events → IsIndexOf seen.limits (history_of seen.rows) index → seen ≡ events

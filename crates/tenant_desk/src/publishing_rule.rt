@@ -1,7 +1,7 @@
 //! The rule by which a desk publishes and its views enter.
 
-use crate::front::Front;
 use crate::published::Published;
+use crate::row_log::Front;
 use atomic_table::{Join, Split};
 use crossbeam_utils::rule::{Outcome, Protocol};
 use trace_types::Limits;

@@ -4,8 +4,8 @@ ghost use Rattle.trace_types.specs.tenant.Rows.{history_of};
 ghost use Rattle.tenant_desk.specs.Events.{AreSound, published_tenant, no_events, events_with};
 ghost use Rattle.tenant_desk.specs.Indexes.{AreWithin};
 
-use crate::event::Event;
 use crate::index::Index;
+use crate::published_event::Event;
 use crate::span::receipts_in;
 use event_tree::{EvTree, RaisedPoint};
 use id_tree::IdTree;

@@ -1,7 +1,7 @@
 use Rattle.std.proofs.Common.{◌-◌, ◌<◌, length, get_or, sym, ap, ◌∙◌, subst, arith}
 use Rattle.tenant_desk.specs.Events.{Events}
 use Rattle.tenant_desk.proofs.PublishedIds.{id_is_kept, id_in_place}
-use Rattle.tenant_desk.proofs.events.EventsRecords.id_after.Goals as goal
+use Rattle.tenant_desk.proofs.event_table.EventsRecords.id_after.Goals as goal
 
 pub index-requires : goal.index-requires
 index-requires c =

@@ -1,7 +1,7 @@
 use Rattle.std.proofs.Common.{sym, ◌∙◌, ap, length}
 use Rattle.tenant_desk.specs.Histories.{rows_in}
 use Rattle.tenant_desk.proofs.Adding.{may_add}
-use Rattle.tenant_desk.proofs.front.Front.grown.Goals as goal
+use Rattle.tenant_desk.proofs.row_log.Front.grown.Goals as goal
 
 pub compare_exchange-found-requires : goal.compare_exchange-found-requires
 compare_exchange-found-requires c =

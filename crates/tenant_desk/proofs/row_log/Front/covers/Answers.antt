@@ -1,10 +1,10 @@
 use Rattle.std.proofs.Common.{ap, subst, List, refl}
 use mathlib.Core.List.{IsPrefix}
 use Rattle.tenant_desk.specs.Histories.{rows_in}
-use Rattle.tenant_desk.specs.declared.front.Entry.{Entry}
+use Rattle.tenant_desk.specs.declared.row_log.Entry.{Entry}
 use Rattle.tenant_desk.proofs.Beginnings.{longer_begins}
 use Rattle.tenant_desk.proofs.Entries.{rows_begin}
-use Rattle.tenant_desk.proofs.front.Front.covers.Goals as goal
+use Rattle.tenant_desk.proofs.row_log.Front.covers.Goals as goal
 
 pub returns : goal.returns
 returns c =

@@ -4,7 +4,7 @@ use Rattle.tenant_ledger.proofs.clock.Legality.{IsLegal_from_AreLegal}
 use Rattle.tenant_desk.specs.Events.{Events}
 use Rattle.tenant_desk.specs.Indexes.{indexed_task}
 use Rattle.tenant_desk.proofs.Indexing.{kept_task_due}
-use Rattle.tenant_desk.proofs.events.EventsRecords.task.Goals as goal
+use Rattle.tenant_desk.proofs.event_table.EventsRecords.task.Goals as goal
 
 pub returns : goal.returns
 returns c =

@@ -41,7 +41,7 @@ struct Naming;
 
 impl Opening<Name, Entry> for Naming {
     ghost use Rattle.std.specs.Prelude.{◌∷◌, []};
-    ghost use Rattle.tenant_desk.specs.declared.front.Entry.TheVariants as entry;
+    ghost use Rattle.tenant_desk.specs.declared.row_log.Entry.TheVariants as entry;
 
     ghost log = { λ words tenant. entry.Tenant tenant ∷ [] };
 }
@@ -66,7 +66,7 @@ impl Play<Entry, u64> for Adding {
 
 impl Plain<Row, Entry, u64> for Adding {
     ghost use Rattle.std.specs.Prelude.{None};
-    ghost use Rattle.tenant_desk.specs.declared.front.Entry.TheVariants as entry;
+    ghost use Rattle.tenant_desk.specs.declared.row_log.Entry.TheVariants as entry;
 
     ghost ask = { λ row. entry.Row row };
 

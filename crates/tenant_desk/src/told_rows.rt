@@ -2,7 +2,7 @@
 ghost use Rattle.std.specs.Prelude.{◌≡◌, ◌<◌, length, MatchBool};
 ghost use mathlib.Core.List.{IsPrefix};
 
-use crate::front::Front;
+use crate::row_log::Front;
 use std::marker::Model;
 
 /// The rows that a desk had, or that a view knew of, when it told of them. A clause sees the rows, which log has them, and
