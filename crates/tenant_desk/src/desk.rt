@@ -1,14 +1,12 @@
 //! Desks, which alone take the reports of their tenants.
 ghost use Rattle.std.specs.Prelude.{◌≡◌, ◌∷◌, ◌++◌, [], true, false, IfOk, MatchOption};
-ghost use Rattle.trace_types.specs.tenant.Tenant.{Answers, AreLegal, Steps, fresh, is_report};
+ghost use Rattle.trace_types.specs.tenant.Tenant.{AreLegal, Steps, fresh, is_report};
 ghost use Rattle.trace_types.specs.text.StampText.{stamp_text};
 ghost use Rattle.trace_types.specs.text.Text.{CanBeWritten};
-ghost use Rattle.tenant_desk.specs.Events.{AreSound, published_tenant};
 ghost use Rattle.tenant_desk.specs.Desks.{IsDone, IsEventOf, AllArePublished};
 
 use crate::Told;
-use crate::event_table::Events;
-use crate::in_place::put_reply;
+use crate::published_answer::answer_published;
 use crate::published_event::Event;
 use crate::publisher::Publisher;
 use crate::views::Views;
@@ -18,7 +16,7 @@ use std::alloc::Global;
 use std::marker::Model;
 use std::mem::ManuallyDrop;
 use std::sync::{Arc, Wait};
-use tenant_ledger::{Keep, Ledger, MeantId, Own, Prepared, Shared, SharedIds, answer};
+use tenant_ledger::{Keep, Ledger, MeantId, Prepared, Shared, SharedIds};
 use trace_query::Meant;
 use trace_types::{Code, Limits, Memory, Name, Reply, Request};
 
@@ -56,26 +54,16 @@ fn accept<R: Wait>(
     ensures book { publisher.new.front.book ≡ publisher.old.front.book }
 {
     let Ok(event) = event_of(rt, shared, &mut prepared) else {
-        put_reply(reply, Reply::Refused(Code::NoMemory));
+        *reply = Reply::Refused(Code::NoMemory);
         return prepared.abandon();
     };
     if !publisher.publish(rt, event) {
-        put_reply(reply, Reply::Refused(Code::NoMemory));
+        *reply = Reply::Refused(Code::NoMemory);
         return prepared.abandon();
     }
     let (ledger, accepted) = prepared.commit();
     *reply = accepted;
     ledger
-}
-
-/// Answers a query by what is published, and looks orders up in the cache.
-#[inline(always)]
-fn answer_published(events: &Events, shared: &Shared, request: &Request, reply: &mut Reply)
-    requires sound { AreSound events.now }
-    requires home { ⟦<Shared as Keep>⟧.home shared.now ≡ events.now.home }
-    ensures { Answers (published_tenant events.now) request.now reply.new }
-{
-    *reply = answer(events, &Own(shared), request);
 }
 
 /// The desk of a tenant. It alone takes the tenant's reports, and shows the accepted ones to its [`Views`].
@@ -169,8 +157,8 @@ impl Desk {
             unreachable!()
         };
         match *request {
-            Request::Message(_) => put_reply(reply, ledger.answer(request)),
-            _ => answer_published(self.publisher.events(), &self.shared, request, reply),
+            Request::Message(_) => *reply = ledger.answer(request),
+            _ => answer_published(self.publisher.events(), &self.shared, true, request, reply),
         }
     }
 
@@ -189,7 +177,7 @@ impl Desk {
         let ledger = match ledger.prepare(rt, request) {
             Ok(prepared) => accept(rt, &self.shared, prepared, &mut self.publisher, reply),
             Err((ledger, refused)) => {
-                put_reply(reply, refused);
+                *reply = refused;
                 ledger
             }
         };

@@ -25,10 +25,10 @@
 
 mod desk;
 mod event_table;
-mod in_place;
 mod index;
 mod learned_lists;
 mod published;
+mod published_answer;
 mod published_event;
 mod publisher;
 mod publishing_rule;

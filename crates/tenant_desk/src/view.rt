@@ -2,17 +2,14 @@
 ghost use Rattle.std.specs.Prelude.{◌≡◌, [], IfOk, MatchResult};
 ghost use Rattle.std.specs.Arc.{arc_value};
 ghost use Rattle.left_right.specs.Sides.{view as known_at};
-ghost use Rattle.trace_types.specs.tenant.Tenant.{Answers};
 ghost use Rattle.trace_types.specs.text.StampText.{stamp_text};
 ghost use Rattle.tenant_ledger.specs.Size.{IsShort};
-ghost use Rattle.tenant_desk.specs.Events.{AreSound, published_tenant};
 ghost use Rattle.tenant_desk.specs.Rules.{HasEntered, IsOfLog, StaysOf};
 ghost use Rattle.tenant_desk.specs.Views.{Learns, Responds};
 
 use crate::Told;
-use crate::event_table::Events;
-use crate::in_place::put_reply;
 use crate::learned_lists::Met;
+use crate::published_answer::answer_published;
 use crate::publisher::{DeskReader, DeskReading, Publisher};
 use crate::publishing_rule::Seeing;
 use crate::row_log::Front;
@@ -21,8 +18,7 @@ use event_tree::EvTree;
 use id_tree::IdTree;
 use std::marker::Model;
 use std::sync::{Arc, Wait};
-use tenant_ledger::{Keep, Own, Shared, answer};
-use trace_query::Plain;
+use tenant_ledger::{Keep, Shared};
 use trace_types::{Code, Limits, Memory, Reply, Request};
 
 /// A view of a tenant. It answers at a list of rows that the desk published. It never goes back behind a list that it saw
@@ -78,26 +74,6 @@ fn leave(reading: DeskReading) -> (DeskReader, Front)
 {
     let front = reading.get().front.again();
     (reading.leave(), front)
-}
-
-/// Answers from the events, by the cache of what keeps their trees or without it, and puts the reply in place of this one.
-#[inline(always)]
-fn answer_from(
-    events: &Events,
-    shared: &Shared,
-    by_cache: bool,
-    request: &Request,
-    reply: &mut Reply,
-)
-    requires sound { AreSound events.now }
-    requires home { ⟦<Shared as Keep>⟧.home shared.now ≡ events.now.home }
-    ensures { Answers (published_tenant events.now) request.now reply.new }
-{
-    if by_cache {
-        *reply = answer(events, &Own(shared), request);
-    } else {
-        *reply = answer(events, &Plain, request);
-    }
 }
 
 impl View {
@@ -225,7 +201,7 @@ impl View {
         ensures book { self.new.book ≡ self.old.book }
     {
         if request.is_report() {
-            put_reply(reply, Reply::Refused(Code::ViewOnly));
+            *reply = Reply::Refused(Code::ViewOnly);
             return;
         }
         let Some(reader) = self.reader.take() else {
@@ -234,7 +210,7 @@ impl View {
         match enter(reader, &self.seen) {
             Ok(reading) => {
                 let events = &reading.get().events;
-                answer_from(events, &*self.shared, by_cache, request, reply);
+                answer_published(events, &*self.shared, by_cache, request, reply);
                 let (reader, seen) = leave(reading);
                 self.reader = Some(reader);
                 self.seen = seen;
@@ -242,7 +218,7 @@ impl View {
             }
             Err(reader) => {
                 self.reader = Some(reader);
-                put_reply(reply, Reply::Refused(Code::NoPlace));
+                *reply = Reply::Refused(Code::NoPlace);
             }
         }
     }

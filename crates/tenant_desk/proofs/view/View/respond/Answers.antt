@@ -24,14 +24,14 @@ pub returns-in-Ok-clause-answer : goal.returns-in-Ok-clause-answer
 returns-in-Ok-clause-answer c =
     let inside = c.self.inside in
     let request = c.args.request.now in
-    let reply = c.answer_from.new.reply in
+    let reply = c.answer_published.new.reply in
     let published = c.in-Ok.reading.part.value in
     let old : Known = record { seen = inside.seen.rows; met = inside.met; limits = inside.limits; book = inside.seen.book } in
     let new : Known = record { seen = c.leave-reader.result.1.rows; met = c.clear.new.self; limits = inside.limits; book = c.leave-reader.result.1.book } in
     let is : inside.reader ≡ Some c.in-Some.reader = sym c.take.ensures.value ∙ c.in-Some.is in
     let of = value_there inside.reader c.in-Some.reader is
     (λ reader. IsOfDesk inside.seen.book inside.limits (arc_value inside.shared).trees (known_at reader.place)) c.self.invariant.1 in
-    let answered = subst (λ (entered : Published). Answers (published_tenant entered.events) request reply) c.get.ensures c.answer_from.ensures in
+    let answered = subst (λ (entered : Published). Answers (published_tenant entered.events) request reply) c.get.ensures c.answer_published.ensures in
     let front = c.leave-reader.ensures.front in
     let met = c.clear.ensures in
     let is_new : new ≡ record { seen = published.front.rows; met = []; limits = inside.limits; book = published.front.book } =

@@ -1,0 +1,29 @@
+//! Answers from what is published.
+ghost use Rattle.std.specs.Prelude.{◌≡◌};
+ghost use Rattle.trace_types.specs.tenant.Tenant.{Answers};
+ghost use Rattle.tenant_desk.specs.Events.{AreSound, published_tenant};
+
+use crate::event_table::Events;
+use tenant_ledger::{Keep, Own, Shared, answer};
+use trace_query::Plain;
+use trace_types::{Reply, Request};
+
+/// Answers from the events, by the cache of what keeps their trees or without it, and puts the reply in place of this one.
+#[inline(always)]
+pub(crate) fn answer_published(
+    events: &Events,
+    shared: &Shared,
+    by_cache: bool,
+    request: &Request,
+    reply: &mut Reply,
+)
+    requires sound { AreSound events.now }
+    requires home { ⟦<Shared as Keep>⟧.home shared.now ≡ events.now.home }
+    ensures { Answers (published_tenant events.now) request.now reply.new }
+{
+    if by_cache {
+        *reply = answer(events, &Own(shared), request);
+    } else {
+        *reply = answer(events, &Plain, request);
+    }
+}
