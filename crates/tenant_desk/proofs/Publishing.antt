@@ -13,7 +13,7 @@ use Rattle.tenant_desk.specs.declared.published.Operation.{Operation}
 use Rattle.tenant_desk.specs.declared.published.Published.{Published}
 use Rattle.tenant_desk.specs.declared.publishing_rule.Sight.{Sight}
 use Rattle.tenant_desk.proofs.PublishedNext.{sound_next, sound_none}
-use Rattle.tenant_desk.proofs.Steps.{follows_itself, sees}
+use Rattle.tenant_desk.proofs.Steps.{continues_itself, sees}
 
 -- The operation of the next event may be shown.
 pub is_for_next : (published : Published) (event : Event) (operation : Operation) → IsPublished published → IsNext published.events event
@@ -25,7 +25,7 @@ is_for_next published event operation sound next is_event is_front =
         events = sound_next published.events event sound.events next;
         rows = ap (λ rows. rows ++ event.row ∷ []) sound.rows;
       });
-      follows = rw is (record { of = (refl, refl, refl); begins = (event.row ∷ [], refl) });
+      continues = rw is (record { of = (refl, refl, refl); begins = (event.row ∷ [], refl) });
     }
 
 -- and so is one without an event
@@ -35,7 +35,7 @@ is_for_none published operation sound is_event is_front =
     let is : left_by published operation ≡ published = λ i. record { events = with_some (is_event i) published.events; front = is_front i } in
     record {
       sound = rw is sound;
-      follows = rw is (follows_itself published);
+      continues = rw is (continues_itself published);
     }
 
 -- No events are published, and no place knows of them.
@@ -51,7 +51,7 @@ pub turns : (place : ℕ) (known : Option Sight) (published next : Published) (w
     → IsFor published operation → waiting ≡ operation ∷ [] → next ≡ fold left_by published waiting → TurnsAt Holds place known published next Sees
 turns place known published next waiting operation for alone is =
     let made : next ≡ left_by published operation = is ∙ ap (fold left_by published) alone in
-    sees place known published next (rw made for.sound) (rw made for.follows)
+    sees place known published next (rw made for.sound) (rw made for.continues)
 
 -- Nothing waits where none is said to wait.
 pub none_waits : (waiting : List Operation) (some : Bool) → (IsTrue some ↔ (0 < length waiting)) → some ≡ false → waiting ≡ []
@@ -63,6 +63,6 @@ pub still_shown : (shows : Bool) (published next : Published) (known now : Optio
     → MatchBool shows (next ≡ left_by published operation) (next ≡ published) → MatchBool shows (now ≡ Some (sight_of next)) (now ≡ known)
     → (next.front.book ≡ published.front.book) × IsShown next now
 still_shown true published next known now operation shown for values seen =
-    (ap (λ (one : Published). one.front.book) values ∙ for.follows.of.0, record { sound = rw values for.sound; seen = seen })
+    (ap (λ (one : Published). one.front.book) values ∙ for.continues.of.0, record { sound = rw values for.sound; seen = seen })
 still_shown false published next known now operation shown for values seen =
     (ap (λ (one : Published). one.front.book) values, rw (values, seen) shown)

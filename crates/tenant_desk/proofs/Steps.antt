@@ -5,19 +5,19 @@ use mathlib.Core.Option.{some}
 use lib.ListN.{get_elem?}
 use Rattle.left_right.specs.Register.{Admits, TurnsAt, Forks, Merges}
 use Rattle.atomic_table.proofs.Lists.{at_set, at_snoc}
-use Rattle.tenant_desk.specs.Rules.{Fits, Follows, IsPublished, Holds, Sees, sight_of}
+use Rattle.tenant_desk.specs.Rules.{Fits, Continues, IsPublished, Holds, Sees, sight_of}
 use Rattle.tenant_desk.specs.declared.published.Published.{Published}
 use Rattle.tenant_desk.specs.declared.publishing_rule.Sight.{Sight}
 use Rattle.tenant_desk.proofs.Beginnings.{begins_with_itself, begins_through}
 
-pub follows_itself : (published : Published) → Follows published published
-follows_itself published = record { of = (refl, refl, refl); begins = begins_with_itself published.front.rows }
+pub continues_itself : (published : Published) → Continues published published
+continues_itself published = record { of = (refl, refl, refl); begins = begins_with_itself published.front.rows }
 
-fits_next : (before after : Published) (known : Option Sight) → Follows before after → Fits before known → Fits after known
-fits_next before after None follows fits = tt
-fits_next before after (Some sight) follows fits = (
-  (fits.0.0 ∙ sym follows.of.0, fits.0.1 ∙ sym follows.of.1, fits.0.2 ∙ sym follows.of.2),
-  begins_through sight.front.rows before.front.rows after.front.rows fits.1 follows.begins,
+fits_next : (before after : Published) (known : Option Sight) → Continues before after → Fits before known → Fits after known
+fits_next before after None continues fits = tt
+fits_next before after (Some sight) continues fits = (
+  (fits.0.0 ∙ sym continues.of.0, fits.0.1 ∙ sym continues.of.1, fits.0.2 ∙ sym continues.of.2),
+  begins_through sight.front.rows before.front.rows after.front.rows fits.1 continues.begins,
 )
 
 pub fits_seen : (published : Published) → Fits published (Some (sight_of published))
@@ -28,23 +28,23 @@ pub admits : Admits Holds None
 admits published known holds =
     (holds.0, λ place sight at. ⊎_elim (holds.1 place sight) (λ (is : None ≡ sight). subst (Fits published) is tt) (at_snoc known None sight place at))
 
--- a step may publish what follows, and sees all of it
-pub sees : (place : ℕ) (known : Option Sight) (before after : Published) → IsPublished after → Follows before after → TurnsAt Holds place known before after Sees
-sees place known before after sound follows others holds at =
+-- a step may publish what continues what was there, and sees all of it
+pub sees : (place : ℕ) (known : Option Sight) (before after : Published) → IsPublished after → Continues before after → TurnsAt Holds place known before after Sees
+sees place known before after sound continues others holds at =
     let now : Option Sight = Some (sight_of after) in (
       now,
       (
         sound,
         λ other sight is. ⊎_elim (λ (here : (other ≡ place) × (now ≡ sight)). subst (Fits after) here.1 (fits_seen after))
-            (λ (there : (other ≢ place) × (get_elem? others other ≡ some sight)). fits_next before after sight follows (holds.1 other sight there.1))
+            (λ (there : (other ≢ place) × (get_elem? others other ≡ some sight)). fits_next before after sight continues (holds.1 other sight there.1))
             (at_set others place other now sight is),
       ),
-      (sound, refl, fits_next before after known follows (holds.1 place known at)),
+      (sound, refl, fits_next before after known continues (holds.1 place known at)),
     )
 
 -- and so where it publishes nothing
 pub looks : (place : ℕ) (known : Option Sight) (published : Published) → TurnsAt Holds place known published published Sees
-looks place known published others holds at = sees place known published published holds.0 (follows_itself published) others holds at
+looks place known published others holds at = sees place known published published holds.0 (continues_itself published) others holds at
 
 set_keeps : (published : Published) (others : List (Option Sight)) (place : ℕ) (now : Option Sight) → Holds published others → Fits published now
     → Holds published (set others place now)

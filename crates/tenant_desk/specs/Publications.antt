@@ -7,7 +7,7 @@ use Rattle.trace_types.specs.clock.Stamps.{id_of, tree_of}
 use Rattle.tenant_ledger.specs.Ledger.{MayHavePoint, start_of}
 use Rattle.tenant_desk.specs.Histories.{longer_by}
 use Rattle.tenant_desk.specs.Events.{Events, events_with}
-use Rattle.tenant_desk.specs.Rules.{Follows, IsPublished, sight_of}
+use Rattle.tenant_desk.specs.Rules.{Continues, IsPublished, sight_of}
 use Rattle.tenant_desk.specs.declared.publishing_rule.Sight.{Sight}
 use Rattle.tenant_desk.specs.declared.published_event.Event.{Event}
 use Rattle.tenant_desk.specs.declared.published.Operation.{Operation}
@@ -38,7 +38,7 @@ with_next event published = record { events = with_some (Some event) published.e
 -- What the operation makes of what is published may be published after it.
 pub record IsFor (published : Published) (operation : Operation) : Type 0 where
   pub sound : IsPublished (left_by published operation)
-  pub follows : Follows published (left_by published operation)
+  pub continues : Continues published (left_by published operation)
 
 -- What is shown is as published values are, and the writer knows of it.
 pub record IsShown (shown : Published) (known : Option Sight) : Type 0 where

@@ -30,7 +30,7 @@ pub record IsPublished (published : Published) : Type 0 where
   pub events : AreSound published.events
   pub rows : published.front.rows ≡ published.events.rows
 
--- what is published is so, and fits what each place knows
+-- what is published is so, and fits what the desk and each view knows
 abbrev pub Holds : Published → List (Option Sight) → Type 0
 Holds published known =
     IsPublished published × ((place : ℕ) (sight : Option Sight) → get_elem? known place ≡ some sight → Fits published sight)
@@ -40,7 +40,7 @@ abbrev pub Sees : Option Sight → Published → Published → Option Sight → 
 Sees known before after now = IsPublished after × (now ≡ Some (sight_of after)) × Fits after known
 
 -- What is published next is of the same desk, and begins with what was.
-pub record Follows (before after : Published) : Type 0 where
+pub record Continues (before after : Published) : Type 0 where
   pub of : IsOfDesk before.front.book before.events.limits before.events.home (Some (sight_of after))
   pub begins : IsPrefix before.front.rows after.front.rows
 

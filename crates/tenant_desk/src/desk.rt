@@ -211,6 +211,7 @@ impl Desk {
             shared: _,
             publisher,
         } = self;
+        // Neither is dropped.
         let _ = ManuallyDrop::new((ledger, publisher.close(rt)));
     }
 }

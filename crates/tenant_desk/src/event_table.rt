@@ -78,7 +78,7 @@ impl Events {
     }
 
     /// Adds the event behind the others. It takes no block of memory. Returns `Memory`, and leaves the events as they were, if
-    /// it, its task or its message is above the limits, or if one of its trees would stand in more places than can be counted.
+    /// it, its task or its message is above the limits, or if one of its trees would be shared more often than can be counted.
     pub fn put(&mut self, event: &Event) -> Result<(), Memory>
         ensures room { IfOk result (λ _. (length self.old.rows < self.old.limits.events) × AreWithin self.old.limits (event.now.row ∷ history_of self.old.rows)) }
         ensures events { MatchResult result (λ _. self.new ≡ events_with event.now self.old) (λ _. self.new ≡ self.old) }

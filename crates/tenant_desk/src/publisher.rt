@@ -54,7 +54,7 @@ impl Model for Publisher {
     ghost invariant = { λ p. (p.head ≡ head_of p.writer.desk.shown.value.front.book) × IsShown p.writer.desk.shown.value (known_at p.writer.desk.place) };
 }
 
-/// How many views a desk has. Each has a place to read from.
+/// How many views a desk has. Each has a reader.
 pub(crate) const VIEWS: usize = 8;
 
 /// Shows what the operation makes, and says whether it did. It does not if it runs out of memory.
@@ -149,7 +149,7 @@ impl Publisher {
         &self.writer.published().events
     }
 
-    /// A place to read from, which knows what is shown. Returns `Memory` if there is none, or no memory for it.
+    /// A reader of what is shown, which knows it. Returns `Memory` if none is left, or no memory for it.
     pub(crate) fn reader(&mut self) -> Result<DeskReader, Memory>
         ensures same { self.new ≡ self.old }
         ensures knows { IfOk result (λ reader. known_at reader.place ≡ Some (sight_of self.old)) }

@@ -7,7 +7,7 @@ use crossbeam_utils::rule::{Outcome, Protocol};
 use trace_types::Limits;
 use tree_forest::Home;
 
-/// What a place saw of what is published: how far the rows went, and of which desk. It exists in proofs alone.
+/// What a desk or a view saw of what is published: how far the rows went, and of which desk. It exists in proofs alone.
 #[derive(Drop)]
 pub(crate) struct Sight {
     pub(crate) front: Front,
@@ -15,10 +15,10 @@ pub(crate) struct Sight {
     pub(crate) home: Home,
 }
 
-/// What a place knows.
+/// What a desk or a view knows.
 pub(crate) type Knows = Option<Sight>;
 
-/// What is published is sound, and fits what each place knows.
+/// What is published is sound, and fits what each of them knows.
 pub(crate) struct Publishing;
 
 impl Protocol<Published, Knows> for Publishing {

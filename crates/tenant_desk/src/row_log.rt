@@ -76,7 +76,7 @@ impl Plain<Row, Entry, u64> for Adding {
 /// The number of the rows of a log. Nothing else is stored of a log.
 pub(crate) type Head = Word<Entry, u64, Counted>;
 
-/// The rows of a log up to some point, which the log has reached. A clause sees the rows, which log it is, and whose.
+/// The first rows of a log, up to a number that it has reached. A clause sees the rows, which log it is, and whose.
 ///
 /// It is the number of the rows, and takes no memory.
 #[derive(Drop)]

@@ -67,8 +67,8 @@ fn enter(reader: DeskReader, seen: &Front) -> Result<DeskReading, DeskReader>
     }
 }
 
-/// Leaves what was entered, and gives how far it went.
-fn leave(reading: DeskReading) -> (DeskReader, Front)
+/// Gives back what was entered, and says how far it went.
+fn give_back(reading: DeskReading) -> (DeskReader, Front)
     ensures known { known_at result.0.place ≡ known_at reading.place }
     ensures front { result.1 ≡ reading.part.value.front }
 {
@@ -77,7 +77,7 @@ fn leave(reading: DeskReading) -> (DeskReader, Front)
 }
 
 impl View {
-    /// A view that has seen all that is shown. Returns `Memory` if there is no place to read from, or no memory for it.
+    /// A view that has seen all that is shown. Returns `Memory` if no reader is left, or no memory for it.
     pub(crate) fn new(
         limits: Limits,
         shared: &Arc<Shared>,
@@ -132,6 +132,7 @@ impl View {
         ensures book { self.new.book ≡ self.old.book }
         ensures short { IsShort self.new.seen request.now result }
     {
+        // For the proof: it says that these are limits.
         let _ = self.limits.events();
         let mut reply = Reply::Refused(Code::NoPlace);
         self.respond(request, false, &mut reply);
@@ -152,13 +153,13 @@ impl View {
     /// Answers as [`View::ask_cached`] does, and puts the reply in place of this one. So the reply is not moved from call to
     /// call.
     #[tactic(auto, using(crate::proofs::Viewing::short_response))]
-    pub fn ask_cached_into<R: Wait>(&mut self, rt: &R, request: &Request, reply: &mut Reply)
+    pub fn ask_cached_into<R: Wait>(&mut self, _rt: &R, request: &Request, reply: &mut Reply)
         ensures answer { Responds self.old request.now reply.new self.new }
         ensures book { self.new.book ≡ self.old.book }
         ensures short { IsShort self.new.seen request.now reply.new }
     {
+        // For the proof: it says that these are limits.
         let _ = self.limits.events();
-        let _ = rt;
         self.respond(request, true, reply);
     }
 
@@ -180,7 +181,7 @@ impl View {
         match enter(reader, &self.seen) {
             Ok(reading) => {
                 let parts = shared_parts(&reading.get().events, event);
-                let (reader, seen) = leave(reading);
+                let (reader, seen) = give_back(reading);
                 self.reader = Some(reader);
                 self.seen = seen;
                 self.met.clear();
@@ -211,7 +212,7 @@ impl View {
             Ok(reading) => {
                 let events = &reading.get().events;
                 answer_published(events, &*self.shared, by_cache, request, reply);
-                let (reader, seen) = leave(reading);
+                let (reader, seen) = give_back(reading);
                 self.reader = Some(reader);
                 self.seen = seen;
                 self.met.clear();

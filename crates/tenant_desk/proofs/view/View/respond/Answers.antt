@@ -27,12 +27,12 @@ returns-in-Ok-clause-answer c =
     let reply = c.answer_published.new.reply in
     let published = c.in-Ok.reading.part.value in
     let old : Known = record { seen = inside.seen.rows; met = inside.met; limits = inside.limits; book = inside.seen.book } in
-    let new : Known = record { seen = c.leave-reader.result.1.rows; met = c.clear.new.self; limits = inside.limits; book = c.leave-reader.result.1.book } in
+    let new : Known = record { seen = c.give_back-reader.result.1.rows; met = c.clear.new.self; limits = inside.limits; book = c.give_back-reader.result.1.book } in
     let is : inside.reader ≡ Some c.in-Some.reader = sym c.take.ensures.value ∙ c.in-Some.is in
     let of = value_there inside.reader c.in-Some.reader is
     (λ reader. IsOfDesk inside.seen.book inside.limits (arc_value inside.shared).trees (known_at reader.place)) c.self.invariant.1 in
     let answered = subst (λ (entered : Published). Answers (published_tenant entered.events) request reply) c.get.ensures c.answer_published.ensures in
-    let front = c.leave-reader.ensures.front in
+    let front = c.give_back-reader.ensures.front in
     let met = c.clear.ensures in
     let is_new : new ≡ record { seen = published.front.rows; met = []; limits = inside.limits; book = published.front.book } =
     λ i. record { seen = (front i).rows; met = met i; limits = inside.limits; book = (front i).book } in
@@ -47,4 +47,4 @@ returns-in-Ok-clause-book c =
     let of = value_there inside.reader c.in-Some.reader is
     (λ reader. IsOfDesk inside.seen.book inside.limits (arc_value inside.shared).trees (known_at reader.place)) c.self.invariant.1 in
     let same = entered_desk inside.seen.book inside.limits (arc_value inside.shared).trees _ _ published of c.in-Ok.ensures.sees in
-    ap (λ (line : Line). line.book) c.leave-reader.ensures.front ∙ same.0 ∙ ap (λ (before : Known). before.book) c.self.view_is
+    ap (λ (line : Line). line.book) c.give_back-reader.ensures.front ∙ same.0 ∙ ap (λ (before : Known). before.book) c.self.view_is
