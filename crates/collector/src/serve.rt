@@ -61,7 +61,7 @@ where
     let hub = Hub::new(rt, alloc, names.as_slice(), wanted.limits, wanted.cache)?;
     let served = serve_hub(rt, alloc, &hub, wanted, writer);
     // The program ends next, as after a replay.
-    hub.leave(rt);
+    hub.close_at_exit(rt);
     served
 }
 

@@ -205,7 +205,7 @@ impl Desk {
 
     /// Ends the desk as [`Desk::close`] does, and leaves its memory to the end of the process. Use it if the process ends
     /// next: to give the trees back one by one would only take time.
-    pub fn leave<R: Wait>(self, rt: &R) {
+    pub fn close_at_exit<R: Wait>(self, rt: &R) {
         let Desk {
             ledger,
             shared: _,

@@ -114,10 +114,10 @@ impl Hub {
     }
 
     /// Ends the hub as [`Hub::close`] does, and leaves the memory of its desks to the end of the process.
-    pub fn leave<R: Wait>(self, rt: &R) {
+    pub fn close_at_exit<R: Wait>(self, rt: &R) {
         let Hub { mut tenants } = self;
         while let Some(tenant) = tenants.pop() {
-            tenant.leave(rt);
+            tenant.close_at_exit(rt);
         }
         tenants.destroy_empty();
     }

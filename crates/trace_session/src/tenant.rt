@@ -94,10 +94,10 @@ impl Tenant {
     }
 
     /// Ends the desk as [`Tenant::close`] does, and leaves its memory to the end of the process.
-    pub(crate) fn leave<R: Wait>(self, rt: &R) {
+    pub(crate) fn close_at_exit<R: Wait>(self, rt: &R) {
         let Tenant { owner: _, shelf } = self;
         if let Some(desk) = shelf.into_resting().and_then(Resting::into_desk) {
-            desk.leave(rt);
+            desk.close_at_exit(rt);
         }
     }
 }
