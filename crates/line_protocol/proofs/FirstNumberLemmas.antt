@@ -11,7 +11,7 @@ use Rattle.trace_types.specs.text.Reading.{words, is_digit, is_number, number_of
 use Rattle.line_protocol.specs.Words.{LeadingNumber, first_number, may_be_number}
 use Rattle.line_protocol.proofs.WordsLemmas.{some_word, both_true, digit_bounds, only-more, only_two-more}
 
--- a byte that is no blank begins the word that follows it
+-- a byte that is no blank begins the word behind it
 byte_first : (byte : ℕ) (bytes word : Text) (others : List Text) → (byte == 32) ≡ false → words bytes ≡ word ∷ others → words (byte ∷ bytes) ≡ (byte ∷ word) ∷ others
 byte_first byte bytes word others is all = rw (is, all) refl
 
@@ -21,7 +21,7 @@ digit_no_blank byte true is blank =
     let same : byte ≡ 32 = eqb-true byte 32 blank in absurd (omega (arith, bounds.0, same))
 digit_no_blank byte false is blank = refl
 
--- digits begin the word that follows them
+-- digits begin the word behind them
 digits_first : (digits rest word : Text) (others : List Text) → list_all is_digit digits ≡ true → words rest ≡ word ∷ others → words (digits ++ rest) ≡ (digits ++ word) ∷ others
 digits_first [] rest word others is all = all
 digits_first (digit ∷ digits) rest word others is all =
@@ -96,7 +96,7 @@ long_none text long =
     not_within true false c d is = refl
     not_within false b c d is = refl
 
--- what follows the digits in their word
+-- what is behind the digits in their word
 longer_none : (digits word : Text) (byte : ℕ) (d : Bool) → is_digit byte ≡ d → (length digits < 9 → is_digit byte ≡ false) → length digits ≤ 9 → number_of (digits ++ byte ∷ word) ≡ None
 longer_none digits word byte false is ends few = other_none digits word byte is
 longer_none digits word byte true is ends few = long_none (digits ++ byte ∷ word) (by_length (nat_le 9 (length digits)) refl)

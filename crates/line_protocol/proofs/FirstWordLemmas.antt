@@ -8,7 +8,7 @@ use Rattle.trace_types.specs.text.Name.{Text, is_same}
 use Rattle.trace_types.specs.text.Reading.{words, request_of_words}
 use Rattle.line_protocol.proofs.WordsLemmas.{some_word}
 
--- the text is its first word, or begins with that word and a blank where others follow
+-- the text is its first word, or begins with that word and a blank where others come
 abbrev pub Begins : Text → Text → List Text → Type 0
 Begins text word [] = text ≡ word
 Begins text word (_ ∷ _) = take (suc (length word)) text ≡ word ++ 32 ∷ []

@@ -209,12 +209,12 @@ FindsNone-skipped {given = given} {mid = mid} {old = old} comes no_end skipped g
   goes_on = goes_on;
 }
 
--- what holds then of the bytes, and what follows
-pub LastRead-map : {R : Type 0} {seen : R → Given} {source : R} {Holds Follows : List ℕ → Type 0} → LastRead seen source Holds → ((given : List ℕ) → Holds given → Follows given)
-    → LastRead seen source Follows
-LastRead-map {seen = seen} last follows = record {
+-- what holds then of the bytes, and what that implies
+pub LastRead-map : {R : Type 0} {seen : R → Given} {source : R} {Holds Implied : List ℕ → Type 0} → LastRead seen source Holds → ((given : List ℕ) → Holds given → Implied given)
+    → LastRead seen source Implied
+LastRead-map {seen = seen} last implies = record {
   earlier = last.earlier;
-  held = follows (seen last.earlier).bytes last.held;
+  held = implies (seen last.earlier).bytes last.held;
   once = last.once;
 }
 

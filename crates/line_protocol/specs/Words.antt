@@ -21,7 +21,7 @@ abbrev pub first_number : List Text → Option (ℕ × List Text)
 first_number [] = None
 first_number (word ∷ rest) = option_map (λ number. (number, rest)) (number_of word)
 
--- The text begins with so many digits, which spell the number. They are at most nine, and no digit follows fewer.
+-- The text begins with so many digits, which spell the number. They are at most nine. If they are fewer, the next byte is no digit.
 pub record LeadingNumber (text : Text) (number count : ℕ) : Type 0 where
   pub within : count ≤ length text
   pub few : count ≤ 9

@@ -24,14 +24,14 @@
 //! ```
 #![tactic(auto)]
 
-mod buffer;
-mod buffered;
+mod buffered_sink;
 mod ends;
 mod flushing;
 mod from_reader;
 mod gather;
 mod into_writer;
 mod line;
+mod line_buffer;
 mod line_fault;
 mod line_reader;
 mod log;
@@ -47,11 +47,11 @@ mod stop;
 mod stream_fault;
 mod write_fault;
 
-pub use buffer::Buffer;
-pub use buffered::Buffered;
+pub use buffered_sink::Buffered;
 pub use from_reader::FromReader;
 pub use into_writer::IntoWriter;
 pub use line::Line;
+pub use line_buffer::Buffer;
 pub use line_fault::LineFault;
 pub use line_reader::LineReader;
 pub use read_fault::ReadFault;

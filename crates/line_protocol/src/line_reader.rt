@@ -5,7 +5,7 @@ ghost use Rattle.line_protocol.specs.HandingOn.{FindsBehind, HandsOnBefore, read
 ghost use Rattle.line_protocol.specs.Held.{fresh_held, fresh_within};
 ghost use Rattle.line_protocol.specs.LineReading.{FindsNext, NeedsRead};
 
-use crate::buffer::Buffer;
+use crate::line_buffer::Buffer;
 use crate::{Line, LineFault, ReadFault, Sink, Source};
 use std::alloc::Global;
 use trace_types::Memory;

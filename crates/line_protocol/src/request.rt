@@ -1,4 +1,4 @@
-//! Requests, which are read in place.
+//! Requests, which are read where they lie.
 ghost use Rattle.std.specs.Prelude.{◌≡◌, ◌∷◌, IfSome, IsTrue, Some, false, codes, take, option_map, position, ◌==◌};
 ghost use Rattle.std.specs.Option.{option_copied};
 ghost use Rattle.trace_types.specs.text.Name.{is_same};

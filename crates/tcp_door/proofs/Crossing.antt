@@ -2,7 +2,7 @@
 -- search that goes down through all of them runs out of steps.
 use denote.Param.Send.{IsSend, IsSync, sendable}
 use Rattle.std.proofs.Crossing.{crosses}
-use Rattle.line_protocol.specs.contracts.buffered.Buffered as Buffered
+use Rattle.line_protocol.specs.contracts.buffered_sink.Buffered as Buffered
 use Rattle.line_protocol.specs.contracts.from_reader.FromReader as FromReader
 use Rattle.line_protocol.specs.contracts.into_writer.IntoWriter as IntoWriter
 use Rattle.line_protocol.specs.declared.sink.Sink.{Ghosts}

@@ -1,7 +1,7 @@
 use Rattle.std.proofs.Common.{◌≡◌, ◌-◌, IsTrue}
 use Rattle.line_protocol.specs.LineReading.{Reads, ReadsForLine}
 use Rattle.line_protocol.specs.Ends.{Comes}
-use Rattle.line_protocol.proofs.buffer.Buffer.find_end.Given as goal
+use Rattle.line_protocol.proofs.line_buffer.Buffer.find_end.Given as goal
 
 abbrev pub invariant-loop-self : goal.invariant-loop-self
 invariant-loop-self g l = record {

@@ -1,6 +1,6 @@
 use Rattle.std.proofs.Common.{refl, arith, append-nil, sym, []}
 use Rattle.line_protocol.proofs.LineReadingLemmas.{Comes-none, Reads-none}
-use Rattle.line_protocol.proofs.buffer.Buffer.read_more.Goals as goal
+use Rattle.line_protocol.proofs.line_buffer.Buffer.read_more.Goals as goal
 
 pub loop-self-init : goal.loop-self-init
 loop-self-init g c = record {

@@ -1,6 +1,6 @@
 use Rattle.std.proofs.Common.{slice_range}
 use Rattle.line_protocol.proofs.EndsLemmas.{IsEnd-position}
-use Rattle.line_protocol.proofs.buffer.Buffer.end_of_line.Goals as goal
+use Rattle.line_protocol.proofs.line_buffer.Buffer.end_of_line.Goals as goal
 
 pub returns : goal.returns
 returns c =

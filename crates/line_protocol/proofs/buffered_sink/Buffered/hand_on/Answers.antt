@@ -1,7 +1,7 @@
 use Rattle.std.proofs.Common.{◌∙◌, refl, arith}
 use Rattle.line_protocol.proofs.CallLemmas.{handed_on, took_some}
 use Rattle.std.proofs.KnownBytes.{Keeps-refl, Keeps-trans}
-use Rattle.line_protocol.proofs.buffered.Buffered.hand_on.Goals as goal
+use Rattle.line_protocol.proofs.buffered_sink.Buffered.hand_on.Goals as goal
 
 pub returns-in_err-count-clause-began : goal.returns-in_err-count-clause-began
 returns-in_err-count-clause-began g c = Keeps-trans _ _ _ c.loop-self.invariant.began c.write_some.ensures.writes.began

@@ -1,6 +1,6 @@
 use Rattle.std.proofs.Common.{◌+◌, ◌≤◌, arith, refl}
 use Rattle.line_protocol.proofs.Ranges.{slice_range-drop, length-slice_range}
-use Rattle.line_protocol.proofs.buffer.Buffer.drop_front.Goals as goal
+use Rattle.line_protocol.proofs.line_buffer.Buffer.drop_front.Goals as goal
 
 pub returns : goal.returns
 returns c =

@@ -2,7 +2,7 @@ use Rattle.std.proofs.Common.{◌-◌, ◌≤◌, IsTrue}
 use Rattle.line_protocol.specs.LineReading.{Reads}
 use Rattle.line_protocol.specs.Ends.{Skipped}
 use Rattle.line_protocol.specs.Source.{LastRead}
-use Rattle.line_protocol.proofs.buffer.Buffer.skip_line.Given as goal
+use Rattle.line_protocol.proofs.line_buffer.Buffer.skip_line.Given as goal
 
 abbrev pub invariant-loop-self : goal.invariant-loop-self
 invariant-loop-self g l = record {

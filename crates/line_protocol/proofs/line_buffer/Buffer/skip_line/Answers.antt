@@ -5,9 +5,9 @@ use Rattle.line_protocol.specs.LineReading.{Reads}
 use Rattle.line_protocol.specs.Source.{Given, LastRead}
 use Rattle.line_protocol.proofs.LineReadingLemmas.{LastRead-map, Reads-none, Reads-dropped, Reads-more, ReadsUntil-more, ReadsUntil-fault}
 use Rattle.line_protocol.proofs.SkipLemmas.{Skipped-more, Skips-at}
-use Rattle.line_protocol.proofs.buffer.Buffer.skip_line.Given.{Over}
-use Rattle.line_protocol.proofs.buffer.Buffer.skip_line.Goals as goal
-use Rattle.line_protocol.proofs.buffer.Buffer.skip_line.Goals.{After-read_more}
+use Rattle.line_protocol.proofs.line_buffer.Buffer.skip_line.Given.{Over}
+use Rattle.line_protocol.proofs.line_buffer.Buffer.skip_line.Goals as goal
+use Rattle.line_protocol.proofs.line_buffer.Buffer.skip_line.Goals.{After-read_more}
 
 -- the reads so far, with what was left thrown away
 so_far : (g : Over) (c : After-read_more g) → Reads (g.R.Source.seen c.args.source.now) (g.R.Source.seen c.loop-self.source) c.args.self.now c.drop_left.new.self 0

@@ -2,8 +2,8 @@ use Rattle.std.proofs.Common.{◌≡◌, ◌-◌, ◌<◌, ℕ, List, [], ◌∷
 use Rattle.line_protocol.specs.declared.line.Line.TheVariants.{End}
 use Rattle.line_protocol.specs.Ends.{last_line, kind_of_length}
 use Rattle.line_protocol.proofs.Ranges.{length-slice_range}
-use Rattle.line_protocol.proofs.buffer.Buffer.take_rest.Goals as goal
-use Rattle.line_protocol.proofs.buffer.Buffer.take_rest.Goals.{then-len-eq0, else-len-eq0}
+use Rattle.line_protocol.proofs.line_buffer.Buffer.take_rest.Goals as goal
+use Rattle.line_protocol.proofs.line_buffer.Buffer.take_rest.Goals.{then-len-eq0, else-len-eq0}
 
 nothing : (most : ℕ) (line : List ℕ) → length line ≡ 0 → End ≡ last_line most line
 nothing most [] len = refl

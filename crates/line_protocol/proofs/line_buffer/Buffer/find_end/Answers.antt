@@ -1,7 +1,7 @@
 use Rattle.std.proofs.Common.{rules, ◌≡◌, false, inl, refl, append-nil, sym, []}
 use Rattle.line_protocol.specs.Ends.{HasNoEnd}
 use Rattle.line_protocol.proofs.LineReadingLemmas.{Comes-more, Reads-more, Reads-none, ReadsForLine-read}
-use Rattle.line_protocol.proofs.buffer.Buffer.find_end.Goals as goal
+use Rattle.line_protocol.proofs.line_buffer.Buffer.find_end.Goals as goal
 
 pub loop-self-init : goal.loop-self-init
 loop-self-init g c = record {

@@ -1,7 +1,7 @@
 use Rattle.std.proofs.Common.{◌≡◌, false, sym, ap, ◌∙◌}
 use Rattle.line_protocol.specs.Held.{Held}
 use Rattle.line_protocol.proofs.EndsLemmas.{IsEnd-none}
-use Rattle.line_protocol.proofs.buffer.Buffer.needs_read.Goals as goal
+use Rattle.line_protocol.proofs.line_buffer.Buffer.needs_read.Goals as goal
 
 pub returns-then-not-self : goal.returns-then-not-self
 returns-then-not-self c =

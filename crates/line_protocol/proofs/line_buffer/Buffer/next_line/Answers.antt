@@ -1,9 +1,9 @@
 use Rattle.std.proofs.Common.{ℕ, Bool, Err, ◌≡◌, ◌≤◌, ◌⊎◌, IsTrue, inl, inr, refl, sym, ap, ◌∙◌, true, false}
 use Rattle.line_protocol.proofs.LineReadingLemmas.{FindsNone-skipped, LastRead-map, ReadsUntil-more, ReadsUntil-fault}
 use Rattle.line_protocol.proofs.NextLineLemmas.{FindsNext-at, FindsNext-rest, FindsNext-skipped, FindsNext-failed}
-use Rattle.line_protocol.proofs.buffer.Buffer.next_line.Given.{Over}
-use Rattle.line_protocol.proofs.buffer.Buffer.next_line.Goals.{After-skip_line}
-use Rattle.line_protocol.proofs.buffer.Buffer.next_line.Goals as goal
+use Rattle.line_protocol.proofs.line_buffer.Buffer.next_line.Given.{Over}
+use Rattle.line_protocol.proofs.line_buffer.Buffer.next_line.Goals.{After-skip_line}
+use Rattle.line_protocol.proofs.line_buffer.Buffer.next_line.Goals as goal
 
 long : (is_ended : Bool) (m n : ℕ) → is_ended ≡ false → IsTrue is_ended ⊎ (m ≤ n) → m ≤ n
 long is_ended m n going (inl ended) = absurd (cc)

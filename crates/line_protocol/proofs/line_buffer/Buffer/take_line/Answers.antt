@@ -1,6 +1,6 @@
 use Rattle.std.proofs.Common.{◌+◌, ◌≤◌, arith}
 use Rattle.line_protocol.proofs.Ranges.{slice_range-drop, length-slice_range}
-use Rattle.line_protocol.proofs.buffer.Buffer.take_line.Goals as goal
+use Rattle.line_protocol.proofs.line_buffer.Buffer.take_line.Goals as goal
 
 pub returns-clause-left : goal.returns-clause-left
 returns-clause-left c =

@@ -1,6 +1,6 @@
 use Rattle.std.proofs.Common.{◌≡◌, ◌-◌, ◌++◌, drop, vec_len}
 use Rattle.std.specs.Io.KnownBytes.{Keeps}
-use Rattle.line_protocol.proofs.buffered.Buffered.hand_on.Given as goal
+use Rattle.line_protocol.proofs.buffered_sink.Buffered.hand_on.Given as goal
 
 abbrev pub invariant-loop-self : goal.invariant-loop-self
 invariant-loop-self g l = record {

@@ -1,5 +1,5 @@
 use Rattle.line_protocol.proofs.EndsLemmas.{HasNoEnd-front}
-use Rattle.line_protocol.proofs.buffer.Buffer.next_line_flushing.Goals as goal
+use Rattle.line_protocol.proofs.line_buffer.Buffer.next_line_flushing.Goals as goal
 
 pub returns-in-Err-clause-handed_on : goal.returns-in-Err-clause-handed_on
 returns-in-Err-clause-handed_on g c =
