@@ -8,7 +8,7 @@ use Rattle.atomic_table.proofs.shared.Shared.TheSendSync as shared
 use Rattle.tenant_desk.proofs.Crossing.{desk_send, view_send}
 use Rattle.trace_session.proofs.owner.Owner.TheSendSync as owner
 use Rattle.trace_session.specs.contracts.hub.Hub as Hub
-use Rattle.trace_session.specs.contracts.resting.Resting as Resting
+use Rattle.trace_session.specs.contracts.shelf_contents.Resting as Resting
 use Rattle.trace_session.specs.contracts.shelf.Shelf as Shelf
 use Rattle.trace_session.specs.contracts.tenant.Tenant as Tenant
 use Rattle.trace_session.specs.contracts.tenant.Tenant.TheInside as Inside

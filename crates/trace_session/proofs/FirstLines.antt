@@ -12,9 +12,9 @@ use Rattle.trace_session.specs.Hubs.{Hub}
 use Rattle.trace_session.specs.Openings.{opening_at, opening_in, opening_of}
 use Rattle.trace_session.specs.State.{State}
 use Rattle.trace_session.specs.Witnesses.{Witness}
-use Rattle.trace_session.specs.declared.conversation.Opening.{Opening}
-use Rattle.trace_session.specs.declared.end.SessionEnd.{SessionEnd}
-use Rattle.trace_session.specs.declared.end.SessionFault.{SessionFault}
+use Rattle.trace_session.specs.declared.hub_session.Opening.{Opening}
+use Rattle.trace_session.specs.declared.session_end.SessionEnd.{SessionEnd}
+use Rattle.trace_session.specs.declared.session_end.SessionFault.{SessionFault}
 
 opening_too_long : (most : ℕ) (text : Text) → is_longer_than most text ≡ true → opening_in most text ≡ None
 opening_too_long most text long = rw long refl

@@ -16,11 +16,11 @@ use Rattle.trace_session.specs.Faults.{failed_reads_in, read_fault_in, session_f
 use Rattle.trace_session.specs.Outputs.{GoesThroughGate, IsSameOutput}
 use Rattle.trace_session.specs.Sessions.{AnswersAsked, AnswersInTime, AnswersLate, BringsNoEnd, Finishes, over_reply}
 use Rattle.trace_session.specs.Written.{StopsAt, reply_line}
-use Rattle.trace_session.specs.declared.lines.Asked.{Asked}
-use Rattle.trace_session.specs.declared.lines.Asked.TheVariants as asked
-use Rattle.trace_session.specs.declared.end.SessionEnd.{SessionEnd}
-use Rattle.trace_session.specs.declared.end.SessionFault.{SessionFault}
-use Rattle.trace_session.specs.declared.end.SessionFault.TheVariants.{Write, Gate}
+use Rattle.trace_session.specs.declared.session_lines.Asked.{Asked}
+use Rattle.trace_session.specs.declared.session_lines.Asked.TheVariants as asked
+use Rattle.trace_session.specs.declared.session_end.SessionEnd.{SessionEnd}
+use Rattle.trace_session.specs.declared.session_end.SessionFault.{SessionFault}
+use Rattle.trace_session.specs.declared.session_end.SessionFault.TheVariants.{Write, Gate}
 use Rattle.trace_session.specs.declared.output.Output.{Output}
 
 to_old : {W T G : Type 0} {old mid : Output W T G} (P : G → ℕ → Type 0) → IsSameOutput old mid → P mid.gate.now mid.number → P old.gate.now old.number

@@ -1,6 +1,6 @@
+mod AnsweredLines
 pub mod Crossing
 mod FirstLines
-mod Following
 mod Goings
 mod Lists
 mod OwnLogs

@@ -17,10 +17,10 @@ use Rattle.trace_session.specs.Hubs.{Hub, IsHubOf, Owner, tenant_named}
 use Rattle.trace_session.specs.OwnLogs.{IsWitnessOf}
 use Rattle.trace_session.specs.State.{State}
 use Rattle.trace_session.specs.Witnesses.{Witness}
-use Rattle.trace_session.specs.declared.conversation.Lending.{Lending}
-use Rattle.trace_session.specs.declared.conversation.Lending.TheVariants as lending
-use Rattle.trace_session.specs.declared.end.SessionEnd.{SessionEnd}
-use Rattle.trace_session.specs.declared.end.SessionFault.{SessionFault}
+use Rattle.trace_session.specs.declared.hub_session.Lending.{Lending}
+use Rattle.trace_session.specs.declared.hub_session.Lending.TheVariants as lending
+use Rattle.trace_session.specs.declared.session_end.SessionEnd.{SessionEnd}
+use Rattle.trace_session.specs.declared.session_end.SessionFault.{SessionFault}
 use Rattle.trace_session.proofs.Tenants.{named_here, named_later}
 
 module _ (P : Owner → Type 0) (name : Text) (tenant : Owner) where

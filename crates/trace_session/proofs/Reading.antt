@@ -10,7 +10,7 @@ use Rattle.line_protocol.specs.declared.line.Line.{Line}
 use Rattle.line_protocol.specs.declared.line.Line.TheVariants as line
 use Rattle.trace_session.specs.Asking.{FindsAsked, asked_by_line}
 use Rattle.trace_session.specs.Reading.{ReadsLines}
-use Rattle.trace_session.specs.declared.lines.Asked.{Asked}
+use Rattle.trace_session.specs.declared.session_lines.Asked.{Asked}
 
 -- no line was read
 pub ReadsLines-none : (given held : List ℕ) (is_ended : Bool) → ReadsLines given given held held is_ended []

@@ -4,15 +4,15 @@ use Rattle.trace_types.specs.declared.code.Code.{Code}
 use Rattle.trace_types.specs.declared.reply.Reply.TheVariants as reply
 use Rattle.line_protocol.specs.Sink.{Taken}
 use Rattle.line_protocol.specs.Writing.{WritesWhole}
-use Rattle.trace_session.proofs.Following.{fault_is}
+use Rattle.trace_session.proofs.AnsweredLines.{fault_is}
 use Rattle.trace_session.proofs.Writing.{Wrote-none, Wrote-line, WritesAll-from, WritesLinesInPart-held, WritesLinesInPart-line}
 use Rattle.trace_session.specs.Conversations.{TurnsAway}
 use Rattle.trace_session.specs.Sessions.{Finishes}
 use Rattle.trace_session.specs.Written.{StopsAt, reply_line}
-use Rattle.trace_session.specs.declared.end.SessionEnd.{SessionEnd}
-use Rattle.trace_session.specs.declared.end.SessionEnd.TheVariants.{Refused}
-use Rattle.trace_session.specs.declared.end.SessionFault.{SessionFault}
-use Rattle.trace_session.specs.declared.end.SessionFault.TheVariants.{Write, Gate}
+use Rattle.trace_session.specs.declared.session_end.SessionEnd.{SessionEnd}
+use Rattle.trace_session.specs.declared.session_end.SessionEnd.TheVariants.{Refused}
+use Rattle.trace_session.specs.declared.session_end.SessionFault.{SessionFault}
+use Rattle.trace_session.specs.declared.session_end.SessionFault.TheVariants.{Write, Gate}
 
 refused_stops : (code : Code) (taken taken' : Taken) (fault : SessionFault) → StopsAt fault taken taken' (reply_line (reply.Refused code)) → TurnsAway code taken taken' (Err fault)
 refused_stops code taken taken' Write (inl part) = WritesLinesInPart-line (reply.Refused code) (Wrote-none taken) part

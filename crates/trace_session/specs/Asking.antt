@@ -8,8 +8,8 @@ use Rattle.line_protocol.specs.Held.{Held}
 use Rattle.line_protocol.specs.LineReading.{Finds, GivesLine}
 use Rattle.line_protocol.specs.declared.line.Line.{Line}
 use Rattle.line_protocol.specs.declared.line.Line.TheVariants as line
-use Rattle.trace_session.specs.declared.lines.Asked.{Asked}
-use Rattle.trace_session.specs.declared.lines.Asked.TheVariants as asked
+use Rattle.trace_session.specs.declared.session_lines.Asked.{Asked}
+use Rattle.trace_session.specs.declared.session_lines.Asked.TheVariants as asked
 
 -- how many requests one session may make; each line that is no `quit` counts as one
 abbrev pub most_requests : ℕ

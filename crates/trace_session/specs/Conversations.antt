@@ -20,13 +20,13 @@ use Rattle.trace_session.specs.Sessions.{Session}
 use Rattle.trace_session.specs.State.{State}
 use Rattle.trace_session.specs.Witnesses.{IsWitnessed, Witness}
 use Rattle.trace_session.specs.Written.{WritesAll, WritesLinesInPart}
-use Rattle.trace_session.specs.declared.conversation.Lending.{Lending}
-use Rattle.trace_session.specs.declared.conversation.Lending.TheVariants as lending
-use Rattle.trace_session.specs.declared.conversation.Opening.{Opening}
-use Rattle.trace_session.specs.declared.end.SessionEnd.{SessionEnd}
-use Rattle.trace_session.specs.declared.end.SessionEnd.TheVariants.{EndOfInput, Refused}
-use Rattle.trace_session.specs.declared.end.SessionFault.{SessionFault}
-use Rattle.trace_session.specs.declared.end.SessionFault.TheVariants.{Read, Write, TooLong, Gate}
+use Rattle.trace_session.specs.declared.hub_session.Lending.{Lending}
+use Rattle.trace_session.specs.declared.hub_session.Lending.TheVariants as lending
+use Rattle.trace_session.specs.declared.hub_session.Opening.{Opening}
+use Rattle.trace_session.specs.declared.session_end.SessionEnd.{SessionEnd}
+use Rattle.trace_session.specs.declared.session_end.SessionEnd.TheVariants.{EndOfInput, Refused}
+use Rattle.trace_session.specs.declared.session_end.SessionFault.{SessionFault}
+use Rattle.trace_session.specs.declared.session_end.SessionFault.TheVariants.{Read, Write, TooLong, Gate}
 
 -- No first line was found: the input had ended, or a fault came before.
 abbrev pub FindsNoLine : Result SessionEnd SessionFault → State → State → Type 0

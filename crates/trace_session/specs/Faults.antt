@@ -4,8 +4,8 @@ use Rattle.line_protocol.specs.declared.line_fault.LineFault.{LineFault}
 use Rattle.line_protocol.specs.declared.line_fault.LineFault.TheVariants as line
 use Rattle.line_protocol.specs.declared.read_fault.ReadFault.{ReadFault}
 use Rattle.line_protocol.specs.declared.read_fault.ReadFault.TheVariants as read
-use Rattle.trace_session.specs.declared.end.SessionFault.{SessionFault}
-use Rattle.trace_session.specs.declared.end.SessionFault.TheVariants.{Read, Write, TooLong}
+use Rattle.trace_session.specs.declared.session_end.SessionFault.{SessionFault}
+use Rattle.trace_session.specs.declared.session_end.SessionFault.TheVariants.{Read, Write, TooLong}
 
 abbrev pub session_fault_of : ReadFault → SessionFault
 session_fault_of read.Read = Read

@@ -8,9 +8,9 @@ use Rattle.line_protocol.specs.declared.line_reader.LineReader.{LineReader}
 use Rattle.trace_session.specs.Faults.{failed_reads_in, read_fault_in}
 use Rattle.trace_session.specs.Outputs.{IsSameOutput}
 use Rattle.trace_session.specs.State.{State, state_of}
-use Rattle.trace_session.specs.declared.end.SessionEnd.{SessionEnd}
-use Rattle.trace_session.specs.declared.end.SessionFault.{SessionFault}
-use Rattle.trace_session.specs.declared.end.SessionFault.TheVariants.{Gate}
+use Rattle.trace_session.specs.declared.session_end.SessionEnd.{SessionEnd}
+use Rattle.trace_session.specs.declared.session_end.SessionFault.{SessionFault}
+use Rattle.trace_session.specs.declared.session_end.SessionFault.TheVariants.{Gate}
 use Rattle.trace_session.specs.declared.output.Output.{Output}
 
 -- What a session did, and how it read and wrote, whatever it did. A failed read is its fault, and no other fault is one of

@@ -5,9 +5,9 @@ use Rattle.trace_types.specs.text.Lines.{is_longer_than}
 use Rattle.trace_types.specs.text.Reading.{name_of}
 use Rattle.line_protocol.specs.declared.line.Line.{Line}
 use Rattle.line_protocol.specs.declared.line.Line.TheVariants as line
-use Rattle.trace_session.specs.declared.conversation.Lending.{Lending}
-use Rattle.trace_session.specs.declared.conversation.Lending.TheVariants.{Desk, View}
-use Rattle.trace_session.specs.declared.conversation.Opening.{Opening}
+use Rattle.trace_session.specs.declared.hub_session.Lending.{Lending}
+use Rattle.trace_session.specs.declared.hub_session.Lending.TheVariants.{Desk, View}
+use Rattle.trace_session.specs.declared.hub_session.Opening.{Opening}
 
 -- what is opened where this is asked for, of the tenant with this name, if it is one
 abbrev pub opening_for : Lending → Text → Option Opening

@@ -1,8 +1,8 @@
 -- What goes out of a session.
 use Rattle.std.specs.Prelude.{◌≡◌, ℕ, ◌⊎◌, Result, IsErrOf}
 use Rattle.line_protocol.specs.Sink.{Taken}
-use Rattle.trace_session.specs.declared.end.SessionFault.{SessionFault}
-use Rattle.trace_session.specs.declared.end.SessionFault.TheVariants.{Gate}
+use Rattle.trace_session.specs.declared.session_end.SessionFault.{SessionFault}
+use Rattle.trace_session.specs.declared.session_end.SessionFault.TheVariants.{Gate}
 use Rattle.trace_session.specs.declared.output.Output.{Output}
 
 module _ {W T G : Type 0} where

@@ -5,9 +5,9 @@ use Rattle.trace_session.specs.Conversations.{Opens}
 use Rattle.trace_session.specs.Hubs.{Hub}
 use Rattle.trace_session.specs.State.{State}
 use Rattle.trace_session.specs.Witnesses.{Witness}
-use Rattle.trace_session.specs.declared.conversation.Lending.{Lending}
-use Rattle.trace_session.specs.declared.end.SessionEnd.{SessionEnd}
-use Rattle.trace_session.specs.declared.end.SessionFault.{SessionFault}
+use Rattle.trace_session.specs.declared.hub_session.Lending.{Lending}
+use Rattle.trace_session.specs.declared.session_end.SessionEnd.{SessionEnd}
+use Rattle.trace_session.specs.declared.session_end.SessionFault.{SessionFault}
 
 -- A session on this hub, whose first line named this tenant, left this witness.
 pub record IsWitnessOf (hub : Hub) (name : Text) (witness : Witness) : Type 0 where

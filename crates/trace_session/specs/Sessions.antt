@@ -18,12 +18,12 @@ use Rattle.trace_session.specs.Asking.{is_quit, most_requests, request_in}
 use Rattle.trace_session.specs.Reading.{ReadsLines}
 use Rattle.trace_session.specs.State.{State}
 use Rattle.trace_session.specs.Written.{PutsOut, WritesAll, WritesLinesInPart, reply_line}
-use Rattle.trace_session.specs.declared.lines.Asked.{Asked}
-use Rattle.trace_session.specs.declared.lines.Asked.TheVariants as asked
-use Rattle.trace_session.specs.declared.end.SessionEnd.{SessionEnd}
-use Rattle.trace_session.specs.declared.end.SessionEnd.TheVariants.{Quit, EndOfInput, Over}
-use Rattle.trace_session.specs.declared.end.SessionFault.{SessionFault}
-use Rattle.trace_session.specs.declared.end.SessionFault.TheVariants.{Read, Write, TooLong, Memory, Gate}
+use Rattle.trace_session.specs.declared.session_lines.Asked.{Asked}
+use Rattle.trace_session.specs.declared.session_lines.Asked.TheVariants as asked
+use Rattle.trace_session.specs.declared.session_end.SessionEnd.{SessionEnd}
+use Rattle.trace_session.specs.declared.session_end.SessionEnd.TheVariants.{Quit, EndOfInput, Over}
+use Rattle.trace_session.specs.declared.session_end.SessionFault.{SessionFault}
+use Rattle.trace_session.specs.declared.session_end.SessionFault.TheVariants.{Read, Write, TooLong, Memory, Gate}
 
 -- Behind so many requests comes no line, or `quit`, or a line after all the requests that a session may make.
 abbrev pub Closes : ℕ → ℕ → Option Text → Type 0

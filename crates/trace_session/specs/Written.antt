@@ -8,8 +8,8 @@ use Rattle.trace_types.specs.declared.reply.Reply.{Reply}
 use Rattle.line_protocol.specs.Sink.{Taken}
 use Rattle.line_protocol.specs.TextsInTurn.{BeginsFirst, BreaksOffAt, WritesTexts}
 use Rattle.line_protocol.specs.Writing.{EndsInFault, HandsAllOn, StopsHandingOn, WritesPart, WritesWhole}
-use Rattle.trace_session.specs.declared.end.SessionFault.{SessionFault}
-use Rattle.trace_session.specs.declared.end.SessionFault.TheVariants.{Write, Gate}
+use Rattle.trace_session.specs.declared.session_end.SessionFault.{SessionFault}
+use Rattle.trace_session.specs.declared.session_end.SessionFault.TheVariants.{Write, Gate}
 
 -- the lines of replies
 abbrev pub reply_line : Reply → Text

@@ -4,8 +4,8 @@ ghost use Rattle.std.specs.Option.{option_to_list};
 ghost use Rattle.trace_session.specs.Belonging.{Belongs, RestOf};
 ghost use Rattle.trace_session.specs.Hubs.{Owner};
 
-use crate::lent::Lent;
-use crate::resting::Resting;
+use crate::desk_or_view::Lent;
+use crate::shelf_contents::Resting;
 use std::sync::Wait;
 use tenant_desk::{Desk, View};
 

@@ -28,28 +28,28 @@
 //! ```
 #![tactic(auto)]
 
-mod conversation;
+mod desk_or_view;
 mod door;
-mod end;
 mod gate;
 mod hub;
+mod hub_session;
 pub mod laws;
 mod lendable;
-mod lent;
-mod lines;
 mod output;
 mod owner;
-mod resting;
 mod serving;
+mod session_end;
+mod session_lines;
 mod shelf;
+mod shelf_contents;
 mod tenant;
 mod witness;
 
-pub use conversation::{Connection, session, witnessed_session};
 pub use door::{Door, DoorFault};
-pub use end::{SessionEnd, SessionFault};
 pub use gate::{Gate, OpenGate};
 pub use hub::Hub;
-pub use lines::{report_lines, view_lines};
+pub use hub_session::{Connection, session, witnessed_session};
 pub use serving::{ServeCounts, ServeFault, serve};
+pub use session_end::{SessionEnd, SessionFault};
+pub use session_lines::{report_lines, view_lines};
 pub use witness::Witness;

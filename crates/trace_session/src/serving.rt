@@ -62,7 +62,7 @@ impl From<AllocError> for ServeFault {
     }
 }
 
-/// A place in which workers hold sessions.
+/// What workers hold sessions in.
 trait Hall<T> {
     /// Holds the session of this connection, and says whether it came to its end.
     fn hold<A: Source + Drop, B: Sink + Drop, G: Gate>(

@@ -6,7 +6,7 @@ ghost use Rattle.trace_session.specs.Shelves.{HasEmpty};
 
 use crate::lendable::Lendable;
 use crate::owner::Owner;
-use crate::resting::Resting;
+use crate::shelf_contents::Resting;
 use atomic_table::{Play, Refused, Seat, Table, TableRule};
 use std::alloc::Global;
 use std::sync::{Mutex, MutexGuard, Wait};
@@ -56,7 +56,7 @@ pub(crate) struct Shelf {
 }
 
 /// The number of the one word and of the one slot.
-const PLACE: usize = 0;
+const SLOT: usize = 0;
 
 /// The word while something lies in the slot.
 const THERE: u64 = 0;
@@ -77,6 +77,7 @@ impl Shelf {
         slots.push_reserved(Some(resting));
         match Table::new(alloc, &[THERE], slots, owner) {
             Ok((table, seat)) => {
+                // As a badge it can be dropped.
                 let _ = seat.into_badge();
                 let turn = Mutex::new(());
                 Ok(Shelf { turn, table })
@@ -144,12 +145,13 @@ impl Shelf {
         ensures gap { IfSome result (λ taken. (taken.1.table_id ≡ self.now.table.shared.table_id) × HasEmpty taken.1.me) }
     {
         let shared = &self.table.shared;
-        let (found, mut gap) = shared.swap_new_seat::<Taking>(PLACE, TAKEN);
+        let (found, mut gap) = shared.swap_new_seat::<Taking>(SLOT, TAKEN);
         if found != THERE {
+            // As a badge it can be dropped.
             let _ = gap.into_badge();
             return None;
         }
-        let Some(resting) = shared.exchange(&mut gap, PLACE, None) else {
+        let Some(resting) = shared.exchange(&mut gap, SLOT, None) else {
             unreachable!()
         };
         Some((resting, gap))
@@ -162,9 +164,10 @@ impl Shelf {
         requires gap { (gap.table_id ≡ self.now.table.shared.table_id) × HasEmpty gap.me }
     {
         let shared = &self.table.shared;
-        let before = shared.exchange(&mut gap, PLACE, Some(resting));
+        let before = shared.exchange(&mut gap, SLOT, Some(resting));
         let None = before else { unreachable!() };
-        shared.store::<Putting>(&mut gap, PLACE, THERE);
+        shared.store::<Putting>(&mut gap, SLOT, THERE);
+        // As a badge it can be dropped.
         let _ = gap.into_badge();
     }
 
@@ -172,7 +175,7 @@ impl Shelf {
     pub(crate) fn into_resting(self) -> Option<Resting> {
         let Shelf { turn: _, table } = self;
         let mut closed = table.close();
-        let resting = closed.take(PLACE);
+        let resting = closed.take(SLOT);
         closed.free();
         resting
     }

@@ -5,8 +5,8 @@ ghost use Rattle.trace_session.specs.Witnesses.{told_of};
 
 use crate::lendable::Lendable;
 use crate::owner::Owner;
-use crate::resting::Resting;
 use crate::shelf::Shelf;
+use crate::shelf_contents::Resting;
 use std::alloc::Global;
 use std::marker::Model;
 use std::sync::{Arc, Wait};

@@ -2,14 +2,14 @@ use Rattle.std.proofs.Common.{◌≡◌, Ok, Err, None, refl, sym, subst, ap, �
 use Rattle.std.specs.Prelude.{Option}
 use Rattle.line_protocol.proofs.LineReadingLemmas.{Reads-behind, Reads-none, Reads-on}
 use Rattle.line_protocol.specs.LineReading.{Reads}
-use Rattle.trace_session.proofs.Following.{Comes, Comes-of, Follows-kept, Follows-none, IfNone-holds, fault_is, session_unread}
+use Rattle.trace_session.proofs.AnsweredLines.{Comes, Comes-of, HasAnswered-kept, HasAnswered-none, IfNone-holds, fault_is, session_unread}
 use Rattle.trace_session.proofs.Goings.{Through-none, Through-ok, Through-then, answered_unread, finished_unread, same_gate, unread_bytes, unread_fault}
 use Rattle.trace_session.specs.State.{state_of}
 use Rattle.line_protocol.specs.declared.line.Line.{Line}
 use Rattle.trace_session.proofs.FirstLines.{IfNone-from}
 use Rattle.trace_session.proofs.Reading.{FindsAsked-of}
 use Rattle.trace_session.specs.Asking.{asked_by_line}
-use Rattle.trace_session.specs.declared.end.SessionEnd.{SessionEnd}
+use Rattle.trace_session.specs.declared.session_end.SessionEnd.{SessionEnd}
 use Rattle.trace_session.proofs.output.Output.answer_lines.Goals as goal
 
 pub loop-found-init : goal.loop-found-init
@@ -18,7 +18,7 @@ loop-found-init g c =
     record {
       same_source = refl;
       through = Through-none (record { writer = refl; gate = refl; number = refl }) refl;
-      follows = Follows-none g.L.Lent.does _ c.args.lent.now;
+      so_far = HasAnswered-none g.L.Lent.does _ c.args.lent.now;
       few = omega arith;
       reads = Reads-none _ _;
       at_end = λ ended. (refl, ended);
@@ -44,7 +44,7 @@ returns-in_err-found-clause-goes g c =
       same_source = next.same_source ∙ before.same_source;
       same = kept.same;
       goes = record {
-        did = session_unread Line g.L.Lent.does g.R.Source.seen _ _ start _ _ _ _ _ _ _ fault before.follows before.few finds hands;
+        did = session_unread Line g.L.Lent.does g.R.Source.seen _ _ start _ _ _ _ _ _ _ fault before.so_far before.few finds hands;
         reads =
             subst (Reads start.given after.given start.held after.held) told.0
             (Reads-on before.reads (λ ended. ap g.R.Source.seen (next.at_end ended).0) (Reads-behind g.R.Source.seen _ _ _ _ (Err fault) finds));
@@ -73,7 +73,7 @@ returns-in_err-end-clause-goes g c =
       goes = record {
         did =
             Comes-of g.L.Lent.does start _ after c.args.lent.now c.loop-found.lent c.answer.new.lent c.loop-found.requests c.asked_by_line-asked.result _
-            (Follows-kept (g.W.Sink.seen c.next_flushing.new.writer) before.follows hands) before.few reads.bounds asks
+            (HasAnswered-kept (g.W.Sink.seen c.next_flushing.new.writer) before.so_far hands) before.few reads.bounds asks
             (λ ended. (ap (λ source. (g.R.Source.seen source).bytes) (next.at_end ended).0, (next.at_end ended).1)) c.in_err-end.ensures.answers;
         reads = subst (Reads start.given after.given start.held after.held) (sym unread.0) reads;
         fault = next.fault ∙ sym unread.1;
@@ -98,7 +98,7 @@ returns-in-Some-2-clause-goes g c =
     let came =
     subst (λ end. Comes g.L.Lent.does start after c.args.lent.now c.answer.new.lent c.loop-found.requests (Ok end)) c.in-Some-2.is
     (Comes-of g.L.Lent.does start _ after c.args.lent.now c.loop-found.lent c.answer.new.lent c.loop-found.requests c.asked_by_line-asked.result _
-    (Follows-kept (g.W.Sink.seen c.next_flushing.new.writer) before.follows hands) before.few reads.bounds asks
+    (HasAnswered-kept (g.W.Sink.seen c.next_flushing.new.writer) before.so_far hands) before.few reads.bounds asks
     (λ ended. (ap (λ source. (g.R.Source.seen source).bytes) (next.at_end ended).0, (next.at_end ended).1)) c.in_ok-end.ensures.answers) in
     IfNone-holds c.args.lines.now.fault (record {
       same_source = next.same_source ∙ before.same_source;
@@ -126,12 +126,12 @@ loop-found-preserved g c =
     let came =
     subst (λ end. Comes g.L.Lent.does start after c.args.lent.now c.answer.new.lent c.loop-found.requests (Ok end)) c.in_default-2.is
     (Comes-of g.L.Lent.does start _ after c.args.lent.now c.loop-found.lent c.answer.new.lent c.loop-found.requests c.asked_by_line-asked.result _
-    (Follows-kept (g.W.Sink.seen c.next_flushing.new.writer) before.follows hands) before.few reads.bounds asks
+    (HasAnswered-kept (g.W.Sink.seen c.next_flushing.new.writer) before.so_far hands) before.few reads.bounds asks
     (λ ended. (ap (λ source. (g.R.Source.seen source).bytes) (next.at_end ended).0, (next.at_end ended).1)) c.in_ok-end.ensures.answers) in
     record {
       same_source = next.same_source ∙ before.same_source;
       through = Through-ok (Through-then (Through-then before.through (Through-none (record { writer = refl; gate = refl; number = refl }) hands.0)) c.in_ok-end.ensures.gate);
-      follows = came.0;
+      so_far = came.0;
       few = omega (arith, came.1);
       reads = reads;
       at_end = λ ended. let was = before.at_end ended in let now = next.at_end was.1 in (now.0 ∙ was.0, now.1);

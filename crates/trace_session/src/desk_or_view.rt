@@ -1,4 +1,4 @@
-//! What sessions borrow.
+//! What sessions borrow: a desk, or a view.
 ghost use Rattle.std.specs.Prelude.{◌≡◌, Some};
 ghost use Rattle.trace_session.specs.Outputs.{GoesThroughGate};
 ghost use Rattle.trace_session.specs.Sessions.{AnswersInTime};
@@ -19,7 +19,7 @@ pub(crate) trait Lent: Sized {
     ghost use Rattle.trace_types.specs.tenant.Tenant.{Tenant};
     ghost use Rattle.tenant_desk.specs.Histories.{Log};
 
-    // the request may be answered so, and leave it so
+    // the request may be answered so, after which it is so
     ghost does: { Self → Request → Reply → Self → Type 0 };
 
     // what is known of it whenever it is lent

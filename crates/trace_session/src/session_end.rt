@@ -1,7 +1,7 @@
 //! How sessions end.
 ghost use Rattle.std.specs.Prelude.{◌≡◌};
 ghost use Rattle.trace_session.specs.Faults.{session_fault_by, session_fault_of};
-ghost use Rattle.trace_session.specs.declared.end.SessionFault.TheVariants as variants;
+ghost use Rattle.trace_session.specs.declared.session_end.SessionFault.TheVariants as variants;
 
 use line_protocol::{LineFault, ReadFault, WriteFault};
 use thiserror::Error;

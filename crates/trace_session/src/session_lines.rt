@@ -10,7 +10,7 @@ ghost use Rattle.trace_session.specs.Lent.{AsksView, IsSoundDesk, IsSoundView, T
 ghost use Rattle.trace_session.specs.Outputs.{GoesThroughGate, IsSameOutput};
 ghost use Rattle.trace_session.specs.Sessions.{AnswersAsked, Session};
 
-use crate::lent::Lent;
+use crate::desk_or_view::Lent;
 use crate::output::Output;
 use crate::{Gate, SessionEnd, SessionFault};
 use line_protocol::{Line, LineReader, Sink, Source, read_request};

@@ -2,7 +2,7 @@ use Rattle.std.proofs.Common.{◌≡◌, ap, arith, ◌∷◌, [], ◌∙◌, le
 use Rattle.std.proofs.lemmas.List.{length-append}
 use Rattle.std.proofs.lemmas.List.Elements.{All-push}
 use Rattle.tenant_desk.specs.Views.{Known, new_view}
-use Rattle.trace_session.proofs.resting.all_views.Goals as goal
+use Rattle.trace_session.proofs.shelf_contents.all_views.Goals as goal
 
 pub loop-view-preserved : goal.loop-view-preserved
 loop-view-preserved c =

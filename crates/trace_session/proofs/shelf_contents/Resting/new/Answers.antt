@@ -1,7 +1,7 @@
 use Rattle.std.proofs.Common.{sym, ap, ◌∙◌}
 use Rattle.tenant_desk.specs.Histories.{Line, Log}
 use Rattle.tenant_desk.specs.Views.{Remaining, new_view}
-use Rattle.trace_session.proofs.resting.Resting.new.Goals as goal
+use Rattle.trace_session.proofs.shelf_contents.Resting.new.Goals as goal
 
 pub returns-in-Ok-clause-whole : goal.returns-in-Ok-clause-whole
 returns-in-Ok-clause-whole g c =

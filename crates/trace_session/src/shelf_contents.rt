@@ -1,4 +1,4 @@
-//! What rests of a tenant, since no session has it.
+//! What lies on a shelf: all of a tenant that no session has.
 ghost use Rattle.std.specs.Prelude.{◌≡◌, ◌<◌, ◌≤◌, ◌++◌, ◌∷◌, [], Some, None, IfNone, IfOk, length, vec_capacity, All};
 ghost use Rattle.std.specs.Option.{option_to_list};
 ghost use Rattle.tenant_desk.specs.Views.{new_view};
@@ -89,6 +89,7 @@ impl Resting {
         ensures desk { self.new.desk ≡ self.old.desk }
         ensures owner { (owner : Owner) → RestOf owner self.old → IsViewOf owner view → RestOf owner self.new }
     {
+        // There is room, so nothing is refused.
         let _ = self.views.push(view);
     }
 

@@ -1,7 +1,7 @@
 use Rattle.std.proofs.Common.{◌≡◌, ◌+◌, ◌≤◌, length}
 use Rattle.std.specs.Prelude.{All, vec_capacity}
 use Rattle.tenant_desk.specs.Views.{new_view}
-use Rattle.trace_session.proofs.resting.all_views.Given as goal
+use Rattle.trace_session.proofs.shelf_contents.all_views.Given as goal
 
 abbrev pub invariant-loop-view : goal.invariant-loop-view
 invariant-loop-view l = record {

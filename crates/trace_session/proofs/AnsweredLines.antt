@@ -22,12 +22,12 @@ use Rattle.trace_session.specs.Reading.{ReadsLines}
 use Rattle.trace_session.specs.Sessions.{AnswersAsked, AnswersInTime, AnswersLate, Closes, EndsBy, Finishes, BringsNoEnd, Session, WritesUntil, over_reply}
 use Rattle.trace_session.specs.State.{State, state}
 use Rattle.trace_session.specs.Written.{StopsAt, reply_line}
-use Rattle.trace_session.specs.declared.lines.Asked.{Asked}
-use Rattle.trace_session.specs.declared.lines.Asked.TheVariants as asked
-use Rattle.trace_session.specs.declared.end.SessionEnd.{SessionEnd}
-use Rattle.trace_session.specs.declared.end.SessionEnd.TheVariants.{Quit, EndOfInput, Over}
-use Rattle.trace_session.specs.declared.end.SessionFault.{SessionFault}
-use Rattle.trace_session.specs.declared.end.SessionFault.TheVariants.{Read, Write, TooLong, Gate}
+use Rattle.trace_session.specs.declared.session_lines.Asked.{Asked}
+use Rattle.trace_session.specs.declared.session_lines.Asked.TheVariants as asked
+use Rattle.trace_session.specs.declared.session_end.SessionEnd.{SessionEnd}
+use Rattle.trace_session.specs.declared.session_end.SessionEnd.TheVariants.{Quit, EndOfInput, Over}
+use Rattle.trace_session.specs.declared.session_end.SessionFault.{SessionFault}
+use Rattle.trace_session.specs.declared.session_end.SessionFault.TheVariants.{Read, Write, TooLong, Gate}
 
 -- These lines are requests, and were answered so, where lines have at most so many bytes.
 pub record Answered {S : Type 0} (Does : S → Request → Reply → S → Type 0) (most : ℕ) (old new : S) (requests : List Text) (answers : List Reply) : Type 0 where
@@ -35,7 +35,7 @@ pub record Answered {S : Type 0} (Does : S → Request → Reply → S → Type 
   pub each : AnswersEach Does old (map (request_in most) requests) answers new
 
 -- So many lines were read and answered.
-pub record Follows {S : Type 0} (Does : S → Request → Reply → S → Type 0) (start now : State) (old new : S) (count : ℕ) : Type 0 where
+pub record HasAnswered {S : Type 0} (Does : S → Request → Reply → S → Type 0) (start now : State) (old new : S) (count : ℕ) : Type 0 where
   pub requests : List Text
   pub answers : List Reply
   pub read : ReadsLines start.given.bytes now.given.bytes start.held.left now.held.left now.held.is_ended requests
@@ -43,8 +43,8 @@ pub record Follows {S : Type 0} (Does : S → Request → Reply → S → Type 0
   pub answered : Answered Does start.held.bounds.bytes old new requests answers
   pub wrote : Wrote start.taken now.taken answers
 
-pub Follows-none : {S : Type 0} (Does : S → Request → Reply → S → Type 0) (start : State) (lent : S) → Follows Does start start lent lent 0
-Follows-none Does start lent = record {
+pub HasAnswered-none : {S : Type 0} (Does : S → Request → Reply → S → Type 0) (start : State) (lent : S) → HasAnswered Does start start lent lent 0
+HasAnswered-none Does start lent = record {
   requests = [];
   answers = [];
   read = ReadsLines-none start.given.bytes start.held.left start.held.is_ended;
@@ -116,19 +116,19 @@ session_closed Does start after old new result requests answers text more answer
 
 -- no line was found any more
 pub session_unread : {S R : Type 0} (A : Type 0) (Does : S → Request → Reply → S → Type 0) (seen : R → Given) (source source' : R) (start : State) (held held' : Held) (taken taken' : Taken) (old new : S) (count : ℕ) (fault : LineFault)
-    → Follows Does start (state (seen source) held taken) old new count → count ≤ most_requests → FindsBehind seen source source' held held' (Err fault) → HandsOnBefore {A = A} held (Err fault) taken taken'
+    → HasAnswered Does start (state (seen source) held taken) old new count → count ≤ most_requests → FindsBehind seen source source' held held' (Err fault) → HandsOnBefore {A = A} held (Err fault) taken taken'
     → Session Does old new start (state (seen source') held' taken') (Err (session_fault_by fault))
-session_unread A Does seen source source' start held held' taken taken' old new count (line.Read read.Read) follows few finds hands =
-    session_alone Does start (state (seen source') held' taken') old new (Err Read) follows.requests follows.answers (held.left ++ finds.none.gave) follows.answered
-    (ReadsLines-more held'.is_ended finds.none.gave follows.read finds.none.grows finds.none.goes_on) (omega (arith, follows.counted, few)) (refl, finds.none.no_end) (WritesAll-from follows.wrote hands)
-session_unread A Does seen source source' start held held' taken taken' old new count (line.Read read.TooLong) follows few finds hands =
-    session_alone Does start (state (seen source') held' taken') old new (Err TooLong) follows.requests follows.answers (held.left ++ finds.none.gave) follows.answered
-    (ReadsLines-more held'.is_ended finds.none.gave follows.read finds.none.grows finds.none.goes_on) (omega (arith, follows.counted, few)) (refl, finds.none.no_end, finds.reads.too_long) (WritesAll-from follows.wrote hands)
-session_unread A Does seen source source' start held held' taken taken' old new count line.Write follows few (source_is, held_is) hands =
-    session_alone Does start (state (seen source') held' taken') old new (Err Write) follows.requests follows.answers held'.left follows.answered
-    (ReadsLines-same follows.read (ap (λ one. (seen one).bytes) source_is) (ap (λ (h : Held). h.left) held_is) (λ ended. ap (λ (h : Held). h.is_ended) held_is ∙ ended))
-    (omega (arith, follows.counted, few)) refl
-    (subst (λ replies. WritesUntil (Err Write) start.taken taken' replies) (append-nil follows.answers) (WritesLinesInPart-held [] (omega arith) follows.wrote hands))
+session_unread A Does seen source source' start held held' taken taken' old new count (line.Read read.Read) so_far few finds hands =
+    session_alone Does start (state (seen source') held' taken') old new (Err Read) so_far.requests so_far.answers (held.left ++ finds.none.gave) so_far.answered
+    (ReadsLines-more held'.is_ended finds.none.gave so_far.read finds.none.grows finds.none.goes_on) (omega (arith, so_far.counted, few)) (refl, finds.none.no_end) (WritesAll-from so_far.wrote hands)
+session_unread A Does seen source source' start held held' taken taken' old new count (line.Read read.TooLong) so_far few finds hands =
+    session_alone Does start (state (seen source') held' taken') old new (Err TooLong) so_far.requests so_far.answers (held.left ++ finds.none.gave) so_far.answered
+    (ReadsLines-more held'.is_ended finds.none.gave so_far.read finds.none.grows finds.none.goes_on) (omega (arith, so_far.counted, few)) (refl, finds.none.no_end, finds.reads.too_long) (WritesAll-from so_far.wrote hands)
+session_unread A Does seen source source' start held held' taken taken' old new count line.Write so_far few (source_is, held_is) hands =
+    session_alone Does start (state (seen source') held' taken') old new (Err Write) so_far.requests so_far.answers held'.left so_far.answered
+    (ReadsLines-same so_far.read (ap (λ one. (seen one).bytes) source_is) (ap (λ (h : Held). h.left) held_is) (λ ended. ap (λ (h : Held). h.is_ended) held_is ∙ ended))
+    (omega (arith, so_far.counted, few)) refl
+    (subst (λ replies. WritesUntil (Err Write) start.taken taken' replies) (append-nil so_far.answers) (WritesLinesInPart-held [] (omega arith) so_far.wrote hands))
 
 -- the writes up to a reply that was not written whole
 stopped_writes : {taken mid : Taken} (taken' : Taken) {answers : List Reply} (fault : SessionFault) (reply : Reply) → Wrote taken mid answers → StopsAt fault mid taken' (reply_line reply)
@@ -170,34 +170,34 @@ finished {taken = taken} {taken' = taken'} {replies = replies} end (Err fault) E
 -- What came of a line after so many: one line more was answered, or the session is over once all is handed on, or it has come
 -- to a fault.
 abbrev pub Comes : {S : Type 0} → (S → Request → Reply → S → Type 0) → State → State → S → S → ℕ → Result (Option SessionEnd) SessionFault → Type 0
-Comes Does start after old new count (Ok None) = Follows Does start after old new (count + 1) × (count < most_requests)
+Comes Does start after old new count (Ok None) = HasAnswered Does start after old new (count + 1) × (count < most_requests)
 Comes Does start after old new count (Ok (Some end)) =
     (taken : Taken) (result : Result SessionEnd SessionFault) → Finishes end after.taken taken result → Session Does old new start (state after.given after.held taken) result
 Comes Does start after old new count (Err fault) = Session Does old new start after (Err fault)
 
 -- one line was read, and what it asks was answered
 pub Comes-of : {S : Type 0} (Does : S → Request → Reply → S → Type 0) (start now after : State) (old between new : S) (count : ℕ) (asks : Asked) (result : Result (Option SessionEnd) SessionFault)
-    → Follows Does start now old between count → count ≤ most_requests → after.held.bounds ≡ start.held.bounds → FindsAsked now.given.bytes after.given.bytes now.held after.held asks
+    → HasAnswered Does start now old between count → count ≤ most_requests → after.held.bounds ≡ start.held.bounds → FindsAsked now.given.bytes after.given.bytes now.held after.held asks
     → (IsTrue now.held.is_ended → (after.given.bytes ≡ now.given.bytes) × IsTrue after.held.is_ended) → AnswersAsked Does asks count between new now.taken after.taken result
     → Comes Does start after old new count result
-Comes-of Does start now after old between new count asked.End result follows few same finds at_end (is, new_is, silent) =
+Comes-of Does start now after old between new count asked.End result so_far few same finds at_end (is, new_is, silent) =
     subst (Comes Does start after old new count) (sym is)
     (λ taken last finishes.
     finished EndOfInput last (λ one. EndsBy one start.held.bounds.bytes None after.held.left after.held) (λ one. Session Does old new start (state after.given after.held taken) one)
-    (λ one ends writes. session_alone Does start (state after.given after.held taken) old new one follows.requests follows.answers after.held.left (same_answered new_is follows.answered)
-    (ReadsLines-same follows.read finds.0 (finds.2 ∙ sym finds.1) (λ ended. (at_end ended).1)) (omega (arith, follows.counted, few)) ends writes)
-    (refl, refl, finds.2, finds.3) refl (subst (λ took. Wrote start.taken took follows.answers) (sym silent) follows.wrote) finishes)
-Comes-of Does start now after old between new count asked.Quit result follows few same finds at_end (is, new_is, silent) =
+    (λ one ends writes. session_alone Does start (state after.given after.held taken) old new one so_far.requests so_far.answers after.held.left (same_answered new_is so_far.answered)
+    (ReadsLines-same so_far.read finds.0 (finds.2 ∙ sym finds.1) (λ ended. (at_end ended).1)) (omega (arith, so_far.counted, few)) ends writes)
+    (refl, refl, finds.2, finds.3) refl (subst (λ took. Wrote start.taken took so_far.answers) (sym silent) so_far.wrote) finishes)
+Comes-of Does start now after old between new count asked.Quit result so_far few same finds at_end (is, new_is, silent) =
     let text = finds.0 in
     let quit : IsTrue (is_quit start.held.bounds.bytes text) = subst (λ (bounds : ReadingBounds). IsTrue (is_quit bounds.bytes text)) same finds.2 in
     subst (Comes Does start after old new count) (sym is)
     (λ taken last finishes.
     finished Quit last (λ one. EndsBy one start.held.bounds.bytes (Some text) after.held.left after.held) (λ one. Session Does old new start (state after.given after.held taken) one)
-    (λ one. session_closed Does start (state after.given after.held taken) old new one follows.requests follows.answers text [] (same_answered new_is follows.answered)
-    (ReadsLines-line follows.read finds.1 at_end) (omega (arith, follows.counted, few)) (inl quit) (quit_reply start.held.bounds.bytes text quit))
+    (λ one. session_closed Does start (state after.given after.held taken) old new one so_far.requests so_far.answers text [] (same_answered new_is so_far.answered)
+    (ReadsLines-line so_far.read finds.1 at_end) (omega (arith, so_far.counted, few)) (inl quit) (quit_reply start.held.bounds.bytes text quit))
     (quit, refl) refl
-    (subst (λ replies. Wrote start.taken after.taken replies) (sym (append-nil follows.answers)) (subst (λ took. Wrote start.taken took follows.answers) (sym silent) follows.wrote)) finishes)
-Comes-of {S = S} Does start now after old between new count (asked.Request request) result follows few same finds at_end answers =
+    (subst (λ replies. Wrote start.taken after.taken replies) (sym (append-nil so_far.answers)) (subst (λ took. Wrote start.taken took so_far.answers) (sym silent) so_far.wrote)) finishes)
+Comes-of {S = S} Does start now after old between new count (asked.Request request) result so_far few same finds at_end answers =
     by (count == most_requests) refl result answers
   where
     text : Text
@@ -211,48 +211,48 @@ Comes-of {S = S} Does start now after old between new count (asked.Request reque
 
     -- the line came after all the requests
     over : (count == most_requests) ≡ true → new ≡ between → (taken : Taken) (one : Result SessionEnd SessionFault)
-        → EndsBy one start.held.bounds.bytes (Some text) after.held.left after.held → WritesUntil one start.taken taken (follows.answers ++ over_reply ∷ []) → Session Does old new start (state after.given after.held taken) one
+        → EndsBy one start.held.bounds.bytes (Some text) after.held.left after.held → WritesUntil one start.taken taken (so_far.answers ++ over_reply ∷ []) → Session Does old new start (state after.given after.held taken) one
     over late new_is taken one =
-        session_closed Does start (state after.given after.held taken) old new one follows.requests follows.answers text (over_reply ∷ []) (same_answered new_is follows.answered)
-        (ReadsLines-line follows.read finds.1 at_end) (omega (arith, follows.counted, few)) (inr (follows.counted ∙ eqb-true count most_requests late)) (late_reply start.held.bounds.bytes text no_quit)
+        session_closed Does start (state after.given after.held taken) old new one so_far.requests so_far.answers text (over_reply ∷ []) (same_answered new_is so_far.answered)
+        (ReadsLines-line so_far.read finds.1 at_end) (omega (arith, so_far.counted, few)) (inr (so_far.counted ∙ eqb-true count most_requests late)) (late_reply start.held.bounds.bytes text no_quit)
 
     by : (late : Bool) → (count == most_requests) ≡ late → (came : Result (Option SessionEnd) SessionFault)
         → MatchBool late (AnswersLate between new now.taken after.taken came) (AnswersInTime Does request between new now.taken after.taken came × BringsNoEnd came) → Comes Does start after old new count came
     by true late (Err fault) (new_is, stops, is) =
-        over late new_is after.taken (Err fault) (stopped_ends now.taken after.taken (reply_line over_reply) fault start.held.bounds.bytes (Some text) after.held stops no_quit) (stopped_writes after.taken fault over_reply follows.wrote stops)
+        over late new_is after.taken (Err fault) (stopped_ends now.taken after.taken (reply_line over_reply) fault start.held.bounds.bytes (Some text) after.held stops no_quit) (stopped_writes after.taken fault over_reply so_far.wrote stops)
     by true late (Ok None) (new_is, writes_line, is) = absurd (cc)
     by true late (Ok (Some end)) (new_is, writes_line, is) = λ taken last finishes.
         finished Over last (λ one. EndsBy one start.held.bounds.bytes (Some text) after.held.left after.held) (λ one. Session Does old new start (state after.given after.held taken) one)
-        (over late new_is taken) (no_quit, refl) refl (Wrote-line over_reply follows.wrote writes_line)
+        (over late new_is taken) (no_quit, refl) refl (Wrote-line over_reply so_far.wrote writes_line)
         (let end_is : end ≡ Over = cc in subst (λ e. Finishes e after.taken taken last) end_is finishes)
     by false late (Err fault) (answer, goes) =
-        session_alone Does start after old new (Err fault) (follows.requests ++ text ∷ []) (follows.answers ++ answer.reply ∷ []) after.held.left
-        (Answered-line text request answer.reply follows.answered no_quit asks answer.answered)
-        (ReadsLines-line follows.read finds.1 at_end) (omega (arith, follows.counted, fewer count few late, length-append follows.requests (text ∷ [])))
-        (stopped_ends now.taken after.taken (reply_line answer.reply) fault start.held.bounds.bytes None after.held answer.put_out tt) (stopped_writes after.taken fault answer.reply follows.wrote answer.put_out)
+        session_alone Does start after old new (Err fault) (so_far.requests ++ text ∷ []) (so_far.answers ++ answer.reply ∷ []) after.held.left
+        (Answered-line text request answer.reply so_far.answered no_quit asks answer.answered)
+        (ReadsLines-line so_far.read finds.1 at_end) (omega (arith, so_far.counted, fewer count few late, length-append so_far.requests (text ∷ [])))
+        (stopped_ends now.taken after.taken (reply_line answer.reply) fault start.held.bounds.bytes None after.held answer.put_out tt) (stopped_writes after.taken fault answer.reply so_far.wrote answer.put_out)
     by false late (Ok (Some end)) (answer, goes) = absurd (cc)
     by false late (Ok None) (answer, goes) = (
       record {
-        requests = follows.requests ++ text ∷ [];
-        answers = follows.answers ++ answer.reply ∷ [];
-        read = ReadsLines-line follows.read finds.1 at_end;
-        counted = omega (arith, follows.counted, length-append follows.requests (text ∷ []));
-        answered = Answered-line text request answer.reply follows.answered no_quit asks answer.answered;
-        wrote = Wrote-line answer.reply follows.wrote answer.put_out;
+        requests = so_far.requests ++ text ∷ [];
+        answers = so_far.answers ++ answer.reply ∷ [];
+        read = ReadsLines-line so_far.read finds.1 at_end;
+        counted = omega (arith, so_far.counted, length-append so_far.requests (text ∷ []));
+        answered = Answered-line text request answer.reply so_far.answered no_quit asks answer.answered;
+        wrote = Wrote-line answer.reply so_far.wrote answer.put_out;
       },
       fewer count few late,
     )
 
 -- what was written before a line was read stays
-pub Follows-kept : {S : Type 0} {Does : S → Request → Reply → S → Type 0} {start now : State} {old new : S} {count : ℕ} (taken : Taken)
-    → Follows Does start now old new count → KeepsAll now.taken taken → Follows Does start (state now.given now.held taken) old new count
-Follows-kept taken follows keeps = record {
-  requests = follows.requests;
-  answers = follows.answers;
-  read = follows.read;
-  counted = follows.counted;
-  answered = follows.answered;
-  wrote = Wrote-kept follows.wrote keeps;
+pub HasAnswered-kept : {S : Type 0} {Does : S → Request → Reply → S → Type 0} {start now : State} {old new : S} {count : ℕ} (taken : Taken)
+    → HasAnswered Does start now old new count → KeepsAll now.taken taken → HasAnswered Does start (state now.given now.held taken) old new count
+HasAnswered-kept taken so_far keeps = record {
+  requests = so_far.requests;
+  answers = so_far.answers;
+  read = so_far.read;
+  counted = so_far.counted;
+  answered = so_far.answered;
+  wrote = Wrote-kept so_far.wrote keeps;
 }
 
 -- the one fault that there is

@@ -2,7 +2,7 @@ use Rattle.std.proofs.Common.{sym, subst}
 use Rattle.std.specs.Prelude.{is_ok}
 use Rattle.trace_session.proofs.Lists.{All-pushed}
 use Rattle.trace_session.specs.Belonging.{IsViewOf, RestOf}
-use Rattle.trace_session.proofs.resting.Resting.put_view.Goals as goal
+use Rattle.trace_session.proofs.shelf_contents.Resting.put_view.Goals as goal
 
 pub returns-clause-owner : goal.returns-clause-owner
 returns-clause-owner c = λ owner rest belongs.
