@@ -126,6 +126,7 @@ impl<S: Keep> Book<S> {
         ensures limits { result ≡ self.now.limits }
         ensures ranges { IsTrue (are_limits self.now.limits.events self.now.limits.tasks self.now.limits.messages) }
     {
+        // For the proof: it says that these are limits.
         let _ = self.limits.events();
         self.limits
     }

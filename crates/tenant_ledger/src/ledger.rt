@@ -10,8 +10,8 @@ ghost use Rattle.event_tree.specs.Comparison.{StandsAs};
 ghost use Rattle.tenant_ledger.specs.Answers.{order_answer};
 ghost use Rattle.tenant_ledger.specs.Size.{AreShort, AreSized, HaveShortParts, IsShort, NestBySpawns, spawns_up_to};
 
-use crate::answers::{Records, answer, counts_of, order_of, place_of};
 use crate::book::Book;
+use crate::query_answers::{Records, answer, counts_of, order_of, place_of};
 use crate::share::{Keep, MeantId, Own, Share};
 use crate::{PlainShare, Prepared, laws};
 use std::alloc::Global;
@@ -96,6 +96,7 @@ impl<S: Keep> Ledger<S> {
         ensures { StandsAs (order_of (history_of self.now.rows) first second)
             (tree_of tree_clock (history_of self.now.rows) first) (tree_of tree_clock (history_of self.now.rows) second) }
     {
+        // The law speaks of the events. For its proof: the rows are legal.
         let _ = (first, second);
         let _ = self.rows();
         laws::clock();
@@ -111,6 +112,7 @@ impl<S: Keep> Ledger<S> {
         ensures parts { HaveShortParts self.now.rows }
         ensures nesting { NestBySpawns self.now.rows }
     {
+        // For the proof: these are limits, and the rows are legal.
         let _ = self.book.limits();
         let _ = self.rows();
         laws::size();

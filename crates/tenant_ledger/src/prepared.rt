@@ -8,8 +8,8 @@ ghost use Rattle.trace_types.specs.tenant.Tenant.{with_row};
 ghost use Rattle.trace_types.specs.declared.reply.Reply.TheVariants as reply;
 ghost use Rattle.tenant_ledger.specs.Ledger.{MayHavePoint, start_of};
 
-use crate::answers::Records;
 use crate::book::{Book, Draft};
+use crate::query_answers::Records;
 use crate::share::{Keep, MeantId, Share};
 use crate::{Ledger, PlainShare, Shared, SharedIds};
 use event_tree::{EvTree, RaisedPoint};

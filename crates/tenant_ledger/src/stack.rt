@@ -42,6 +42,7 @@ impl Stack {
     fn grow(&mut self, alloc: Global) -> Result<(), AllocError> {
         let block: Vec<u8> = Vec::with_capacity(alloc, BYTES)?;
         drop(block);
+        // What it gives says nothing.
         let _ = touch(BYTES / PAGE);
         self.has_room = true;
         Ok(())

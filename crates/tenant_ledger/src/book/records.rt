@@ -3,7 +3,7 @@ ghost use Rattle.std.specs.Prelude.{◌≡◌};
 ghost use Rattle.tenant_ledger.specs.Ledger.{IsKept, tenant_of};
 
 use super::Book;
-use crate::answers::Records;
+use crate::query_answers::Records;
 use crate::share::{Keep, MeantId};
 use event_tree::RaisedPoint;
 use id_tree::IdTree;

@@ -1,6 +1,6 @@
 use Rattle.std.proofs.Common.{sym, ◌∙◌, arith}
 use Rattle.tenant_ledger.proofs.keeping.Answered.{as_many_kept, kept_in_place, stamp_answered}
-use Rattle.tenant_ledger.proofs.answers.stamp.Goals as goal
+use Rattle.tenant_ledger.proofs.query_answers.stamp.Goals as goal
 
 pub offset_bounds-trees-place : goal.offset_bounds-trees-place
 offset_bounds-trees-place g c =

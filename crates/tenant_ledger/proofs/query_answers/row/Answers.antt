@@ -1,6 +1,6 @@
 use Rattle.std.proofs.Common.{get_or, sym, ◌∙◌}
 use Rattle.tenant_ledger.proofs.keeping.Answered.{row_answered}
-use Rattle.tenant_ledger.proofs.answers.row.Goals as goal
+use Rattle.tenant_ledger.proofs.query_answers.row.Goals as goal
 
 pub returns-in-Some : goal.returns-in-Some
 returns-in-Some g c =

@@ -1,7 +1,7 @@
 use Rattle.std.proofs.Common.{map, ◌∙◌}
 use Rattle.std.proofs.lemmas.List.{length-map}
 use Rattle.tenant_ledger.proofs.keeping.Told.{as_many_starts, cut_answered, starts_before}
-use Rattle.tenant_ledger.proofs.answers.cut.Goals as goal
+use Rattle.tenant_ledger.proofs.query_answers.cut.Goals as goal
 
 pub cut_by_points-requires-clause-tasks : goal.cut_by_points-requires-clause-tasks
 cut_by_points-requires-clause-tasks g c =

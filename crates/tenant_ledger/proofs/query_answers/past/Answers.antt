@@ -1,6 +1,6 @@
 use Rattle.std.proofs.Common.{map}
 use Rattle.tenant_ledger.proofs.keeping.Told.{past_answered}
-use Rattle.tenant_ledger.proofs.answers.past.Goals as goal
+use Rattle.tenant_ledger.proofs.query_answers.past.Goals as goal
 
 pub returns : goal.returns
 returns g c =

@@ -1,6 +1,6 @@
 use Rattle.std.proofs.Common.{map}
 use Rattle.tenant_ledger.proofs.keeping.Told.{decide_in_order, stand_in_order}
-use Rattle.tenant_ledger.proofs.answers.trees_and_points.Goals as goal
+use Rattle.tenant_ledger.proofs.query_answers.trees_and_points.Goals as goal
 
 pub returns-clause-in_order : goal.returns-clause-in_order
 returns-clause-in_order g c =

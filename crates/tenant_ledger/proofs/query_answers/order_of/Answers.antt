@@ -1,7 +1,7 @@
 use Rattle.std.proofs.Common.{map, ap, sym, ◌∙◌}
 use Rattle.tenant_ledger.proofs.Words.{Refused}
 use Rattle.tenant_ledger.proofs.keeping.Told.{order_reply, order_answered}
-use Rattle.tenant_ledger.proofs.answers.order_of.Goals as goal
+use Rattle.tenant_ledger.proofs.query_answers.order_of.Goals as goal
 
 pub order-requires : goal.order-requires
 order-requires g c = λ place any within. c.requires.admitted _ (c.trees.ensures.kept place any within)

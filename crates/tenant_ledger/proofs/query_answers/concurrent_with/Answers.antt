@@ -1,6 +1,6 @@
 use Rattle.std.proofs.Common.{map}
 use Rattle.tenant_ledger.proofs.keeping.Told.{concurrent_answered}
-use Rattle.tenant_ledger.proofs.answers.concurrent_with.Goals as goal
+use Rattle.tenant_ledger.proofs.query_answers.concurrent_with.Goals as goal
 
 pub returns : goal.returns
 returns g c =
