@@ -38,7 +38,7 @@ tenant_after-push_no_unmarked limits before call tenant not_so = at call.is_mark
     at false unmarked =
         tenant_after-push_other limits before call tenant (λ same. absurd (false≢true (sym not_so ∙ (rw (unmarked, eq-eqb call.tenant tenant (sym same)) refl))))
 
--- one call more, where what follows it is known
+-- one call more, where what comes after it is known
 due_replies-call : (limits : Limits) (tenant : ℕ) (before calls : List Call) (call : Call)
     → due_replies limits tenant (before ++ call ∷ []) calls ≡ replies (tenant_after limits (before ++ call ∷ []) tenant) (kept (calls_of tenant calls))
     → due_replies limits tenant before (call ∷ calls) ≡ replies (tenant_after limits before tenant) (kept (calls_of tenant (call ∷ calls)))

@@ -3,7 +3,7 @@ mod Isolation
 mod Leading
 mod Fronts
 mod Answering
-mod Following
+mod ReplayedLines
 mod Parts
 mod Standing
 mod StampTexts

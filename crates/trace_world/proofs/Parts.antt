@@ -34,7 +34,7 @@ use Rattle.line_protocol.specs.declared.stream_fault.StreamFault.{StreamFault}
 use Rattle.line_protocol.specs.declared.stream_fault.StreamFault.TheVariants.{Read, Write, TooLong, Memory}
 use Rattle.trace_world.specs.Counted.{counted_with}
 use Rattle.trace_world.specs.Replayed.{DoesLine, AreFirstLines, HandsOn, ReplaysInPart, Replays}
-use Rattle.trace_world.proofs.Following.{Follows, no_counts, LeadsTo-none, LeadsTo-line, AreTexts-line, WroteTexts-to, joined_push}
+use Rattle.trace_world.proofs.ReplayedLines.{HasReplayed, no_counts, LeadsTo-none, LeadsTo-line, AreTexts-line, WroteTexts-to, joined_push}
 
 -- a line was found, and this is its answer
 pub record Answered (given given' : List ℕ) (held held' : Held) (old : World) (to : Text) (reply : Reply) (new : World) : Type 0 where
@@ -95,58 +95,58 @@ output-take-le names limits before (line ∷ found) (mark ∷ marks) (suc n) =
 
 -- all that was found was written
 pub in_part_whole : (before after : Given) (taken taken' : Taken) {given : List ℕ} {calls' : List SinkCall} {old new : World} {held : Held} {counts : Counts} (gave : List ℕ)
-    → (follows : Follows before.bytes given taken.bytes taken'.bytes taken.calls calls' old held counts new)
+    → (so_far : HasReplayed before.bytes given taken.bytes taken'.bytes taken.calls calls' old held counts new)
     → after.bytes ≡ given ++ gave → (IsTrue held.is_ended → (gave ≡ []) × IsTrue after.has_ended) → Keeps before.whole after.whole → (fault : StreamFault)
-    → (fault ≢ Write → length follows.found ≡ end_count (follows.read.came ++ gave))
-    → WritesInPart fault old follows.found follows.marks follows.text taken.calls taken'.calls → Keeps taken.began taken'.began → ReplaysInPart fault before after taken taken' old new
+    → (fault ≢ Write → length so_far.found ≡ end_count (so_far.read.came ++ gave))
+    → WritesInPart fault old so_far.found so_far.marks so_far.text taken.calls taken'.calls → Keeps taken.began taken'.began → ReplaysInPart fault before after taken taken' old new
 unfolding AreFirstLines-from
-in_part_whole before after taken taken' {old = old} {counts = counts} gave follows grows at_end kept fault all_found in_part began = record {
-  found = follows.found;
-  marks = follows.marks;
-  text = follows.text;
+in_part_whole before after taken taken' {old = old} {counts = counts} gave so_far grows at_end kept fault all_found in_part began = record {
+  found = so_far.found;
+  marks = so_far.marks;
+  text = so_far.text;
   counts = counts;
-  written = follows.text;
+  written = so_far.text;
   unwritten = [];
-  first = AreFirstLines-from after.has_ended gave follows.read grows at_end;
+  first = AreFirstLines-from after.has_ended gave so_far.read grows at_end;
   kept = kept;
   none_lost = all_found;
-  writes = follows.writes;
+  writes = so_far.writes;
   began = began;
-  front = sym (append-nil follows.text);
+  front = sym (append-nil so_far.text);
   replied = λ not_write. refl;
-  leads = follows.leads;
+  leads = so_far.leads;
   whole = λ calls after.
-      let less = output-take-le old.names old.limits calls follows.found follows.marks (length follows.found - 1) in
-      let all = ap length (follows.leads.text_is calls after) in
+      let less = output-take-le old.names old.limits calls so_far.found so_far.marks (length so_far.found - 1) in
+      let all = ap length (so_far.leads.text_is calls after) in
       omega (arith, less, all);
   texts = in_part;
 }
 
 -- all texts were written
 all_texts : {start given bytes bytes' : List ℕ} {calls calls' : List SinkCall} {old new : World} {held : Held} {counts : Counts} (fault : StreamFault) → fault ≢ Write
-    → (follows : Follows start given bytes bytes' calls calls' old held counts new) → WritesInPart fault old follows.found follows.marks follows.text calls calls'
-all_texts {old = old} fault not_write follows = record {
-  whole = follows.texts;
+    → (so_far : HasReplayed start given bytes bytes' calls calls' old held counts new) → WritesInPart fault old so_far.found so_far.marks so_far.text calls calls'
+all_texts {old = old} fault not_write so_far = record {
+  whole = so_far.texts;
   left = [];
   begun = [];
-  texts_are = subst (AreTexts old follows.found follows.marks) (sym (append-nil follows.texts)) follows.texts_are;
-  parts = follows.joined ∙ sym (append-nil (concat follows.texts));
+  texts_are = subst (AreTexts old so_far.found so_far.marks) (sym (append-nil so_far.texts)) so_far.texts_are;
+  parts = so_far.joined ∙ sym (append-nil (concat so_far.texts));
   begins = refl;
-  patient = record { more = follows.wrote.more; calls = follows.wrote.calls; each = follows.wrote.each };
+  patient = record { more = so_far.wrote.more; calls = so_far.wrote.calls; each = so_far.wrote.each };
   broken_off = λ is_write. absurd (not_write is_write);
 }
 
 -- all texts were written, and a flush gave up
 texts_unflushed : {start given bytes bytes' : List ℕ} {calls calls' calls'' : List SinkCall} {old new : World} {held : Held} {counts : Counts}
-    → (follows : Follows start given bytes bytes' calls calls' old held counts new) → GivesUpFlushing calls' calls'' → WritesInPart Write old follows.found follows.marks follows.text calls calls''
-texts_unflushed {old = old} follows stops =
-    let breaks = BreaksTexts-flush follows.texts follows.wrote stops in
+    → (so_far : HasReplayed start given bytes bytes' calls calls' old held counts new) → GivesUpFlushing calls' calls'' → WritesInPart Write old so_far.found so_far.marks so_far.text calls calls''
+texts_unflushed {old = old} so_far stops =
+    let breaks = BreaksTexts-flush so_far.texts so_far.wrote stops in
     record {
-      whole = follows.texts;
+      whole = so_far.texts;
       left = [];
       begun = [];
-      texts_are = subst (AreTexts old follows.found follows.marks) (sym (append-nil follows.texts)) follows.texts_are;
-      parts = follows.joined ∙ sym (append-nil (concat follows.texts));
+      texts_are = subst (AreTexts old so_far.found so_far.marks) (sym (append-nil so_far.texts)) so_far.texts_are;
+      parts = so_far.joined ∙ sym (append-nil (concat so_far.texts));
       begins = refl;
       patient = record { more = breaks.more; calls = breaks.calls; each = breaks.each };
       broken_off = λ is_write. breaks.broken;
@@ -205,59 +205,59 @@ last_texts {old = old} {found = found} {marks = marks} text texts to reply middl
 
 -- a read failed
 pub in_part_read : (before after : Given) (taken taken' : Taken) {given : List ℕ} {old new : World} {held : Held} {counts : Counts}
-    → Follows before.bytes given taken.bytes taken'.bytes taken.calls taken'.calls old held counts new → FindsNone given after.bytes held → Keeps before.whole after.whole
+    → HasReplayed before.bytes given taken.bytes taken'.bytes taken.calls taken'.calls old held counts new → FindsNone given after.bytes held → Keeps before.whole after.whole
     → Keeps taken.began taken'.began → (fault : StreamFault) → fault ≢ Write → ReplaysInPart fault before after taken taken' old new
-in_part_read before after taken taken' follows none kept began fault not_write =
-    in_part_whole before after taken taken' none.gave follows none.grows (λ ended. absurd (cc)) kept fault (λ _. HasRead-none follows.read none) (all_texts fault not_write follows) began
+in_part_read before after taken taken' so_far none kept began fault not_write =
+    in_part_whole before after taken taken' none.gave so_far none.grows (λ ended. absurd (cc)) kept fault (λ _. HasRead-none so_far.read none) (all_texts fault not_write so_far) began
 
 -- what was answered was not flushed
 pub in_part_held_back : (before after : Given) (taken taken' : Taken) {calls' : List SinkCall} {old new : World} {held : Held} {counts : Counts}
-    → Follows before.bytes after.bytes taken.bytes taken'.bytes taken.calls calls' old held counts new → GivesUpFlushing calls' taken'.calls → Keeps taken.began taken'.began → Reads before after fresh_held held 0
+    → HasReplayed before.bytes after.bytes taken.bytes taken'.bytes taken.calls calls' old held counts new → GivesUpFlushing calls' taken'.calls → Keeps taken.began taken'.began → Reads before after fresh_held held 0
     → ReplaysInPart Write before after taken taken' old new
-in_part_held_back before after taken taken' follows stops began reads =
-    in_part_whole before after taken taken' [] follows (sym (append-nil after.bytes)) (λ ended. (refl, (has_told_end reads ended).0)) reads.whole Write
-    (λ not_write. absurd (not_write refl)) (texts_unflushed follows stops) began
+in_part_held_back before after taken taken' so_far stops began reads =
+    in_part_whole before after taken taken' [] so_far (sym (append-nil after.bytes)) (λ ended. (refl, (has_told_end reads ended).0)) reads.whole Write
+    (λ not_write. absurd (not_write refl)) (texts_unflushed so_far stops) began
 
 -- all was replayed, and it was not flushed
 pub in_part_unflushed : (before after : Given) (taken taken' : Taken) {given : List ℕ} {calls' : List SinkCall} {old new : World} {held : Held} {counts : Counts} (held' : Held)
-    → Follows before.bytes given taken.bytes taken'.bytes taken.calls calls' old held counts new → GivesUpFlushing calls' taken'.calls → Keeps taken.began taken'.began → Finds given after.bytes held held' End
+    → HasReplayed before.bytes given taken.bytes taken'.bytes taken.calls calls' old held counts new → GivesUpFlushing calls' taken'.calls → Keeps taken.began taken'.began → Finds given after.bytes held held' End
     → (failed : ℕ) → Reads before after fresh_held held' failed → ReplaysInPart Write before after taken taken' old new
-in_part_unflushed before after taken taken' held' follows stops began finds failed reads =
-    in_part_whole before after taken taken' [] follows (finds.0 ∙ sym (append-nil _)) (λ _. (refl, (has_told_end reads finds.3).0)) reads.whole Write
-    (λ not_write. absurd (not_write refl)) (texts_unflushed follows stops) began
+in_part_unflushed before after taken taken' held' so_far stops began finds failed reads =
+    in_part_whole before after taken taken' [] so_far (finds.0 ∙ sym (append-nil _)) (λ _. (refl, (has_told_end reads finds.3).0)) reads.whole Write
+    (λ not_write. absurd (not_write refl)) (texts_unflushed so_far stops) began
 
 -- the last line was written in part
 pub in_part_last : (before after : Given) (taken taken' taken'' : Taken) {given : List ℕ} {old mid new : World} {held held' : Held} {counts : Counts} {to : Text} {reply : Reply}
-    → Follows before.bytes given taken.bytes taken'.bytes taken.calls taken'.calls old held counts mid
+    → HasReplayed before.bytes given taken.bytes taken'.bytes taken.calls taken'.calls old held counts mid
     → Answered given after.bytes held held' mid to reply new
     → (IsTrue held.is_ended → (after.bytes ≡ given) × IsTrue held'.is_ended) → (failed : ℕ) → Reads before after fresh_held held' failed
     → WritesBoth {A = Unit {0}} {E = Unit {0}} taken' taken'' (Err tt) (to ++ codes " ") (reply_text reply ++ codes "\n") → Keeps taken.began taken''.began → ReplaysInPart Write before after taken taken'' old new
-in_part_last before after taken taken' taken'' {old = old} {mid = mid} {new = new} {held' = held'} {counts = counts} {to = to} {reply = reply} follows answered at_end failed reads writes began =
-    let read : HasRead before.bytes after.bytes held' (follows.found ++ answered.line ∷ []) = HasRead-line follows.read answered.gives at_end in
-    let last : LastTexts old (follows.found ++ answered.line ∷ []) (follows.marks ++ answered.answers.mark ∷ []) follows.text to (reply_text reply) taken'.bytes taken''.bytes taken.calls taken''.calls =
-    last_texts follows.text follows.texts to (reply_text reply) taken' taken'' follows.wrote follows.joined
-    (AreTexts-line old mid new follows.found follows.marks follows.text counts follows.texts answered.line to reply follows.leads follows.texts_are answered.answers) writes in
+in_part_last before after taken taken' taken'' {old = old} {mid = mid} {new = new} {held' = held'} {counts = counts} {to = to} {reply = reply} so_far answered at_end failed reads writes began =
+    let read : HasRead before.bytes after.bytes held' (so_far.found ++ answered.line ∷ []) = HasRead-line so_far.read answered.gives at_end in
+    let last : LastTexts old (so_far.found ++ answered.line ∷ []) (so_far.marks ++ answered.answers.mark ∷ []) so_far.text to (reply_text reply) taken'.bytes taken''.bytes taken.calls taken''.calls =
+    last_texts so_far.text so_far.texts to (reply_text reply) taken' taken'' so_far.wrote so_far.joined
+    (AreTexts-line old mid new so_far.found so_far.marks so_far.text counts so_far.texts answered.line to reply so_far.leads so_far.texts_are answered.answers) writes in
     let front = last.front in
     record {
-      found = follows.found ++ answered.line ∷ [];
-      marks = follows.marks ++ answered.answers.mark ∷ [];
-      text = follows.text ++ (to ++ codes " " ++ reply_text reply ++ 10 ∷ []);
+      found = so_far.found ++ answered.line ∷ [];
+      marks = so_far.marks ++ answered.answers.mark ∷ [];
+      text = so_far.text ++ (to ++ codes " " ++ reply_text reply ++ 10 ∷ []);
       counts = counted_with counts reply;
-      written = follows.text ++ front.written;
+      written = so_far.text ++ front.written;
       unwritten = front.rest;
       first = AreFirstLines-from after.has_ended [] read (sym (append-nil after.bytes)) (λ ended. (refl, (has_told_end reads ended).0));
       kept = reads.whole;
       began = began;
-      writes = front.grows ∙ ap (λ bytes. bytes ++ front.written) follows.writes ∙ append_assoc taken.bytes follows.text front.written;
-      front = ap (λ bytes. follows.text ++ bytes) front.front ∙ sym (append_assoc follows.text front.written front.rest);
+      writes = front.grows ∙ ap (λ bytes. bytes ++ front.written) so_far.writes ∙ append_assoc taken.bytes so_far.text front.written;
+      front = ap (λ bytes. so_far.text ++ bytes) front.front ∙ sym (append_assoc so_far.text front.written front.rest);
       none_lost = λ not_write. absurd (not_write refl);
       replied = λ not_write. absurd (not_write refl);
-      leads = LeadsTo-line old mid new follows.found follows.marks follows.text counts answered.line to reply follows.leads answered.answers;
+      leads = LeadsTo-line old mid new so_far.found so_far.marks so_far.text counts answered.line to reply so_far.leads answered.answers;
       whole = λ calls after.
-          let count : length (follows.found ++ answered.line ∷ []) - 1 ≡ length follows.found = omega (arith, length-append follows.found (answered.line ∷ [])) in
-          let all = ap length (follows.leads.text_is calls after) in
-          rw (count, take-push (length follows.found) follows.found answered.line refl, take-push (length follows.found) follows.marks answered.answers.mark (sym follows.leads.one_each))
-          (omega (arith, all, length-append follows.text front.written));
+          let count : length (so_far.found ++ answered.line ∷ []) - 1 ≡ length so_far.found = omega (arith, length-append so_far.found (answered.line ∷ [])) in
+          let all = ap length (so_far.leads.text_is calls after) in
+          rw (count, take-push (length so_far.found) so_far.found answered.line refl, take-push (length so_far.found) so_far.marks answered.answers.mark (sym so_far.leads.one_each))
+          (omega (arith, all, length-append so_far.text front.written));
       texts = last.in_part;
     }
 
@@ -299,21 +299,21 @@ gave_known (Some whole) (Some whole') given came kept gave is = sym kept ∙ (sy
 
 -- all was replayed
 pub replays_all : (before after : Given) (taken taken' : Taken) {given : List ℕ} {old new : World} {held : Held} {counts : Counts} (held' : Held)
-    → Follows before.bytes given taken.bytes taken'.bytes taken.calls taken'.calls old held counts new → Finds given after.bytes held held' End → (failed : ℕ) → Reads before after fresh_held held' failed
+    → HasReplayed before.bytes given taken.bytes taken'.bytes taken.calls taken'.calls old held counts new → Finds given after.bytes held held' End → (failed : ℕ) → Reads before after fresh_held held' failed
     → Keeps taken.began taken'.began → Replays before after taken taken' old counts new
-replays_all before after taken taken' {old = old} {new = new} {counts = counts} held' follows finds failed reads began = record {
-  came = follows.read.came;
-  marks = follows.marks;
-  text = follows.text;
-  reads = finds.0 ∙ follows.read.grows;
+replays_all before after taken taken' {old = old} {new = new} {counts = counts} held' so_far finds failed reads began = record {
+  came = so_far.read.came;
+  marks = so_far.marks;
+  text = so_far.text;
+  reads = finds.0 ∙ so_far.read.grows;
   ends = (has_told_end reads finds.3).0;
-  all = gave_known before.whole after.whole after.bytes (before.bytes ++ follows.read.came) reads.whole (has_told_end reads finds.3).1 (finds.0 ∙ follows.read.grows);
-  writes = follows.writes;
+  all = gave_known before.whole after.whole after.bytes (before.bytes ++ so_far.read.came) reads.whole (has_told_end reads finds.3).1 (finds.0 ∙ so_far.read.grows);
+  writes = so_far.writes;
   began = began;
-  leads = rw (HasRead-end follows.read finds.1) follows.leads;
-  texts = follows.texts;
-  texts_are = rw (HasRead-end follows.read finds.1) follows.texts_are;
-  patient = record { more = follows.wrote.more; calls = follows.wrote.calls; each = follows.wrote.each };
+  leads = rw (HasRead-end so_far.read finds.1) so_far.leads;
+  texts = so_far.texts;
+  texts_are = rw (HasRead-end so_far.read finds.1) so_far.texts_are;
+  patient = record { more = so_far.wrote.more; calls = so_far.wrote.calls; each = so_far.wrote.each };
 }
 
 -- what was flushed is told so
@@ -345,34 +345,34 @@ answered_where_whole given given' held held' old new found line text to reply wi
     (λ short. does held'.line (subst (λ (line : Option Text). IsFound line held'.line) (sym line_is) (text_is, short)))
 
 -- what is flushed is as it was
-pub Follows-as : {start given taken taken' taken'' : List ℕ} {calls calls' : List SinkCall} {old new : World} {held : Held} {counts : Counts} → taken'' ≡ taken'
-    → Follows start given taken taken' calls calls' old held counts new → Follows start given taken taken'' calls calls' old held counts new
-Follows-as same follows = record {
-  found = follows.found;
-  marks = follows.marks;
-  text = follows.text;
-  read = follows.read;
-  writes = same ∙ follows.writes;
-  leads = follows.leads;
-  texts = follows.texts;
-  texts_are = follows.texts_are;
-  joined = follows.joined;
-  wrote = follows.wrote;
+pub HasReplayed-as : {start given taken taken' taken'' : List ℕ} {calls calls' : List SinkCall} {old new : World} {held : Held} {counts : Counts} → taken'' ≡ taken'
+    → HasReplayed start given taken taken' calls calls' old held counts new → HasReplayed start given taken taken'' calls calls' old held counts new
+HasReplayed-as same so_far = record {
+  found = so_far.found;
+  marks = so_far.marks;
+  text = so_far.text;
+  read = so_far.read;
+  writes = same ∙ so_far.writes;
+  leads = so_far.leads;
+  texts = so_far.texts;
+  texts_are = so_far.texts_are;
+  joined = so_far.joined;
+  wrote = so_far.wrote;
 }
 
-pub Follows-flushed : {start given taken taken' taken'' : List ℕ} {calls calls' calls'' : List SinkCall} {old new : World} {held : Held} {counts : Counts} → taken'' ≡ taken' → FlushesPatiently calls' calls''
-    → Follows start given taken taken' calls calls' old held counts new → Follows start given taken taken'' calls calls'' old held counts new
-Follows-flushed same flushes follows = record {
-  found = follows.found;
-  marks = follows.marks;
-  text = follows.text;
-  read = follows.read;
-  writes = same ∙ follows.writes;
-  leads = follows.leads;
-  texts = follows.texts;
-  texts_are = follows.texts_are;
-  joined = follows.joined;
-  wrote = WroteTexts-flush follows.wrote flushes;
+pub HasReplayed-flushed : {start given taken taken' taken'' : List ℕ} {calls calls' calls'' : List SinkCall} {old new : World} {held : Held} {counts : Counts} → taken'' ≡ taken' → FlushesPatiently calls' calls''
+    → HasReplayed start given taken taken' calls calls' old held counts new → HasReplayed start given taken taken'' calls calls'' old held counts new
+HasReplayed-flushed same flushes so_far = record {
+  found = so_far.found;
+  marks = so_far.marks;
+  text = so_far.text;
+  read = so_far.read;
+  writes = same ∙ so_far.writes;
+  leads = so_far.leads;
+  texts = so_far.texts;
+  texts_are = so_far.texts_are;
+  joined = so_far.joined;
+  wrote = WroteTexts-flush so_far.wrote flushes;
 }
 
 -- no fault of reading is one of writing

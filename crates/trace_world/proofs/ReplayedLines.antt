@@ -27,7 +27,7 @@ use Rattle.line_protocol.proofs.TextsInTurn.{WroteTexts, WroteTexts-text}
 use Rattle.trace_world.specs.Replayed.{counts_of, LeadsTo, DoesLine}
 
 -- The lines that were found were replayed.
-pub record Follows (start given taken taken' : List ℕ) (calls calls' : List SinkCall) (old : World) (held : Held) (counts : Counts) (new : World) : Type 0 where
+pub record HasReplayed (start given taken taken' : List ℕ) (calls calls' : List SinkCall) (old : World) (held : Held) (counts : Counts) (new : World) : Type 0 where
   pub found : List Text
   pub marks : List Bool
   pub text : Text
@@ -170,14 +170,14 @@ pub WroteTexts-line : {before : List SinkCall} (middle after : Taken) (texts : L
 WroteTexts-line middle after texts to reply wrote (between, one, other) =
     WroteTexts-text (texts ++ (to ++ codes " ") ∷ []) (reply ++ 10 ∷ []) (some_reply reply) (WroteTexts-to texts to wrote one.2) other.2
 
--- one line more is followed
-pub Follows-line : {start given given' taken taken' taken'' : List ℕ} {calls calls' calls'' : List SinkCall} {old mid new : World} {held held' : Held} {counts : Counts} (line to : Text) (reply : Reply)
-    → (before : Follows start given taken taken' calls calls' old held counts mid)
+-- one line more is replayed
+pub HasReplayed-line : {start given given' taken taken' taken'' : List ℕ} {calls calls' calls'' : List SinkCall} {old mid new : World} {held held' : Held} {counts : Counts} (line to : Text) (reply : Reply)
+    → (before : HasReplayed start given taken taken' calls calls' old held counts mid)
     → GivesLine given given' held.left held'.left held'.is_ended line → (IsTrue held.is_ended → (given' ≡ given) × IsTrue held'.is_ended)
     → DoesLine mid line to reply new → taken'' ≡ taken' ++ (to ++ codes " " ++ reply_text reply ++ 10 ∷ [])
     → WroteTexts calls calls'' ((before.texts ++ (to ++ codes " ") ∷ []) ++ (reply_text reply ++ 10 ∷ []) ∷ [])
-    → Follows start given' taken taken'' calls calls'' old held' (counted_with counts reply) new
-Follows-line {taken = taken} {old = old} {mid = mid} {new = new} {counts = counts} line to reply before gives at_end answers writes wrote = record {
+    → HasReplayed start given' taken taken'' calls calls'' old held' (counted_with counts reply) new
+HasReplayed-line {taken = taken} {old = old} {mid = mid} {new = new} {counts = counts} line to reply before gives at_end answers writes wrote = record {
   found = before.found ++ line ∷ [];
   marks = before.marks ++ answers.mark ∷ [];
   text = before.text ++ (to ++ codes " " ++ reply_text reply ++ 10 ∷ []);

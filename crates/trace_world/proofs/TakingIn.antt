@@ -25,7 +25,7 @@ use Rattle.line_protocol.specs.LineReading.{HasRead, Finds, FindsNone, Reads}
 use Rattle.line_protocol.specs.declared.line.Line.TheVariants.{End}
 use Rattle.line_protocol.proofs.LineReadingLemmas.{HasRead-start, HasRead-line, HasRead-end, HasRead-none, has_told_end}
 use Rattle.trace_world.specs.Exported.{AreRowsLeft, export_of, stamp_texts, LeadsThere, StopsExport, TakesAll, TakesFirst}
-use Rattle.trace_world.proofs.Following.{LeadsTo-none, LeadsTo-line}
+use Rattle.trace_world.proofs.ReplayedLines.{LeadsTo-none, LeadsTo-line}
 use Rattle.trace_world.proofs.Parts.{Answered, AreFirstLines-from, gave_known}
 
 -- The lines that were found were done.

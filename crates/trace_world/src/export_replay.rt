@@ -4,8 +4,8 @@ ghost use Rattle.line_protocol.specs.Source.{StopsAtEnd};
 ghost use Rattle.line_protocol.specs.StreamFaults.{PassesNoFaultOver};
 ghost use Rattle.trace_world.specs.Exported.{BreaksExport, Exports, TakesAll, TakesFirst, WritesRight};
 
-use crate::answer::do_line;
 use crate::ledger_stamps::LedgerStamps;
+use crate::line_answer::do_line;
 use crate::{ReplayFault, World};
 use line_protocol::{Buffer, Line, Sink, Source, flush};
 use std::alloc::Global;

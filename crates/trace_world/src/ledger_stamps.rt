@@ -36,6 +36,7 @@ impl StampTexts for LedgerStamps<'_> {
 
     fn text(&self, event: u64) -> Result<Vec<u8>, Memory> {
         laws::greatest_value();
+        // For the proof: the rows are legal.
         let _ = self.ledger.rows();
         match self.ledger.answer(&Request::Stamp(event)) {
             Reply::Stamp(text) => Ok(text.as_bytes().to_vec(self.alloc)?),

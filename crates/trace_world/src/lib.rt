@@ -21,17 +21,17 @@
 //! ```
 #![tactic(auto)]
 
-mod answer;
 mod counts;
-mod exporting;
+mod export_replay;
 pub mod laws;
 mod ledger_stamps;
+mod line_answer;
 mod replaying;
 mod replaying_bytes;
 mod world;
 
 pub use counts::Counts;
-pub use exporting::replay_export;
+pub use export_replay::replay_export;
 pub use line_protocol::StreamFault as ReplayFault;
 pub use replaying::replay;
 pub use replaying_bytes::replay_bytes;

@@ -4,7 +4,7 @@ ghost use Rattle.line_protocol.specs.Source.{StopsAtEnd};
 ghost use Rattle.line_protocol.specs.StreamFaults.{PassesNoFaultOver};
 ghost use Rattle.trace_world.specs.Replayed.{HandsOn, Replays, ReplaysInPart};
 
-use crate::answer::answer_line;
+use crate::line_answer::answer_line;
 use crate::{Counts, ReplayFault, World};
 use line_protocol::{Buffer, Line, LineFault, Sink, Source, flush};
 use std::alloc::Global;

@@ -20,7 +20,7 @@ pub(crate) type SharedLedger = Ledger<Arc<Shared>>;
 
 /// All tenants: their names, the limits that each of them has by itself, and what each has reported.
 ///
-/// They keep their ids and trees in one place, and compare them there. No reply shows it.
+/// They keep their ids and trees together, and compare them there. No reply shows it.
 #[derive(Drop)]
 pub struct World {
     names: TenantNames,
@@ -85,6 +85,7 @@ impl World {
         ensures world { IsWorld self.now }
         ensures led { IsLedTo self.now }
     {
+        // For the proof, which knows what holds of a world once it is read.
         let _ = &self.names;
     }
 

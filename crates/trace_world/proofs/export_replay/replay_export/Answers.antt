@@ -14,9 +14,9 @@ use Rattle.trace_world.proofs.Fronts.{IfErr-equal}
 use Rattle.trace_world.proofs.StampTexts.{length-stamp_texts}
 use Rattle.trace_world.proofs.TakingIn.{ends_held_back, of_ledger, rows_left, stops_export}
 use Rattle.trace_world.proofs.yes.RightExports.{export_is_right, legal_rows_of}
-use Rattle.trace_world.proofs.exporting.replay_export.Goals as goal
-use Rattle.trace_world.proofs.exporting.replay_export.Given.{Over}
-use Rattle.trace_world.proofs.exporting.replay_export.Goals.{After-export_rows, In_ok-count}
+use Rattle.trace_world.proofs.export_replay.replay_export.Goals as goal
+use Rattle.trace_world.proofs.export_replay.replay_export.Given.{Over}
+use Rattle.trace_world.proofs.export_replay.replay_export.Goals.{After-export_rows, In_ok-count}
 
 pub export_rows-requires : goal.export_rows-requires
 export_rows-requires g c = length-stamp_texts c.ledger-ledger.result.now.rows ∙ ap length (sym c.rows.ensures.rows)

@@ -7,7 +7,7 @@ use Rattle.trace_world.specs.Answered.{CarriesOut}
 use Rattle.trace_world.proofs.Answering.{answers_too_long}
 use Rattle.trace_world.proofs.Parts.{answered_too_long, answered_whole}
 use Rattle.trace_world.proofs.TakingIn.{OnErr-holds, takes_all, takes_first, takes_line, takes_none, takes_nothing}
-use Rattle.trace_world.proofs.exporting.take_in.Goals as goal
+use Rattle.trace_world.proofs.export_replay.take_in.Goals as goal
 
 pub returns-in_err-lines-clause-fault : goal.returns-in_err-lines-clause-fault
 returns-in_err-lines-clause-fault g c = OnErr-holds c.from_residual.result (takes_nothing (g.R.Source.seen c.args.reader.now) c.args.world.now)

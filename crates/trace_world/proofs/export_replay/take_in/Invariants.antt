@@ -2,7 +2,7 @@ use Rattle.std.proofs.Common.{◌^◌, ◌≤◌}
 use Rattle.line_protocol.specs.Held.{fresh_held}
 use Rattle.line_protocol.specs.LineReading.{Reads, work_left}
 use Rattle.trace_world.proofs.TakingIn.{Takes}
-use Rattle.trace_world.proofs.exporting.take_in.Given as goal
+use Rattle.trace_world.proofs.export_replay.take_in.Given as goal
 
 abbrev pub invariant-loop-lines : goal.invariant-loop-lines
 invariant-loop-lines g l = record {

@@ -4,7 +4,7 @@ use Rattle.trace_types.specs.text.Name.{Text}
 use Rattle.trace_types.specs.world.World.{World}
 use Rattle.trace_types.specs.declared.code.Code.TheVariants.{Line}
 use Rattle.trace_types.specs.declared.reply.Reply.TheVariants.{Refused}
-use Rattle.trace_world.proofs.answer.answer_at_length.Goals as goal
+use Rattle.trace_world.proofs.line_answer.answer_at_length.Goals as goal
 
 pub name-requires-2 : goal.name-requires-2
 name-requires-2 g c =

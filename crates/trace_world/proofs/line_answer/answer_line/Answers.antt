@@ -6,7 +6,7 @@ use Rattle.trace_types.specs.declared.reply.Reply.TheVariants.{Refused}
 use Rattle.line_protocol.specs.Words.{words_after}
 use Rattle.trace_world.specs.Answered.{code_to_nobody}
 use Rattle.trace_world.proofs.Answering.{answers_found, answers_no_request, answers_no_tenant, where_found, where_too_long}
-use Rattle.trace_world.proofs.answer.answer_line.Goals as goal
+use Rattle.trace_world.proofs.line_answer.answer_line.Goals as goal
 
 pub returns-in_default : goal.returns-in_default
 returns-in_default g c = record {

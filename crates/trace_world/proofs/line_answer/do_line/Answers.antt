@@ -3,7 +3,7 @@ use Rattle.trace_types.specs.declared.code.Code.TheVariants.{Line}
 use Rattle.trace_types.specs.declared.reply.Reply.TheVariants.{Refused}
 use Rattle.trace_world.specs.Answered.{code_to_nobody}
 use Rattle.trace_world.proofs.Answering.{answers_no_request, answers_no_tenant, answers_request}
-use Rattle.trace_world.proofs.answer.do_line.Goals as goal
+use Rattle.trace_world.proofs.line_answer.do_line.Goals as goal
 
 pub returns-in_default : goal.returns-in_default
 returns-in_default g c =

@@ -2,7 +2,7 @@ use Rattle.trace_types.specs.declared.request.Request.TheVariants as request
 use Rattle.trace_types.specs.declared.reply.Reply.TheVariants as reply
 use Rattle.trace_world.proofs.Answering.{tells}
 use Rattle.trace_world.proofs.Standing.{StepsOne-stays}
-use Rattle.trace_world.proofs.answer.tell_count.Goals as goal
+use Rattle.trace_world.proofs.line_answer.tell_count.Goals as goal
 
 pub returns : goal.returns
 returns g c =

@@ -3,7 +3,7 @@ use Rattle.trace_types.specs.declared.request.Request.TheVariants as request
 use Rattle.trace_types.specs.declared.reply.Reply.TheVariants as reply
 use Rattle.trace_world.proofs.Answering.{tells}
 use Rattle.trace_world.proofs.Standing.{StepsOne-stays}
-use Rattle.trace_world.proofs.answer.tell_order.Goals as goal
+use Rattle.trace_world.proofs.line_answer.tell_order.Goals as goal
 
 pub returns-in-Ok : goal.returns-in-Ok
 returns-in-Ok g c =

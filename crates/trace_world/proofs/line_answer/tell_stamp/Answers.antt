@@ -5,7 +5,7 @@ use Rattle.trace_types.specs.declared.request.Request.TheVariants as request
 use Rattle.trace_types.specs.declared.reply.Reply.TheVariants as reply
 use Rattle.trace_world.proofs.Answering.{tells}
 use Rattle.trace_world.proofs.Standing.{StepsOne-stays}
-use Rattle.trace_world.proofs.answer.tell_stamp.Goals as goal
+use Rattle.trace_world.proofs.line_answer.tell_stamp.Goals as goal
 
 pub returns-in-Some : goal.returns-in-Some
 returns-in-Some g c =

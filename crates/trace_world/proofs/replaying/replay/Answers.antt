@@ -17,8 +17,8 @@ use Rattle.trace_types.specs.world.Replay.{is_accepted, is_answered, is_refused}
 use Rattle.std.specs.Io.KnownBytes.{Keeps}
 use Rattle.std.proofs.KnownBytes.{Keeps-refl, Keeps-trans}
 use Rattle.trace_world.proofs.Fronts.{IfErr-equal, WritesBoth-began, WritesText-both}
-use Rattle.trace_world.proofs.Following.{Follows, LeadsTo-none, Follows-line, WroteTexts-line}
-use Rattle.trace_world.proofs.Parts.{in_part_none, in_part_read, in_part_held_back, in_part_unflushed, in_part_last, replays_all, HandsOn-flushed, HandsOn-fault, Answered, answered_where_too_long, answered_where_whole, Follows-as, Follows-flushed, is_no_write_fault, one_if-le}
+use Rattle.trace_world.proofs.ReplayedLines.{HasReplayed, LeadsTo-none, HasReplayed-line, WroteTexts-line}
+use Rattle.trace_world.proofs.Parts.{in_part_none, in_part_read, in_part_held_back, in_part_unflushed, in_part_last, replays_all, HandsOn-flushed, HandsOn-fault, Answered, answered_where_too_long, answered_where_whole, HasReplayed-as, HasReplayed-flushed, is_no_write_fault, one_if-le}
 use Rattle.line_protocol.proofs.TextsInTurn.{WroteTexts-none}
 use Rattle.trace_world.proofs.replaying.replay.Goals as goal
 use Rattle.trace_world.proofs.replaying.replay.Given.{Over}
@@ -52,10 +52,10 @@ finds_end g c =
     subst (Finds (g.R.Source.seen c.loop-found.reader).bytes (g.R.Source.seen c.next_line_flushing.new.source).bytes c.loop-found.lines c.next_line_flushing.new.self) c.in-End.is c.in-Ok.ensures.finds.line
 
 -- what was replayed so far, once it was handed on
-follows : (g : Over) (c : In-Ok g)
-    → Follows (g.R.Source.seen c.args.reader.now).bytes (g.R.Source.seen c.loop-found.reader).bytes (g.W.Sink.seen c.args.writer.now).bytes (g.W.Sink.seen c.next_line_flushing.new.writer).bytes
+so_far : (g : Over) (c : In-Ok g)
+    → HasReplayed (g.R.Source.seen c.args.reader.now).bytes (g.R.Source.seen c.loop-found.reader).bytes (g.W.Sink.seen c.args.writer.now).bytes (g.W.Sink.seen c.next_line_flushing.new.writer).bytes
     (g.W.Sink.seen c.args.writer.now).calls (g.W.Sink.seen c.next_line_flushing.new.writer).calls c.args.world.now c.loop-found.lines c.loop-found.counts c.loop-found.world
-follows g c = Follows-flushed c.in-Ok.ensures.handed_on.0.0 c.in-Ok.ensures.handed_on.0.2 c.loop-found.invariant.follows
+so_far g c = HasReplayed-flushed c.in-Ok.ensures.handed_on.0.0 c.in-Ok.ensures.handed_on.0.2 c.loop-found.invariant.so_far
 
 -- what the writer held first, it can still tell
 begun : (g : Over) (c : In-Ok g) → Keeps (g.W.Sink.seen c.args.writer.now).began (g.W.Sink.seen c.next_line_flushing.new.writer).began
@@ -77,7 +77,7 @@ returns-in-Err-Read-clause-fault g c =
     let hands = subst (λ fault. HandsOnBefore {A = Line} c.loop-found.lines (Err fault) (g.W.Sink.seen c.loop-found.writer) (g.W.Sink.seen c.next_line_flushing.new.writer)) c.in-Err-Read.field-0-is c.in-Err-Read.ensures.handed_on in
     let reads = Reads-on before.reads (λ ended. ap g.R.Source.seen (c.next_line_flushing.ensures.at_end ended).0) finds.reads.reads in
     in_part_read (g.R.Source.seen c.args.reader.now) (g.R.Source.seen c.next_line_flushing.new.source) (g.W.Sink.seen c.args.writer.now) (g.W.Sink.seen c.next_line_flushing.new.writer)
-    (Follows-flushed hands.0 hands.3 before.follows) finds.none reads.whole (Keeps-trans _ _ _ before.began hands.2.began) c.from.result (λ is. is_no_write_fault _ (sym c.from.ensures ∙ is))
+    (HasReplayed-flushed hands.0 hands.3 before.so_far) finds.none reads.whole (Keeps-trans _ _ _ before.began hands.2.began) c.from.result (λ is. is_no_write_fault _ (sym c.from.ensures ∙ is))
 
 pub returns-in-Err-Read-clause-flushed : goal.returns-in-Err-Read-clause-flushed
 returns-in-Err-Read-clause-flushed g c =
@@ -91,14 +91,14 @@ returns-in-Err-Write-clause-fault g c =
     let stops = subst (λ fault. HandsOnBefore {A = Line} c.loop-found.lines (Err fault) (g.W.Sink.seen c.loop-found.writer) (g.W.Sink.seen c.next_line_flushing.new.writer)) c.in-Err-Write.field-0-is c.in-Err-Write.ensures.handed_on in
     subst (λ source. ReplaysInPart Write (g.R.Source.seen c.args.reader.now) (g.R.Source.seen source) (g.W.Sink.seen c.args.writer.now) (g.W.Sink.seen c.next_line_flushing.new.writer) c.args.world.now c.loop-found.world) (sym unread.0)
     (in_part_held_back (g.R.Source.seen c.args.reader.now) (g.R.Source.seen c.loop-found.reader) (g.W.Sink.seen c.args.writer.now) (g.W.Sink.seen c.next_line_flushing.new.writer)
-    (Follows-as stops.0 before.follows) stops.2 (Keeps-trans _ _ _ before.began stops.1.began) before.reads)
+    (HasReplayed-as stops.0 before.so_far) stops.2 (Keeps-trans _ _ _ before.began stops.1.began) before.reads)
 
 pub loop-found-init : goal.loop-found-init
 loop-found-init g c =
     let held = c.in_ok-lines.ensures in
     let none = c.none-counts.ensures in
     record {
-      follows = record {
+      so_far = record {
         found = [];
         marks = [];
         text = [];
@@ -126,7 +126,7 @@ returns-in_err-answer_line-clause-fault g c =
     let at = goal.at.returns-in_err-answer_line-clause-fault g c in
     IfErr-equal _ _ _ c.from_residual-in_err-answer_line.ensures.1
     (in_part_last (g.R.Source.seen c.args.reader.now) (g.R.Source.seen c.next_line_flushing.new.source) (g.W.Sink.seen c.args.writer.now) (g.W.Sink.seen c.next_line_flushing.new.writer) (g.W.Sink.seen c.answer_line.new.writer)
-    (follows g at.In-Ok) (answered g at.After-answer_line c.in_err-answer_line.ensures) (gives_no_more g at.In-Ok) _ (all_reads g at.In-Ok) c.in_err-answer_line.ensures.tells.writes (begun_answer g at.After-answer_line))
+    (so_far g at.In-Ok) (answered g at.After-answer_line c.in_err-answer_line.ensures) (gives_no_more g at.In-Ok) _ (all_reads g at.In-Ok) c.in_err-answer_line.ensures.tells.writes (begun_answer g at.After-answer_line))
 
 pub returns-in_err-answer_line-clause-ends : goal.returns-in_err-answer_line-clause-ends
 returns-in_err-answer_line-clause-ends g c = stops_at_end (all_reads g (goal.at.returns-in_err-answer_line-clause-ends g c).In-Ok)
@@ -145,8 +145,8 @@ loop-found-preserved g c =
       | in-Whole w ↦ subst (LeavesLess c.loop-found.lines c.next_line_flushing.new.self) w.in-Whole.is step.less
     ] in
     record {
-      follows = rw tells.counted (Follows-line answered.line _ _ (follows g at.In-Ok) answered.gives (gives_no_more g at.In-Ok) answered.answers wrote
-          (WroteTexts-line _ _ (follows g at.In-Ok).texts _ _ (follows g at.In-Ok).wrote tells.writes));
+      so_far = rw tells.counted (HasReplayed-line answered.line _ _ (so_far g at.In-Ok) answered.gives (gives_no_more g at.In-Ok) answered.answers wrote
+          (WroteTexts-line _ _ (so_far g at.In-Ok).texts _ _ (so_far g at.In-Ok).wrote tells.writes));
       reads = Reads-on {failed = 0} before.reads (λ ended. ap g.R.Source.seen (c.next_line_flushing.ensures.at_end ended).0) step.reads.reads;
       most = omega (arith, step.reads.most, ap (λ (bounds : ReadingBounds). bounds.reads) (all_reads g at.In-Ok).bounds);
       began = begun_answer g at.After-answer_line;
@@ -164,7 +164,7 @@ returns-in_err-flush-clause-fault g c =
     let finds = finds_end g at.After-flush in
     IfErr-equal _ _ _ c.from_residual-in_err-flush.ensures.1
     (in_part_unflushed (g.R.Source.seen c.args.reader.now) (g.R.Source.seen c.next_line_flushing.new.source) (g.W.Sink.seen c.args.writer.now) (g.W.Sink.seen c.flush.new.writer)
-    c.next_line_flushing.new.self (Follows-as c.in_err-flush.ensures.0 (follows g at.In-Ok)) c.in_err-flush.ensures.2 (Keeps-trans _ _ _ (begun g at.In-Ok) c.in_err-flush.ensures.1.began) finds _ (all_reads g at.In-Ok))
+    c.next_line_flushing.new.self (HasReplayed-as c.in_err-flush.ensures.0 (so_far g at.In-Ok)) c.in_err-flush.ensures.2 (Keeps-trans _ _ _ (begun g at.In-Ok) c.in_err-flush.ensures.1.began) finds _ (all_reads g at.In-Ok))
 
 pub returns-in_err-flush-clause-ends : goal.returns-in_err-flush-clause-ends
 returns-in_err-flush-clause-ends g c = stops_at_end (all_reads g (goal.at.returns-in_err-flush-clause-ends g c).In-Ok)
@@ -174,7 +174,7 @@ returns-clause-ok g c =
     let at = goal.at.returns-clause-ok g c in
     let finds = finds_end g at.After-flush in
     replays_all (g.R.Source.seen c.args.reader.now) (g.R.Source.seen c.next_line_flushing.new.source) (g.W.Sink.seen c.args.writer.now) (g.W.Sink.seen c.flush.new.writer)
-    c.next_line_flushing.new.self (Follows-flushed c.in_ok-flush.ensures.0 c.in_ok-flush.ensures.3 (follows g at.In-Ok)) finds _ (all_reads g at.In-Ok)
+    c.next_line_flushing.new.self (HasReplayed-flushed c.in_ok-flush.ensures.0 c.in_ok-flush.ensures.3 (so_far g at.In-Ok)) finds _ (all_reads g at.In-Ok)
     (Keeps-trans _ _ _ (begun g at.In-Ok) c.in_ok-flush.ensures.2.began)
 
 pub returns-clause-ends : goal.returns-clause-ends

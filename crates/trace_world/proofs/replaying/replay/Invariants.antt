@@ -2,12 +2,12 @@ use Rattle.std.proofs.Common.{◌≡◌, ◌+◌, ◌^◌, ◌≤◌}
 use Rattle.std.specs.Io.KnownBytes.{Keeps}
 use Rattle.line_protocol.specs.Held.{fresh_held}
 use Rattle.line_protocol.specs.LineReading.{Reads, work_left}
-use Rattle.trace_world.proofs.Following.{Follows}
+use Rattle.trace_world.proofs.ReplayedLines.{HasReplayed}
 use Rattle.trace_world.proofs.replaying.replay.Given as goal
 
 abbrev pub invariant-loop-found : goal.invariant-loop-found
 invariant-loop-found g l = record {
-  follows : Follows (g.R.Source.seen l.fn.reader).bytes (g.R.Source.seen l.reader).bytes (g.W.Sink.seen l.fn.writer).bytes (g.W.Sink.seen l.writer).bytes (g.W.Sink.seen l.fn.writer).calls (g.W.Sink.seen l.writer).calls l.fn.world l.lines l.counts l.world;
+  so_far : HasReplayed (g.R.Source.seen l.fn.reader).bytes (g.R.Source.seen l.reader).bytes (g.W.Sink.seen l.fn.writer).bytes (g.W.Sink.seen l.writer).bytes (g.W.Sink.seen l.fn.writer).calls (g.W.Sink.seen l.writer).calls l.fn.world l.lines l.counts l.world;
   reads : Reads (g.R.Source.seen l.fn.reader) (g.R.Source.seen l.reader) fresh_held l.lines 0;
   most : l.lines.reads ≤ 2 ^ 30;
   write_failures : (g.W.Sink.seen l.writer).failures ≡ (g.W.Sink.seen l.fn.writer).failures;
