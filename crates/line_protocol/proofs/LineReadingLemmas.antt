@@ -6,13 +6,13 @@ use Rattle.std.proofs.KnownBytes.{Keeps-refl, Keeps-trans}
 use Rattle.trace_types.specs.text.Name.{Text}
 use Rattle.trace_types.specs.text.Lines.{lines, without_return, is_longer_than}
 use Rattle.line_protocol.specs.HandingOn.{FindsBehind, failed_reads_in}
-use Rattle.line_protocol.specs.declared.line_fault.LineFault.{LineFault}
-use Rattle.line_protocol.specs.declared.line_fault.LineFault.TheVariants.{Read, Write}
+use Rattle.line_protocol.specs.declared.flushing.LineFault.{LineFault}
+use Rattle.line_protocol.specs.declared.flushing.LineFault.TheVariants.{Read, Write}
 use Rattle.line_protocol.specs.Held.{Held, ReadingBounds, fresh_within}
 use Rattle.line_protocol.specs.Source.{Given, HasToldEnd, LastRead, StopsAtEnd, one_if}
 use Rattle.line_protocol.specs.declared.line.Line.{Line}
 use Rattle.line_protocol.specs.declared.line.Line.TheVariants.{Whole, TooLong}
-use Rattle.line_protocol.specs.declared.read_fault.ReadFault.{ReadFault}
+use Rattle.line_protocol.specs.declared.line_reader.ReadFault.{ReadFault}
 use Rattle.line_protocol.specs.LineReading.{GivesLine, Finds, FindsNone, HasRead, Reads, ReadsForLine, ReadsUntil, AllWereMade, failed_reads_of}
 use Rattle.line_protocol.specs.Ends.{HasNoEnd, end_count, EndsAt, Comes, Skipped, Skips, kind_of, last_line}
 use Rattle.line_protocol.proofs.EndsLemmas.{lines-ended, lines-last, HasNoEnd-append, length-lines-ended}

@@ -6,7 +6,7 @@ use Rattle.line_protocol.specs.Held.{Held, ReadingBounds}
 use Rattle.line_protocol.specs.Source.{Given}
 use Rattle.line_protocol.specs.declared.line.Line.{Line}
 use Rattle.line_protocol.specs.declared.line.Line.TheVariants.{Whole, TooLong}
-use Rattle.line_protocol.specs.declared.read_fault.ReadFault.{ReadFault}
+use Rattle.line_protocol.specs.declared.line_reader.ReadFault.{ReadFault}
 use Rattle.line_protocol.specs.LineReading.{FindsNext, FindsNone, LeavesLess, ReadsUntil, work_left}
 use Rattle.line_protocol.specs.Ends.{HasNoEnd, EndsAt, Comes, Skips, kind_of, last_line}
 use Rattle.line_protocol.proofs.LineReadingLemmas.{Finds-at, Finds-rest, Finds-skipped, Reads-fewer, Reads-more}

@@ -7,9 +7,9 @@ use Rattle.line_protocol.specs.Sink.{Taken}
 use Rattle.line_protocol.specs.Source.{Given}
 use Rattle.line_protocol.specs.Writing.{GoesWell, HandsAllOn, StopsHandingOn}
 use Rattle.line_protocol.specs.declared.line.Line.{Line}
-use Rattle.line_protocol.specs.declared.line_fault.LineFault.{LineFault}
-use Rattle.line_protocol.specs.declared.line_fault.LineFault.TheVariants.{Read, Write}
-use Rattle.line_protocol.specs.declared.read_fault.ReadFault.{ReadFault}
+use Rattle.line_protocol.specs.declared.flushing.LineFault.{LineFault}
+use Rattle.line_protocol.specs.declared.flushing.LineFault.TheVariants.{Read, Write}
+use Rattle.line_protocol.specs.declared.line_reader.ReadFault.{ReadFault}
 
 -- What was written stays, and was perhaps handed on.
 abbrev pub KeepsAll : Taken → Taken → Type 0

@@ -8,8 +8,8 @@ use Rattle.line_protocol.specs.Source.{Given, HasToldEnd, LastRead, one_if}
 use Rattle.line_protocol.specs.Ends.{HasNoEnd, EndsAt, Skipped, Skips}
 use Rattle.line_protocol.specs.declared.line.Line.{Line}
 use Rattle.line_protocol.specs.declared.line.Line.TheVariants.{Whole, TooLong, End}
-use Rattle.line_protocol.specs.declared.read_fault.ReadFault.{ReadFault}
-use Rattle.line_protocol.specs.declared.read_fault.ReadFault.TheVariants as read_fault
+use Rattle.line_protocol.specs.declared.line_reader.ReadFault.{ReadFault}
+use Rattle.line_protocol.specs.declared.line_reader.ReadFault.TheVariants as read_fault
 use Rattle.line_protocol.specs.declared.stop.Stop.{Stop}
 
 -- The source gave more. The first line of what was left and came is this line, and the bytes after it are left,

@@ -3,8 +3,8 @@ use Rattle.std.specs.Prelude.{◌≡◌, ◌+◌, ◌<◌, ◌↔◌, ◌^◌, I
 use Rattle.line_protocol.specs.Sink.{Taken}
 use Rattle.line_protocol.specs.Source.{Given}
 use Rattle.line_protocol.specs.Writing.{EndsInFault}
-use Rattle.line_protocol.specs.declared.read_fault.ReadFault.{ReadFault}
-use Rattle.line_protocol.specs.declared.read_fault.ReadFault.TheVariants as read
+use Rattle.line_protocol.specs.declared.line_reader.ReadFault.{ReadFault}
+use Rattle.line_protocol.specs.declared.line_reader.ReadFault.TheVariants as read
 use Rattle.line_protocol.specs.declared.stream_fault.StreamFault.{StreamFault}
 use Rattle.line_protocol.specs.declared.stream_fault.StreamFault.TheVariants.{Read, Write, TooLong}
 

@@ -3,8 +3,29 @@ ghost use Rattle.std.specs.Prelude.{◌≡◌, IsTrue, OnOk, MatchResult};
 ghost use Rattle.line_protocol.specs.HandingOn.{FindsBehind, HandsOnBefore, KeepsAll};
 ghost use Rattle.line_protocol.specs.LineReading.{FindsNext, NeedsRead, ReadsForLine};
 ghost use Rattle.line_protocol.specs.Writing.{StopsHandingOn};
+ghost use Rattle.line_protocol.specs.declared.flushing.LineFault.TheVariants as variants;
 
-use crate::{Buffer, Line, LineFault, ReadFault, Sink, Source, WriteFault, flush};
+use crate::{Buffer, Line, ReadFault, Sink, Source, WriteFault, flush};
+use thiserror::Error;
+
+/// Why no next line is found.
+#[derive(Clone, Copy, Debug, PartialEq, Eq, Error)]
+pub enum LineFault {
+    /// It could not be read. All that was written was flushed before.
+    #[error("{0}")]
+    Read(ReadFault),
+    /// The flush before a read failed, or was interrupted 1048576 times. Nothing was read.
+    #[error("write")]
+    Write,
+}
+
+impl From<WriteFault> for LineFault {
+    ghost from_gives = { λ _ line_fault. line_fault ≡ variants.Write };
+
+    fn from(_fault: WriteFault) -> LineFault {
+        LineFault::Write
+    }
+}
 
 impl Buffer {
     /// Finds the next line of the source, as [`Buffer::next_line`] does. It flushes the writer first if that line needs a

@@ -32,11 +32,9 @@ mod gather;
 mod into_writer;
 mod line;
 mod line_buffer;
-mod line_fault;
 mod line_reader;
 mod log;
 mod pieces;
-mod read_fault;
 mod reply;
 mod reply_head;
 mod reply_text;
@@ -45,22 +43,20 @@ mod sink;
 mod source;
 mod stop;
 mod stream_fault;
-mod write_fault;
 
 pub use buffered_sink::Buffered;
+pub use flushing::LineFault;
 pub use from_reader::FromReader;
 pub use into_writer::IntoWriter;
 pub use line::Line;
 pub use line_buffer::Buffer;
-pub use line_fault::LineFault;
-pub use line_reader::LineReader;
-pub use read_fault::ReadFault;
+pub use line_reader::{LineReader, ReadFault};
 pub use reply::{
-    flush, write_answer, write_bytes, write_count, write_order, write_prefix, write_reply,
+    WriteFault, flush, write_answer, write_bytes, write_count, write_order, write_prefix,
+    write_reply,
 };
 pub use request::{is_count, read_addressed, read_order, read_request, split_first};
 pub use sink::Sink;
 pub use source::Source;
 pub use stop::Stop;
 pub use stream_fault::StreamFault;
-pub use write_fault::WriteFault;

@@ -6,9 +6,21 @@ ghost use Rattle.line_protocol.specs.Held.{fresh_held, fresh_within};
 ghost use Rattle.line_protocol.specs.LineReading.{FindsNext, NeedsRead};
 
 use crate::line_buffer::Buffer;
-use crate::{Line, LineFault, ReadFault, Sink, Source};
+use crate::{Line, LineFault, Sink, Source};
 use std::alloc::Global;
+use thiserror::Error;
 use trace_types::Memory;
+
+/// Why a line reader gives no line. It gives none from then on.
+#[derive(Clone, Copy, Debug, PartialEq, Eq, Error)]
+pub enum ReadFault {
+    /// A read failed.
+    #[error("read")]
+    Read,
+    /// All the reads that the line reader may make were made, 2^30 for requests.
+    #[error("input too long")]
+    TooLong,
+}
 
 /// Reads lines from a source that it borrows. After a fault it returns that fault again, and reads no more.
 ///

@@ -8,8 +8,14 @@ use crate::gather::{gather_bytes, gather_numbers};
 use crate::pieces::{write_piece, write_pieces};
 use crate::reply_head::{push_count, push_head, push_order};
 use crate::reply_text::ReplyText;
-use crate::{Sink, Stop, WriteFault};
+use crate::{Sink, Stop};
+use thiserror::Error;
 use trace_types::{Name, Order, Reply};
+
+/// A write or a flush failed, a write took no byte, or one call was interrupted 1048576 times.
+#[derive(Clone, Copy, Debug, PartialEq, Eq, Error)]
+#[error("write")]
+pub struct WriteFault;
 
 /// How many interruptions end a call.
 const MOST_INTERRUPTIONS: u64 = 1048576;

@@ -5,7 +5,7 @@ use Rattle.trace_types.specs.text.Name.{Text}
 use Rattle.line_protocol.specs.Sink.{Taken}
 use Rattle.line_protocol.specs.Patience.{waits_since_bytes}
 use Rattle.line_protocol.specs.Writing.{TriesToWrite, Writes, WritesFront, WritesText}
-use Rattle.line_protocol.specs.declared.write_fault.WriteFault.{WriteFault}
+use Rattle.line_protocol.specs.declared.reply.WriteFault.{WriteFault}
 use Rattle.line_protocol.proofs.PatienceLemmas.{TriesToWrite-ok, TriesToWrite-err}
 use Rattle.stamp_reply.proofs.PatientTexts.{Writes-patiently}
 use Rattle.stamp_reply.specs.Chunks.{GathersOn, StopsGathering}

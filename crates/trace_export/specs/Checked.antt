@@ -5,8 +5,8 @@ use Rattle.trace_types.specs.text.Name.{Text}
 use Rattle.line_protocol.specs.declared.line.Line.{Line}
 use Rattle.line_protocol.specs.declared.line.Line.TheVariants.{Whole, TooLong as TooLongLine, End}
 use Rattle.line_protocol.specs.Source.{Given}
-use Rattle.line_protocol.specs.declared.read_fault.ReadFault.{ReadFault}
-use Rattle.line_protocol.specs.declared.read_fault.ReadFault.TheVariants as read_fault
+use Rattle.line_protocol.specs.declared.line_reader.ReadFault.{ReadFault}
+use Rattle.line_protocol.specs.declared.line_reader.ReadFault.TheVariants as read_fault
 use Rattle.trace_export.specs.Edges.{Placing}
 use Rattle.trace_export.specs.Following.{placing_of}
 use Rattle.trace_export.specs.Graph.{IsKeptGraph}

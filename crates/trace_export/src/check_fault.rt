@@ -1,6 +1,6 @@
 //! The faults of a check.
 ghost use Rattle.std.specs.Prelude.{◌≡◌};
-ghost use Rattle.line_protocol.specs.declared.read_fault.ReadFault.{ReadFault};
+ghost use Rattle.line_protocol.specs.declared.line_reader.ReadFault.{ReadFault};
 ghost use Rattle.trace_export.specs.declared.check_fault.CheckFault.{CheckFault};
 ghost use Rattle.trace_export.specs.declared.check_fault.CheckFault.TheVariants.{Memory as OutOfMemory};
 ghost use Rattle.trace_export.specs.Checked.{check_fault_of};

@@ -8,9 +8,9 @@ use Rattle.trace_types.specs.declared.request.Request.{Request}
 use Rattle.trace_types.specs.declared.reply.Reply.{Reply}
 use Rattle.line_protocol.specs.HandingOn.{FindsBehind, HandsOnBefore, KeepsAll}
 use Rattle.line_protocol.specs.Held.{Held, ReadingBounds}
-use Rattle.line_protocol.specs.declared.line_fault.LineFault.{LineFault}
-use Rattle.line_protocol.specs.declared.line_fault.LineFault.TheVariants as line
-use Rattle.line_protocol.specs.declared.read_fault.ReadFault.TheVariants as read
+use Rattle.line_protocol.specs.declared.flushing.LineFault.{LineFault}
+use Rattle.line_protocol.specs.declared.flushing.LineFault.TheVariants as line
+use Rattle.line_protocol.specs.declared.line_reader.ReadFault.TheVariants as read
 use Rattle.line_protocol.specs.Sink.{Taken}
 use Rattle.line_protocol.specs.Source.{Given}
 use Rattle.trace_session.proofs.Reading.{ReadsLines-none, ReadsLines-line, ReadsLines-more, ReadsLines-same}

@@ -4,9 +4,9 @@ use Rattle.std.specs.Prelude.{ℕ, Option, None, IsErrOf, MatchBool}
 use Rattle.line_protocol.specs.HandingOn.{HandsOnBefore}
 use Rattle.line_protocol.specs.HandingOn as lines
 use Rattle.line_protocol.specs.Held.{Held}
-use Rattle.line_protocol.specs.declared.line_fault.LineFault.{LineFault}
-use Rattle.line_protocol.specs.declared.line_fault.LineFault.TheVariants as line
-use Rattle.line_protocol.specs.declared.read_fault.ReadFault.TheVariants as read
+use Rattle.line_protocol.specs.declared.flushing.LineFault.{LineFault}
+use Rattle.line_protocol.specs.declared.flushing.LineFault.TheVariants as line
+use Rattle.line_protocol.specs.declared.line_reader.ReadFault.TheVariants as read
 use Rattle.line_protocol.specs.Sink.{Taken}
 use Rattle.trace_types.specs.declared.request.Request.{Request}
 use Rattle.trace_types.specs.declared.reply.Reply.{Reply}

@@ -10,7 +10,7 @@ use Rattle.trace_types.specs.declared.reply.Reply.TheVariants as reply
 use Rattle.line_protocol.specs.LineReading.{AllWereMade, Finds, FindsNone, GivesLine}
 use Rattle.line_protocol.specs.Sink.{Taken}
 use Rattle.line_protocol.specs.declared.line.Line.TheVariants as line
-use Rattle.line_protocol.specs.declared.read_fault.ReadFault.TheVariants as read
+use Rattle.line_protocol.specs.declared.line_reader.ReadFault.TheVariants as read
 use Rattle.tenant_desk.specs.Histories.{Log}
 use Rattle.trace_session.specs.Belonging.{Belongs}
 use Rattle.trace_session.specs.Hubs.{Hub, Owner, tenant_named}

@@ -1,9 +1,9 @@
 -- Which fault of a session a fault of reading is.
 use Rattle.std.specs.Prelude.{ℕ, Result, Ok, Err, Option, Some, None}
-use Rattle.line_protocol.specs.declared.line_fault.LineFault.{LineFault}
-use Rattle.line_protocol.specs.declared.line_fault.LineFault.TheVariants as line
-use Rattle.line_protocol.specs.declared.read_fault.ReadFault.{ReadFault}
-use Rattle.line_protocol.specs.declared.read_fault.ReadFault.TheVariants as read
+use Rattle.line_protocol.specs.declared.flushing.LineFault.{LineFault}
+use Rattle.line_protocol.specs.declared.flushing.LineFault.TheVariants as line
+use Rattle.line_protocol.specs.declared.line_reader.ReadFault.{ReadFault}
+use Rattle.line_protocol.specs.declared.line_reader.ReadFault.TheVariants as read
 use Rattle.trace_session.specs.declared.session_end.SessionFault.{SessionFault}
 use Rattle.trace_session.specs.declared.session_end.SessionFault.TheVariants.{Read, Write, TooLong}
 

@@ -12,7 +12,7 @@ use Rattle.line_protocol.specs.Held.{Held}
 use Rattle.line_protocol.specs.LineReading.{AllWereMade}
 use Rattle.line_protocol.specs.Sink.{Taken}
 use Rattle.line_protocol.specs.Writing.{HandsAllOn, StopsHandingOn}
-use Rattle.line_protocol.specs.declared.read_fault.ReadFault.TheVariants as read
+use Rattle.line_protocol.specs.declared.line_reader.ReadFault.TheVariants as read
 use Rattle.trace_session.specs.Answers.{AnswersEach, AnswersLine, last_reply}
 use Rattle.trace_session.specs.Asking.{is_quit, most_requests, request_in}
 use Rattle.trace_session.specs.Reading.{ReadsLines}

@@ -23,8 +23,8 @@ use Rattle.trace_world.specs.Answered.{IsFound}
 use Rattle.std.specs.List.{concat}
 use Rattle.line_protocol.specs.Writing.{WritesFront, WritesBoth}
 use Rattle.line_protocol.specs.Patience.{SinkCall, FlushesPatiently, GivesUpFlushing}
-use Rattle.line_protocol.specs.declared.read_fault.ReadFault.{ReadFault}
-use Rattle.line_protocol.specs.declared.read_fault.ReadFault.TheVariants as read
+use Rattle.line_protocol.specs.declared.line_reader.ReadFault.{ReadFault}
+use Rattle.line_protocol.specs.declared.line_reader.ReadFault.TheVariants as read
 use Rattle.line_protocol.specs.StreamFaults.{stream_fault_of}
 use Rattle.trace_world.specs.Texts.{AreTexts, WritesInPart}
 use Rattle.line_protocol.proofs.TextsInTurn.{WroteTexts, WroteTexts-flush, BreaksTexts-text, BreaksTexts-flush}

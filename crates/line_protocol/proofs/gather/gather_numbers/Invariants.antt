@@ -1,6 +1,6 @@
 use Rattle.std.proofs.Common.{◌≤◌, length, take, Ok}
 use Rattle.trace_types.specs.text.Text.{numbers_text}
-use Rattle.line_protocol.specs.declared.write_fault.WriteFault.{WriteFault}
+use Rattle.line_protocol.specs.declared.reply.WriteFault.{WriteFault}
 use Rattle.line_protocol.specs.Writing.{Gathers, TriesToWrite}
 use Rattle.line_protocol.proofs.gather.gather_numbers.Given as goal
 

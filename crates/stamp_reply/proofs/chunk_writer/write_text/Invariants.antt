@@ -1,5 +1,5 @@
 use Rattle.std.proofs.Common.{◌≡◌, ◌+◌, ◌<◌, length, Ok}
-use Rattle.line_protocol.specs.declared.write_fault.WriteFault.{WriteFault}
+use Rattle.line_protocol.specs.declared.reply.WriteFault.{WriteFault}
 use Rattle.line_protocol.specs.Patience.{waits_since_bytes}
 use Rattle.line_protocol.specs.Writing.{TriesToWrite}
 use Rattle.line_protocol.proofs.WritingLemmas.{Wrote}

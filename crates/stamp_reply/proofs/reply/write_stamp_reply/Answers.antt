@@ -1,7 +1,7 @@
 use Rattle.std.proofs.Common.{◌++◌, ◌∙◌, Ok, Err, codes, subst, sym}
 use Rattle.trace_types.specs.text.StampText.{stamp_text}
 use Rattle.line_protocol.specs.Writing.{Writes}
-use Rattle.line_protocol.specs.declared.write_fault.WriteFault.{WriteFault}
+use Rattle.line_protocol.specs.declared.reply.WriteFault.{WriteFault}
 use Rattle.stamp_reply.proofs.ChunkLines.{Writes-line, Writes-stopped}
 use Rattle.stamp_reply.proofs.reply.write_stamp_reply.Goals as goal
 
