@@ -59,6 +59,7 @@ impl From<NoMemory> for StampFault {
 ///
 /// Returns `Memory` if it runs out of memory, for a mark of each open parenthesis or for the stamp. `Memory` may come
 /// before any other fault.
+#[tactic(auto, using(crate::proofs::AtOnce::reads_itself, crate::proofs::AtOnce::no_other, crate::proofs::Bounded::spells_something))]
 pub fn read_stamp(alloc: Global, text: &[u8]) -> Result<Stamp, StampFault>
     // The stamp that the text spells, or the fault and its place.
     ensures exact { ReadsStamp text.now result }
@@ -85,6 +86,7 @@ pub fn read_stamp(alloc: Global, text: &[u8]) -> Result<Stamp, StampFault>
 /// follows. The tree beside which a stamp is read does not change it.
 ///
 /// Returns `Memory` as [`read_stamp`] does.
+#[tactic(auto, using(crate::proofs::AtOnce::reads_itself, crate::proofs::AtOnce::no_other, crate::proofs::Bounded::spells_something))]
 pub fn read_stamp_beside(alloc: Global, text: &[u8], tree: &EvTree) -> Result<Stamp, StampFault>
     // The stamp that the text spells, or the fault and its place.
     ensures exact { ReadsStamp text.now result }
