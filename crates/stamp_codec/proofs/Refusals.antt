@@ -1,11 +1,14 @@
 -- Where the one pass stops, no stamp within the bounds stands.
 use Rattle.std.proofs.Common.{◌≡◌, ◌≢◌, inl, inr, ℕ, ◌+◌, ◌-◌, ◌*◌, ◌/◌, ◌^◌, ◌<◌, ◌≤◌, max, false, true, List, [], ◌∷◌, ◌++◌, get_or, ap, sym, subst, ◌∙◌, append_assoc, arith}
 use Rattle.std.specs.Fmt.{decimal}
+use Rattle.std.specs.Prelude.{Result, Ok, Err, IfErr}
 use Rattle.std.proofs.lemmas.Fmt.{digits_value-decimal, decimal_digit, first_decimal}
 use Rattle.std.proofs.lemmas.Bool.{cases_lt}
 use Rattle.trace_types.specs.clock.Id.{Id, Zero, One, Pair, AreApart}
 use Rattle.trace_types.specs.clock.EventTree.{EventTree, Leaf, Node, maximum}
 use Rattle.event_tree.specs.Height.{height}
+use Rattle.stamp_codec.specs.declared.at_once.Unread.{Unread}
+use Rattle.stamp_codec.specs.declared.at_once.Unread.TheVariants.{Refused}
 use Rattle.stamp_codec.specs.declared.stamp.Stamp.{Stamp}
 use Rattle.stamp_codec.specs.StampText.{Written, SpellsStamp, stamp_as_text, IsWrittenNumber, AreDigits, id_text, tree_text, written_tree, read_on, number_written}
 use Rattle.stamp_codec.specs.Bounds.{SpellsNothing, as_written, nesting_of}
@@ -165,9 +168,14 @@ tree_without_end levels most end text inner after node fits small read opens lac
     lacks behind (nodes_once node tree inner after (end ∷ behind) (omega (arith, small, fits)) (omega (arith, within.small, fits)) read (sym opens ∙ whole)).1
 
 -- neither a number nor a node is there
-pub tree_without_number : (levels most end : ℕ) (text : List ℕ) → ((behind : List ℕ) → text ≢ 40 ∷ behind) → NoNumber most end text → NoTree levels most end text
-tree_without_number levels most end text other none (Leaf n) behind within whole = none n behind within.small whole
-tree_without_number levels most end text other none (Node n left right) behind within whole = other _ whole
+pub tree_without_number : (levels most end : ℕ) (text unopened : List ℕ) → (unopened ≡ text) × ((behind : List ℕ) → text ≢ 40 ∷ behind) → NoNumber most end unopened → NoTree levels most end text
+tree_without_number levels most end text unopened other none (Leaf n) behind within whole = none n behind within.small (other.0 ∙ whole)
+tree_without_number levels most end text unopened other none (Node n left right) behind within whole = other.1 _ whole
+
+-- what is not there is refused, whatever was told
+pub refused_anyway : {T No : Type 0} (result : Result T Unread) → No → IfErr result (λ unread. unread ≡ Refused → No)
+refused_anyway (Ok found) none = tt
+refused_anyway (Err unread) none = λ is. none
 
 -- no number begins with what is no digit
 pub number_without_digit : (n : ℕ) (text behind : List ℕ) → n < 2 ^ 64 → EndsDigits text → text ≢ decimal n ++ behind

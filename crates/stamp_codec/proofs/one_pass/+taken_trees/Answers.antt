@@ -1,7 +1,7 @@
 use Rattle.std.proofs.Common.{arith}
 use Rattle.std.proofs.lemmas.Result.{err_from_is_err_and, IfOk-weaker, IfErr-weaker}
 use Rattle.stamp_codec.proofs.AtOnce.{twig_read}
-use Rattle.stamp_codec.proofs.Refusals.{node_too_deep, node_without_number, node_without_left, node_without_right, node_uneven, node_not_within, tree_without_end, tree_without_number}
+use Rattle.stamp_codec.proofs.Refusals.{node_too_deep, node_without_number, node_without_left, node_without_right, node_uneven, node_not_within, refused_anyway, tree_without_end, tree_without_number}
 use Rattle.stamp_codec.proofs.one_pass.+taken_trees.Goals as goal
 
 pub take_node-returns-then-levels-eq0-clause-refused : goal.take_node-returns-then-levels-eq0-clause-refused
@@ -43,12 +43,10 @@ take_node-returns-clause-refused t c =
 
 pub take_tree-returns-in_err-take_number-clause-refused : goal.take_tree-returns-in_err-take_number-clause-refused
 take_tree-returns-in_err-take_number-clause-refused t c =
-    let p = err_from_is_err_and c.from_residual.result c.from_residual.ensures.1 in
-    let none = c.if-not-take_parenthesis.ensures in
-    rw (p.1, p.2) (λ is. tree_without_number c.args.levels c.args.most c.args.end c.args.rest.now.now none.1 (rw none.0 at c.in_err-take_number.ensures.refused.1))
+    refused_anyway c.from_residual.result (tree_without_number c.args.levels c.args.most c.args.end c.args.rest.now.now c.take_parenthesis.new.rest.now c.if-not-take_parenthesis.ensures c.in_err-take_number.ensures.refused.1)
 
 pub take_tree-returns-in_err-take_byte-clause-refused : goal.take_tree-returns-in_err-take_byte-clause-refused
 take_tree-returns-in_err-take_byte-clause-refused t c =
-    let p = err_from_is_err_and c.from_residual-in_err-take_byte.result c.from_residual-in_err-take_byte.ensures.1 in
-    rw (p.1, p.2) (λ is. tree_without_end c.args.levels c.args.most c.args.end c.args.rest.now.now c.take_parenthesis.new.rest.now c.take_node.new.rest.now c.in_ok-tree.tree
+    refused_anyway c.from_residual-in_err-take_byte.result
+    (tree_without_end c.args.levels c.args.most c.args.end c.args.rest.now.now c.take_parenthesis.new.rest.now c.take_node.new.rest.now c.in_ok-tree.tree
     c.requires.most c.in_ok-tree.ensures.small c.in_ok-tree.ensures.text c.if-not-take_parenthesis.ensures c.in_err-take_byte.ensures.refused.1)

@@ -2,20 +2,18 @@ use Rattle.std.proofs.Common.{arith}
 use Rattle.std.proofs.lemmas.Result.{err_from_is_err_and}
 use Rattle.stamp_codec.specs.Beside.{tree_beside}
 use Rattle.stamp_codec.proofs.Flats.{nowhere_first}
-use Rattle.stamp_codec.proofs.Refusals.{node_too_deep, node_without_number, node_without_left, node_without_right, node_uneven, tree_without_end, tree_without_number}
+use Rattle.stamp_codec.proofs.Refusals.{node_too_deep, node_without_number, node_without_left, node_without_right, node_uneven, refused_anyway, tree_without_end, tree_without_number}
 use Rattle.stamp_codec.proofs.sharing.+taken_beside.Goals as goal
 
 pub take_beside-returns-in_err-take_number-clause-refused : goal.take_beside-returns-in_err-take_number-clause-refused
 take_beside-returns-in_err-take_number-clause-refused t c =
-    let p = err_from_is_err_and c.from_residual.result c.from_residual.ensures.1 in
-    let none = c.if-not-take_parenthesis.ensures in
-    rw (p.1, p.2) (λ is. tree_without_number c.args.levels c.args.most c.args.end c.args.rest.now.now none.1 (rw none.0 at c.in_err-take_number.ensures.refused.1))
+    refused_anyway c.from_residual.result (tree_without_number c.args.levels c.args.most c.args.end c.args.rest.now.now c.take_parenthesis.new.rest.now c.if-not-take_parenthesis.ensures c.in_err-take_number.ensures.refused.1)
 
 pub take_beside-returns-in_err-take_byte-clause-refused : goal.take_beside-returns-in_err-take_byte-clause-refused
 take_beside-returns-in_err-take_byte-clause-refused t c =
-    let p = err_from_is_err_and c.from_residual-in_err-take_byte.result c.from_residual-in_err-take_byte.ensures.1 in
     let read = tree_beside c.in_ok-read.read c.args.tree.now c.take_node_beside.new.made in
-    rw (p.1, p.2) (λ is. tree_without_end c.args.levels c.args.most c.args.end c.args.rest.now.now c.take_parenthesis.new.rest.now c.take_node_beside.new.rest.now read
+    refused_anyway c.from_residual-in_err-take_byte.result
+    (tree_without_end c.args.levels c.args.most c.args.end c.args.rest.now.now c.take_parenthesis.new.rest.now c.take_node_beside.new.rest.now read
     c.requires.most c.in_ok-read.ensures.small c.in_ok-read.ensures.text c.if-not-take_parenthesis.ensures c.in_err-take_byte.ensures.refused.1)
 
 pub take_node_beside-returns-then-levels-eq0-clause-refused : goal.take_node_beside-returns-then-levels-eq0-clause-refused
