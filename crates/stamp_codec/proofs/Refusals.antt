@@ -7,8 +7,8 @@ use Rattle.std.proofs.lemmas.Bool.{cases_lt}
 use Rattle.trace_types.specs.clock.Id.{Id, Zero, One, Pair, AreApart}
 use Rattle.trace_types.specs.clock.EventTree.{EventTree, Leaf, Node, maximum}
 use Rattle.event_tree.specs.Height.{height}
-use Rattle.stamp_codec.specs.declared.at_once.Unread.{Unread}
-use Rattle.stamp_codec.specs.declared.at_once.Unread.TheVariants.{Refused}
+use Rattle.stamp_codec.specs.declared.one_pass.Unread.{Unread}
+use Rattle.stamp_codec.specs.declared.one_pass.Unread.TheVariants.{Refused}
 use Rattle.stamp_codec.specs.declared.stamp.Stamp.{Stamp}
 use Rattle.stamp_codec.specs.StampText.{Written, SpellsStamp, stamp_as_text, IsWrittenNumber, AreDigits, id_text, tree_text, written_tree, read_on, number_written}
 use Rattle.stamp_codec.specs.Bounds.{SpellsNothing, as_written, nesting_of}
