@@ -1,4 +1,4 @@
-//! Answers from what is published.
+//! Answers from what is published, and replies that are put in place of others.
 ghost use Rattle.std.specs.Prelude.{◌≡◌};
 ghost use Rattle.trace_types.specs.tenant.Tenant.{Answers};
 ghost use Rattle.tenant_desk.specs.Events.{AreSound, published_tenant};
@@ -26,4 +26,12 @@ pub(crate) fn answer_published(
     } else {
         *reply = answer(events, &Plain, request);
     }
+}
+
+/// Puts the reply in place of this one.
+#[inline(always)]
+pub(crate) fn put_reply(place: &mut Reply, reply: Reply)
+    ensures { place.new ≡ reply }
+{
+    *place = reply;
 }

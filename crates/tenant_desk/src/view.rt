@@ -9,7 +9,7 @@ ghost use Rattle.tenant_desk.specs.Views.{Learns, Responds};
 
 use crate::Told;
 use crate::learned_lists::Met;
-use crate::published_answer::answer_published;
+use crate::published_answer::{answer_published, put_reply};
 use crate::publisher::{DeskReader, DeskReading, Publisher};
 use crate::publishing_rule::Seeing;
 use crate::row_log::Front;
@@ -202,7 +202,7 @@ impl View {
         ensures book { self.new.book ≡ self.old.book }
     {
         if request.is_report() {
-            *reply = Reply::Refused(Code::ViewOnly);
+            put_reply(reply, Reply::Refused(Code::ViewOnly));
             return;
         }
         let Some(reader) = self.reader.take() else {
@@ -219,7 +219,7 @@ impl View {
             }
             Err(reader) => {
                 self.reader = Some(reader);
-                *reply = Reply::Refused(Code::NoPlace);
+                put_reply(reply, Reply::Refused(Code::NoPlace));
             }
         }
     }
