@@ -15,6 +15,9 @@ use event_tree::EvTree;
 use std::alloc::Global;
 use trace_types::{Limits, Memory};
 
+/// What a line adds: the header that it is, or else its event. Or it is faulty, and adds nothing.
+pub(crate) type Added = Result<Option<Header>, Reason>;
+
 impl Graph {
     /// Adds the event that the line lists if the line is right, and gives the header that it is, if it may be the first one.
     /// Else it tells why the line is faulty. If memory runs out, what is kept for speed alone is given back, and the line is
@@ -24,7 +27,7 @@ impl Graph {
         alloc: Global,
         line: &[u8],
         is_first: bool,
-    ) -> Result<Result<Option<Header>, Reason>, Memory>
+    ) -> Result<Added, Memory>
         requires graph { IsKeptGraph self.old }
         requires short { length line.now ≤ 65536 }
         ensures { IfOk result (IsAdded is_first line.now self.old self.new) }
@@ -37,12 +40,7 @@ impl Graph {
     }
 
     /// Does as [`Graph::add_line`], and gives nothing back. The graph has the events that it had if memory runs out.
-    fn try_line(
-        &mut self,
-        alloc: Global,
-        line: &[u8],
-        is_first: bool,
-    ) -> Result<Result<Option<Header>, Reason>, Memory>
+    fn try_line(&mut self, alloc: Global, line: &[u8], is_first: bool) -> Result<Added, Memory>
         requires graph { IsKeptGraph self.old }
         requires short { length line.now ≤ 65536 }
         ensures added { IfOk result (IsAdded is_first line.now self.old self.new) }
