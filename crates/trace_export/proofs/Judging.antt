@@ -21,7 +21,8 @@ use Rattle.trace_export.specs.Edges.{Placing}
 use Rattle.trace_export.specs.Heading.{AreParts, IsHeader, IsNoHeader, lines_ahead}
 use Rattle.trace_export.specs.Checked.{Judges, HoldsOfFound, IsKept, IsNoFirstOf, IsTextFound, IsJudged, IsJudgedAs, StopsReading, header_in, placing_in}
 use Rattle.trace_export.specs.ReadTo.{StopsAtLine, WasReadTo, WasReadToEnd}
-use Rattle.trace_export.specs.Verdict.{AreRightAfter, IsRightNext, IsFaulty}
+use Rattle.trace_export.specs.Verdict.{AreRightAfter, IsRightNext, IsFaulty, IsVerdict}
+use Rattle.trace_export.proofs.FoundLines.{first_found, found_line, found_to_end, no_texts, parts_count, parts_more}
 
 -- the bounds of the lines of an export
 abbrev pub export_bounds : ReadingBounds
@@ -31,15 +32,6 @@ export_bounds = record { bytes = 65536; reads = 2 ^ 30 }
 pub was_read_to_end : {before after : Given} {held : Held} → Reads before after (fresh_within export_bounds) held 0 → IsTrue held.is_ended → WasReadToEnd before after
 was_read_to_end reads ended = (has_told_end reads ended, told_once reads ended)
 
--- the last of the lines that were found was read to its end
-pub was_read_to : {held : Held} {found : List Text} (before after : Given) (read : HasRead before.bytes after.bytes held found) → (IsTrue held.is_ended → WasReadToEnd before after)
-    → WasReadTo (length found) read.came before after
-was_read_to {held} {found} before after read told = by held.is_ended refl
-  where
-    by : (b : Bool) → held.is_ended ≡ b → WasReadTo (length found) read.came before after
-    by true is = inr (told is)
-    by false is = inl (HasRead-ended read is)
-
 -- Since the reader had given `start`, these lines were found, each of them right.
 pub record FoundRight (start given : List ℕ) (held : Held) (header : Option Header) (placing : Placing) : Type 0 where
   pub found : List Text
@@ -48,22 +40,6 @@ pub record FoundRight (start given : List ℕ) (held : Held) (header : Option He
   pub parts : AreParts found header events
   pub right : AreRightAfter [] events placing
   pub counted : length events ≡ length placing
-
--- more lines of events behind those in parts
-pub parts_more : (header : Option Header) (found events : List Text) (line : Text) (rest : List Text) → AreParts found header events → (header ≡ None → events ≡ [] → IsNoHeader line)
-    → AreParts (found ++ line ∷ rest) header (events ++ line ∷ rest)
-parts_more None found [] line rest parts none = (ap (λ these. these ++ line ∷ rest) parts.0, none refl refl)
-parts_more None found (first ∷ events) line rest parts none = (ap (λ these. these ++ line ∷ rest) parts.0, parts.1)
-parts_more (Some header) found events line rest parts none = (parts.0, ap (λ these. these ++ line ∷ rest) parts.1, parts.2)
-
--- there are as many lines as it says
-pub parts_count : (header : Option Header) (found events : List Text) → AreParts found header events → length found ≡ lines_ahead header + length events
-parts_count None found events parts = omega (arith, ap length parts.0)
-parts_count (Some header) found events parts = omega (arith, ap length parts.1)
-
-pub no_texts : (events : List Text) → length events ≡ 0 → events ≡ []
-no_texts [] counted = refl
-no_texts (line ∷ events) counted = absurd (omega (arith, counted))
 
 no_events : (events : List Text) (placing : Placing) → length events ≡ length placing → events ≡ [] → placing ≡ []
 no_events events [] counted none = refl
@@ -99,35 +75,17 @@ found_more {header = header} {placing = placing} {line = line} {placed = placed}
 found_header : {start given given' : List ℕ} {held held' : Held} {header : Option Header} {placing : Placing} {line : Text} (first : Header) → FoundRight start given held header placing
     → GivesLine given given' held.left held'.left held'.is_ended line → (IsTrue held.is_ended → (given' ≡ given) × IsTrue held'.is_ended)
     → header ≡ None → placing ≡ [] → IsHeader line first → FoundRight start given' held' (Some first) []
-found_header {header = None} {placing = []} {line = line} first before gives at_end headless empty is =
-    let none : before.found ≡ [] = before.parts.0 ∙ no_texts before.events before.counted in
-    record {
-      found = before.found ++ line ∷ [];
-      events = [];
-      read = HasRead-line before.read gives at_end;
-      parts = (line, ap (λ these. these ++ line ∷ []) none, is);
-      right = refl;
-      counted = refl;
-    }
-found_header {header = Some other} first before gives at_end headless empty is = absurd (cc headless)
-found_header {header = None} {placing = placed ∷ placing} first before gives at_end headless empty is = absurd (cc empty)
+found_header {line = line} first before gives at_end headless empty is =
+    let to = first_found first before.read before.parts gives at_end headless (no_texts before.events (before.counted ∙ ap length empty)) is in
+    record { found = before.found ++ line ∷ []; events = []; read = to.0; parts = to.1; right = refl; counted = refl }
 
 -- At the end of the input all lines are right.
 judges_yes : (before after : Given) (held : Held) (header : Option Header) (placing : Placing) → FoundRight before.bytes after.bytes held header placing → held.left ≡ [] → WasReadToEnd before after
     → Judges before after (Yes (length placing))
-judges_yes before after held header placing found none told = record {
-  came = found.read.came;
-  grows = found.read.grows;
-  all = told;
-  is_due = λ rest ends.
-      let all : lines (found.read.came ++ rest) ≡ found.found = ap (λ more. lines (found.read.came ++ more)) (ends told.0.0) ∙ ap lines (append-nil found.read.came) ∙ HasRead-end found.read none in
-      record {
-        header = header;
-        events = found.events;
-        parts = subst (λ (these : List Text). AreParts these header found.events) (sym all) found.parts;
-        judged = (sym found.counted, (placing, found.right));
-      };
-}
+judges_yes before after held header placing found none told =
+    let to = found_to_end (λ bytes. IsVerdict bytes (Yes (length placing))) before after held header found.found found.events found.read found.parts none told
+    (λ bytes parts. record { header = header; events = found.events; parts = parts; judged = (sym found.counted, (placing, found.right)) }) in
+    record { came = to.0; grows = to.1; all = told; is_due = to.2 }
 
 -- A line that was read to its end is faulty.
 judges_no : (before after : Given) (given : List ℕ) (held held' : Held) (header : Option Header) (placing : Placing) (line : Text) (reason : Reason) (number : ℕ) → FoundRight before.bytes given held header placing
@@ -135,33 +93,14 @@ judges_no : (before after : Given) (given : List ℕ) (held held' : Held) (heade
     → (IsTrue held'.is_ended → WasReadToEnd before after) → IsNoFirstOf header placing line → IsFaulty reason placing line → number ≡ lines_ahead header + suc (length placing)
     → Judges before after (No number reason)
 judges_no before after given held held' header placing line reason number found gives at_end told none faulty counts =
-    let read : HasRead before.bytes after.bytes held' (found.found ++ line ∷ []) = HasRead-line found.read gives at_end in
-    let counted : length (found.found ++ line ∷ []) ≡ number =
-    omega (arith, counts, parts_count header found.found found.events found.parts, found.counted, length-append found.found (line ∷ [])) in
-    record {
-      came = read.came;
-      grows = read.grows;
-      all = subst (λ n. WasReadTo n read.came before after) counted (was_read_to before after read told);
-      is_due = λ rest ends.
-          let behind = lines (held'.left ++ rest) in
-          let all : lines (read.came ++ rest) ≡ found.found ++ line ∷ behind = read.so_far rest (λ ended. ends (told ended).0.0) ∙ append_assoc found.found (line ∷ []) behind in
-          record {
-            header = header;
-            events = found.events ++ line ∷ behind;
-            parts = subst (λ (these : List Text). AreParts these header (found.events ++ line ∷ behind)) (sym all)
-                (parts_more header found.found found.events line behind found.parts (λ headless empty. none headless (no_events found.events placing found.counted empty)));
-            judged = record {
-              before = found.events;
-              line = line;
-              rest = behind;
-              splits = refl;
-              counts = omega (arith, counts, found.counted);
-              placing = placing;
-              right = found.right;
-              faulty = faulty;
-            };
-          };
-    }
+    let to = found_line (λ bytes. IsVerdict bytes (No number reason)) before after given held held' header found.found found.events line number found.read found.parts gives at_end told
+    (λ headless empty. none headless (no_events found.events placing found.counted empty)) (omega (arith, counts, found.counted)) (λ bytes behind parts. record {
+      header = header;
+      events = found.events ++ line ∷ behind;
+      parts = parts;
+      judged = record { before = found.events; line = line; rest = behind; splits = refl; counts = omega (arith, counts, found.counted); placing = placing; right = found.right; faulty = faulty };
+    }) in
+    record { came = to.0; grows = to.1; all = to.2; is_due = to.3 }
 
 -- a line was found, with this text
 text_found : {given given' : List ℕ} (old new : Held) (found : Line) → (new.bounds ≡ export_bounds) → Finds given given' old new found → (found ≡ End → ⊥)

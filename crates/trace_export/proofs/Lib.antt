@@ -5,6 +5,7 @@ pub mod Comparing
 pub mod Connecting
 pub mod DueLines
 pub mod Followed
+pub mod FoundLines
 mod GoodExports
 pub mod GoodStamps
 mod Headings

@@ -12,7 +12,7 @@ use Rattle.line_protocol.specs.Source.{Given}
 use Rattle.line_protocol.specs.declared.line.Line.{Line}
 use Rattle.line_protocol.proofs.LineReadingLemmas.{HasRead-start, HasRead-line, HasRead-end}
 use Rattle.trace_export.specs.Heading.{AreParts, IsHeader, IsNoHeader, lines_ahead}
-use Rattle.trace_export.specs.Loading.{AreLoadedAfter, IsFaultyAfter, IsLoadedNext, limits_under, tenant_with}
+use Rattle.trace_export.specs.Loading.{AreLoadedAfter, IsFaultyAfter, IsLoaded, IsLoadedNext, limits_under, tenant_with}
 use Rattle.trace_export.specs.Loads.{LoadsAs, StopsLoading}
 use Rattle.trace_export.specs.ReadTo.{StopsAtLine, WasReadTo, WasReadToEnd}
 use Rattle.trace_export.specs.Rebuilding.{IsTaken, IsTakenAs, IsUnbegun}
@@ -21,7 +21,8 @@ use Rattle.trace_export.specs.declared.loaded.Loaded.{Loaded}
 use Rattle.trace_export.specs.declared.loaded.Loaded.TheVariants.{Done, No}
 use Rattle.trace_export.specs.declared.reason.Reason.{Reason}
 use Rattle.trace_export.specs.declared.follower.Follower.{Follower}
-use Rattle.trace_export.proofs.Judging.{end_or_line, export_bounds, no_texts, parts_count, parts_more, was_read_to}
+use Rattle.trace_export.proofs.FoundLines.{first_found, found_line, found_to_end, no_texts, parts_count, parts_more}
+use Rattle.trace_export.proofs.Judging.{end_or_line, export_bounds}
 use Rattle.trace_export.proofs.Rerunning.{loaded_count}
 
 -- Since the reader had given `start`, these lines were found, each of them loaded, and they lead to this tenant.
@@ -82,34 +83,18 @@ found_made {header = header} {tenant} {line} {row} before gives at_end none next
 found_begun : {start given given' : List ℕ} {held held' : Held} {header : Option Header} {tenant : Tenant} {line : Text} (first : Header) → FoundLoaded start given held header tenant
     → GivesLine given given' held.left held'.left held'.is_ended line → (IsTrue held.is_ended → (given' ≡ given) × IsTrue held'.is_ended)
     → header ≡ None → tenant.rows ≡ [] → IsHeader line first → FoundLoaded start given' held' (Some first) (fresh first.limits)
-found_begun {header = None} {tenant} {line} first before gives at_end headless empty is =
-    let none : before.found ≡ [] = before.parts.0 ∙ no_events_yet before empty in
-    record {
-      found = before.found ++ line ∷ [];
-      events = [];
-      read = HasRead-line before.read gives at_end;
-      parts = (line, ap (λ these. these ++ line ∷ []) none, is);
-      limits = refl;
-      loaded = refl;
-    }
-found_begun {header = Some other} first before gives at_end headless empty is = absurd (cc headless)
+found_begun {line = line} first before gives at_end headless empty is =
+    let to = first_found first before.read before.parts gives at_end headless (no_events_yet before empty) is in
+    record { found = before.found ++ line ∷ []; events = []; read = to.0; parts = to.1; limits = refl; loaded = refl }
 
 -- At the end of the input all is done.
 loads_done : (before after : Given) (held : Held) (header : Option Header) (tenant : Tenant) → FoundLoaded before.bytes after.bytes held header tenant → held.left ≡ [] → WasReadToEnd before after
     → LoadsAs before after (Done (length tenant.rows)) tenant.rows
-loads_done before after held header tenant found none told = record {
-  came = found.read.came;
-  grows = found.read.grows;
-  all = told;
-  is_due = λ rest ends.
-      let all : lines (found.read.came ++ rest) ≡ found.found = ap (λ more. lines (found.read.came ++ more)) (ends told.0.0) ∙ ap lines (append-nil found.read.came) ∙ HasRead-end found.read none in
-      record {
-        header = header;
-        events = found.events;
-        parts = subst (λ (these : List Text). AreParts these header found.events) (sym all) found.parts;
-        judged = (found_count found, subst (λ (limits : Limits). AreLoadedAfter limits [] found.events tenant.rows) found.limits found.loaded);
-      };
-}
+loads_done before after held header tenant found none told =
+    let loaded = subst (λ (limits : Limits). AreLoadedAfter limits [] found.events tenant.rows) found.limits found.loaded in
+    let to = found_to_end (λ bytes. IsLoaded bytes (Done (length tenant.rows)) tenant.rows) before after held header found.found found.events found.read found.parts none told
+    (λ bytes parts. record { header = header; events = found.events; parts = parts; judged = (found_count found, loaded) }) in
+    record { came = to.0; grows = to.1; all = told; is_due = to.2 }
 
 -- A line that was read to its end is faulty.
 loads_no : (before after : Given) (given : List ℕ) (held held' : Held) (header : Option Header) (tenant : Tenant) (line : Text) (reason : Reason) (number : ℕ) (rows : List Row) → FoundLoaded before.bytes given held header tenant
@@ -117,33 +102,16 @@ loads_no : (before after : Given) (given : List ℕ) (held held' : Held) (header
     → (IsTrue held'.is_ended → WasReadToEnd before after) → IsNoFirst header tenant line → IsFaultyAfter reason tenant.limits tenant.rows line → number ≡ lines_ahead header + suc (length tenant.rows)
     → LoadsAs before after (No number reason) rows
 loads_no before after given held held' header tenant line reason number rows found gives at_end told none faulty counts =
-    let read : HasRead before.bytes after.bytes held' (found.found ++ line ∷ []) = HasRead-line found.read gives at_end in
-    let counted : length (found.found ++ line ∷ []) ≡ number =
-    omega (arith, counts, parts_count header found.found found.events found.parts, found_count found, length-append found.found (line ∷ [])) in
-    record {
-      came = read.came;
-      grows = read.grows;
-      all = subst (λ n. WasReadTo n read.came before after) counted (was_read_to before after read told);
-      is_due = λ rest ends.
-          let behind = lines (held'.left ++ rest) in
-          let all : lines (read.came ++ rest) ≡ found.found ++ line ∷ behind = read.so_far rest (λ ended. ends (told ended).0.0) ∙ append_assoc found.found (line ∷ []) behind in
-          record {
-            header = header;
-            events = found.events ++ line ∷ behind;
-            parts = subst (λ (these : List Text). AreParts these header (found.events ++ line ∷ behind)) (sym all)
-                (parts_more header found.found found.events line behind found.parts (λ headless empty. none headless (no_rows_yet found empty)));
-            judged = record {
-              before = found.events;
-              line = line;
-              rest = behind;
-              splits = refl;
-              counts = omega (arith, counts, found_count found);
-              rows = tenant.rows;
-              loaded = subst (λ (limits : Limits). AreLoadedAfter limits [] found.events tenant.rows) found.limits found.loaded;
-              faulty = subst (λ (limits : Limits). IsFaultyAfter reason limits tenant.rows line) found.limits faulty;
-            };
-          };
-    }
+    let loaded = subst (λ (limits : Limits). AreLoadedAfter limits [] found.events tenant.rows) found.limits found.loaded in
+    let fails = subst (λ (limits : Limits). IsFaultyAfter reason limits tenant.rows line) found.limits faulty in
+    let to = found_line (λ bytes. IsLoaded bytes (No number reason) rows) before after given held held' header found.found found.events line number found.read found.parts gives at_end told
+    (λ headless empty. none headless (no_rows_yet found empty)) (omega (arith, counts, found_count found)) (λ bytes behind parts. record {
+      header = header;
+      events = found.events ++ line ∷ behind;
+      parts = parts;
+      judged = record { before = found.events; line = line; rest = behind; splits = refl; counts = omega (arith, counts, found_count found); rows = tenant.rows; loaded = loaded; faulty = fails };
+    }) in
+    record { came = to.0; grows = to.1; all = to.2; is_due = to.3 }
 
 -- What was found next: since `before` the lines were loaded, and of the source and what is held it is known how they went on.
 pub record LoadsOn (before middle after : Given) (held held' : Held) (follower : Follower) (found : Line) : Type 0 where
