@@ -83,9 +83,10 @@ impl Graph {
     {
         self.complete(alloc)?;
         let reaching = self.reached_by(alloc, placed.preds.as_slice())?;
-        let (mut own, point) = first_hints(alloc, &placed, join);
+        let (own, point) = first_hints(alloc, &placed, join);
         let mut hints = mem::replace(&mut self.hints, Hints::new(alloc));
-        let is_ordered = self.is_ordered(&reaching, &placed, &mut own, &mut hints);
+        hints.own = own;
+        let is_ordered = self.is_ordered(&reaching, &placed, &mut hints);
         self.hints = hints;
         if !is_ordered {
             return Ok(false);
@@ -93,7 +94,7 @@ impl Graph {
         self.make_room()?;
         let place = self.placed.len();
         self.put(placed, reaching);
-        self.hints.put(alloc, place, own, point);
+        self.hints.put(alloc, place, point);
         Ok(true)
     }
 
@@ -172,7 +173,8 @@ impl Graph {
             let placed = self.at(place + 1);
             let join = self.join_of(alloc, &placed.preds);
             let (sides, point) = first_hints(alloc, placed, &join);
-            self.hints.put(alloc, place, sides, point);
+            self.hints.own = sides;
+            self.hints.put(alloc, place, point);
         }
     }
 

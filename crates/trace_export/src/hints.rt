@@ -6,12 +6,15 @@ ghost use Rattle.trace_export.specs.Raised.{IsForgotten, IsHigher, IsPutAt};
 use crate::sides::{Sides, is_below};
 use event_tree::{EvTree, RaisedPoint};
 use std::alloc::Global;
+use std::mem;
 
 /// The sides and the points of the trees of the first events. They are there for speed alone, so they may be given back.
 #[derive(Drop)]
 pub(crate) struct Hints {
     /// The sides of each tree. Those of event k are at k - 1.
     sides: Vec<Sides>,
+    /// The sides of the tree that is compared next.
+    pub(crate) own: Sides,
     /// A point at which each tree is above those that its event follows, if one is known and it told something so far.
     points: Vec<Option<RaisedPoint>>,
     /// Whether there was memory for them so far.
@@ -25,6 +28,7 @@ impl Hints {
     {
         Hints {
             sides: Vec::new(alloc),
+            own: Sides::new(alloc),
             points: Vec::new(alloc),
             are_kept: true,
         }
@@ -36,6 +40,7 @@ impl Hints {
     {
         let were_kept = self.are_kept;
         self.sides = Vec::new(alloc);
+        self.own = Sides::new(alloc);
         self.points = Vec::new(alloc);
         self.are_kept = false;
         were_kept
@@ -51,18 +56,14 @@ impl Hints {
         self.points.len()
     }
 
-    /// Keeps the hints of the event at this place, which comes next. If there is no memory for them, all are given back.
-    pub(crate) fn put(
-        &mut self,
-        alloc: Global,
-        place: usize,
-        sides: Sides,
-        point: Option<RaisedPoint>,
-    )
+    /// Keeps the sides of the tree that was compared, and this point of it. Its event is at this place, and comes next. If there
+    /// is no memory for them, all are given back.
+    pub(crate) fn put(&mut self, alloc: Global, place: usize, point: Option<RaisedPoint>)
         ensures { IsPutAt place point self.old.points.items self.new.points.items }
     {
         let is_next = self.are_kept && self.points.len() == place;
-        if !is_next || self.sides.push(sides).is_err() || self.points.push(point).is_err() {
+        let own = mem::replace(&mut self.own, Sides::new(alloc));
+        if !is_next || self.sides.push(own).is_err() || self.points.push(point).is_err() {
             self.give_back(alloc);
         }
     }
@@ -85,7 +86,7 @@ impl Hints {
     }
 
     /// Whether one of these trees is below the other. The event's is the lower one if it `is_lower`, else the upper one. The
-    /// other one has these sides.
+    /// other one is the tree that is compared.
     #[inline(always)]
     pub(crate) fn is_below(
         &mut self,
@@ -93,7 +94,6 @@ impl Hints {
         is_lower: bool,
         lower: &EvTree,
         upper: &EvTree,
-        other_sides: &mut Sides,
     ) -> bool
         ensures below { IsTrue result ↔ IsBelow lower.now upper.now }
         ensures points { self.new.points ≡ self.old.points }
@@ -102,9 +102,9 @@ impl Hints {
             return lower.leq(upper);
         }
         if is_lower {
-            is_below(lower, &mut self.sides[event - 1], upper, other_sides)
+            is_below(lower, &mut self.sides[event - 1], upper, &mut self.own)
         } else {
-            is_below(lower, other_sides, upper, &mut self.sides[event - 1])
+            is_below(lower, &mut self.own, upper, &mut self.sides[event - 1])
         }
     }
 }

@@ -11,20 +11,13 @@ use super::Graph;
 use crate::bits::{has_bit, run_outside};
 use crate::hints::Hints;
 use crate::placed::Placed;
-use crate::sides::Sides;
 use event_tree::EvTree;
 use trace_types::Preds;
 
 impl Graph {
     /// Whether the event that these reach may come next, so whether its tree and the earlier ones compare as the edges
     /// say. They do if its tree is above those of the events that it follows, and apart from the others.
-    pub(super) fn is_ordered(
-        &self,
-        reaching: &[u64],
-        placed: &Placed,
-        own: &mut Sides,
-        hints: &mut Hints,
-    ) -> bool
+    pub(super) fn is_ordered(&self, reaching: &[u64], placed: &Placed, hints: &mut Hints) -> bool
         requires graph { AreKeptLines self.now }
         requires preds { AreEarlier placed.now.preds (suc (length self.now.placed.items)) }
         requires reaching { AreReaching (self.now.placed.items ++ placed.now ∷ []) reaching.now (suc (length self.now.placed.items)) }
@@ -37,7 +30,7 @@ impl Graph {
         if !self.is_above_all(&placed.preds, &placed.tree) {
             return false;
         }
-        self.is_apart_from_all(reaching, placed, own, hints)
+        self.is_apart_from_all(reaching, placed, hints)
     }
 
     /// Whether the trees of all these events are below the tree.
@@ -56,13 +49,7 @@ impl Graph {
 
     /// Whether the tree is apart from those of all events. It looks at the ends of chains which some event does not follow, or
     /// which do not reach the tree's event.
-    fn is_apart_from_all(
-        &self,
-        reaching: &[u64],
-        placed: &Placed,
-        own: &mut Sides,
-        hints: &mut Hints,
-    ) -> bool
+    fn is_apart_from_all(&self, reaching: &[u64], placed: &Placed, hints: &mut Hints) -> bool
         requires graph { AreKeptLines self.now }
         requires preds { AreEarlier placed.now.preds (suc (length self.now.placed.items)) }
         requires above { All (λ pred. IsBelow (listed_tree self.now.placed.items pred) placed.now.tree) placed.now.preds }
@@ -77,7 +64,7 @@ impl Graph {
         let mut place = 0;
         while place < self.placed.len() {
             let run = run_outside(&self.chains.tails, &self.followed, reaching, place);
-            if run == 0 && !self.is_apart_from_chain(reaching, placed, place + 1, own, hints) {
+            if run == 0 && !self.is_apart_from_chain(reaching, placed, place + 1, hints) {
                 return false;
             }
             place += run.max(1);
@@ -91,7 +78,6 @@ impl Graph {
         reaching: &[u64],
         placed: &Placed,
         event: usize,
-        own: &mut Sides,
         hints: &mut Hints,
     ) -> bool
         requires graph { AreKeptLines self.now }
@@ -105,21 +91,15 @@ impl Graph {
         ensures refuted { result ≡ false → ((other : ℕ) × IsPlaced self.now.placed.items other
             × IsRefutedBy self.now.placed.items reaching.now placed.now.tree other) }
     {
-        if self.is_below_last(placed, event, own, hints) {
+        if self.is_below_last(placed, event, hints) {
             return false;
         }
-        !self.is_above_first(reaching, &placed.tree, event, own, hints)
+        !self.is_above_first(reaching, &placed.tree, event, hints)
     }
 
     /// Whether none follows the event, and the tree is below its tree. Such an event is or follows each that the tree's event
     /// follows: their trees are below this one.
-    fn is_below_last(
-        &self,
-        placed: &Placed,
-        event: usize,
-        own: &mut Sides,
-        hints: &mut Hints,
-    ) -> bool
+    fn is_below_last(&self, placed: &Placed, event: usize, hints: &mut Hints) -> bool
         requires graph { AreKeptLines self.now }
         requires preds { AreEarlier placed.now.preds (suc (length self.now.placed.items)) }
         requires above { All (λ pred. IsBelow (listed_tree self.now.placed.items pred) placed.now.tree) placed.now.preds }
@@ -134,7 +114,7 @@ impl Graph {
         if !are_or_reach(&placed.preds, event, &self.reaching[event - 1]) {
             return false;
         }
-        hints.is_below(event, false, &placed.tree, &self.at(event).tree, own)
+        hints.is_below(event, false, &placed.tree, &self.at(event).tree)
     }
 
     /// Whether the tree is above that of the first event which does not reach it, of the chain that ends with this one. All that
@@ -144,7 +124,6 @@ impl Graph {
         reaching: &[u64],
         tree: &EvTree,
         event: usize,
-        own: &mut Sides,
         hints: &mut Hints,
     ) -> bool
         requires graph { AreKeptLines self.now }
@@ -164,11 +143,11 @@ impl Graph {
         if !all_reach(reaching, &self.at(first).preds) {
             return false;
         }
-        self.is_above(tree, first, own, hints)
+        self.is_above(tree, first, hints)
     }
 
     /// Whether the tree is above that of the event. It is not if the event's tree is above it at its point.
-    fn is_above(&self, tree: &EvTree, event: usize, own: &mut Sides, hints: &mut Hints) -> bool
+    fn is_above(&self, tree: &EvTree, event: usize, hints: &mut Hints) -> bool
         requires event { IsPlaced self.now.placed.items event }
         requires points { ArePoints hints.old.points.items self.now.placed.items }
         ensures points { ArePoints hints.new.points.items self.now.placed.items }
@@ -177,7 +156,7 @@ impl Graph {
         if hints.is_higher(event, tree) {
             return false;
         }
-        hints.is_below(event, true, &self.at(event).tree, tree, own)
+        hints.is_below(event, true, &self.at(event).tree, tree)
     }
 }
 
