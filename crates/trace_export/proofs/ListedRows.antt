@@ -1,13 +1,13 @@
 -- What an export lists of a tenant's events, one by one.
-use Rattle.std.proofs.Common.{◌≡◌, ℕ, suc, ◌+◌, ◌-◌, ◌<◌, ◌≤◌, true, List, [], ◌∷◌, ◌++◌, length, take, Some, sym, ap, ◌∙◌, arith}
+use Rattle.std.proofs.Common.{◌≡◌, ℕ, suc, ◌+◌, ◌-◌, ◌<◌, ◌≤◌, List, [], ◌∷◌, ◌++◌, length, take, Some, sym, ap, ◌∙◌, arith}
 use Rattle.std.specs.List.{slice_index_or}
 use Rattle.std.proofs.Math.Seq.{take-suc}
-use Rattle.std.proofs.lemmas.List.{length-reverse, take_all}
+use Rattle.std.proofs.lemmas.List.{get_or_default, length-reverse, take_all}
 use Rattle.std.proofs.lemmas.Option.{same_Some}
 use Rattle.trace_types.specs.clock.Clock.{tree_clock}
 use Rattle.trace_types.specs.clock.EventTree.{EventTree, Leaf}
 use Rattle.trace_types.specs.clock.Stamps.{tree_of}
-use Rattle.trace_types.specs.tenant.Rows.{History, history_of, is_event, row_of}
+use Rattle.trace_types.specs.tenant.Rows.{History, history_of, row_of}
 use Rattle.trace_types.specs.declared.row.Row.{Row}
 use Rattle.tenant_ledger.proofs.keeping.Told.{row_is_kept}
 use Rattle.trace_export.specs.Edges.{IsPlaced, Placing, listed_preds, placed_at}
@@ -15,6 +15,7 @@ use Rattle.trace_export.specs.Following.{placing_of}
 use Rattle.trace_export.specs.declared.placed.Placed.{Placed}
 use Rattle.trace_export.proofs.LoadedEvents.{row_of-newest, row_of-older}
 use Rattle.trace_export.proofs.Placings.{each_listed, length-placing, trees_are}
+use Rattle.trace_export.proofs.StampReplies.{is_event_within}
 
 -- as many events are listed as there are rows
 pub counted : (rows : List Row) → length (placing_of (history_of rows)) ≡ length rows
@@ -28,17 +29,24 @@ preds_listed history event row placed is =
     (λ newest earlier event found old known row is. known row (sym (row_of-older newest earlier event old) ∙ is))
     history event placed row is
 
--- the event at a place is listed with the predecessors of the row there, and with what the event knows
-pub placed_is : (rows : List Row) (place event : ℕ) (row : Row) (preds : List ℕ) (tree : EventTree) → place < length rows → event ≡ suc place → is_event (history_of rows) event ≡ true
-    → row ≡ slice_index_or rows place row → preds ≡ row.preds → tree ≡ tree_of tree_clock (history_of rows) event
+-- the row at a place has the predecessors that are listed of the event there
+pub preds_at : (rows : List Row) (place : ℕ) (row : Row) → place < length rows → (slice_index_or rows place row).preds ≡ listed_preds (placing_of (history_of rows)) (suc place)
+preds_at rows place row within =
+    let found = slice_index_or rows place row in
+    let placed : IsPlaced (placing_of (history_of rows)) (suc place) = (omega arith, omega (arith, within, counted rows)) in
+    let here : place ≡ suc place - 1 = omega arith in
+    let there = is_event_within rows (suc place) (omega arith, omega (arith, within)) in
+    let is = row_is_kept rows (suc place) found there (get_or_default rows place row found within ∙ ap (λ k. slice_index_or rows k found) here) in
+    sym (preds_listed (history_of rows) (suc place) found placed is)
+
+-- the event at a place is listed with its predecessors, and with what it knows
+pub placed_is : (rows : List Row) (place event : ℕ) (preds : List ℕ) (tree : EventTree) → place < length rows → event ≡ suc place
+    → preds ≡ listed_preds (placing_of (history_of rows)) (suc place) → tree ≡ tree_of tree_clock (history_of rows) event
     → (let this : Placed = record { preds = preds; tree = tree } in this) ≡ placed_at (placing_of (history_of rows)) (suc place)
-placed_is rows place event row preds tree within at there row_is preds_are tree_is =
+placed_is rows place event preds tree within at preds_are tree_is =
     let all = placing_of (history_of rows) in
     let placed : IsPlaced all (suc place) = (omega arith, omega (arith, within, counted rows)) in
-    let here : place ≡ suc place - 1 = omega arith in
-    let is : row_of (history_of rows) (suc place) ≡ Some row =
-    row_is_kept rows (suc place) row (ap (is_event (history_of rows)) (sym at) ∙ there) (row_is ∙ ap (λ k. slice_index_or rows k row) here) in
-    ap (λ (found : List ℕ). let this : Placed = record { preds = found; tree = tree } in this) (preds_are ∙ sym (preds_listed (history_of rows) (suc place) row placed is))
+    ap (λ (found : List ℕ). let this : Placed = record { preds = found; tree = tree } in this) preds_are
     ∙ ap (λ (found : EventTree). let this : Placed = record { preds = listed_preds all (suc place); tree = found } in this)
     (tree_is ∙ ap (tree_of tree_clock (history_of rows)) at ∙ sym (trees_are (history_of rows) (suc place) placed))
 

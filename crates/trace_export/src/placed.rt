@@ -2,7 +2,7 @@
 ghost use Rattle.std.specs.Prelude.{◌≡◌, ◌<◌, ◌↔◌, suc, [], IfErr, IfOk, IfSome, IfNone, IsTrue, OnOk, length};
 ghost use Rattle.trace_types.specs.clock.EventTree.{EventTree};
 ghost use Rattle.trace_types.specs.tenant.Rows.{history_of};
-ghost use Rattle.trace_export.specs.Edges.{placed_at};
+ghost use Rattle.trace_export.specs.Edges.{listed_preds, placed_at};
 ghost use Rattle.trace_export.specs.Following.{placing_of};
 ghost use Rattle.trace_export.specs.Listing.{listed_of};
 ghost use Rattle.trace_export.specs.Verdict.{AreIncreasingBefore, IsPlacedAs, IsStampTree, IsUnfitFor};
@@ -13,7 +13,7 @@ use event_tree::EvTree;
 use stamp_codec::{StampFault, read_stamp_beside};
 use std::alloc::Global;
 use tenant_ledger::Ledger;
-use trace_types::{Limits, Memory, Preds};
+use trace_types::{Limits, Memory, Preds, Row};
 
 /// The events that an event follows, and its tree.
 #[derive(Drop)]
@@ -94,10 +94,19 @@ fn placed_in(alloc: Global, ledger: &Ledger, place: usize) -> Result<Placed, Mem
     requires { place < length ledger.now.rows }
     ensures { IfOk result (λ placed. placed ≡ placed_at (placing_of (history_of ledger.now.rows)) (suc place)) }
 {
-    let preds = ledger.rows()[place].preds.share();
+    let preds = preds_in(ledger.rows(), place);
     let Some(tree) = ledger.tree(place as u64 + 1) else {
         unreachable!();
     };
     let tree = tree.share(alloc)?;
     Ok(Placed { preds, tree })
+}
+
+/// The events that the event at this place follows, of a tenant with these rows.
+#[tactic(auto, using(crate::proofs::ListedRows::preds_at))]
+fn preds_in(rows: &[Row], place: usize) -> Preds
+    requires { place < length rows.now }
+    ensures { result ≡ listed_preds (placing_of (history_of rows.now)) (suc place) }
+{
+    rows[place].preds.share()
 }
