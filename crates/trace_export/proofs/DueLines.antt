@@ -27,7 +27,7 @@ use Rattle.tenant_ledger.proofs.clock.Legality.{IsLegal_from_AreLegal}
 use Rattle.tenant_ledger.proofs.size.Limits.{are_limits-le, are_within_limits}
 use Rattle.trace_export.specs.DueLine.{due_line}
 use Rattle.trace_export.specs.Export.{listed_row}
-use Rattle.trace_export.specs.Following.{IsFollowed, placed_of}
+use Rattle.trace_export.specs.Following.{IsFollowed, line_of_next, placed_of}
 use Rattle.trace_export.specs.Listing.{FitsKind, IsReadAgain, IsReadAs, Listed, listed_json}
 use Rattle.trace_export.specs.Loading.{IsLoadedNext, row_request, tenant_with}
 use Rattle.trace_export.proofs.LegalRows.{AreSound, legal_rows_are_sound}
@@ -123,7 +123,7 @@ module _ (limits : Limits) (rows : List Row) (row : Row) (ranges : IsTrue (are_l
   count = length-reverse rows
 
   -- its line lists it
-  due_is : due_line (suc (length rows)) row (id_of tree_clock (row ∷ earlier) row.task) (tree_of tree_clock (row ∷ earlier) (suc (length rows))) ≡ compact_text (listed_json this)
+  due_is : line_of_next (suc (length rows)) rows row ≡ compact_text (listed_json this)
   due_is =
       ap (λ n. due_line (suc n) row (id_of tree_clock (row ∷ earlier) row.task) (tree_of tree_clock (row ∷ earlier) (suc n))) (sym count)
       ∙ ap (λ (text : Text). compact_text (listed_json (listed_row number row text))) (sym (text_of row earlier is_legal few spawns))
@@ -140,8 +140,7 @@ module _ (limits : Limits) (rows : List Row) (row : Row) (ranges : IsTrue (are_l
       }
 
   -- so a line that is the due one is loaded
-  pub due_is_loaded : (line : Text) → length line ≤ 65536
-      → line ≡ due_line (suc (length rows)) row (id_of tree_clock (row ∷ earlier) row.task) (tree_of tree_clock (row ∷ earlier) (suc (length rows)))
+  pub due_is_loaded : (line : Text) → length line ≤ 65536 → line ≡ line_of_next (suc (length rows)) rows row
       → step (tenant_with limits rows) (row_request row) ≡ accepted_with (tenant_with limits rows) row (length rows) → IsLoadedNext limits rows line row
   due_is_loaded line short is makes =
       let preds = preds_before row earlier is_legal sound few spawns stamp refl in
@@ -166,8 +165,7 @@ module _ (limits : Limits) (rows : List Row) (row : Row) (ranges : IsTrue (are_l
 
 -- the report of such a line was taken
 pub is_followed : (old new : Tenant) (request : Request) (row : Row) (line : Text) → IsTrue (are_limits old.limits.events old.limits.tasks old.limits.messages) → is_report request ≡ true
-    → step old request ≡ accepted_with old row (length old.rows) → length line ≤ 65536
-    → line ≡ due_line (suc (length old.rows)) row (id_of tree_clock (row ∷ history_of old.rows) row.task) (tree_of tree_clock (row ∷ history_of old.rows) (suc (length old.rows)))
+    → step old request ≡ accepted_with old row (length old.rows) → length line ≤ 65536 → line ≡ line_of_next (suc (length old.rows)) old.rows row
     → new ≡ tenant_with old.limits (old.rows ++ row ∷ []) → AreLegal new.limits new.rows → IsFollowed old new line
 is_followed old new request row line ranges is makes short due leaves legal =
     let rows : AreLegal old.limits (old.rows ++ row ∷ []) = subst (λ (tenant : Tenant). AreLegal tenant.limits tenant.rows) leaves legal in
@@ -177,10 +175,8 @@ is_followed old new request row line ranges is makes short due leaves legal =
 -- of a report that was prepared at the tenant
 pub is_followed_by : (old tenant new : Tenant) (limits : Limits) (request : Request) (row : Row) (line : Text) (number : ℕ) → tenant ≡ old → old.limits ≡ limits
     → IsTrue (are_limits limits.events limits.tasks limits.messages) → is_report request ≡ true → step old request ≡ accepted_with old row (length old.rows) → length line ≤ 65536 → number ≡ suc (length old.rows)
-    → line ≡ due_line number row (id_of tree_clock (row ∷ history_of tenant.rows) row.task) (tree_of tree_clock (row ∷ history_of tenant.rows) (suc (length tenant.rows)))
-    → new ≡ with_row tenant (Some row) → AreLegal new.limits new.rows → IsFollowed old new line
+    → line ≡ line_of_next number tenant.rows row → new ≡ with_row tenant (Some row) → AreLegal new.limits new.rows → IsFollowed old new line
 is_followed_by old tenant new limits request row line number same bounds ranges is makes short counts due leaves legal =
     is_followed old new request row line (subst (λ (found : Limits). IsTrue (are_limits found.events found.tasks found.messages)) (sym bounds) ranges) is makes short
-    (due ∙ ap (λ n. due_line n row (id_of tree_clock (row ∷ history_of tenant.rows) row.task) (tree_of tree_clock (row ∷ history_of tenant.rows) (suc (length tenant.rows)))) counts
-    ∙ ap (λ (found : Tenant). due_line (suc (length old.rows)) row (id_of tree_clock (row ∷ history_of found.rows) row.task) (tree_of tree_clock (row ∷ history_of found.rows) (suc (length found.rows)))) same)
+    (due ∙ ap (λ n. line_of_next n tenant.rows row) counts ∙ ap (λ (found : Tenant). line_of_next (suc (length old.rows)) found.rows row) same)
     (leaves ∙ ap (λ (found : Tenant). with_row found (Some row)) same) legal

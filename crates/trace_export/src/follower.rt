@@ -1,11 +1,7 @@
 //! The tenant to which the lines of an export lead.
-ghost use Rattle.std.specs.Prelude.{◌≡◌, ◌+◌, ◌≤◌, ◌↔◌, suc, ◌∷◌, [], None, Some, IfOk, IsTrue, false, length};
-ghost use Rattle.trace_types.specs.clock.Clock.{tree_clock};
-ghost use Rattle.trace_types.specs.clock.Stamps.{id_of, tree_of};
-ghost use Rattle.trace_types.specs.tenant.Rows.{history_of};
+ghost use Rattle.std.specs.Prelude.{◌≡◌, ◌+◌, ◌≤◌, ◌↔◌, suc, [], None, Some, IfOk, IsTrue, false, length};
 ghost use Rattle.trace_types.specs.tenant.Tenant.{AreLegal, fresh, with_row};
-ghost use Rattle.trace_export.specs.DueLine.{due_line};
-ghost use Rattle.trace_export.specs.Following.{IsFollowed};
+ghost use Rattle.trace_export.specs.Following.{IsFollowed, line_of_next};
 ghost use Rattle.trace_export.specs.Heading.{lines_ahead};
 ghost use Rattle.trace_export.specs.Loading.{limits_under};
 ghost use Rattle.trace_export.specs.Rebuilding.{IsEventMade};
@@ -105,9 +101,7 @@ fn report_if_due<T>(rt: &T, ledger: Ledger, limits: &Limits, line: &[u8]) -> (Le
 /// Commits the report if the line is the one that an export has of its event, which has this number. It says whether it is.
 fn commit_if_due(prepared: Prepared, number: u64, line: &[u8]) -> (Ledger, bool)
     requires { number ≡ suc (length prepared.tenant.rows) }
-    ensures due { IsTrue result.1 → line.now ≡ due_line number prepared.row
-        (id_of tree_clock (prepared.row ∷ history_of prepared.tenant.rows) prepared.row.task)
-        (tree_of tree_clock (prepared.row ∷ history_of prepared.tenant.rows) (suc (length prepared.tenant.rows))) }
+    ensures due { IsTrue result.1 → line.now ≡ line_of_next number prepared.tenant.rows prepared.row }
     ensures committed { IsTrue result.1 → result.0 ≡ with_row prepared.tenant (Some prepared.row) }
     ensures legal { IsTrue result.1 → AreLegal result.0.limits result.0.rows }
     ensures left { result.1 ≡ false → result.0 ≡ prepared.tenant }
