@@ -41,8 +41,8 @@ impl From<ExportFault> for StreamFault {
 
     fn from(fault: ExportFault) -> StreamFault {
         match fault {
-            ExportFault::Write => StreamFault::Write,
-            ExportFault::Memory => StreamFault::Memory,
+            ExportFault::Write => StreamFault::from(WriteFault),
+            ExportFault::Memory => StreamFault::from(Memory),
         }
     }
 }
