@@ -6,7 +6,7 @@ ghost use Rattle.stamp_codec.specs.Bounds.{IsBounded, SpellsNothing};
 ghost use Rattle.stamp_codec.specs.declared.stamp.Stamp.{Stamp};
 ghost use Rattle.stamp_codec.specs.Flat.{OpensNowhere};
 ghost use Rattle.stamp_codec.specs.Reading.{ReadsStamp, Refuses, SpellsNormal, GivesStamp, IsNoMemory};
-ghost use Rattle.stamp_codec.specs.declared.reading.StampFault.TheVariants as faults;
+ghost use Rattle.stamp_codec.specs.declared.reading.StampFault.TheVariants.{Memory as OutOfMemory};
 
 use crate::Stamp;
 use crate::first_fault::first_fault;
@@ -40,7 +40,7 @@ pub enum StampFault {
 }
 
 impl From<NoMemory> for StampFault {
-    ghost from_gives = { λ _ e. e ≡ faults.Memory };
+    ghost from_gives = { λ _ fault. fault ≡ OutOfMemory };
 
     fn from(_refused: NoMemory) -> StampFault {
         StampFault::Memory
