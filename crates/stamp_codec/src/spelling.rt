@@ -71,15 +71,6 @@ fn spell_id<T: TakeBytes>(taker: &mut T, id: &IdTree, end: u8) -> Option<()>
     }
 }
 
-#[cycle(spelled_ids)]
-fn spell_pair<T: TakeBytes>(taker: &mut T, left: &IdTree, right: &IdTree) -> Option<()>
-    ensures { MatchOption result (T.refuses taker.old taker.new (id_text (Pair left.now right.now))) (λ _. T.takes taker.old taker.new (id_text (Pair left.now right.now))) }
-{
-    taker.take_one(b'(')?;
-    spell_id(taker, left, b',')?;
-    spell_id(taker, right, b')')
-}
-
 /// Spells the tree and this byte behind it. It stands in [`spell_node`] twice, so that no call is made for a leaf.
 #[cycle(spelled_trees)]
 #[inline(always)]
@@ -93,6 +84,15 @@ fn spell_tree<T: TakeBytes>(taker: &mut T, tree: &EvTree, end: u8) -> Option<()>
             taker.take_one(end)
         }
     }
+}
+
+#[cycle(spelled_ids)]
+fn spell_pair<T: TakeBytes>(taker: &mut T, left: &IdTree, right: &IdTree) -> Option<()>
+    ensures { MatchOption result (T.refuses taker.old taker.new (id_text (Pair left.now right.now))) (λ _. T.takes taker.old taker.new (id_text (Pair left.now right.now))) }
+{
+    taker.take_one(b'(')?;
+    spell_id(taker, left, b',')?;
+    spell_id(taker, right, b')')
 }
 
 #[cycle(spelled_trees)]
