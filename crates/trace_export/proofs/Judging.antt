@@ -1,16 +1,14 @@
 -- Lines that were found right, one more, and the verdict.
-use Rattle.std.proofs.Common.{◌≡◌, ℕ, suc, ◌+◌, ◌^◌, Bool, IsTrue, true, false, ◌⊎◌, inl, inr, Option, Some, None, List, [], ◌∷◌, ◌++◌, length, refl, sym, ap, subst, ◌∙◌, arith, length-append, append_assoc}
+use Rattle.std.proofs.Common.{◌≡◌, ℕ, suc, ◌+◌, ◌^◌, IsTrue, true, false, ◌⊎◌, inl, inr, Option, Some, None, List, [], ◌∷◌, ◌++◌, length, refl, sym, ap, subst, ◌∙◌, arith, length-append}
 use Rattle.std.proofs.lemmas.Bool.{ltb-true, ltb-false}
-use Rattle.std.proofs.lemmas.List.{append-nil}
 use Rattle.trace_types.specs.text.Name.{Text}
-use Rattle.trace_types.specs.text.Lines.{lines}
 use Rattle.line_protocol.specs.Held.{Held, ReadingBounds, fresh_within}
 use Rattle.trace_types.specs.text.Lines.{is_longer_than}
 use Rattle.line_protocol.specs.LineReading.{HasRead, GivesLine, Finds, Reads}
 use Rattle.line_protocol.specs.declared.line.Line.{Line}
 use Rattle.line_protocol.specs.declared.line.Line.TheVariants.{Whole, TooLong, End}
 use Rattle.line_protocol.specs.Source.{Given}
-use Rattle.line_protocol.proofs.LineReadingLemmas.{HasRead-start, HasRead-line, HasRead-end, HasRead-ended, has_told_end, told_once}
+use Rattle.line_protocol.proofs.LineReadingLemmas.{HasRead-start, HasRead-line, has_told_end, told_once}
 use Rattle.trace_export.specs.declared.placed.Placed.{Placed}
 use Rattle.trace_export.specs.declared.reason.Reason.{Reason}
 use Rattle.trace_export.specs.declared.checked.Checked.{Checked}
@@ -18,9 +16,9 @@ use Rattle.trace_export.specs.declared.header.Header.{Header}
 use Rattle.trace_export.specs.declared.verdict.Verdict.{Verdict}
 use Rattle.trace_export.specs.declared.verdict.Verdict.TheVariants.{Yes, No}
 use Rattle.trace_export.specs.Edges.{Placing}
-use Rattle.trace_export.specs.Heading.{AreParts, IsHeader, IsNoHeader, lines_ahead}
+use Rattle.trace_export.specs.Heading.{AreParts, IsHeader, lines_ahead}
 use Rattle.trace_export.specs.Checked.{Judges, HoldsOfFound, IsKept, IsNoFirstOf, IsTextFound, IsJudged, IsJudgedAs, StopsReading, header_in, placing_in}
-use Rattle.trace_export.specs.ReadTo.{StopsAtLine, WasReadTo, WasReadToEnd}
+use Rattle.trace_export.specs.ReadTo.{StopsAtLine, WasReadToEnd}
 use Rattle.trace_export.specs.Verdict.{AreRightAfter, IsRightNext, IsFaulty, IsVerdict}
 use Rattle.trace_export.proofs.FoundLines.{first_found, found_line, found_to_end, no_texts, parts_count, parts_more}
 

@@ -1,20 +1,18 @@
 -- Lines that were loaded, one more, and what loading answers.
-use Rattle.std.proofs.Common.{◌≡◌, ℕ, suc, ◌+◌, IsTrue, inl, inr, Option, Some, None, List, [], ◌∷◌, ◌++◌, length, refl, sym, ap, subst, ◌∙◌, arith, length-append, append_assoc}
-use Rattle.std.proofs.lemmas.List.{append-nil}
+use Rattle.std.proofs.Common.{◌≡◌, ℕ, suc, ◌+◌, IsTrue, inl, inr, Option, Some, None, List, [], ◌∷◌, ◌++◌, length, refl, sym, ap, subst, ◌∙◌, arith, length-append}
 use Rattle.trace_types.specs.tenant.Limits.{Limits}
 use Rattle.trace_types.specs.tenant.Tenant.{Tenant, fresh}
-use Rattle.trace_types.specs.text.Lines.{lines}
 use Rattle.trace_types.specs.text.Name.{Text}
 use Rattle.trace_types.specs.declared.row.Row.{Row}
 use Rattle.line_protocol.specs.Held.{Held}
 use Rattle.line_protocol.specs.LineReading.{HasRead, GivesLine, Finds}
 use Rattle.line_protocol.specs.Source.{Given}
 use Rattle.line_protocol.specs.declared.line.Line.{Line}
-use Rattle.line_protocol.proofs.LineReadingLemmas.{HasRead-start, HasRead-line, HasRead-end}
+use Rattle.line_protocol.proofs.LineReadingLemmas.{HasRead-start, HasRead-line}
 use Rattle.trace_export.specs.Heading.{AreParts, IsHeader, IsNoHeader, lines_ahead}
 use Rattle.trace_export.specs.Loading.{AreLoadedAfter, IsFaultyAfter, IsLoaded, IsLoadedNext, limits_under, tenant_with}
 use Rattle.trace_export.specs.Loads.{LoadsAs, StopsLoading}
-use Rattle.trace_export.specs.ReadTo.{StopsAtLine, WasReadTo, WasReadToEnd}
+use Rattle.trace_export.specs.ReadTo.{StopsAtLine, WasReadToEnd}
 use Rattle.trace_export.specs.Rebuilding.{IsTaken, IsTakenAs, IsUnbegun}
 use Rattle.trace_export.specs.declared.header.Header.{Header}
 use Rattle.trace_export.specs.declared.loaded.Loaded.{Loaded}

@@ -5,7 +5,6 @@ ghost use Rattle.trace_export.specs.declared.export_fault.ExportFault.TheVariant
 ghost use Rattle.trace_export.specs.Export.{stream_fault_of_export};
 
 use line_protocol::{StreamFault, WriteFault};
-use std::alloc::{AllocError, AllocFailed};
 use thiserror::Error;
 use trace_types::Memory;
 

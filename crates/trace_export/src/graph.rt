@@ -4,7 +4,7 @@ ghost use Rattle.trace_types.specs.tenant.Rows.{history_of};
 ghost use Rattle.trace_export.specs.Bits.{HasBit};
 ghost use Rattle.trace_export.specs.Edges.{IsPlaced, AreOrderedAlike, listed_preds, placed_at};
 ghost use Rattle.trace_export.specs.Following.{placing_of};
-ghost use Rattle.trace_export.specs.Graph.{AreEarlier, ArePoints, HaveRoom, IsKeptGraph, IsReachedBy, IsWhole, rows_of, reaching_row};
+ghost use Rattle.trace_export.specs.Graph.{AreEarlier, HaveRoom, IsKeptGraph, IsReachedBy, IsWhole, rows_of, reaching_row};
 ghost use Rattle.trace_export.specs.Raised.{IsPointOf};
 ghost use Rattle.trace_export.specs.Verdict.{IsOrderedNext};
 

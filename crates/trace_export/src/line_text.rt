@@ -1,5 +1,5 @@
 //! The line that an export has of an event, looked for without reading JSON.
-ghost use Rattle.std.specs.Prelude.{◌≡◌, ◌<◌, ◌≤◌, ◌^◌, ◌↔◌, All, codes, decimal, false, length, IfSome, IsTrue, true};
+ghost use Rattle.std.specs.Prelude.{◌≡◌, ◌<◌, ◌≤◌, ◌^◌, ◌↔◌, All, decimal, false, length, IfSome, IsTrue, true};
 ghost use Rattle.serde_json.specs.Written.{items_text};
 ghost use Rattle.trace_types.specs.clock.EventTree.{maximum};
 ghost use Rattle.trace_types.specs.tenant.Tenant.{is_report};

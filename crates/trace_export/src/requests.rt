@@ -1,5 +1,5 @@
 //! The requests that make the rows of an export.
-ghost use Rattle.std.specs.Prelude.{◌≡◌, ◌<◌, ◌++◌, All, None, Some, IfErr, IfOk, IsErrOf, OnOk, codes};
+ghost use Rattle.std.specs.Prelude.{◌≡◌, ◌<◌, ◌++◌, All, Some, IfErr, IfOk, IsErrOf, OnOk, codes};
 ghost use Rattle.line_protocol.specs.Writing.{EndsInFault, WritesPart, WritesWhole};
 ghost use Rattle.trace_export.specs.Export.{BreaksLines, WritesLines};
 ghost use Rattle.trace_export.specs.Listing.{FitsKind};

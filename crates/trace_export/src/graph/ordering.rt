@@ -1,5 +1,5 @@
 //! Comparison of the event that comes next with the earlier ones.
-ghost use Rattle.std.specs.Prelude.{◌≡◌, ℕ, suc, ◌<◌, ◌≤◌, ◌++◌, ◌∷◌, ◌↔◌, ◌⊎◌, ◌-◌, [], IsTrue, length, All, Contains, false};
+ghost use Rattle.std.specs.Prelude.{◌≡◌, ℕ, suc, ◌<◌, ◌++◌, ◌∷◌, ◌↔◌, ◌⊎◌, ◌-◌, [], IsTrue, length, All, Contains, false};
 ghost use Rattle.event_tree.specs.Comparison.{IsBelow};
 ghost use Rattle.trace_export.specs.Bits.{HasBit};
 ghost use Rattle.trace_export.specs.Chains.{IsOnChain};
