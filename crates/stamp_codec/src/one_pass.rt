@@ -1,15 +1,14 @@
 //! Reading of a stamp in one pass, which checks and builds together. It tells no fault.
-ghost use Rattle.std.specs.Prelude.{◌≡◌, ◌≢◌, ℕ, ◌+◌, ◌^◌, ◌<◌, ◌≤◌, false, List, [], ◌∷◌, ◌++◌, decimal, max, IfErr, IfNone, IfOk, IfSome, MatchBool, MatchOption};
-ghost use Rattle.trace_types.specs.clock.Id.{Zero, One, Pair, AreApart};
+ghost use Rattle.std.specs.Prelude.{◌≡◌, ℕ, ◌+◌, ◌^◌, ◌<◌, ◌≤◌, false, [], ◌∷◌, ◌++◌, max, IfErr, IfOk, IfSome, MatchOption};
+ghost use Rattle.trace_types.specs.clock.Id.{Pair, AreApart};
 ghost use Rattle.trace_types.specs.clock.EventTree.{Leaf, Node, maximum};
 ghost use Rattle.event_tree.specs.Height.{height};
 ghost use Rattle.stamp_codec.specs.StampText.{id_text, tree_text, stamp_as_text};
-ghost use Rattle.stamp_codec.specs.Faults.{most_nested, greatest_sum};
+ghost use Rattle.stamp_codec.specs.Faults.{greatest_sum};
 ghost use Rattle.stamp_codec.specs.Bounds.{IsBounded, SpellsNothing, id_height};
 ghost use Rattle.stamp_codec.specs.Children.{IsUnevenOver};
 ghost use Rattle.stamp_codec.specs.Flat.{OpensNowhere};
-ghost use Rattle.stamp_codec.specs.Looks.{EndsDigits};
-ghost use Rattle.stamp_codec.specs.Refused.{IsTreeWithin, NoId, NoPair, NoNumber, NoTree, NoNode};
+ghost use Rattle.stamp_codec.specs.Refused.{IsTreeWithin, NoId, NoPair, NoTree, NoNode};
 ghost use Rattle.stamp_codec.specs.Scan.{is_digit_byte};
 ghost use Rattle.stamp_codec.specs.declared.one_pass.Unread.TheVariants.{Refused};
 

@@ -1,5 +1,5 @@
 //! How a stamp is spelled, for whatever takes the bytes.
-ghost use Rattle.std.specs.Prelude.{◌≡◌, ℕ, List, [], ◌∷◌, ◌++◌, decimal, MatchOption};
+ghost use Rattle.std.specs.Prelude.{ℕ, List, [], ◌∷◌, ◌++◌, decimal, MatchOption};
 ghost use Rattle.trace_types.specs.text.StampText.{stamp_text as text_of_parts};
 ghost use Rattle.trace_types.specs.clock.Id.{Pair};
 ghost use Rattle.trace_types.specs.clock.EventTree.{Node};
