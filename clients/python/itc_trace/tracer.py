@@ -35,7 +35,8 @@ from .verdict import Cause, Unseen, child_ended_row, end_row
 NOTES_AT_ONCE = 1024
 MOST_WAITING = 200_000
 FEW_WAITING = 50_000
-SHORTEST_REST, LONGEST_REST = 0.001, 0.02
+REST = 0.02
+"""In seconds, between two looks for notes. What is noted meanwhile is reported together. Whoever waits for an answer ends the rest."""
 ANSWER_WAIT = 10.0
 END_WAIT = 60.0
 MOST_UNWRITTEN = 256
@@ -396,17 +397,13 @@ class Tracer:
     # The thread that reports
 
     def _report_all(self) -> None:
-        rest = SHORTEST_REST
         try:
             while not self._is_over and not self._all_sent:
+                if len(self.notes) < NOTES_AT_ONCE:
+                    self._hurry.acquire(True, REST)
+                    self._write_touches()
                 if self.notes:
                     self._report_some()
-                    rest = SHORTEST_REST
-                elif self._hurry.acquire(True, rest):
-                    rest = SHORTEST_REST
-                else:
-                    rest = min(2 * rest, LONGEST_REST)
-                    self._write_touches()
         except Fault as fault:
             self._give_up(Cause.COLLECTOR, str(fault))
         except OSError:
