@@ -4,6 +4,7 @@ from __future__ import annotations
 
 import _thread
 import contextlib
+import functools
 import itertools
 import re
 import socket
@@ -43,6 +44,8 @@ MOST_UNWRITTEN = 256
 """Once so many events of touches are not in the journal whole, it is brought up to date."""
 MOST_NAME = 24
 MOST_TAG = 8
+MOST_HINTS = 256
+"""So many hints are kept, each with the name that is made of it."""
 ANY_PROCESS = "p"
 GONE_COLLECTOR = "the collector is gone"
 MANY_JOBS = Unseen(
@@ -87,10 +90,11 @@ class Names:
     def __init__(self, prefix: str) -> None:
         self._prefix = prefix
         self._numbers: dict[str, int] = {}
+        self._clean = functools.lru_cache(MOST_HINTS)(_clean)
 
     def new(self, hint: str) -> str:
         explicit = not hint.endswith("#")
-        base = _clean(hint.rstrip("#"), MOST_NAME - len(self._prefix) - 6)
+        base = self._clean(hint.rstrip("#"), MOST_NAME - len(self._prefix) - 6)
         number = self._numbers.get(base, 0) + 1
         name = base if explicit and number == 1 else f"{base}_{number}"
         while name in self._numbers:
