@@ -16,6 +16,11 @@ from .collector import MOST_EVENTS, MOST_MESSAGES, MOST_TASKS
 ROOT = "root"
 
 
+def request(kind: str, task: str, name: str) -> str:
+    """As it is sent."""
+    return f"{kind} {task} {name}" if name else f"{kind} {task}"
+
+
 class Report(NamedTuple):
     """A request of a part that reports an event. The name is that of a task or a message, or empty."""
 
@@ -25,7 +30,7 @@ class Report(NamedTuple):
 
     @property
     def request(self) -> str:
-        return f"{self.kind} {self.task} {self.name}" if self.name else f"{self.kind} {self.task}"
+        return request(*self)
 
 
 class Limits(NamedTuple):

@@ -17,7 +17,7 @@ from sys import getrefcount
 from types import CodeType
 
 from .collector import HOST, MOST_TASKS
-from .dividing import Report
+from .dividing import Report, request
 from .faults import FULL, Fault, nobody_listens, refusal
 from .following import ChildProcess
 from .journal import Places, TouchTexts, border_row, text_of
@@ -494,19 +494,18 @@ class Tracer:
                 lock: LockIdentity | None = None, time: float = 0.0) -> Outstanding:
         if line.touches is not None:
             self._end_touches(line)
-        told = Report(kind, line.name, name)
-        report = self._put(told, code, instruction, label, lock, time or self._time)
+        report = self._put(kind, line.name, name, code, instruction, label, lock, time or self._time)
         if self._parts is not None:
-            self._parts.divider.report(told)
+            self._parts.divider.report(Report(kind, line.name, name))
         line.count += 1
         line.message = None
         return report
 
-    def _put(self, told: Report, code: CodeType | None, instruction: int, label: str, lock: LockIdentity | None = None,
-             time: float = 0.0) -> Outstanding:
+    def _put(self, kind: str, task: str, name: str, code: CodeType | None, instruction: int, label: str,
+             lock: LockIdentity | None = None, time: float = 0.0) -> Outstanding:
         """Has a report sent with the next ones."""
-        text = f"{told.request}\n"
-        report = Outstanding(text, told.task, told.kind, told.name, code, instruction, label, lock, time)
+        text = f"{request(kind, task, name)}\n"
+        report = Outstanding(text, task, kind, name, code, instruction, label, lock, time)
         self._outstanding.append(report)
         self._texts.append(text)
         return report
@@ -843,7 +842,7 @@ class Tracer:
         self._write_rows(border_row(parts.number, border))
         self._change_collector(port)
         for report in border.reports:
-            self._put(report, None, 0, GOES_ON, parts.lock_of(report))
+            self._put(*report, None, 0, GOES_ON, parts.lock_of(report))
         with self._writing:
             self._touch_rows.keep_last()
             for shorten in AT_BORDER:
@@ -854,7 +853,7 @@ class Tracer:
 
     def _await_answers(self) -> None:
         """Waits until all that was reported is answered."""
-        answered = self._put(Report("count", ""), None, 0, "")
+        answered = self._put("count", "", "", None, 0, "")
         answered.text, self._texts[-1] = "count\n", "count\n"
         waiter = Waiter()
         self._answer_to(waiter, answered)
