@@ -158,15 +158,16 @@ def _put_server(patches: Patches, module: ModuleType) -> None:
 
 def _parse_request(original: Any) -> Any:
     def parse_request(self: Any) -> bool:
-        _answers(self, None, None)
+        if "_itc_asked" in self.__dict__:
+            _answers(self, None, None)
         is_one = bool(original(self))
-        if is_one:
-            asked = self.headers.get(HEADER)
+        asked = self.headers.get(HEADER) if is_one else None
+        if asked is not None:
             exchange = _asked.pop(asked, None)
             _answers(self, asked, exchange)
             if exchange is not None:
                 take_at(exchange.asked, _frame())
-            elif asked is not None:
+            else:
                 incoming_at(asked, _frame())
         return is_one
 
@@ -186,7 +187,7 @@ def _end_headers(original: Any) -> Any:
     """Whoever asked with a message gets one with the response."""
 
     def end_headers(self: Any) -> None:
-        if not _goes_on(self):
+        if "_itc_asked" in self.__dict__ and not _goes_on(self):
             exchange = self.__dict__.get("_itc_exchange")
             if exchange is not None:
                 exchange.head = exchange.last = _mark(ANSWER, _frame())
