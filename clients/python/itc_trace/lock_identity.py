@@ -31,7 +31,7 @@ class LockIdentity:
     while its task waits for one that it started encloses what that one does, though that one does not hold it.
     """
 
-    __slots__ = ("serial", "kind", "code", "instruction", "number", "signal", "is_of_condition", "encloses_tasks", "_name")
+    __slots__ = ("serial", "kind", "code", "instruction", "number", "signal", "is_of_condition", "encloses_tasks", "_name", "_hint")
 
     def __init__(self, kind: str, frame: FrameType | None) -> None:
         frame = _maker(frame)
@@ -43,7 +43,7 @@ class LockIdentity:
         self.signal: Signal | None = None
         self.is_of_condition = False
         self.encloses_tasks = False
-        self._name = ""
+        self._name = self._hint = ""
         if frame is not None:
             code = self.code = frame.f_code
             self.instruction = frame.f_lasti
@@ -77,7 +77,10 @@ class LockIdentity:
 
     @property
     def hint(self) -> str:
-        return f"lock{self.line or ''}"
+        """As `lock12`."""
+        if not self._hint:
+            self._hint = f"lock{self.line or ''}"
+        return self._hint
 
     @property
     def giving(self) -> str:
