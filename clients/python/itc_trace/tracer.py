@@ -724,12 +724,11 @@ class Tracer:
         if line.has_ended:
             return
         self._leave(line)
-        if line.touches is None:
-            report = self._report(line, "local", "", None, 0, "")
-            line.touches = report.touches = TouchEvent(line.name, self.part or 1, self._time)
-            with self._writing:
-                self._await_rows(line.touches)
         with self._writing:
+            if line.touches is None:
+                report = self._report(line, "local", "", None, 0, "")
+                line.touches = report.touches = TouchEvent(line.name, self.part or 1, self._time)
+                self._await_rows(line.touches)
             line.touches.read_stretches()
             line.touches.stretches.append(stretch)
             stretch.events = (*stretch.events, line.touches)
