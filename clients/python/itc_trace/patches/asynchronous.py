@@ -27,7 +27,7 @@ from ..lines import (
 )
 from ..lock_identity import LockIdentity
 from ..noting import frame_at, is_internal, joining, mark, place, starting, take
-from ..stretches import TURNS, leave
+from ..stretches import STRETCHES, TURNS, leave
 from .base import Patches, like
 from .futures import is_settled_by_source, take_any
 from .locks import gave, is_of_condition, took
@@ -440,18 +440,21 @@ def _run_handle(original: Any) -> Any:
     def _run(self: Any) -> None:
         if state.note is None:
             return original(self)  # type: ignore[no-any-return]
-        leave()
-        TURNS[get_ident()] = next(_turns)
+        thread = get_ident()
+        STRETCHES.pop(thread, None)
+        TURNS[thread] = next(_turns)
         try:
             return original(self)  # type: ignore[no-any-return]
         finally:
-            leave()
+            STRETCHES.pop(thread, None)
 
     return _run
 
 
 _PLUMBING = frozenset({"asyncio", "_asyncio", "concurrent", "itc_trace"})
 _STEPS = frozenset({"TaskStepMethWrapper", "TaskWakeupMethWrapper"})
+_step_kinds: dict[int, type] = {}
+"""The types of these names that were met, by their identities: the hash of a type may be the program's."""
 
 
 def _is_the_programs(callback: Any) -> bool:
@@ -466,7 +469,10 @@ def _is_the_programs(callback: Any) -> bool:
         return _is_outside(function) or not getattr(function, "__name__", "_").startswith("_")
     if kind is types.FunctionType:
         return _is_outside(callback)
-    return kind.__name__ not in _STEPS
+    if kind.__name__ not in _STEPS:
+        return True
+    _step_kinds[id(kind)] = kind
+    return False
 
 
 def _is_outside(function: Any) -> bool:
@@ -510,7 +516,7 @@ def _added(future: Any, callback: Any) -> Token | None:
 
 def _call(original: Any) -> Any:
     def call(self: Any, callback: Any, *args: Any, context: Any = None) -> Any:
-        if state.note is not None:
+        if state.note is not None and id(type(callback)) not in _step_kinds:
             callback = _after_caller(callback, args)
         return original(self, callback, *args, context=context)
 
@@ -519,7 +525,7 @@ def _call(original: Any) -> Any:
 
 def _call_at(original: Any) -> Any:
     def call_at(self: Any, when: Any, callback: Any, *args: Any, context: Any = None) -> Any:
-        if state.note is not None:
+        if state.note is not None and id(type(callback)) not in _step_kinds:
             callback = _after_caller(callback, args)
         return original(self, when, callback, *args, context=context)
 
