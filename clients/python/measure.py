@@ -1,7 +1,8 @@
 """Measures what tracing costs, what the relay carries, and how long races take: the numbers of docs/python.md.
 
 Usage: python3 measure.py [cost] [relay] [races]
-       python3 measure.py beside FOLDER    what tracing costs with this package and with the one in the folder, by turns
+       python3 measure.py beside FOLDER [TURNS [JOB]]
+           what tracing costs with this package and with the one in the folder, by turns: the least and the medians
 """
 
 import asyncio
@@ -12,6 +13,7 @@ import multiprocessing
 import os
 import queue
 import random
+import statistics
 import subprocess
 import sys
 import threading
@@ -196,18 +198,19 @@ def measure_one(job: str) -> None:
     traced.close()
 
 
-def measure_beside(folder: str) -> None:
-    for job in JOBS:
+def measure_beside(folder: str, turns: int = TRIES, *jobs: str) -> None:
+    for job in jobs or JOBS:
         times: dict[str, list[float]] = {folder: [], str(Path(__file__).parent): []}
-        for _ in range(TRIES):
+        for _ in range(turns):
             for package, found in times.items():
                 words = [sys.executable, "-P", __file__, "one", job]  # Not the package beside this file, but that of the path.
                 ran = subprocess.run(
                     words, env={**os.environ, "PYTHONPATH": package}, capture_output=True, text=True, check=True,
                 )
                 found.append(float(ran.stdout))
-        before, now = (min(found) for found in times.values())
-        print(f"{job}: {before:.1f} before, {now:.1f} now, {now / before:.2f} times", flush=True)
+        for name, of in (("least", min), ("median", statistics.median)):
+            before, now = (of(found) for found in times.values())
+            print(f"{job}, {name} of {turns}: {before:.1f} before, {now:.1f} now, {now / before:.2f} times", flush=True)
 
 
 # Reports through the relay
@@ -312,7 +315,7 @@ if __name__ == "__main__":
         measure_one(sys.argv[2])
         sys.exit()
     if sys.argv[1:2] == ["beside"]:
-        measure_beside(sys.argv[2])
+        measure_beside(sys.argv[2], *map(int, sys.argv[3:4]), *sys.argv[4:])
         sys.exit()
     for name, measured in (("cost", measure_cost), ("relay", measure_relay), ("races", measure_races)):
         if name in sys.argv[1:] or len(sys.argv) == 1:
