@@ -1179,7 +1179,7 @@ class Rewriter:
                     part.iter = self._iterated(part)
                 if not isinstance(part.target, ast.Name):
                     self._visit_target(part.target)
-                part.ifs = [self._guarded(one, self._truth) for one in part.ifs]
+                part.ifs = [*self._bound_in(part), *(self._guarded(one, self._truth) for one in part.ifs)]
             for name in ("elt", "key", "value"):
                 if hasattr(node, name):
                     setattr(node, name, self._guarded(getattr(node, name)))
@@ -1188,6 +1188,12 @@ class Rewriter:
         return node  # type: ignore[no-any-return]
 
     _visit_ListComp = _visit_SetComp = _visit_DictComp = _visit_GeneratorExp = _visit_comprehension_of
+
+    def _bound_in(self, part: ast.comprehension) -> Iterator[ast.expr]:
+        """Conditions that note which variables a step of a comprehension has bound, and that are always true."""
+        for one in self._bindings(getattr(part.target, "twin", part.target)):
+            noted = ast.UnaryOp(ast.Not(), self._variable(one, one.id, "w"))
+            yield ast.copy_location(ast.IfExp(self._is_on(one), noted, ast.Constant(True)), one)
 
     def _iterated(self, part: ast.comprehension) -> Any:
         return self._guarded(part.iter) if part.is_async else self._guarded(part.iter, self._iteration)

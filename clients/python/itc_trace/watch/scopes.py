@@ -47,6 +47,8 @@ class Scope:
         """Whether variables of the module may be bound by their names, as `globals()["debug"] = True` does."""
         self.first = ""
         """The variable of a method that has the object it was called for."""
+        self.is_after_start = False
+        """Whether another task may be there already, where the source is looked at now."""
 
     @property
     def class_name(self) -> str | None:
@@ -98,7 +100,6 @@ class Scopes(ast.NodeVisitor):
         self.by_node: dict[ast.AST, Scope] = {tree: self.module}
         self._scope = self.module
         self._loops = 0
-        self._is_after_start = False
         self._outer: list[tuple[Scope, str]] = []
         for one in tree.body:
             self.visit(one)
@@ -121,20 +122,19 @@ class Scopes(ast.NodeVisitor):
             return owner.bound[name] > 0
         if owner.kind == MODULE and owner.is_open and name not in owner.defined and name not in owner.imported:
             return owner.bound[name] > 0 or not hasattr(builtins, name)
-        return owner.kind in (MODULE, FUNCTION) and name in owner.captured and owner.bound[name] > FIRST_BINDING
+        return name in owner.captured and (owner.kind == COMPREHENSION or owner.kind != CLASS and owner.bound[name] > FIRST_BINDING)
 
     def _opened(self, node: ast.AST, kind: str, name: str = "") -> Scope:
         scope = self.by_node[node] = Scope(kind, self._scope, name)
         return scope
 
     def _bind(self, name: str) -> None:
-        is_late = self._scope is self.module and self._is_after_start
         scope = self._scope.function
         self._scope.used.add(name)
         if name in scope.nonlocals or name in scope.globals:
             self._outer.append((scope, name))  # Its own scope may bind it further down.
         else:
-            scope.bind(name, self._loops > 0 or is_late)
+            scope.bind(name, self._loops > 0 or scope.is_after_start)
 
     def visit_Name(self, node: ast.Name) -> None:
         if isinstance(node.ctx, ast.Load):
@@ -149,6 +149,16 @@ class Scopes(ast.NodeVisitor):
                 self._scope.function.first_lines.setdefault(node.id, node.lineno)
 
     _targets: frozenset[ast.AST] = frozenset()
+
+    def _visit_value_first(self, node: ast.Assign | ast.AnnAssign | ast.NamedExpr) -> None:
+        """What is bound to the value of a call is bound behind it."""
+        for one in (node.value, *(node.targets if isinstance(node, ast.Assign) else [node.target])):
+            if one is not None:
+                self.visit(one)
+        if isinstance(node, ast.AnnAssign):
+            self.visit(node.annotation)
+
+    visit_Assign = visit_AnnAssign = visit_NamedExpr = _visit_value_first
 
     def visit_Global(self, node: ast.Global) -> None:
         self._scope.globals.update(node.names)
@@ -199,8 +209,8 @@ class Scopes(ast.NodeVisitor):
         self.visit(node.value)
 
     def visit_Call(self, node: ast.Call) -> None:
-        if self._scope is self.module and self._may_start(node.func):
-            self._is_after_start = True
+        if self._may_start(node.func):
+            self._scope.function.is_after_start = True
         if isinstance(node.func, ast.Name) and node.func.id == "globals":
             self.module.is_open = True
         for keyword in node.keywords:
