@@ -63,7 +63,85 @@ class Point:
 point = Point()
 """
 
+WHOLES = """
+import copy, dataclasses, functools, itertools, json, operator, pickle, pprint, typing
+from collections import ChainMap, OrderedDict, UserDict, UserList, defaultdict, deque, namedtuple
+from types import MappingProxyType, SimpleNamespace
+inner = [1, 2]
+class Rows(list): pass
+class Table(dict): pass
+class Named(typing.NamedTuple):
+    rows: list
+    size: int = 1
+Pair = namedtuple("Pair", "rows size")
+@dataclasses.dataclass
+class Data:
+    rows: list
+@dataclasses.dataclass
+class Around:
+    data: Data
+@dataclasses.dataclass(frozen=True, slots=True)
+class Frozen:
+    rows: list
+class Plain:
+    def __init__(self): self.rows = inner
+class Slots:
+    __slots__ = ("rows",)
+    def __init__(self): self.rows = inner
+grouped, ordered, user_dict, user_list = defaultdict(list, k=inner), OrderedDict(k=inner), UserDict(k=inner), UserList([inner])
+chained, rows, table, line = ChainMap({}, {"k": inner}), Rows([inner]), Table(k=inner), deque([inner])
+named, pair, data, frozen, space = Named(inner), Pair(inner, 1), Data(inner), Frozen(inner), SimpleNamespace(rows=inner)
+around, view, plain, slots = Around(data), MappingProxyType({"k": inner}), Plain(), Slots()
+"""
+_SHOWN_ONES = "grouped ordered user_dict user_list chained rows table line named pair data frozen space around view".split()
+
+
+def _of_each(touches: str, names: list[str]) -> tuple[str, ...]:
+    """Each of these touches, of each of these things."""
+    return tuple(touch.replace("ONE", name) for touch in _listed(touches) for name in names)
+
+
 GROUPS = (
+    Group("what is inside of what has a text", WHOLES, "inner.append(3)", _of_each("""
+        str(ONE)
+        repr([ONE])
+        f"{ONE}"
+        "{}".format(ONE)
+        "%s" % (ONE,)
+        print(ONE, end="")
+    """, _SHOWN_ONES)),
+    Group("what is inside of what is copied and compared", WHOLES, "inner.append(3)", (
+        *_of_each("copy.deepcopy(ONE)", [name for name in _SHOWN_ONES if name != "view"] + ["plain", "slots"]),
+        *_of_each("json.dumps(ONE)", "grouped ordered rows table named pair".split()),
+        *_of_each("pickle.dumps(ONE)", "grouped ordered line data around frozen plain slots space".split()),
+        *_of_each("dataclasses.asdict(ONE)", "data frozen around".split()), *_listed("""
+        pprint.pformat(data)
+        grouped == {"k": [1]}
+        ordered == OrderedDict(k=[1])
+        rows == [[1]]
+        line == deque([[1]])
+        named == Named([1])
+        named < Named([1])
+        data == Data([1])
+        around != Around(Data([1]))
+        space == SimpleNamespace(rows=[1])
+        user_dict == UserDict(k=[1])
+        any(grouped.values())
+        all([inner])
+        list(zip(*grouped.values()))
+        list(itertools.chain(*grouped.values()))
+        print(*grouped.values(), end="")
+        "{k}".format(**grouped)
+        "{k}".format_map(grouped)
+        ",".join(map(str, [inner]))
+        list(map(repr, grouped.values()))
+        functools.reduce(operator.add, [inner, []])
+        for one, *others in [inner]: pass
+        for number, (one, *others) in enumerate([inner]): pass
+        for key, (one, *others) in grouped.items(): pass
+        [one for one, *others in [inner]]
+        {one: others for one, *others in grouped.values()}
+    """))),
     Group("a list is read", LIST, "items.reverse()", _listed("""
         items[0]
         items[-1]
@@ -1381,6 +1459,43 @@ lines.seek(0)
 
 
 APART = (
+    Group("what is inside is not looked at", """
+import copy, dataclasses, io, typing
+class Plain:
+    def __init__(self): self.rows = inner
+class Rows(list):
+    def __repr__(self): return "rows"
+class Named(typing.NamedTuple):
+    rows: list
+    def __repr__(self): return "named"
+@dataclasses.dataclass
+class Data:
+    size: int
+    rows: list = dataclasses.field(repr=False, compare=False)
+inner, buffer = [1, 2], io.StringIO()
+plain, rows, named, data, cells = Plain(), Rows([inner]), Named(inner), Data(1, inner), [[1], [2]]
+""", "inner.append(3)\nbuffer.write('a')\ncells[0][0] = 3", _listed("""
+        str([plain])
+        str([buffer, plain])
+        str({"k": buffer})
+        f"{rows}"
+        str([rows, named])
+        f"{named}"
+        str(data)
+        [data] == [Data(1, [])]
+        copy.copy(plain)
+        [*rows]
+        any(cells)
+        all(cells)
+        any(rows) if rows is None else None
+        for one in rows: pass
+        for number, one in enumerate([inner]): pass
+        for key, value in {"k": inner}.items(): pass
+        for one, other in [(inner, 1)]: pass
+        [one for one, other in zip([inner], "a")]
+        functools = [inner].copy()
+        ",".join(map(str, [1, "a", plain]))
+    """), is_race=False),
     Group("another field is touched", OBJECT, "point.x = 5", _listed("""
         point.y
         point

@@ -204,10 +204,12 @@ def has_watched_method(kind: type, name: str) -> bool:
 
 
 def is_made(kind: type, name: str) -> bool:
-    """Whether the method was made by `dataclass`, and so has no hooks."""
+    """Whether the method was made by `dataclass` or `namedtuple`, and so has no hooks."""
     owner = class_with(kind, name)
     method = None if owner is None else _vars_of(owner)[name]
-    return type(method) is types.FunctionType and method.__code__.co_filename.endswith(("<string>", "dataclasses.py"))
+    if type(method) is not types.FunctionType:
+        return False
+    return method.__code__.co_filename.endswith("<string>") or method.__globals__.get("__name__") in ("dataclasses", "collections")
 
 
 def without_own(kind: type, ways: str) -> str:

@@ -16,6 +16,7 @@ from builtins import any, id, issubclass, len, map, next, setattr, type, zip
 from _thread import get_ident
 from collections import defaultdict, deque
 from collections.abc import Callable, Iterable, Iterator
+from functools import partial
 from operator import itemgetter
 from sys import _getframe, getrefcount
 from typing import Any
@@ -32,11 +33,12 @@ from .decisions import (
 )
 from .as_fields import FIELDS_OF, keep_fields_of, object_of
 from .helper import quick
-from .inside import OWN_STEPS, behind, fields_looked_at, inside_of, nested_in
+from .inside import OWN_STEPS, behind, fields_looked_at, inside_of, is_by_own_method, nested_in
 from .keys import SIMPLE, UNKNOWN, tell_of_unknown, value_of
 from .kinds import DEEP as DEEP_SITES
 from .kinds import (
-    BUFFER, BY_FIELDS, COMPARED, DEQUE, DICT, EACH, IN_PLACE_METHODS, KEYED, LIST, OF_FILE, OF_GENERATOR, ORDERED, SHOWN, WHOLE, WRITTEN,
+    BUFFER, BY_FIELDS, COMPARED, DEPTHS_OF_METHODS, DEQUE, DICT, IN_PLACE_METHODS, KEYED, LIST, OF_FILE, OF_GENERATOR, ORDERED, SHOWN, TRUTH,
+    WHOLE, WRITTEN,
 )
 from .late import ADDED, FOUND, LOOKING, NOTHING, READ_ONLY, again, by_kinds, note_shared, saw, share, shorten
 from .late import cell as cell_late
@@ -371,7 +373,7 @@ def _touch_whole(one: Any, site: int, limit: int) -> None:
     elif OWNERS.get(id(one)) is not None or getrefcount(one) > limit:
         owner = owner_of(one, ACCESSES[site].text)
         saw(owner, site, (shape_late, site, _kind_of(ACCESSES[site].kinds, family), site), True)
-    if ACCESSES[site].name in DEEP_SITES:
+    if _depth_of(ACCESSES[site]) in DEEP_SITES:
         _touch_nested(one, site)
 
 
@@ -389,20 +391,20 @@ def _touch_whole_inside(one: Any, site: int) -> None:
     else:
         for container in inside_of(one):
             _touch_whole(container, site, ANYBODY)
-    if access.name in DEEP_SITES:
+    depth = _depth_of(access)
+    if depth in DEEP_SITES:
         _touch_nested(one, site)
-    if _depth_of(access):
+    if depth in BY_FIELDS:
         _touch_fields(one, site, False)
 
 
 def _depth_of(access: Access) -> str:
-    """How deep the place looks at the fields of an object. What a method is given is only looked at by those that make a text of it."""
+    """How deep the place looks. What a method is given is only looked into by those that make a text of it, and by a writer of rows."""
     if access.what == "given":
-        return SHOWN if access.name in _SHOWING_METHODS else ""
-    return access.name if access.name in BY_FIELDS else ""
+        return DEPTHS_OF_METHODS.get(access.name, "")
+    return access.name if access.what == "whole" else ""
 
 
-_SHOWING_METHODS = frozenset("format format_map substitute safe_substitute".split())
 _COMPARING_METHODS = frozenset(("__eq__",))
 
 
@@ -418,15 +420,16 @@ def _touch_by_view(container: Any, view: type, kind: str, site: int) -> None:
 
 
 def _touch_nested(one: Any, site: int) -> None:
-    """What is inside of a container is looked at, too."""
-    name, depth = f"{ACCESSES[site].text or name_of(type(one))}[..]", ACCESSES[site].name
-    for part in nested_in(one, depth):
+    """What is inside of a container or an object is looked at, too."""
+    access, depth = ACCESSES[site], _depth_of(ACCESSES[site])
+    kinds = LENGTH if depth == TRUTH else access.kinds
+    for part, name in nested_in(one, access.text or name_of(type(one)), depth):
         family = family_of(type(part))
-        if family is None:
-            if depth != EACH:
-                _touch_fields(part, site, True)
-        else:
-            saw(owner_of(part, name), site, (shape_late, site, _kind_of(ACCESSES[site].kinds, family), site), True)
+        if family is not None:
+            if not _is_passed_over(family, access) and not is_by_own_method(type(part), depth):
+                saw(owner_of(part, name), site, (shape_late, site, _kind_of(kinds, family), site), True)
+        elif depth in BY_FIELDS:
+            _touch_fields(part, site, True)
 
 
 # Fields by way of the dictionary that has them
@@ -694,6 +697,26 @@ def _stepping_on(one: Any, site: int, is_reached: bool) -> Any:
     for inner in iterators:
         steps = _steps(steps, owner_of(inner, f"{text or name_of(kind)}[..]"), site, WRITE)
     return _steps(steps, owner_of(one, text), site, WRITE) if is_reached else steps
+
+
+def hook_u(steps: Iterable[Any], paths: tuple[tuple[int, ...], ...], site: int) -> Iterable[Any]:
+    """What a loop goes through, whose elements it takes apart: each of them, and what is at these places in it."""
+    return map(partial(_take_apart, paths, site), steps)
+
+
+def _take_apart(paths: tuple[tuple[int, ...], ...], site: int, element: Any) -> Any:
+    if type(element) is tuple and len(paths) == 1:
+        return element
+    try:
+        for path in paths:
+            one = element
+            for place in path:
+                one = value_of_element(one, place)
+            if one is not None:
+                _touch_if_any(one, site)
+    except Exception as fault:
+        failed(fault)
+    return element
 
 
 class _Step:
@@ -1195,7 +1218,7 @@ def _what_of(hook: str, kind: type, site: int) -> What:
     if hook == "o":
         return _what_of_field(kind, access, site)
     if id(kind) in PLAIN:
-        is_deep = id(kind) not in FLAT and hook == "h" and access.name in DEEP_SITES
+        is_deep = id(kind) not in FLAT and hook == "h" and _depth_of(access) in DEEP_SITES
         return LEFT_TO_PYTHON if is_deep else NOT_TOUCHED
     family = family_of(kind)
     if hook == "f":
@@ -1244,11 +1267,12 @@ def _what_of_whole(kind: type, family: int | None, access: Access, site: int) ->
     if family is not None:
         if _is_passed_over(family, access):
             return NOT_TOUCHED
-        what = DEEP if access.name in DEEP_SITES else OF_SHAPE
+        what = DEEP if _depth_of(access) in DEEP_SITES else OF_SHAPE
         return what, (shape_late, site, _kind_of(access.kinds, family), site), access.text, ""
     if id(kind) in STEPPED:
         return NOT_TOUCHED if not _goes_on_by(kind, access) else LEFT_TO_PYTHON if field_inside(kind) else (OTHER, None, "", "")
-    return LEFT_TO_PYTHON if field_inside(kind) or _depth_of(access) and (is_watched_class(kind) or kind is types.SimpleNamespace) else NOT_TOUCHED
+    is_looked_into = is_watched_class(kind) or kind is types.SimpleNamespace or issubclass(kind, (tuple, frozenset))
+    return LEFT_TO_PYTHON if field_inside(kind) or _depth_of(access) and is_looked_into else NOT_TOUCHED
 
 
 def _what_of_method(family: int, access: Access, site: int) -> What:

@@ -2,21 +2,26 @@
 
 from __future__ import annotations
 
-from builtins import any, bool, bytes, dict, enumerate, float, frozenset, getattr, id, int, iter, len, list, min, next, range, set, str, tuple, type
+import csv
+import io
+import weakref
+from builtins import (
+    any, bool, bytes, dict, enumerate, float, frozenset, getattr, id, int, issubclass, iter, len, list, min, next, range, set, str, tuple, type,
+)
 from collections import deque
-from collections.abc import Iterable, Iterator
+from collections.abc import Iterator
 from dataclasses import _FIELD, Field  # type: ignore[attr-defined]
 from gc import get_referents
 from itertools import tee
 from sys import getrefcount
-from types import BuiltinMethodType, SimpleNamespace
+from types import BuiltinMethodType, MemberDescriptorType, SimpleNamespace
 from typing import Any, NamedTuple
 
 from .decisions import (
     COMPOSED, MAPS, REFERRED, ROWS_OF_ITERATORS, STEPPED, VIEWS, WRITER, WRITTEN_TO, class_with, family_of, field_inside, fields_of,
-    has_watched_method, ids_of, is_made, is_watched_class, vars_of,
+    has_watched_method, ids_of, is_made, is_watched_class, mro_of, name_of, value_of_field, vars_of,
 )
-from .kinds import COMPARED, DECLARED, EACH, ORDERED, SHOWN, WRITTEN
+from .kinds import COMPARED, DECLARED, OF_ELEMENTS, ORDERED, SHOWN, STATE, WRITTEN
 
 READING = frozenset(("", "r", "c", "get", "keys", "values", "items", "copy", "__getitem__", "__contains__"))
 """Ways to touch, and methods, that look at each of several containers. Others change the first one."""
@@ -108,28 +113,62 @@ REFERENCES_OF_INNER = _references_of_inner()
 # What is inside of a container, as deep as it goes
 
 MOST_NESTED = 256
-_ELEMENTS = ids_of((list, tuple, set, frozenset, deque))
+_ROWS: tuple[Any, ...] = (list, tuple, set, frozenset, deque)
 _SINGLE = ids_of((str, int, float, bool, bytes, type(None)))
 _STATE_METHODS = ("__copy__", "__deepcopy__", "__reduce__", "__reduce_ex__", "__getstate__")
 _TEXT_METHODS = ("__str__", "__format__")
 
 
-def nested_in(one: Any, depth: str) -> Iterator[Any]:
-    """What the library's own containers have inside, each once, and no more than so many. For `EACH` it is the elements alone."""
-    seen, todo = {id(one)}, deque([one])
+_OWN_METHODS = {
+    SHOWN: ("__repr__",), WRITTEN: ("__repr__",), COMPARED: ("__eq__",), ORDERED: ("__eq__", "__lt__"), STATE: _STATE_METHODS,
+}
+"""The methods by which what is inside of something else is looked at. If a class of the program has one, it has hooks itself."""
+_BY_ADDRESS = ids_of((weakref.WeakValueDictionary, weakref.WeakKeyDictionary, csv.DictWriter, type(csv.writer(io.StringIO()))))
+"""Types whose text has nothing of what is inside."""
+
+
+def nested_in(one: Any, name: str, depth: str) -> Iterator[tuple[Any, str]]:
+    """What something has inside, each once and with a name, and no more than so many. For a look at elements it is those alone."""
+    seen, todo = {id(one)}, deque([(one, name, False)])
     while todo and len(seen) < MOST_NESTED:
-        for part in _parts_inside(todo.popleft()):
+        for part, called in _parts_inside(*todo.popleft(), depth):
             if id(part) not in seen and id(type(part)) not in _SINGLE:
                 seen.add(id(part))
-                yield part
-                if depth != EACH:
-                    todo.append(part)
+                yield part, called
+                if depth not in OF_ELEMENTS:
+                    todo.append((part, called, True))
 
 
-def _parts_inside(one: Any) -> Iterable[Any]:
-    if type(one) is dict:
+def _parts_inside(one: Any, name: str, is_inside: bool, depth: str) -> Iterator[tuple[Any, str]]:
+    kind = type(one)
+    if is_by_own_method(kind, depth) and is_inside or id(kind) in STEPPED:
+        return
+    of_elements = name if name.endswith(_OF_ELEMENT) else name + _OF_ELEMENT
+    if family_of(kind) is not None or issubclass(kind, (tuple, frozenset)):
+        yield from ((part, of_elements) for part in _elements_of(one))
+    elif field_inside(kind):
+        for part in inside_of(one) if depth not in (SHOWN, WRITTEN) or id(kind) not in _BY_ADDRESS else ():
+            yield from ((inner, of_elements) for inner in _elements_of(part)) if depth in OF_ELEMENTS else [(part, name)]
+    elif depth not in OF_ELEMENTS:
+        fields = fields_looked_at(one, depth, is_inside)
+        yield from ((value_of_field(one, field), f"{name_of(kind)}.{field}") for field in fields)
+
+
+_OF_ELEMENT = "[..]"
+
+
+def is_by_own_method(kind: type, depth: str) -> bool:
+    """Whether a class of the program has a method of its own for such a look at what is inside."""
+    return any([has_watched_method(kind, name) for name in _OWN_METHODS.get(depth, ())])
+
+
+def _elements_of(one: Any) -> list[Any]:
+    """The elements of a container, or the values of a dictionary, by the language's own means."""
+    kind = type(one)
+    if issubclass(kind, dict):
         return list(dict.values(one))
-    return list(one) if id(type(one)) in _ELEMENTS else ()
+    base = next((base for base in _ROWS if issubclass(kind, base)), None)
+    return [] if base is None else list(base.__iter__(one))
 
 
 _MADE_FOR = {SHOWN: ("__repr__", "repr"), WRITTEN: ("__repr__", "repr"), COMPARED: ("__eq__", "compare"), ORDERED: ("__lt__", "compare")}
@@ -151,10 +190,14 @@ def fields_looked_at(one: Any, depth: str, is_inside: bool) -> list[str]:
         return [*fields]
     if depth not in _MADE_FOR:
         is_own = any([has_watched_method(kind, name) for name in _STATE_METHODS])
-        return [] if is_own else [name for name in list(fields_of(one) or fields) if type(name) is str]
+        return [] if is_own else [name for name in (*fields_of(one), *_slots_of(kind)) if type(name) is str]
     method, asked = _MADE_FOR[COMPARED if is_inside and depth == ORDERED else depth]
     has_own_text = depth == SHOWN and not is_inside and any([has_watched_method(kind, name) for name in _TEXT_METHODS])
     return [] if has_own_text or not is_made(kind, method) else [name for name, field in fields.items() if getattr(field, asked)]
+
+
+def _slots_of(kind: type) -> list[str]:
+    return [name for base in mro_of(kind) for name, value in list(vars_of(base).items()) if type(value) is MemberDescriptorType]
 
 
 def _declared_fields(kind: type) -> dict[str, Any]:

@@ -109,11 +109,15 @@ _KNOWN = {
     ),
 }
 
-SHOWN, WRITTEN, COMPARED, ORDERED, DECLARED, STATE, FIELDS, EACH = "shown written compared ordered declared state fields each".split()
+SHOWN, WRITTEN, COMPARED, ORDERED, DECLARED, STATE, FIELDS = "shown written compared ordered declared state fields".split()
+EACH, TRUTH = "each", "truth"
 """How deep a function looks at what it is given: at all that its text has, or its text for a programmer, at what is compared for being equal
-or greater, at all fields that its class declares, at all of its state, at its own fields, or at each element."""
+or greater, at all fields that its class declares, at all of its state, at its own fields, at each element, or at whether each has elements."""
+OF_ELEMENTS = frozenset((EACH, TRUTH))
 BY_FIELDS = frozenset((SHOWN, WRITTEN, COMPARED, ORDERED, DECLARED, STATE, FIELDS))
-DEEP = (BY_FIELDS - {FIELDS}) | {EACH}
+DEEP = (BY_FIELDS - {FIELDS}) | OF_ELEMENTS
+DEPTHS_OF_METHODS = {**dict.fromkeys("format format_map substitute safe_substitute".split(), SHOWN), "writerows": EACH}
+"""How deep a method looks at what it is given."""
 _DEPTHS = {
     **dict.fromkeys("copy.deepcopy json.dumps json.dump pickle.dumps pickle.dump".split(), STATE),
     **dict.fromkeys("dataclasses.asdict dataclasses.astuple".split(), DECLARED),

@@ -16,8 +16,8 @@ from typing import Any
 from ..conflicts import ADDITION, ITERATION, KEYS, LENGTH, REWRITE
 from . import passed_over
 from .kinds import (
-    CHANGED_ARGUMENT, COMPARED, CONSUMING, EACH, IN_PLACE_FUNCTIONS, IN_PLACE_METHODS, KEYED, LATE_METHODS, METHODS, ORDERED, SHOWN, STEPPING,
-    WRITTEN, depth_of, known_function,
+    CHANGED_ARGUMENT, COMPARED, CONSUMING, DEPTHS_OF_METHODS, EACH, IN_PLACE_FUNCTIONS, IN_PLACE_METHODS, KEYED, LATE_METHODS, METHODS, ORDERED,
+    SHOWN, STEPPING, TRUTH, WRITTEN, depth_of, known_function,
 )
 from .patterns import Patterns
 from .places import DELETED, MADE_HERE, NAMES_OF_HANDED, OF_BASE, Access, new_site
@@ -68,7 +68,7 @@ OPERATORS = {
     "operator.contains": "__contains__",
 }
 """Functions that do what a method of their first argument does."""
-CALLED_BY_OTHERS = frozenset((*OF_ATTRIBUTES, *"len sum min max any all next iter sorted list tuple set frozenset dict".split()))
+CALLED_BY_OTHERS = frozenset((*OF_ATTRIBUTES, *"len sum min max any all next iter sorted list tuple set frozenset dict str repr".split()))
 """Functions of the language that are handed on, as `map(len, rows)` does, and look at what they are called with."""
 OF_SYSTEM = frozenset(("os.environ", "sys.path", "sys.argv", "sys.modules"))
 """Containers of the library that programs change."""
@@ -570,7 +570,7 @@ class Rewriter:
     _do_While = _do_If
 
     def _do_For(self, node: Any) -> list[ast.stmt]:
-        node.iter = self._guarded(node.iter, self._iteration) if isinstance(node, ast.For) else self._guarded(node.iter)
+        node.iter = self._gone_through(node.iter, node.target) if isinstance(node, ast.For) else self._guarded(node.iter)
         return self._bind_and_go_on(node, [node.target])
 
     _do_AsyncFor = _do_For
@@ -774,13 +774,14 @@ class Rewriter:
         """A function of the library that looks at its arguments, or changes the first one."""
         changed = CHANGED_ARGUMENT.get(name, 0)
         others = ITERATION if name in IN_PLACE_FUNCTIONS or changed else "" if kinds == REWRITE else kinds
+        is_joined = name == "functools.reduce" and any((self._import_of(one) or "").startswith("operator.") for one in node.args[:1])
         for place, one in enumerate(node.args):
             if place == changed and not isinstance(one, ast.Starred):
                 node.args[place] = self._operand(one, "h", self._site_of_whole(one, kinds, depth))
             elif place == 0 and name == "functools.reduce":
                 node.args[0] = self._handed(one)
             else:
-                node.args[place] = self._whole(one, others) if others else self._child(one)
+                node.args[place] = self._whole(one, others, EACH if is_joined else "") if others else self._child(one)
         for keyword in node.keywords:
             self._keyword(keyword)
         return node
@@ -807,7 +808,7 @@ class Rewriter:
             node.args = [self._operand(node.args[0], "D")]
         elif name in READERS or name in STEPPERS:
             is_called = name in ("map", "filter") or name == "iter" and len(node.args) > 1
-            depth = EACH if name == "sum" and len(node.args) > 1 else ""
+            depth = TRUTH if name in ("any", "all") else EACH if name == "sum" and len(node.args) > 1 else ""
             node.args = [
                 self._handed(one) if is_called and place == 0 else self._looked_at(one, name, depth) for place, one in enumerate(node.args)
             ]
@@ -835,6 +836,9 @@ class Rewriter:
             return self._operand(node, "f", self._site_of_whole(node, READERS[name]))
         if isinstance(node, ast.Starred) and name in STEPPERS:
             node.value = self._operand(node.value, "h", self._site_of_whole(node.value, KEYS, EACH))
+            return node
+        if isinstance(node, ast.Starred) and name in SHOWING and isinstance(node.value, GIVEN):
+            node.value = self._operand(node.value, "h", self._site_of_whole(node.value, ITERATION, SHOWING[name]))
             return node
         if isinstance(node, ast.Starred) or name in STEPPERS:
             return self._child(node)  # type: ignore[no-any-return]
@@ -930,7 +934,9 @@ class Rewriter:
         else:
             node.args = [self._shown(one, template, place) for place, one in enumerate(node.args)]
         for keyword in node.keywords:
-            if is_known and keyword.arg is not None:
+            if keyword.arg is None:
+                keyword.value = self._whole(keyword.value, ITERATION, SHOWN)
+            elif is_known:
                 keyword.value = self._shown(keyword.value, template, keyword.arg)
             else:
                 self._keyword(keyword)
@@ -993,7 +999,7 @@ class Rewriter:
             node.value = self._operand(node.value, "h", self._site_of_whole(node.value, kinds, EACH))
             return node
         if isinstance(owner, (ast.Constant, ast.JoinedStr)) or isinstance(owner, ast.Name) and self._is_builtin(owner.id):
-            return self._whole(node, kinds, EACH if is_bytes else "")
+            return self._whole(node, kinds, EACH if is_bytes else DEPTHS_OF_METHODS.get(func.attr, ""))
         site = self._site(node, "given", kinds, func.attr, self._text(node), OF_KEYS if kinds == KEYS or func.attr == "update" else None)
         if isinstance(owner, ast.Name):
             return self._hook("x", node, self._child(node), owner.twin, site)  # type: ignore[attr-defined]
@@ -1196,13 +1202,33 @@ class Rewriter:
             yield ast.copy_location(ast.IfExp(self._is_on(one), noted, ast.Constant(True)), one)
 
     def _iterated(self, part: ast.comprehension) -> Any:
-        return self._guarded(part.iter) if part.is_async else self._guarded(part.iter, self._iteration)
+        return self._guarded(part.iter) if part.is_async else self._gone_through(part.iter, part.target)
 
     def _iteration(self, node: Any) -> Any:
         """What a loop goes through: each step is a look at it."""
         if isinstance(node, GIVEN) and not self._is_foreign_container(node) and not self._is_made(node):
             return self._operand(node, "f", self._site_of_whole(node, KEYS))
         return self._visit(node)
+
+
+    def _gone_through(self, node: Any, target: Any) -> Any:
+        """What a loop goes through, with a look at each element that its target takes apart."""
+        paths = tuple(_taken_apart(target, ()))
+        if not paths:
+            return self._guarded(node, self._iteration)
+        text = self._text(node)
+        site = self._site(node, "whole", ITERATION, "", text and f"{text}[..]")
+        return self._guarded(node, lambda one: self._hook("u", one, self._iteration(one), paths, site))
+
+
+def _taken_apart(target: Any, path: tuple[int, ...]) -> Iterator[tuple[int, ...]]:
+    """Where in an element there is something that a target takes apart: the element itself, and what is inside up to a starred part."""
+    if isinstance(target, (ast.Tuple, ast.List)):
+        yield path
+        for place, one in enumerate(target.elts):
+            if isinstance(one, ast.Starred):
+                return
+            yield from _taken_apart(one, (*path, place))
 
 
 def _is_slice(node: Any) -> bool:
