@@ -1101,6 +1101,50 @@ GROUPS = (
         from functools import partial
         |partial(setattr, point, "x", 5)()
     """)),
+    Group("a default of a class is read", """
+class Base:
+    total = 0
+    def bump(self): self.total += 1
+    @classmethod
+    def bump_all(cls): cls.total += 1
+class Lower(Base):
+    def look(self): return super().total
+    @classmethod
+    def look_all(cls): return super().total
+low = Lower()
+""", "Base.total = 5", _listed("""
+        low.bump()
+        low.total += 1
+        Lower.bump_all()
+        Lower.total += 1
+        low.look()
+        Lower.look_all()
+        super(Lower, low).total
+    """)),
+    Group("a counter is looked at", "from collections import Counter\ncounts = Counter(a=1)", "counts.update('ab')", _listed("""
+        +counts
+        -counts
+        counts - Counter()
+        counts & Counter()
+        list(counts.elements())
+        counts.most_common(1)
+    """)),
+    Group("an object hands on what it has not", """
+items = [1, 2]
+class Proxy:
+    def __init__(self, inner): self.inner = inner
+    def __getattr__(self, name): return getattr(self.inner, name)
+proxy = Proxy(items)
+""", "items.append(3)", _listed("""
+        proxy.index(1)
+        proxy.copy()
+        proxy.pop()
+        proxy.insert(0, 1)
+        proxy.sort()
+        (proxy or None).clear()
+        proxy.remove(1 + 0)
+        [proxy][0].reverse()
+    """)),
     Group("a class is read", OBJECT + "Point.total = 1", "Point.total = 5", _listed("""
         Point.total
         point.total
@@ -1459,6 +1503,24 @@ lines.seek(0)
 
 
 APART = (
+    Group("another class has the attribute", "class Base:\n    total = 0\nclass Lower(Base):\n    total, other = 1, 2\nlow = Lower()", "Base.total = 5", _listed("""
+        low.total += 1
+        Lower.total += 1
+        low.other += 1
+        super(Lower, low).__init__()
+    """), is_race=False),
+    Group("an object hands on what does not race", """
+items = [1, 2]
+class Proxy:
+    def __init__(self, inner): self.inner = inner
+    def __getattr__(self, name): return getattr(self.inner, name)
+    def pop(self): return 1
+proxy = Proxy(items)
+""", "items.append(3)", _listed("""
+        proxy.append(4)
+        proxy.pop()
+        items.append(5)
+    """), is_race=False),
     Group("what is inside is not looked at", """
 import copy, dataclasses, io, typing
 class Plain:

@@ -24,7 +24,7 @@ from .helper import quick
 from .kinds import BUFFER, DEQUE, DICT, LIST, SET
 from .places import DELETED, SKIPPED, Access
 
-SKIP, FIELD, OWN_FIELD, OF_CLASS, OF_TYPE, OF_MODULE, AS_KEY, OF_METHOD = range(8)
+SKIP, FIELD, OWN_FIELD, OF_CLASS, OF_TYPE, OF_MODULE, AS_KEY, OF_METHOD, OF_SUPER = range(9)
 
 WATCHED: set[str] = set()
 """The names of the modules that were rewritten."""
@@ -312,6 +312,8 @@ def _is_by_own_method(kind: type, way: str) -> bool:
 def _decide(kind: type, name: str, kinds: str) -> int:
     if kind is types.MethodType:
         return OF_METHOD
+    if kind is super:
+        return OF_SUPER if kinds == "r" else SKIP
     if id(kind) in PLAIN and kind is not types.FunctionType:
         return SKIP
     if issubclass(kind, types.ModuleType):

@@ -12,7 +12,7 @@ import os
 import sys
 import types
 from array import array
-from builtins import any, id, issubclass, len, map, next, setattr, type, zip
+from builtins import any, enumerate, getattr, id, issubclass, len, list, map, next, setattr, type, zip
 from _thread import get_ident
 from collections import defaultdict, deque
 from collections.abc import Callable, Iterable, Iterator
@@ -27,9 +27,9 @@ from ..lines import state
 from ..noting import begin_stretch, failed, touched_all
 from ..stretches import STRETCHES
 from .decisions import (
-    AS_KEY, BY_ELEMENTS, COMPOSED, FIELD, FILES, OF_CLASS, OF_METHOD, OF_MODULE, OF_TYPE, OWN_FIELD, PLAIN, SKIP, STEPPED, VARIABLES,
+    AS_KEY, BY_ELEMENTS, COMPOSED, FIELD, FILES, OF_CLASS, OF_METHOD, OF_MODULE, OF_SUPER, OF_TYPE, OWN_FIELD, PLAIN, SKIP, STEPPED, VARIABLES,
     VIEWS, WATCHED, class_with, decision, family_of, field_inside, fields_of, has_own_method, has_setter, has_watched_method, ids_of,
-    is_bound_by_code, is_watched_class, name_of, value_of_element, value_of_field, vars_of, without_own,
+    is_bound_by_code, is_watched_class, mro_of, name_of, value_of_element, value_of_field, vars_of, without_own,
 )
 from .as_fields import FIELDS_OF, keep_fields_of, object_of
 from .helper import quick
@@ -219,10 +219,14 @@ def _touch_field(one: Any, site: int, access: Access | None = None) -> None:
         _touch_module(one, access.name, kinds, mark, site)
     elif found == OF_TYPE:
         _touch_type(one, access.name, kinds, mark, site)
+    elif found == OF_SUPER:
+        _touch_class_of_super(one, access.name, mark, site)
     elif found == OF_CLASS and kinds == READ_ONLY and access.name not in fields_of(one):
         _touch_through_object(one, access.name, mark, site)
     elif found != OWN_FIELD or access.name in fields_of(one):
         is_in_place = not is_named and kinds == "rw" and access.text != ""
+        if found == OF_CLASS and kinds == "rw" and access.name not in fields_of(one):
+            _touch_default(class_with(kind, access.name), access.name, site)
         late = (field_late, mark, name_of(kind), access.name, kinds, site) if is_named else None
         saw(owner_of(one, ""), mark, late, found == FIELD and not is_in_place)
         if is_in_place and access.what == "field":
@@ -246,9 +250,31 @@ def _touch_type(one: Any, name: str, kinds: str, mark: Any, site: int) -> None:
         holder = class_with(type(one), name)
         if holder is None or is_bound_by_code(vars_of(holder)[name]):
             return
+    if kinds == "rw" and name not in vars_of(one):
+        _touch_default(class_with(one, name), name, site)
     saw(owner_of(holder, ""), mark, (field_late, mark, name_of(holder), name, kinds, site))
     if holder is not one:
         saw(owner_of(one, ""), mark, NOTHING)
+
+
+def _touch_default(holder: Any, name: str, site: int) -> None:
+    """The value of a class that an assignment as `+=` starts from, and leaves as it is."""
+    if holder is not None:
+        mark = site, READ_ONLY
+        saw(owner_of(holder, ""), mark, (field_late, mark, name_of(holder), name, READ_ONLY, site))
+
+
+def _touch_class_of_super(one: Any, name: str, mark: Any, site: int) -> None:
+    """The class behind the one that `super()` is called for which has the attribute, if that is no code."""
+    classes = list(mro_of(_class_of_super(one)))
+    behind_it = classes[next((place for place, kind in enumerate(classes) if kind is _first_of_super(one)), 0) + 1:]
+    holder = next((kind for kind in behind_it if name in vars_of(kind)), None)
+    if holder is not None and not is_bound_by_code(vars_of(holder)[name]):
+        saw(owner_of(holder, ""), mark, (field_late, mark, name_of(holder), name, READ_ONLY, site))
+
+
+_class_of_super: Any = vars(super)["__self_class__"].__get__
+_first_of_super: Any = vars(super)["__thisclass__"].__get__
 
 
 def _touch_through_object(one: Any, name: str, mark: Any, site: int) -> None:
@@ -1137,6 +1163,15 @@ def hook_Y(function: Any) -> Any:
 hook_Y_local = hook_Y
 
 
+def hook_y(function: Any, place: int) -> Any:
+    """The same of a method that is called by its name, if it is not the object's own: that one is noted already."""
+    frame = _getframe(1)
+    one = PENDING.pop((id(frame), place), None)
+    if id(type(function)) not in _HANDED or not is_of_container(function) or getattr(function, "__self__", None) is one:
+        return function
+    return Calling(function, (frame.f_code, frame.f_lasti))
+
+
 def hook_x(value: Any, one: Any, site: int) -> Any:
     """What a method is given, which may look at all of it."""
     if id(type(value)) in PLAIN:
@@ -1245,7 +1280,7 @@ def _what_of_object(kind: type, access: Access, site: int) -> What:
 
 def _what_of_field(kind: type, access: Access, site: int) -> What:
     found = decision(kind, access, site)
-    if access.kinds == "rw" and access.text and found != SKIP:
+    if access.kinds == "rw" and (access.text or found == OF_CLASS) and found != SKIP:
         return OTHER, None, "", ""
     what = {SKIP: NO_TOUCH, FIELD: OF_FIELD, OWN_FIELD: IF_OWN, OF_CLASS: OWN_OR_OF_CLASS}.get(found, OTHER)
     return what, None, "", access.name

@@ -21,7 +21,7 @@ from .kinds import (
 )
 from .patterns import Patterns
 from .places import DELETED, MADE_HERE, NAMES_OF_HANDED, OF_BASE, Access, new_site
-from .scopes import CLASS, COMPREHENSION, COMPREHENSIONS, FUNCTION, MODULE, STORED_FIELDS, Scope, Scopes
+from .scopes import CLASS, COMPREHENSION, COMPREHENSIONS, DELEGATING, FUNCTION, MODULE, STORED_ELSEWHERE, STORED_FIELDS, Scope, Scopes
 from .templates import field_paths
 
 PREFIX = "_itc_"
@@ -673,13 +673,18 @@ class Rewriter:
         if node.attr == "__dict__":
             is_read = isinstance(node.ctx, ast.Load)
             node.value = self._operand(node.value, "D") if is_read else self._operand(node.value, "B", self._site(node, "field", "w"))
-        elif node.attr.startswith("__") and node.attr.endswith("__") or self._is_foreign(node.value):
+        elif node.attr.startswith("__") and node.attr.endswith("__") or self._is_never_changed(node):
             node.value = self._child(node.value)
         else:
             kinds = "r" if isinstance(node.ctx, ast.Load) else "w"
             words = DELETED if isinstance(node.ctx, ast.Del) else None
             node.value = self._operand(node.value, "o", self._site(node, "field", kinds, self._mangled(node.attr), words=words))
         return node
+
+    def _is_never_changed(self, node: ast.Attribute) -> bool:
+        """Whether it is an attribute of what is not watched, which no source of the program stores. What `super()` finds is the program's."""
+        is_loaded = isinstance(node.ctx, ast.Load)
+        return self._is_foreign(node.value) and is_loaded and node.attr not in STORED_ELSEWHERE and not self._is_super_of_any(node.value)
 
     def _visit_Subscript(self, node: ast.Subscript) -> ast.expr:
         kinds = "r" if isinstance(node.ctx, ast.Load) else "d" if isinstance(node.ctx, ast.Del) else "w"
@@ -875,9 +880,17 @@ class Rewriter:
             func.value = self._operand(owner, "m", self._site(node, "method", "", name, self._text(owner), words if is_known else None))
             node.args = [self._argument(one, func, owner) for one in node.args]
             self._keep_owner(func, node)
+        if name in METHODS and DELEGATING & STORED_FIELDS and not self._is_foreign(owner):
+            self._call_delegated(node, func)
         for keyword in node.keywords:
             self._keyword(keyword)
         return node
+
+    def _call_delegated(self, node: ast.Call, func: ast.Attribute) -> None:
+        """A method that an object may have found at another one, by a method of its own for what it has not."""
+        place = self._site(node, "method", "", func.attr)
+        func.value = self._hook("p", func.value, func.value, place, 0)
+        node.func = self._hook("y", func, func, place)
 
     def _call_template(self, node: ast.Call, func: ast.Attribute) -> ast.Call:
         """What a template puts in by its name is looked at, too."""
@@ -1057,6 +1070,9 @@ class Rewriter:
 
     def _called(self, func: ast.Attribute) -> ast.expr:
         """What is called is a method mostly, and seldom a value of the object."""
+        if self._is_super_of_any(func.value):
+            func.value = self._child(func.value)
+            return func
         if func.attr.startswith("__") or self._is_foreign(func.value):
             return self._child(func)  # type: ignore[no-any-return]
         func.value = self._operand(func.value, "w", self._site(func, "field", "r", func.attr))
@@ -1138,6 +1154,9 @@ class Rewriter:
         return self._guarded(node, visit) if self._is_guarding else visit(node)
 
     def _visit_UnaryOp(self, node: ast.UnaryOp) -> ast.expr:
+        if isinstance(node.op, (ast.UAdd, ast.USub)) and isinstance(node.operand, GIVEN):
+            node.operand = self._whole(node.operand, ITERATION, methods=("__pos__", "__neg__"))
+            return node
         node.operand = self._part(node.operand, self._truth if isinstance(node.op, ast.Not) else self._visit)
         return node
 

@@ -22,6 +22,9 @@ STORED_ELSEWHERE: set[str] = set()
 STORED_FIELDS: set[str] = set()
 """Names of fields that some module stores: what is called by such a name may be anything, and is no method of a class mostly."""
 
+DELEGATING = frozenset(("__getattr__", "__getattribute__"))
+"""Methods by which an object may give what another one has. Where a source defines one, it is among the fields that are stored."""
+
 
 class Scope:
     """The names of a module, a function, a class or a comprehension."""
@@ -202,7 +205,10 @@ class Scopes(ast.NodeVisitor):
     def visit_Attribute(self, node: ast.Attribute) -> None:
         if not isinstance(node.ctx, ast.Load):
             STORED_FIELDS.add(node.attr)
-            if isinstance(node.value, ast.Name) and node.value.id in self._scope.owner(node.value.id).imported:
+            whole: ast.expr = node.value
+            while isinstance(whole, ast.Attribute):
+                whole = whole.value
+            if isinstance(whole, ast.Name) and whole.id in self._scope.owner(whole.id).imported:
                 STORED_ELSEWHERE.add(node.attr)
         elif node.attr == "modules" and isinstance(node.value, ast.Name) and node.value.id == "sys":
             self.module.is_open = True
@@ -239,6 +245,7 @@ class Scopes(ast.NodeVisitor):
     def _visit_definition(self, node: ast.FunctionDef | ast.AsyncFunctionDef) -> None:
         self._bind(node.name)
         self._scope.defined.add(node.name)
+        STORED_FIELDS.update(DELEGATING & {node.name})
         for one in (*node.decorator_list, *_defaults(node.args)):
             self.visit(one)
         self._visit_function(node, node.name, node.args, node.body)

@@ -24,8 +24,9 @@ _STORES = (
 _KEPT = (
     re.compile(rb"\.([^\W\d]\w*)(?=[ \t]*(?:,[^=\n]*)?" + _OPERATOR + rb")"), re.compile(rb"\.([^\W\d]\w*)[ \t]*:[^=\n]+=(?!=)"),
     re.compile(rb"\b([^\W\d]\w*)[ \t]*=[ \t]*[\w.]+\.(?:" + "|".join(sorted(METHODS)).encode() + rb")\b(?!\()"),
+    re.compile(rb"\bdef[ \t]+(__getattr__|__getattribute__)\b"),
 )
-"""Fields that get a value, and names that get a method of a container."""
+"""Fields that get a value, names that get a method of a container, and methods that may give one."""
 _IMPORT = re.compile(rb"^[ \t]*(?:from[^\n]*)?import\b(?:[^\n(]*\([^)]*\)|[^\n]*)", re.MULTILINE)
 _WORD = re.compile(rb"\w+")
 
