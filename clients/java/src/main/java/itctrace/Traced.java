@@ -107,8 +107,9 @@ public final class Traced {
     }
 
     /**
-     * Has this thread answer a request of another process, as a task of its own, up to the end of what this gives. The task comes after
-     * what the thread did before as itself, and not after its other requests. What the request brings may be null. A response that is to be a message, too, needs {@code outgoing} before its head is sent. {@link TracedWeb}
+     * Has this thread answer a request of another process, as a task of its own, up to the end of what this gives. The
+     * task comes after what the thread did before as itself, and not after its other requests. What the request brings may
+     * be null. A response that is to be a message, too, needs {@code outgoing} before its head is sent. {@link TracedWeb}
      * does both for the server of the JDK.
      */
     public static TracedRequest request(String message) {
