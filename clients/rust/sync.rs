@@ -11,6 +11,8 @@ use std::sync::{self, Arc, LockResult, OnceLock, PoisonError, TryLockError, TryL
 use std::time::Duration;
 
 pub mod mpsc;
+#[cfg(test)]
+mod order_tests;
 
 /// What a lock hands over.
 struct Hand {

@@ -156,6 +156,13 @@ impl Tracer {
         self.state.lock().unwrap_or_else(PoisonError::into_inner)
     }
 
+    /// Does this while all who report have to wait.
+    #[cfg(test)]
+    pub fn paused<T>(&self, body: impl FnOnce() -> T) -> T {
+        let _state = self.state();
+        body()
+    }
+
     // What tasks do. Nothing is noted once tracing is over.
 
     /// The task reads or writes the thing, which is of this process if it is not one across all.
