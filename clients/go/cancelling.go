@@ -3,6 +3,8 @@ package itctrace
 import (
 	"context"
 	"sync"
+	"sync/atomic"
+	"time"
 )
 
 // cancelled is the place where a context was cancelled, and the context above it, if nothing of the language may be done between the
@@ -16,9 +18,28 @@ type cancelled struct {
 
 type cancelledKey struct{}
 
-// WithCancel gives a context that may be cancelled. Whoever sees by Done that it is cancelled comes after that. A context of the language
-// below it gives no order, since it may have been done before.
+// WithCancel gives a context that may be cancelled. Whoever sees by Done that it is cancelled comes after that. So does who sees it by a
+// context of this package below it, or by one that only adds a value. Another context of the language below it gives no order, since it
+// may have been done before.
 func WithCancel(parent context.Context) (context.Context, context.CancelFunc) {
+	return followed(parent, context.WithCancel)
+}
+
+// WithTimeout does the same with a context that has a timeout. Whoever sees that its time is over comes after nothing.
+func WithTimeout(parent context.Context, timeout time.Duration) (context.Context, context.CancelFunc) {
+	return WithDeadline(parent, time.Now().Add(timeout))
+}
+
+// WithDeadline does the same with a context that has a deadline.
+func WithDeadline(parent context.Context, deadline time.Time) (context.Context, context.CancelFunc) {
+	return followed(parent, func(parent context.Context) (context.Context, context.CancelFunc) {
+		return context.WithDeadline(parent, deadline)
+	})
+}
+
+type derive func(parent context.Context) (context.Context, context.CancelFunc)
+
+func followed(parent context.Context, derived derive) (context.Context, context.CancelFunc) {
 	own := &cancelled{mutex: &sync.Mutex{}}
 	if above, isBelow := parent.Value(cancelledKey{}).(*cancelled); isBelow {
 		own.mutex = above.mutex
@@ -26,7 +47,7 @@ func WithCancel(parent context.Context) (context.Context, context.CancelFunc) {
 			own.above = above
 		}
 	}
-	ctx, cancel := context.WithCancel(context.WithValue(parent, cancelledKey{}, own))
+	ctx, cancel := derived(context.WithValue(parent, cancelledKey{}, own))
 	own.done = ctx.Done()
 	return ctx, func() {
 		own.mutex.Lock()
@@ -34,10 +55,43 @@ func WithCancel(parent context.Context) (context.Context, context.CancelFunc) {
 		if ctx.Err() == nil {
 			own.token = mark(what{hint: "cancel", giving: "cancel", taking: "see that it is cancelled"}, siteOf(1))
 			cancel()
-			if parent.Err() != nil {
-				own.token = nil // What is above may have been faster.
+			if parent.Err() != nil || ctx.Err() != context.Canceled {
+				own.token = nil // What is above, or the deadline, may have been faster.
 			}
 		}
+	}
+}
+
+// AfterFunc calls the function in a goroutine of its own once the context is done. It comes after the call of AfterFunc, and after the
+// cancelling as with Done. What is given has it called no more, and tells whether that was in time.
+func AfterFunc(ctx context.Context, body func()) (stop func() bool) {
+	at := siteOf(1)
+	made := mark(what{hint: "after", giving: "wait for context", taking: "go on after context"}, at)
+	var isDecided atomic.Bool
+	stopped := make(chan struct{})
+	go func() {
+		select {
+		case <-stopped:
+		case <-ctx.Done():
+			switch {
+			case !isDecided.CompareAndSwap(false, true):
+			case isOn():
+				as(tracing.stranger("after"), func() {
+					take(made, at)
+					seeDone(ctx, at)
+					body()
+				})
+			default:
+				body()
+			}
+		}
+	}()
+	return func() bool {
+		isStopped := ctx.Err() == nil && isDecided.CompareAndSwap(false, true)
+		if isStopped {
+			close(stopped)
+		}
+		return isStopped
 	}
 }
 
@@ -50,7 +104,7 @@ func Done(ctx context.Context) error {
 // seeDone comes after the cancelling of the lowest context that was cancelled: the others above it came too late, or it before them.
 func seeDone(ctx context.Context, at site) error {
 	one, _ := ctx.Value(cancelledKey{}).(*cancelled)
-	if one == nil || one.done != ctx.Done() {
+	if one == nil || one.done != ctx.Done() || ctx.Err() != context.Canceled {
 		return ctx.Err()
 	}
 	one.mutex.Lock()

@@ -283,18 +283,56 @@ func waitGroup() {
 	}
 }
 
+type key struct{}
+
+// cancelledContext waits for contexts below the one that is cancelled, and for that one.
 func cancelledContext() {
-	ctx, cancel := itctrace.WithCancel(context.Background())
-	inner, release := itctrace.WithCancel(ctx)
-	defer release()
-	waiting := itctrace.Go(inner, func(ctx context.Context) {
-		if itctrace.Done(ctx) != nil {
-			readStock()
-		}
-	})
+	below := []func(context.Context) (context.Context, context.CancelFunc){
+		itctrace.WithCancel,
+		func(above context.Context) (context.Context, context.CancelFunc) {
+			return itctrace.WithTimeout(above, time.Hour)
+		},
+		func(above context.Context) (context.Context, context.CancelFunc) {
+			return context.WithValue(above, key{}, 1), func() {}
+		},
+	}
+	for _, derive := range below {
+		ctx, cancel := itctrace.WithTimeout(context.Background(), time.Hour)
+		inner, release := derive(ctx)
+		waiting := itctrace.Go(inner, func(ctx context.Context) {
+			if itctrace.Done(ctx) != nil {
+				readStock()
+			}
+		})
+		writeStock()
+		cancel()
+		waiting.Wait()
+		release()
+	}
 	writeStock()
-	cancel()
-	waiting.Wait()
+	afterCancel()
+}
+
+// afterCancel: what is called after a context comes after its cancelling, and after the call that has said so. What was stopped is not called.
+func afterCancel() {
+	ctx, cancel := itctrace.WithCancel(context.Background())
+	isDone := make(chan bool) // It gives no order that is reported.
+	writeStock()
+	itctrace.AfterFunc(ctx, func() {
+		readStock()
+		itctrace.Touch("prices", false)
+		close(isDone)
+	})
+	stop := itctrace.AfterFunc(ctx, func() { panic("it was stopped") })
+	if !stop() || stop() {
+		panic("it was not stopped once")
+	}
+	cancelling := start(func() {
+		itctrace.Touch("prices", true)
+		cancel()
+	})
+	<-isDone
+	cancelling.Wait()
 }
 
 // lateCancel: contexts of the language were done already when the ones above them were cancelled.
@@ -305,11 +343,14 @@ func lateCancel() {
 	defer release()
 	late, end := context.WithTimeout(ctx, time.Millisecond)
 	defer end()
+	over, finish := itctrace.WithTimeout(ctx, time.Millisecond)
+	defer finish()
 	stop()
 	<-late.Done()
+	<-over.Done()
 	done := make(chan bool)
 	start(func() {
-		for _, thing := range []string{"stopped", "below", "late"} {
+		for _, thing := range []string{"stopped", "below", "late", "over"} {
 			itctrace.Touch(thing, true) // race: late_cancel
 		}
 		cancel()
@@ -322,6 +363,8 @@ func lateCancel() {
 	itctrace.Touch("below", false) // race: late_cancel
 	itctrace.Done(late)
 	itctrace.Touch("late", false) // race: late_cancel
+	itctrace.Done(over)
+	itctrace.Touch("over", false) // race: late_cancel
 }
 
 func readLock(isWrittenByBoth bool) {
