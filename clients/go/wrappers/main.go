@@ -60,9 +60,12 @@ func inTwoGoroutines(body func()) {
 
 func plainGoroutines() {
 	done := make(chan bool)
-	for count := 0; count < 2; count++ {
+	for _, note := range []string{"first note", "second note"} {
+		note := note
 		go func() {
 			sell()
+			itctrace.Touch(note, true)
+			itctrace.Touch(note, false) // Both are of one task.
 			done <- true
 		}()
 	}
@@ -78,6 +81,38 @@ func locked() {
 		sell()
 	})
 	lockTurns(turns) // A lock that nobody else acquires leaves nothing in the trace.
+	crossedLocks()
+	handedLock()
+}
+
+// crossedLocks: a lock that is released before one that was acquired later is meant to hand something over.
+func crossedLocks() {
+	var first, second itctrace.Mutex
+	done := make(chan bool) // It gives no order that is reported.
+	start(func() {
+		itctrace.Touch("crossed", true)
+		first.Lock()
+		second.Lock()
+		first.Unlock()
+		second.Unlock()
+		close(done)
+	})
+	<-done
+	first.Lock()
+	first.Unlock()
+	itctrace.Touch("crossed", true)
+}
+
+// handedLock: so is a lock that another goroutine releases than the one that has acquired it.
+func handedLock() {
+	var lock itctrace.Mutex
+	lock.Lock()
+	start(func() {
+		itctrace.Touch("handed", true)
+		lock.Unlock()
+	})
+	lock.Lock()
+	itctrace.Touch("handed", true)
 }
 
 // contended has two goroutines acquire one lock by turns.
@@ -170,6 +205,9 @@ func handOff(isTouchedAfter bool) {
 	if !isTouchedAfter {
 		writeStock()
 	}
+	var lock itctrace.Mutex // Its release and the item are two messages.
+	lock.Lock()
+	lock.Unlock()
 	channel.Send(1)
 	if isTouchedAfter {
 		writeStock()
@@ -204,6 +242,30 @@ func otherCalls() {
 	writeStock()
 	cancel()
 	waiting.Wait()
+	otherEnds()
+}
+
+// otherEnds: a goroutine ends by Goexit, too, and a channel is seen to be closed by each call that receives.
+func otherEnds() {
+	start(func() {
+		writeStock()
+		runtime.Goexit()
+	}).Wait()
+	readStock()
+	for _, receive := range []func(*itctrace.Chan[int]){
+		func(channel *itctrace.Chan[int]) { channel.TryReceive() },
+		func(channel *itctrace.Chan[int]) { channel.ReceiveOr(context.Background()) },
+	} {
+		channel, isClosed := itctrace.MakeChan[int](1), make(chan bool)
+		start(func() {
+			writeStock()
+			channel.Close()
+			close(isClosed)
+		})
+		<-isClosed
+		receive(channel)
+		readStock()
+	}
 }
 
 // rendezvous: without room in the channel, the sender comes after the receipt.
@@ -436,17 +498,40 @@ func web(client *http.Client) {
 	response.Body.Close()
 	if client.Transport != nil {
 		writeStock()
-		answerHere()
+		answerHere(func(http.ResponseWriter) {})
+		answerHere(func(response http.ResponseWriter) { response.WriteHeader(http.StatusNoContent) })
+		answerHere(func(response http.ResponseWriter) { response.(http.Flusher).Flush() })
+		askInner()
 	}
 }
 
-// answerHere answers a request in this goroutine, which goes on as itself then. The response is a message, also if nobody writes it.
-func answerHere() {
-	handler := itctrace.Handler(http.HandlerFunc(func(http.ResponseWriter, *http.Request) { readStock() }))
+// answerHere answers a request in this goroutine, which goes on as itself then. The response is a message, also if nobody writes it. Its
+// head is written once.
+func answerHere(begin func(http.ResponseWriter)) {
+	handler := itctrace.Handler(http.HandlerFunc(func(response http.ResponseWriter, _ *http.Request) {
+		readStock()
+		begin(response)
+	}))
 	response := httptest.NewRecorder()
 	handler.ServeHTTP(response, httptest.NewRequest("GET", "/", nil))
-	itctrace.Incoming(response.Header().Get(itctrace.Header))
+	itctrace.Incoming(response.Result().Header.Get(itctrace.Header))
 	writeStock()
+}
+
+type inner struct{ count int }
+
+func (i *inner) RoundTrip(*http.Request) (*http.Response, error) {
+	i.count++
+	return httptest.NewRecorder().Result(), nil
+}
+
+func askInner() {
+	own := &inner{}
+	client := http.Client{Transport: itctrace.Transport{Inner: own}}
+	must(client.Get("http://nowhere.invalid"))
+	if own.count != 1 {
+		panic("the inner transport was not asked once")
+	}
 }
 
 func beforeEnd() {
