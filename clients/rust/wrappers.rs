@@ -48,7 +48,11 @@ fn in_two_threads(body: impl Fn() + Send + Sync + 'static) {
 }
 
 fn plain_threads() {
-    let threads = [plain::spawn(sell), plain::spawn(sell)];
+    let sell_and_note = || {
+        sell();
+        (0..2).for_each(|_| touch(&format!("note {:?}", plain::current().id()), true)); // Both are of one task.
+    };
+    let threads = [plain::spawn(sell_and_note), plain::spawn(sell_and_note)];
     threads.into_iter().for_each(|thread| thread.join().unwrap());
 }
 
@@ -59,6 +63,35 @@ fn locked() {
         sell();
     });
     lock_turns(TURNS); // A lock that nobody else acquires leaves nothing in the trace.
+    crossed_locks();
+    let written = Arc::new(Mutex::new(()));
+    let other = written.clone();
+    thread::spawn(move || {
+        let _held = other.lock().unwrap();
+        touch("value", true); // possible: locked
+    });
+    while Arc::strong_count(&written) > 1 {
+        plain::sleep(Duration::from_millis(1));
+    }
+    Arc::into_inner(written).unwrap().into_inner().unwrap();
+    touch("value", true); // possible: locked
+}
+
+/// A lock that is released before one that was acquired later is meant to hand something over.
+fn crossed_locks() {
+    let (first, second) = (Arc::new(Mutex::new(())), Mutex::new(()));
+    let other = first.clone();
+    thread::spawn(move || {
+        touch("crossed", true);
+        let held = other.lock().unwrap();
+        let _later = second.lock().unwrap();
+        drop(held);
+    });
+    while Arc::strong_count(&first) > 1 {
+        plain::sleep(Duration::from_millis(1));
+    }
+    drop(first.lock());
+    touch("crossed", true);
 }
 
 /// Two threads acquire one lock by turns.
@@ -88,8 +121,9 @@ fn odd_names() {
 
 /// Each other way to receive, and to wait.
 fn other_calls() {
-    let ways: [fn(&Receiver<usize>); 3] = [
+    let ways: [fn(&Receiver<usize>); 4] = [
         |receiver| while receiver.try_recv().is_err() {},
+        |receiver| while receiver.try_iter().next().is_none() {},
         |receiver| assert_eq!(receiver.recv_timeout(Duration::from_secs(60)), Ok(1)),
         |receiver| assert_eq!(receiver.iter().next(), Some(1)),
     ];
@@ -105,6 +139,7 @@ fn other_calls() {
     failed_tries();
     poisoned();
     timed_out();
+    waited_while();
     tried_to_read();
 }
 
@@ -117,6 +152,14 @@ fn failed_tries() {
         touch("stock", false);
     }
     drop(receiver);
+    let (unbounded, receiver) = channel();
+    drop(receiver);
+    for turn in 0..TURNS {
+        sender.send(turn).unwrap_err();
+        touch("stock", false);
+        unbounded.send(turn).unwrap_err();
+        touch("stock", false);
+    }
 }
 
 /// Who reads comes after who has written, by whichever call.
@@ -151,6 +194,12 @@ fn poisoned() {
     read_stock();
     drop(held);
     panicking.join().unwrap_err();
+    let panicking = thread::spawn(|| {
+        write_stock();
+        panic::resume_unwind(Box::new("a thread ends on purpose"));
+    });
+    panicking.join().unwrap_err();
+    read_stock();
 }
 
 fn timed_out() {
@@ -167,6 +216,21 @@ fn timed_out() {
     write_stock();
     *is_ready = true;
     drop(is_ready);
+    waiting.join().unwrap();
+}
+
+fn waited_while() {
+    let shared = Arc::new((Mutex::new(false), Condvar::new()));
+    let other = shared.clone();
+    let waiting = thread::spawn(move || {
+        let is_ready = other.0.lock().unwrap();
+        drop(other.1.wait_while(is_ready, |is_ready| !*is_ready).unwrap());
+        read_stock();
+    });
+    plain::sleep(Duration::from_millis(50)); // The other one waits already.
+    write_stock();
+    *shared.0.lock().unwrap() = true;
+    shared.1.notify_all();
     waiting.join().unwrap();
 }
 
@@ -219,6 +283,7 @@ fn hand_off(is_touched_after: bool) {
     if !is_touched_after {
         write_stock();
     }
+    drop(Mutex::new(()).lock()); // The release of a lock and the item are two messages.
     sender.send(1).unwrap();
     if is_touched_after {
         write_stock();
@@ -275,6 +340,16 @@ fn closed_channel() {
         touch("first", true);
         touch("second", true);
     }
+    let (sender, receiver) = sync_channel::<usize>(1);
+    for (thing, sender) in [("first", sender.clone()), ("second", sender)] {
+        thread::spawn(move || {
+            touch(thing, true);
+            drop(sender);
+        });
+    }
+    receiver.recv().unwrap_err();
+    touch("first", true);
+    touch("second", true);
 }
 
 fn before_end() {
@@ -288,6 +363,8 @@ fn scope() {
     thread::scope(|scope| {
         scope.spawn(write_stock);
         scope.spawn(|| own += 1);
+        scope.spawn(|| touch("joined", true)).join().unwrap();
+        touch("joined", true);
     });
     write_stock();
     assert_eq!(own, 2);
