@@ -1,6 +1,6 @@
 """Looks at what the journals of the clients tell of times and of locks, and at what a program reports by hand.
 
-Each event has one time, by the clock of its process. A task's times increase, and no message is received before it was sent. A time is that of
+Each row has the task and the kind that the collector has, and the line of the program. Each event has one time, by the clock of its process. A task's times increase, and no message is received before it was sent. A time is that of
 the event, and not that of its report. A lock is acquired and released in the lines that do so. A touch tells the locks that its task holds.
 
 Usage: clients/journals.py FOLDER LANGUAGE.., with the built programs in FOLDER. The last line is 'journals: N passed'.
@@ -17,7 +17,8 @@ from collections import defaultdict
 from pathlib import Path
 from typing import Any
 
-from wrappers import NO_RACE, RACES, Check, Programs, Wrong, check, marked, run_all, run_beside, run_system, written
+from wrappers import (
+    NO_RACE, RACES, Check, Programs, Wrong, check, check_events, check_lines, marked, run_all, run_beside, run_system, written)
 
 PROGRAMS = {"contended": NO_RACE, "hand_off": NO_RACE, "condition": NO_RACE, "read_lock": NO_RACE, "by_hand": RACES}
 TWO_LOCKS = """main spawn c1
@@ -84,7 +85,11 @@ def check_program(programs: Programs, status: int, *words: str) -> list[dict[str
         ended = time.time()
         check(ran, status, marked(programs.source, "race", words[0]), set())
         events = [json.loads(line) for line in (folder / "export").read_text().splitlines()[1:]]
-        times = times_of(rows_of(folder))
+        rows = [row for row in rows_of(folder) if "event" in row]
+    times = times_of(rows)
+    check_events(rows, {event["event"]: (event["kind"], event["task"]) for event in events})
+    if words[0] != "steps":
+        check_lines(programs, rows)
     if not all(begun - NEARLY <= told <= ended + NEARLY for told in times.values()):
         raise Wrong(f"not between {begun} and {ended}: {times}")
     events = [{**event, "time": times[event["event"]]} for event in events]

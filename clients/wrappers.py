@@ -51,8 +51,13 @@ OWN = {
            "late_cancel": RACES, "http": NO_RACE, "http_race": RACES},
 }
 LINES = ("odd_names", "hand_off", "tried_lock", "writer_goes_on", "condition", "other_calls")
-OWN_LINES = {"java": ("executor",)}
-"""Programs whose events each have a line of their own. They touch one thing."""
+OWN_LINES = {"java": ("executor",), "rust": ("scope", "rendezvous"),
+             "go": ("wait_group", "rendezvous", "full_channel", "closed_channel", "context")}
+"""Programs whose events each have a line of their own."""
+THINGS = {"odd_names": {ODD_THING}, "wait_group": {"first", "second"}, "context": {"stock", "prices"}, "scope": {"stock", "joined"}}
+"""What they touch, if it is not the stock alone."""
+ODD_TASKS = ("a" * 12, "a" * 12 + "_2", "task", "task_2", "1_2", "root", "others_2")
+"""What the tasks of `odd_names` are called, behind the name of their process."""
 PYTHON = """import itc_trace
 itc_trace.touch("row", across=True)  # race: across
 itc_trace.touch("row", write=True, across=True)  # race: across
@@ -227,42 +232,64 @@ def check_message_is_sent(programs: Programs) -> None:
                 early.append(file.exists())
             return "201 1"
 
-        run_beside(programs, reply, "sender", str(file))
+        _, sent = run_beside(programs, reply, "sender", str(file))
         if early != [False] or not file.exists():
             raise Wrong(f"the message is there early: {early}")
+        _, received = run_beside(programs, lambda _: "201 1", "receiver", str(file))
+    check_lines(programs, [row for row in map(json.loads, sent + received) if "event" in row])
 
 
 def check_journal(programs: Programs) -> None:
-    """The environment names tenant, process and journal. The journal has each event, with its line and what was touched."""
+    """The environment names tenant, process and journal. The journal has each event as the collector has it, with its line."""
     with Collector("shop") as collector, tempfile.TemporaryDirectory() as name:
         kept = written(name, "journal", "kept")
         environment = {"ITC_TRACE_TENANT": "shop", "ITC_TRACE_PROCESS": "my-shop_1", "ITC_TRACE_JOURNAL": str(kept)}
         rows: list[dict[str, Any]] = []
         for number, program in enumerate((*LINES, *OWN_LINES.get(programs.language, ())), 2):
-            thing = ODD_THING if program == "odd_names" else "stock"
             process = "mysho" if number == 2 else f"mysho{number - 1}"
             subprocess.run(
                 programs.words(program), env={**os.environ, **environment, "ITC_TRACE_PORT": str(collector.port)}, check=True,
                 capture_output=True, timeout=MOST_SECONDS)
             *own, last = map(json.loads, Path(f"{kept}.{number}").read_text().splitlines())
-            things = {row["thing"] for row in own if row["thing"] is not None}
-            if last != {"end": True} or things != {f"{thing} of {process}"}:
-                raise Wrong(f"the journal of {process} has {things}, and ends with {last}")
+            if last != {"end": True}:
+                raise Wrong(f"the journal of {process} ends with {last}")
+            check_names(program, process, own)
             rows += own
         with Session("shop", collector.port, "view") as session:
             count = session.count()[0]
-        events = sorted(row["event"] for row in rows)
-        if kept.read_text() != "kept" or events != list(range(1, count + 1)):
+            told = {event: session.event(event)[:2] for event in range(1, count + 1)}
+        touched = {row["event"] for row in rows if row["thing"] is not None}
+        events = sorted([*touched, *(row["event"] for row in rows if row["thing"] is None)])
+        if kept.read_text() != "kept" or events != list(told):
             raise Wrong(f"{count} events, and in the journals {events}; the first one is {kept.read_text()}")
     check_lines(programs, rows)
+    check_events(rows, told)
+
+
+def check_events(rows: list[dict[str, Any]], told: dict[int, tuple[str, str]]) -> None:
+    """The collector has told the kind and the task of each event."""
+    for row in rows:
+        if told[row["event"]] != ("local" if row["thing"] is not None else row["kind"], row["task"]):
+            raise Wrong(f"{row} is of {told[row['event']]}")
+
+
+def check_names(program: str, process: str, rows: list[dict[str, Any]]) -> None:
+    """What is touched, and by which task."""
+    things = {row["thing"] for row in rows if row["thing"] is not None}
+    if things != {f"{thing} of {process}" for thing in THINGS.get(program, {"stock"})}:
+        raise Wrong(f"the journal of {process}, which is {program}, has {things}")
+    tasks = [row["task"] for row in sorted(rows, key=lambda row: row["event"]) if row["thing"] is not None]
+    if program == "odd_names" and tasks != [f"{process}_{name}" for name in ODD_TASKS]:
+        raise Wrong(f"the tasks of {program} are {tasks}")
 
 
 def check_lines(programs: Programs, rows: list[dict[str, Any]]) -> None:
-    """What the program's own lines do has that line. An end has none, and neither has what nobody calls."""
+    """What the program's own lines do has that line. An end has none but by hand, and neither has what nobody calls."""
     source = programs.source.read_text().splitlines()
     for row in rows:
-        is_called = row["label"] != "end" and not row["label"].startswith("start process") and not row["label"].endswith("_others")
-        if is_called != (row["file"] is not None and Path(row["file"]).name == programs.source.name and 0 < row["line"] <= len(source)):
+        is_called = not row["label"].startswith("start process") and "_others" not in (row["label"][-7:], row["task"][-7:])
+        is_there = row["file"] is not None and Path(row["file"]).name == programs.source.name and 0 < row["line"] <= len(source)
+        if is_called != is_there and (row["label"], row["file"]) != ("end", None):
             raise Wrong(f"the line of {row}")
         if row["thing"] is not None and "touch" not in source[row["line"] - 1].lower():
             raise Wrong(f"no touch at the line of {row}")
