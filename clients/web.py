@@ -90,6 +90,22 @@ for message in sys.argv[2:]:
         answer = b"".join(iter(lambda: connection.recv(4096), b""))
         assert answer.endswith(b"read"), answer
 """
+FIRST_CLIENT = """import itc_trace, os, sys, time
+while not os.path.exists(sys.argv[1]):
+    time.sleep(0.01)
+itc_trace.touch("row", write=True, across=True)  # race: two_requests
+with itc_trace.opener().open(f"http://127.0.0.1:{open(sys.argv[1]).read()}") as response:
+    response.read()
+open(sys.argv[1] + ".asked", "w").close()
+"""
+SECOND_CLIENT = """import itc_trace, os, socket, sys, time
+itc_trace.touch("own")
+while not os.path.exists(sys.argv[1] + ".asked"):
+    time.sleep(0.01)
+with socket.create_connection(("127.0.0.1", int(open(sys.argv[1]).read()))) as connection:
+    connection.sendall(b"GET / HTTP/1.1\\r\\nHost: shop\\r\\nConnection: close\\r\\n\\r\\n")
+    b"".join(iter(lambda: connection.recv(4096), b""))
+"""
 
 
 class Web:
@@ -98,8 +114,8 @@ class Web:
     def __init__(self, built: Path, languages: list[str], folder: Path) -> None:
         self.languages = [*languages, "python"]
         self._built = built
-        self._scripts = {name: folder / f"{name}.py" for name in ("web_server", "web_client", "odd_client")}
-        for file, text in zip(self._scripts.values(), (PYTHON_SERVER, PYTHON_CLIENT, ODD_CLIENT)):
+        self._scripts = {name: folder / f"{name}.py" for name in ("web_server", "web_client", "odd_client", "first_client", "second_client")}
+        for file, text in zip(self._scripts.values(), (PYTHON_SERVER, PYTHON_CLIENT, ODD_CLIENT, FIRST_CLIENT, SECOND_CLIENT)):
             file.write_text(text)
 
     def words(self, language: str, name: str, *words: str) -> list[str]:
@@ -137,6 +153,15 @@ def check_odd_heads(web: Web, server: str) -> None:
     check(ran, RACES, web.lines("python", "odd_client", "odd_heads") | web.lines(server, "web_server", "odd_heads"), set())
 
 
+def check_two_requests(web: Web, server: str) -> None:
+    """What one request brings orders nothing for the next one, which brings no message."""
+    with tempfile.TemporaryDirectory() as name:
+        port = str(Path(name) / "port")
+        clients = {one: web.words("python", f"{one}_client", port) for one in ("first", "second")}
+        ran = run_system(Path(name), server=web.words(server, "web_server", port, "2", TRACED), **clients)
+    check(ran, RACES, web.lines("python", "first_client", "two_requests") | web.lines(server, "web_server", "two_requests"), set())
+
+
 def check_untraced(web: Web, language: str) -> None:
     """Without a trace, client and server work as they do by themselves."""
     with tempfile.TemporaryDirectory() as name:
@@ -156,6 +181,8 @@ def checks_of(web: Web) -> list[Check]:
     for client in web.languages:
         checks.append(Check([f"{client}: untraced"], check_untraced, (web, client)))
         checks.append(Check([f"{client}: odd heads"], check_odd_heads, (web, client)))
+        if client != "python":  # Its requests are of the thread that answers them.
+            checks.append(Check([f"{client}: two requests"], check_two_requests, (web, client)))
         for server in web.languages:
             hows = [(TRACED, TRACED), (PLAIN, TRACED)] + [(TRACED, PLAIN)] * (client == server) + [(ASYNC, TRACED)] * (client == "java")
             checks += [

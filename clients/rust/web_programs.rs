@@ -38,9 +38,9 @@ fn respond(mut stream: TcpStream, is_traced: bool) {
 }
 
 fn look() {
-    touch_across("row", false); // race: web_server odd_heads
+    touch_across("row", false); // race: web_server odd_heads two_requests
     touch("prices", false);
-    touch("log", true); // race: odd_heads
+    touch("log", true); // race: odd_heads two_requests
 }
 
 /// Writes before and after a request.

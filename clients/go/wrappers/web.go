@@ -48,9 +48,9 @@ func serve(file, count, how string) {
 }
 
 func look() {
-	itctrace.TouchAcross("row", false) // race: web_server odd_heads
+	itctrace.TouchAcross("row", false) // race: web_server odd_heads two_requests
 	itctrace.Touch("prices", false)    // race: plain_server
-	itctrace.Touch("log", true)        // race: odd_heads
+	itctrace.Touch("log", true)        // race: odd_heads two_requests
 }
 
 // ask writes before and after a request.

@@ -47,9 +47,9 @@ final class WebPrograms {
     }
 
     private static void respond(HttpExchange exchange) throws IOException {
-        Traced.touchAcross("row", false); // race: web_server odd_heads
+        Traced.touchAcross("row", false); // race: web_server odd_heads two_requests
         Traced.touch("prices", false); // race: plain_server
-        Traced.touch("log", true); // race: odd_heads
+        Traced.touch("log", true); // race: odd_heads two_requests
         byte[] body = "read".getBytes(StandardCharsets.US_ASCII);
         exchange.sendResponseHeaders(200, body.length);
         try (OutputStream response = exchange.getResponseBody()) {
