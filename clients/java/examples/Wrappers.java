@@ -77,12 +77,19 @@ public final class Wrappers {
     }
 
     private static void plainThreads() throws InterruptedException {
-        Thread first = new Thread(Wrappers::sell);
-        Thread second = new Thread(Wrappers::sell);
+        Thread first = new Thread(Wrappers::sellAndNote);
+        Thread second = new Thread(Wrappers::sellAndNote);
         first.start();
         second.start();
         first.join();
         second.join();
+    }
+
+    private static void sellAndNote() {
+        sell();
+        String note = "note " + Thread.currentThread().getName();
+        Traced.touch(note, true);
+        Traced.touch(note, false); // Both are of one task.
     }
 
     private static void locked() throws InterruptedException {
@@ -100,6 +107,60 @@ public final class Wrappers {
                     }
                 });
         lockTurns(TURNS); // A lock that nobody else acquires leaves nothing in the trace.
+        crossedLocks();
+        releasedLate();
+    }
+
+    /** A lock that is released before one that was acquired later is meant to hand something over. */
+    private static void crossedLocks() throws InterruptedException {
+        Lock first = Traced.lock(new ReentrantLock());
+        Lock second = Traced.lock(new ReentrantLock());
+        TracedThread other =
+                Traced.start(
+                        "crossing",
+                        () -> {
+                            Traced.touch("crossed", true);
+                            first.lock();
+                            second.lock();
+                            first.unlock();
+                            second.unlock();
+                        });
+        other.thread().join(); // That is no order that is reported.
+        first.lock();
+        first.unlock();
+        Traced.touch("crossed", true);
+    }
+
+    /** Its release returns once the next thread has acquired it. So the release has to be reported before. */
+    private static final class Handing extends ReentrantLock {
+        private final CountDownLatch released = new CountDownLatch(1);
+        private final CountDownLatch acquired = new CountDownLatch(1);
+
+        @Override
+        public void unlock() {
+            super.unlock();
+            released.countDown();
+            doStep(latch -> latch.await(1, TimeUnit.SECONDS), acquired);
+        }
+    }
+
+    private static void releasedLate() throws InterruptedException {
+        Handing handing = new Handing();
+        Lock lock = Traced.lock(handing);
+        TracedThread first =
+                Traced.start(
+                        "first",
+                        () -> {
+                            lock.lock();
+                            Traced.touch("handed", true);
+                            lock.unlock();
+                        });
+        handing.released.await();
+        lock.lock();
+        handing.acquired.countDown();
+        Traced.touch("handed", true);
+        lock.unlock();
+        first.join();
     }
 
     /** Two threads acquire one lock by turns. */
@@ -408,6 +469,9 @@ public final class Wrappers {
         if (!isTouchedAfter) {
             writeStock();
         }
+        Lock lock = Traced.lock(new ReentrantLock()); // Its release and the item are two messages.
+        lock.lock();
+        lock.unlock();
         queue.put("item");
         if (isTouchedAfter) {
             writeStock();
