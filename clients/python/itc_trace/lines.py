@@ -13,11 +13,12 @@ from typing import TYPE_CHECKING, Any
 
 if TYPE_CHECKING:
     from .lock_identity import LockIdentity, Signal
+    from .loop_runs import LoopRun
     from .stretches import Stretch
     from .touch_rows import TouchEvent
     from .tracer import Tracer
 
-MARK, TAKE, TAKE_END, SPAWN, FINISH, JOIN, TOUCH, LATE, GONE, SEND, RECV, STOP, CHILD = range(13)
+MARK, TAKE, TAKE_END, SPAWN, FINISH, JOIN, TOUCH, LATE, GONE, SEND, RECV, STOP, CHILD, LEAVE_LOOP = range(14)
 
 Note = tuple[Any, ...]
 
@@ -60,13 +61,13 @@ OUTSIDE = What("out", "send to another process", "receive from another process")
 
 
 class Line:
-    """The events of one task, in their order. All but the first ten fields belong to the thread that reports.
+    """The events of one task, in their order. All but the first eleven fields belong to the thread that reports.
 
     `held` has the locks that the task holds now, in the order of their acquiring.
     """
 
     __slots__ = (
-        "number", "tracer", "hint", "waiting", "reference", "must_finish", "held", "lent", "section", "job",
+        "number", "tracer", "hint", "waiting", "reference", "must_finish", "held", "lent", "section", "job", "loop_run",
         "name", "count", "message", "lock", "sent", "pending", "known", "known_by_locks", "parent", "parent_count", "touches",
         "end_token", "is_finished", "has_ended", "is_gone", "joined_by", "joined_at", "joined", "first_taker",
         "is_forgotten", "is_process",
@@ -81,6 +82,8 @@ class Line:
         self.must_finish = False
         self.job: LateJob | None = None
         """The pool's job that is done in it, if there are too many jobs for each to be a task of its own."""
+        self.loop_run: LoopRun | None = None
+        """The run of a loop in which a task of asyncio took its last step."""
         self.held: tuple[LockIdentity, ...] = ()
         self.lent: tuple[LockIdentity, ...] = ()
         """The locks that the task held which started it."""

@@ -15,6 +15,7 @@ from typing import Any
 
 from .conflicts import MAKING, READ, WRITE
 from .lines import MARK, RESULT, SPAWN, TAKE, TOUCH, Line, Note, Section, Token, What, state
+from .loop_runs import begun_here
 from .stretches import STRETCHES, TURNS, Across, Stretch, Touched, leave
 
 local = threading.local()
@@ -124,6 +125,7 @@ def _adopt_task(task: Any) -> Line | None:
     except Exception:
         return None
     _begin(line)
+    begun_here(line)
     return line
 
 

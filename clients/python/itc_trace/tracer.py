@@ -24,6 +24,7 @@ from .journal import Places, TouchTexts, border_row, text_of
 from .journal_file import JournalFile
 from .lines import END, FINISH, GONE, JOIN, RESULT, SPAWN, STOP, TAKE, TAKE_END, TOUCH, LateJob, Line, Note, Token, state
 from .lock_identity import LockIdentity
+from .loop_runs import STOPS, LoopRun
 from .noting import enter
 from .own_threads import start_thread
 from .shaking import Shaking
@@ -54,6 +55,8 @@ MANY_JOBS = Unseen(
 GOES_ON = "goes on"
 KEEPER = "ended threads"
 """What the task is called that comes after the threads that nobody joins."""
+KEEPER_OF_LOOP = "ended tasks"
+"""What the task is called that comes after the tasks of a loop that nobody waits for."""
 _now = time.time
 """As it is before any program is traced."""
 
@@ -67,6 +70,11 @@ def _references_of_nobody() -> int:
 
 
 REFERENCES_OF_NOBODY = _references_of_nobody()
+
+
+def _number(line: Line) -> int:
+    return line.number
+
 
 NOT_MINE = {405, 407, 408, 409}
 """What a message of another process may be refused for: it was never sent, or this task has it. A process was killed, or joined before."""
@@ -197,7 +205,7 @@ class Tracer:
         """Whether the session ends since the trace goes on at another collector."""
         self._handlers: list[Callable[..., None]] = [
             self._mark, self._take, self._take_end, self._spawn, self._finish, self._join, self._touch, self._touch_late,
-            self._gone, self._send_outside, self._receive_outside, self._stop_reporting, self._begin_child,
+            self._gone, self._send_outside, self._receive_outside, self._stop_reporting, self._begin_child, self._leave_loop,
         ]
         self._tenant, self.port = tenant, port
         self._connect(host, process)
@@ -691,6 +699,8 @@ class Tracer:
         report = self._report(line, "join", child.name, code, instruction, label)
         report.may_be_refused = child.is_process
         child.joined_by, child.joined_at = line, line.count
+        if child.loop_run is not None:
+            child.loop_run.lines.discard(child)
         line.joined.append(child)
         line.known[child] = child.count
 
@@ -801,6 +811,21 @@ class Tracer:
         if taker is not None and not taker.is_finished and not taker.has_ended:
             self._join_now(taker, line, None, 0, f"join {line.name}")
 
+    def _leave_loop(self, line: Line, run: LoopRun, code: CodeType | None, instruction: int) -> None:
+        """The line's thread goes on behind the run of a loop, after all that the loop's tasks did."""
+        keeper = run.keeper
+        for task in sorted(run.lines, key=_number):
+            if task.has_ended:
+                self._join_now(line, task, code, instruction, f"join {task.name}")
+            elif task.name:
+                token = Token(task, STOPS, code, instruction)
+                self._mark(token)
+                self._come_after(line, token, code, instruction)
+        run.lines.clear()
+        if keeper is not None:
+            self._end(keeper, END.giving)
+            self._join_now(line, keeper, code, instruction, f"join {keeper.name}")
+
     def _send_outside(self, line: Line, message: str, waiter: Waiter, code: CodeType | None, instruction: int) -> None:
         self._answer_to(waiter, self._report(line, "send", message, code, instruction, "send to another process"))
         self._sent(line, message, None)
@@ -827,6 +852,7 @@ class Tracer:
     def _divide(self, parts: Parts) -> None:
         """Leaves a trace that is nearly full, and goes on in a new one with what may still give order."""
         self._keep_ended()
+        self._keep_ended_of_loops(parts.lines)
         for line in parts.lines:
             if line.touches is not None:
                 self._end_touches(line)
@@ -879,6 +905,16 @@ class Tracer:
             assert self._keeper is not None
             self._takes_left[line] += 1
             self._take_end(self._keeper, line, None, 0)
+
+    def _keep_ended_of_loops(self, lines: list[Line]) -> None:
+        """Has a task for each run of a loop take the ends of those of the loop's tasks that nobody has waited for."""
+        for line in lines:
+            run = line.loop_run
+            if run is not None and line.has_ended and line in run.lines:
+                if run.keeper is None:
+                    run.keeper = Line(self, KEEPER_OF_LOOP)
+                    self._spawn(self.main, run.keeper, None, 0)
+                self._join_now(run.keeper, line, None, 0, f"join {line.name}")
 
     def _change_collector(self, port: int) -> None:
         self._is_changing = True

@@ -196,6 +196,113 @@ class Tasks(Asynchronous):
         self.ordered(main)
 
 
+class Runs(Asynchronous):
+    """What a thread does before and behind a run of its loop is in order with what the loop's tasks do in this run."""
+
+    def test_what_follows_a_run_comes_after_tasks_that_nobody_awaits(self) -> None:
+        async def begin(ends_first: bool) -> None:
+            kept.append(asyncio.create_task(writing()))
+            asyncio.create_task(writing("y"))
+            if ends_first:
+                await asyncio.sleep(0)
+
+        def scenario() -> None:
+            asyncio.run(begin(ends_first))
+            write()
+            write("y")
+
+        for ends_first in (True, False):
+            kept: list[Any] = []
+            self.assert_ordered(scenario)
+
+    def test_what_follows_a_run_comes_after_a_task_that_is_cancelled_at_its_end(self) -> None:
+        async def last() -> None:
+            try:
+                await asyncio.sleep(WAIT)
+            finally:
+                write()
+
+        async def begin() -> None:
+            asyncio.create_task(last())
+            await asyncio.sleep(0)
+
+        def scenario() -> None:
+            asyncio.run(begin())
+            write()
+
+        self.assert_ordered(scenario)
+
+    def test_what_stands_between_two_runs_is_in_order_with_a_task_of_both(self) -> None:
+        async def often() -> None:
+            for _ in range(4):
+                write()
+                await asyncio.sleep(0)
+
+        def scenario() -> None:
+            with contextlib.closing(asyncio.new_event_loop()) as loop:
+                task = loop.create_task(often())
+                write()
+                for _ in range(2):
+                    loop.run_until_complete(asyncio.sleep(0))
+                    write()
+                loop.run_until_complete(task)
+
+        self.assert_ordered(scenario)
+
+    def test_who_joins_a_thread_comes_after_the_tasks_of_its_loop(self) -> None:
+        async def begin() -> None:
+            asyncio.create_task(writing())
+            await asyncio.sleep(0)
+
+        def scenario() -> None:
+            thread = threading.Thread(target=asyncio.run, args=(begin(),))
+            thread.start()
+            thread.join()
+            write()
+
+        self.assert_ordered(scenario)
+
+    def test_a_coroutine_of_another_thread_comes_after_what_precedes_the_run(self) -> None:
+        def scenario() -> None:
+            loop = asyncio.new_event_loop()
+
+            def run() -> None:
+                write()
+                loop.run_forever()
+                loop.close()
+
+            thread = threading.Thread(target=run)
+            thread.start()
+            asyncio.run_coroutine_threadsafe(writing(), loop).result(WAIT)
+            loop.call_soon_threadsafe(loop.stop)
+            thread.join()
+
+        self.assert_ordered(scenario)
+
+    def test_a_thread_that_is_not_joined_is_not_in_order_with_the_tasks_of_its_loop(self) -> None:
+        async def begin() -> None:
+            asyncio.create_task(writing())
+            await asyncio.sleep(0)
+
+        def scenario() -> None:
+            thread = threading.Thread(target=asyncio.run, args=(begin(),))
+            thread.start()
+            write()
+            thread.join()
+
+        self.assert_race(scenario)
+
+    def test_a_task_that_has_ended_is_in_order_with_nobody_before_its_loop_stops(self) -> None:
+        async def main() -> None:
+            asyncio.create_task(writing())
+            await asyncio.sleep(0)
+            asyncio.get_running_loop().call_soon(write)
+            await asyncio.create_task(writing("y"))
+            write("y")
+
+        self.racing("x", main)
+
+
 class Futures(Asynchronous):
     def test_an_error_of_a_future_carries_order(self) -> None:
         async def main() -> None:

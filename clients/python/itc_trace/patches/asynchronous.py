@@ -26,7 +26,8 @@ from ..lines import (
     Line, Token, state,
 )
 from ..lock_identity import LockIdentity
-from ..noting import frame_at, is_internal, joining, mark, place, starting, take
+from ..loop_runs import BEGINS, RUNS, LoopRun, begun_here, take_step
+from ..noting import current, frame_at, is_internal, joining, mark, place, starting, take
 from ..stretches import STRETCHES, TURNS, leave
 from .base import Patches, like
 from .futures import is_settled_by_source, take_any
@@ -204,8 +205,8 @@ def _begin_task(task: Any, coro: Any, name: Any) -> Line | None:
         return None
     _, line = _spawned.pop(id(coro), (None, None))
     name = _named.pop(id(coro), name)
-    if line is None:
-        line = _spawn(coro, name, 3)
+    if line is None and (line := _spawn(coro, name, 3)) is not None:
+        begun_here(line)
     if line is not None:
         line.watch(task)
     return line
@@ -429,6 +430,7 @@ def _group_leave(original: Any) -> Any:
 def _put_loops(patches: Patches) -> None:
     patches.wrap(asyncio.events.Handle, "_run", _run_handle)
     loop = base_events.BaseEventLoop
+    patches.wrap(loop, "run_forever", _run_forever)
     for name in ("call_soon", "call_soon_threadsafe"):
         patches.wrap(loop, name, _call)
     patches.wrap(loop, "call_at", _call_at)
@@ -443,12 +445,39 @@ def _run_handle(original: Any) -> Any:
         thread = get_ident()
         STRETCHES.pop(thread, None)
         TURNS[thread] = next(_turns)
+        take_step(_line_of_step(self._callback))
         try:
             return original(self)  # type: ignore[no-any-return]
         finally:
             STRETCHES.pop(thread, None)
 
     return _run
+
+
+def _line_of_step(callback: Any) -> Line | None:
+    """The line of the task that goes on by this callback, if it is one of asyncio itself."""
+    kind = type(callback)
+    if kind is types.BuiltinMethodType or kind is types.MethodType or kind.__name__ in _STEPS:
+        task = callback.__self__
+        return getattr(task, "_itc_line", None) if issubclass(type(task), _PlainTask) else None
+    return None
+
+
+def _run_forever(original: Any) -> Any:
+    """Behind the run of a loop its thread goes on after all that the loop's tasks did by then, and they after what it does in between."""
+
+    def run_forever(self: Any) -> None:
+        token = mark(BEGINS) if state.note is not None and _running_loop() is None else None
+        if token is None:
+            return original(self)  # type: ignore[no-any-return]
+        run = RUNS[get_ident()] = LoopRun(token)
+        try:
+            return original(self)  # type: ignore[no-any-return]
+        finally:
+            RUNS.pop(get_ident(), None)
+            run.leave(current(), place(frame_at(1)))
+
+    return run_forever
 
 
 _PLUMBING = frozenset({"asyncio", "_asyncio", "concurrent", "itc_trace"})
