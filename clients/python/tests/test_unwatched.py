@@ -45,6 +45,18 @@ module = types.ModuleType("stock")
 importlib.machinery.SourceFileLoader("stock", file).exec_module(module)
 sell = module.sell
 """
+BY_LOADER_OF_A_PROGRAM = HERE.replace("stock.py", "tool") + """
+import importlib.machinery, importlib.util
+specification = importlib.util.spec_from_loader("tool", importlib.machinery.SourceFileLoader("tool", file))
+module = importlib.util.module_from_spec(specification)
+specification.loader.exec_module(module)
+sell = module.sell
+"""
+STARTS_IT = HERE.replace("stock.py", "tool") + """
+import subprocess, sys
+subprocess.run([sys.executable, file], check=True)
+"""
+RUNS_IT = STARTS_IT.replace("[sys.executable, file]", "[file]")
 NOT_REWRITTEN = """
 from itc_trace.watch import finder
 def fail(*words):
@@ -93,6 +105,32 @@ class Unwatched(ProgramCase):
             ran = run_traced(program)
             self.assertEqual(ran.returncode, Verdict.RACES, ran.stderr)
             self.assertIn("race on stock['left']", ran.stderr)
+
+    def test_a_program_is_watched_whatever_its_file_is_called(self) -> None:
+        for name in ("tool", "shop.wsgi", "shop.pyw"):
+            with self.subTest(name):
+                ran = run_traced(self.named(name, STOCK + THREADS))
+                self.assertEqual(ran.returncode, Verdict.RACES, ran.stderr)
+                self.assertRegex(ran.stderr, rf"write at \S*{name}:4 in sell")
+
+    def test_a_file_of_another_name_that_is_loaded_or_started_is_no_all_clear(self) -> None:
+        for text, due in ((BY_LOADER_OF_A_PROGRAM + THREADS, Verdict.INCOMPLETE), (STARTS_IT, Verdict.RACES), (RUNS_IT, Verdict.INCOMPLETE)):
+            with self.subTest(text):
+                tool = Path(self.named("tool", f"#!/usr/bin/env python3\n{STOCK}{THREADS}", beside=text))
+                tool.chmod(0o755)
+                ran = run_traced(str(tool.with_name("program.py")))
+                self.assertEqual(ran.returncode, due, ran.stderr)
+
+    def test_a_script_of_the_shell_that_is_started_leaves_a_run_whole(self) -> None:
+        tool = Path(self.named("tool", "#!/bin/sh\ntrue\n", beside=RUNS_IT))
+        tool.chmod(0o755)
+        ran = run_traced(str(tool.with_name("program.py")))
+        self.assertEqual(ran.returncode, Verdict.NO_RACE, ran.stderr)
+
+    def named(self, name: str, text: str, beside: str = "") -> str:
+        path = Path(self.program(beside)).with_name(name)
+        path.write_text(text)
+        return str(path)
 
     def test_a_source_that_the_language_does_not_take_is_told(self) -> None:
         ran = run_traced(self.program(TOO_DEEP))

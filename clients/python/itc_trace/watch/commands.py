@@ -13,6 +13,7 @@ from .finder import Selection
 
 _PYTHON = re.compile(r"(python|pypy)[0-9.]*(\.exe)?\Z")
 _SHELLS = frozenset(("sh", "bash", "dash", "ksh", "zsh", "busybox"))
+MOST_OF_A_LINE = 256
 OWN_NAME = "itc_trace"
 """What is run by this package is traced."""
 _WITH_A_WORD = ("-W", "-X", "--check-hash-based-pycs")
@@ -27,7 +28,7 @@ def own_program(command: str | Sequence[str], folder: str, selection: Selection)
     for place, word in enumerate(words):
         if _PYTHON.match(os.path.basename(word)):
             return _run_by_python(iter(words[place + 1:]), folder, selection)
-    return _watched_file(words[0], folder, selection) if words else None
+    return _watched_file(words[0], folder, selection) if words and _is_python(os.path.join(folder, words[0])) else None
 
 
 def _words_of(command: str | Sequence[str]) -> list[str]:
@@ -67,6 +68,18 @@ def _names_of(node: ast.AST) -> list[str]:
     if isinstance(node, ast.Import):
         return [one.name for one in node.names]
     return [node.module] if isinstance(node, ast.ImportFrom) and node.module else []
+
+
+def _is_python(file: str) -> bool:
+    """Whether a file that is a command by itself is run by Python."""
+    if file.endswith(".py"):
+        return True
+    try:
+        with open(file, "rb") as source:
+            first = source.readline(MOST_OF_A_LINE)
+    except OSError:
+        return False
+    return first.startswith(b"#!") and any(_PYTHON.match(os.path.basename(os.fsdecode(word))) for word in first[2:].split())
 
 
 def _watched_file(word: str, folder: str, selection: Selection) -> str | None:

@@ -21,6 +21,8 @@ LIBRARY_FOLDERS = tuple(
     os.path.realpath(path) + os.sep for path in {sysconfig.get_path(name) for name in ("stdlib", "platstdlib", "purelib", "platlib")}
 )
 INSTALLED = ("site-packages", "dist-packages")
+COMPILED = tuple(importlib.machinery.BYTECODE_SUFFIXES + importlib.machinery.EXTENSION_SUFFIXES)
+"""How the files end that are no sources of a module."""
 
 FILES: set[str] = set()
 """Those whose code has hooks, or of which was told that it has none."""
@@ -36,8 +38,8 @@ class Selection:
         self.packages = frozenset(packages)
 
     def has_file(self, name: str, file: str | None) -> bool:
-        """Whether the module of this name and file is watched."""
-        if not file or not file.endswith(".py") or _is_within(file, OWN_FOLDER):
+        """Whether the module of this name and file is watched, whatever its source is called."""
+        if not file or file.endswith(COMPILED) or _is_within(file, OWN_FOLDER):
             return False
         return self.has_package(name) or self.has_own(file)
 

@@ -15,8 +15,13 @@ def files_without_hooks(selection: Selection) -> list[Unseen]:
     files = {one.__code__.co_filename for one in gc.get_objects() if type(one) is FunctionType} - FILES
     own = _own_folders({os.path.dirname(file) for file in files}, selection)
     known = {os.path.realpath(file) for file in FILES}
-    left = {file for file in files if file.endswith(".py") and os.path.dirname(file) in own and os.path.realpath(file) not in known}
+    left = {file for file in files if _is_source(file) and os.path.dirname(file) in own and os.path.realpath(file) not in known}
     return [Unseen(Cause.MODULE, f"{os.path.basename(file)} was not watched, as it was not imported from a source file") for file in sorted(left)]
+
+
+def _is_source(file: str) -> bool:
+    """Whether it is a file of Python by its name, or a program without one of the names for it."""
+    return file.endswith(".py") or os.path.splitext(file)[1] in ("", ".pyw") and os.path.isfile(file)
 
 
 def _own_folders(folders: set[str], selection: Selection) -> set[str]:
