@@ -265,7 +265,7 @@ def _run_file(words: list[str]) -> None:
     call(path, program)
     with open(path, "rb") as file:
         source = file.read()
-    module.__dict__.update(__file__=path, __builtins__=builtins, __cached__=None, __loader__=SourceFileLoader("__main__", path))
+    module.__dict__.update(__file__=path, __builtins__=builtins, __annotations__={}, __cached__=None, __loader__=SourceFileLoader("__main__", path))
     plain = compile(source, path, "exec", dont_inherit=True)
     exec(watch.code_of(source, path, plain), module.__dict__)
 

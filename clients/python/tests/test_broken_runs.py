@@ -47,6 +47,35 @@ os.kill(os.getpid(), signal.SIGUSR1)
 time.sleep(0.05)
 print(signal.sigwait({signal.SIGUSR1}).name)
 """
+AT_THE_END = """
+import threading
+class Row:
+    def __init__(self, cells):
+        self.cells = cells
+class Table:
+    made = 0
+    def __init__(self):
+        self.rows, self.names = [Row([1])], {"a": 1}
+    def __del__(self, row=Row):
+        self.rows.append(row([2, 3]))
+        self.names["b"] = len(self.rows)
+        self.made += 1
+        print([[cell for cell in one.cells] for one in self.rows], self.names, f"{self.made}", sorted(self.names))
+        del self.rows[0], self.names
+def steps():
+    try:
+        yield
+    finally:
+        rows = [1]
+        rows.append(2)
+        print(rows)
+table, step = Table(), steps()
+next(step)
+thread = threading.Thread(target=int)
+thread.start()
+thread.join()
+print(__annotations__)
+"""
 
 GOES_ON = {
     "its folder is another": "os.chdir('/')",
@@ -100,6 +129,15 @@ class BrokenRuns(ProgramCase):
                 plain, traced = run_python(program), run_traced(program)
                 self.assertEqual(traced.returncode, plain.returncode)
                 self.assertEqual(_without_own_lines(traced.stderr), plain.stderr)
+
+    def test_what_runs_while_the_interpreter_lets_go_of_modules_runs_as_untraced(self) -> None:
+        program = self.program(AT_THE_END)
+        plain = run_python(program)
+        self.assertIn("[[1], [2, 3]] {'a': 1, 'b': 2} 1 ['a', 'b']", plain.stdout)
+        for variables in ({}, {"ITC_TRACE_PURE": "1"}):
+            traced = run_traced(program, **variables)
+            self.assertEqual((traced.returncode, sorted(traced.stdout)), (plain.returncode, sorted(plain.stdout)), traced.stderr)
+            self.assertEqual(_without_own_lines(traced.stderr), plain.stderr)
 
     def test_a_picture_that_cannot_be_drawn_is_told_in_one_line(self) -> None:
         with tempfile.TemporaryDirectory() as folder:

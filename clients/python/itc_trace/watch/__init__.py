@@ -34,7 +34,9 @@ _plain_spec = importlib.util.spec_from_file_location
 def watch(folders: Sequence[str], packages: Sequence[str] = ()) -> None:
     """From here on modules in these folders and of these packages are rewritten as they are imported."""
     global _finder
-    if _finder is not None:
+    if _finder is None:
+        hooks.put_for_the_end()
+    else:
         sys.meta_path.remove(_finder)  # type: ignore[arg-type]
     _finder = Finder(Selection(folders, [name for name in packages if not _is_traced_as_a_whole(name)]))
     hooks.put(False)

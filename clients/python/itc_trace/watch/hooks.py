@@ -7,6 +7,7 @@ of a function refers to is shared with nobody, and is not noted.
 from __future__ import annotations
 
 import builtins
+import gc
 import itertools
 import os
 import sys
@@ -1370,6 +1371,8 @@ def _nothing(*_: Any) -> None:
 
 HOOKS: dict[str, Callable[..., Any]] = {name[5:]: one for name, one in list(globals().items()) if name.startswith("hook_")}
 ALWAYS = frozenset(("n", "N"))
+BUILDS_CLASSES = "__build_class__"
+"""A name of the builtins that nothing else has."""
 QUIET: dict[str, Callable[..., Any]] = {
     **dict.fromkeys(HOOKS, _first), **dict.fromkeys(("K", "K_local"), _second), "a": _rest, **dict.fromkeys(("g", "c", "d"), _nothing),
 }
@@ -1381,6 +1384,8 @@ if quick is not None:
     QUIET.update({name: quick.first for name, one in QUIET.items() if one is _first})
     QUIET.update({name: quick.second for name, one in QUIET.items() if one is _second})
     QUIET.update({name: quick.nothing for name, one in QUIET.items() if one is _nothing})
+AT_THE_END = {**QUIET, "n": QUIET["o"], "N": QUIET["g"]}
+"""Hooks that need nothing of any module, where all modules are about to go."""
 QUIET.update({name: HOOKS[name] for name in ALWAYS})
 
 
@@ -1394,4 +1399,15 @@ def put(is_on: bool) -> None:
     for name, one in (HOOKS if is_on else QUIET).items():
         setattr(builtins, PREFIX + name, one)
     setattr(builtins, ON, is_on)
+
+
+def put_for_the_end() -> None:
+    """Puts hooks that do nothing into the copy by which the interpreter replaces all builtins before it lets go of the modules.
+
+    What the program's finalizers run then has hooks, too. The copy is known by its names, as nothing refers to it.
+    """
+    quiet = {ON: False, **{PREFIX + name: one for name, one in AT_THE_END.items()}}
+    for table in gc.get_objects():
+        if type(table) is dict and BUILDS_CLASSES in table and table is not vars(builtins):
+            table.update(quiet)
 
