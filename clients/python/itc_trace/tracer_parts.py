@@ -13,7 +13,7 @@ from .lines import Line, Token
 from .lock_identity import LockIdentity
 
 MOST_ENDED = 1200
-"""So many ended tasks that may be waited for are taken into the next part, those that ended last: at most one for eight events."""
+"""So many ended tasks that may be waited for are taken into the next part, those that ended last, however small it is to be."""
 MOST_OUTSIDE = 1024
 """So many messages that were handed out by name are taken along, those that were sent last."""
 
@@ -50,8 +50,7 @@ class Parts:
         """Whether other processes report to this part too. Then there is no further one."""
         self.number = 1
         self.divider = Divider()
-        self._limits = limits
-        self.most_ended = min(MOST_ENDED, limits.events // 8)
+        self._asked_for = self._limits = limits
         self._lines: dict[str, Line] = {}
         self._messages: dict[str, _Message] = {}
 
@@ -94,11 +93,17 @@ class Parts:
         for message in outside[:-MOST_OUTSIDE]:
             del self._messages[message]
         border = self.divider.divide(self._may_be_received, joinable.__contains__)
+        self._limits = self._limits_behind(self.divider.events)
         self.number += 1
         kept = {report.name for report in border.reports if report.kind == "send"}
         self._messages = {message: known for message, known in self._messages.items() if message in kept}
         self._leave_lines({ROOT, *(report.name for report in border.reports if report.kind == "spawn")})
         return border
+
+    def _limits_behind(self, beginning: int) -> Limits:
+        """A part that begins with much, as where many threads wait for a processor, is left later than was asked for."""
+        asked = self._asked_for
+        return asked._replace(events=min(max(asked.events, beginning + asked.events // 2), LEAVE.events))
 
     def _joinable(self, may_be_asked_for: Callable[[Line], bool]) -> set[str]:
         """The ended tasks that are taken along. Those whose own object is there come before those that are only held."""
@@ -106,7 +111,7 @@ class Parts:
         asked_for = [task for task in ended if may_be_asked_for(self._lines[task])]
         there = set(asked_for)
         held = [task for task in ended if task not in there and self._is_held(task)]
-        left, taken = [*held, *asked_for][:-self.most_ended], [*held, *asked_for][-self.most_ended:]
+        left, taken = [*held, *asked_for][:-MOST_ENDED], [*held, *asked_for][-MOST_ENDED:]
         for task in left:
             self._lines[task].is_forgotten = True
         return set(taken)

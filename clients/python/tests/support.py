@@ -23,7 +23,7 @@ from itc_trace.dividing import Border, Limits
 from itc_trace.journal import Row, read_journal, read_line
 from itc_trace.lines import Line
 from itc_trace.parts import races_of_parts
-from itc_trace.tracer_parts import MOST_ENDED, Parts
+from itc_trace.tracer_parts import Parts
 
 Case = TypeVar("Case")
 PACKAGE = Path(__file__).resolve().parent.parent
@@ -71,7 +71,6 @@ class SmallParts(Parts):
 
     def __init__(self) -> None:
         super().__init__(self._next_port, Limits(events=PART_EVENTS))
-        self.most_ended = MOST_ENDED
         self.tracer: Any = None
 
     def _next_port(self) -> int:

@@ -138,6 +138,27 @@ for number in range(30):
 server.shutdown()
 thread.join()
 """
+LINGERING = """
+import _thread, threading, time
+lock, totals, gate = threading.Lock(), {"served": 0}, _thread.allocate_lock()
+class Lingering(threading.Thread):
+    def _delete(self):
+        while gate.locked():
+            time.sleep(0.001)
+        super()._delete()
+def serve():
+    with lock:
+        totals["served"] += 1
+gate.acquire()
+threads = [Lingering(target=serve, name="request") for _ in range(400)]
+for thread in threads: thread.start()
+def are_served():
+    with lock:
+        return totals["served"] == 400
+while not are_served(): time.sleep(0.05)
+gate.release()
+for thread in threads: thread.join()
+"""
 FULL_AT_ITS_END = """
 import itc_trace, threading, time
 from itc_trace import lines, tracer_parts
@@ -199,6 +220,11 @@ class LongRuns(ProgramCase):
         ran = run_traced("--part-events", "1000", self.program(CLEAN))
         self.assertEqual(ran.returncode, Verdict.NO_RACE, ran.stderr)
         self.assertIn("no race in this run", ran.stderr)
+
+    def test_threads_that_wait_for_a_processor_behind_their_end_may_be_many(self) -> None:
+        """As on a machine that is loaded: they have ended, and are waited for much later."""
+        ran = run_traced("--part-events", "1000", self.program(LINGERING))
+        self.assertEqual(ran.returncode, Verdict.NO_RACE, ran.stderr)
 
     def test_what_lies_in_a_queue_knows_what_its_sender_did_until_then_and_nothing_later(self) -> None:
         with tempfile.TemporaryDirectory() as folder:
