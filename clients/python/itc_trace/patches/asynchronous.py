@@ -475,7 +475,8 @@ def _run_forever(original: Any) -> Any:
             return original(self)  # type: ignore[no-any-return]
         finally:
             RUNS.pop(get_ident(), None)
-            run.leave(current(), place(frame_at(1)))
+            if state.note is not None:
+                run.leave(current(), place(frame_at(1)))
 
     return run_forever
 
