@@ -20,8 +20,9 @@ BOUND = (types.BuiltinMethodType, types.MethodWrapperType)
 UNBOUND = (types.MethodDescriptorType, types.WrapperDescriptorType)
 NAMED = frozenset((*BOUND, *UNBOUND))
 GETTERS = (operator.itemgetter, operator.attrgetter, operator.methodcaller)
-HANDED = frozenset((*NAMED, *GETTERS, functools.partial, type))
-"""Types of what may stand for a method of a container."""
+OF_LIBRARY = frozenset((types.FunctionType, types.MethodType, types.BuiltinFunctionType))
+HANDED = frozenset((*NAMED, *GETTERS, *OF_LIBRARY, functools.partial, type))
+"""Types of what may stand for a method of a container, or for a function of the library that looks at one."""
 OPERATORS = {
     **{name: f"__{name}__" for name in "setitem getitem delitem contains iadd imul ior iand isub ixor eq ne lt le gt ge add mul sub xor".split()},
     "concat": "__add__", "iconcat": "__iadd__", "countOf": "count", "indexOf": "index", "or_": "__or__", "and_": "__and__",
@@ -53,6 +54,8 @@ class Watcher(NamedTuple):
     files: set[str]
     names: frozenset[str]
     """Those of functions of the language are among them, as `builtins.setattr`."""
+    arguments: Callable[[str], slice | None]
+    """Which arguments a function of the library looks at or changes, by its name with that of its module. None, if it does so to none."""
 
 
 _watcher: Watcher | None = None
@@ -87,6 +90,8 @@ def _touches(function: Any, names: frozenset[str]) -> bool:
     kind = type(function)
     if kind is type:
         return any(function is one for one in CLASSES)
+    if kind in OF_LIBRARY and _arguments_of(function) is not None:
+        return True
     if kind not in NAMED:
         return False
     name = function.__name__
@@ -96,6 +101,19 @@ def _touches(function: Any, names: frozenset[str]) -> bool:
     if type(owner) is types.ModuleType:
         return f"builtins.{name}" in names if owner is builtins else owner.__name__ == "_operator" and name in OPERATORS
     return name in names and type(owner) not in TEXTS
+
+
+def _name_of(function: Any) -> str:
+    """A function of the library by its name and that of its module, which may be the one in C that stands behind it."""
+    inner = function.__func__ if type(function) is types.MethodType else function
+    module, name = getattr(inner, "__module__", None), getattr(inner, "__name__", None)
+    return f"{module.removeprefix('_')}.{name}" if type(module) is str and type(name) is str else ""
+
+
+def _arguments_of(function: Any) -> slice | None:
+    if type(function) is types.MethodType and type(function.__func__) is not types.FunctionType:
+        return None
+    return None if _watcher is None else _watcher.arguments(_name_of(function))
 
 
 def _runs_another(function: Any) -> bool:
@@ -129,7 +147,10 @@ def _methods_of(function: Any, words: tuple[Any, ...]) -> Iterator[Method]:
         else:
             break
         kind = type(function)
-    if kind in BOUND:
+    arguments = _arguments_of(function) if kind in OF_LIBRARY else None
+    if arguments is not None:
+        yield from (Method(one, _name_of(function), ()) for one in words[arguments])
+    elif kind in BOUND:
         yield from _bound(function.__self__, function.__name__, words)
     elif words and kind in UNBOUND:
         yield Method(words[0], function.__name__, words[1:])

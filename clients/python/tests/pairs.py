@@ -1145,6 +1145,39 @@ proxy = Proxy(items)
         proxy.remove(1 + 0)
         [proxy][0].reverse()
     """)),
+    Group("a function of the library has another name", """
+import bisect, copy, functools, heapq, json, pickle, random, statistics, struct
+items = [1, 2, 3]
+class Job:
+    def __init__(self, function, *words): self.function, self.words = function, words
+    def run(self): return self.function(*self.words)
+def call(function, *words, **named): return function(*words, **named)
+""", "items.insert(0, 5)", _listed("""
+        push = heapq.heappush
+        |push(items, 3)
+        mix = random.shuffle
+        |mix(items)
+        call(json.dumps, items)
+        call(bisect.insort, items, 3)
+        call(copy.copy, items)
+        call(pickle.dumps, {"k": items})
+        call(statistics.mean, items)
+        call(functools.reduce, int.__add__, items)
+        call(json.dumps, items, indent=2)
+        Job(heapq.heappop, items).run()
+        functools.partial(heapq.heappush, items)(3)
+        functools.partial(json.dumps, indent=2)(items)
+        {"dump": json.dumps}["dump"](items)
+        list(map(heapq.heappop, [items]))
+        list(map(json.dumps, [items]))
+        for function in (sorted, copy.copy): function(items)
+        import threading
+        |threading.Thread(target=heapq.heappush, args=(items, 3)).start()
+        from concurrent.futures import ThreadPoolExecutor
+        |with ThreadPoolExecutor(1) as pool: pool.submit(json.dumps, items)
+        from concurrent.futures import ThreadPoolExecutor
+        |with ThreadPoolExecutor(1) as pool: list(pool.map(heapq.heapify, [items]))
+    """)),
     Group("a class is read", OBJECT + "Point.total = 1", "Point.total = 5", _listed("""
         Point.total
         point.total

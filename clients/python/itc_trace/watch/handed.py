@@ -5,12 +5,13 @@ from __future__ import annotations
 from builtins import id, type
 from typing import Any
 
+from ..conflicts import REWRITE
 from ..handed_on import ATTRGETTER, Method, Place, Watcher, watch_with
 from ..journal import line_of
 from . import hooks
 from .decisions import value_of_field
 from .finder import FILES
-from .kinds import KEYED, METHODS
+from .kinds import CHANGED_ARGUMENT, KEYED, METHODS, depth_of, known_function
 from .places import NAMES_OF_HANDED, Access, new_site
 from .rewrite import OF_ATTRIBUTES, READERS, SHOWING, STEPPERS
 
@@ -26,7 +27,10 @@ def _touch(method: Method, place: Place) -> None:
     name, words = method.name, method.words
     if not hooks.are_put():
         return
-    if name in _FIELDS:
+    known = known_function(name) if "." in name else None
+    if known is not None:
+        hooks.hook_h(method.container, _site_of(place, name, "whole", known, depth_of(name)))
+    elif name in _FIELDS:
         _touch_field(method, _site_of(place, name, "field", _FIELDS[name]))
     elif name in _WHOLE:
         hooks.hook_h(method.container, _site_of(place, name, "whole", _WHOLE[name], SHOWING.get(name.removeprefix(_OF_BUILTINS), "")))
@@ -59,4 +63,16 @@ def _site_of(place: Place, name: str, what: str, kinds: str, of_site: str = "") 
     return known[0]
 
 
-watch_with(Watcher(_touch, FILES, METHODS | frozenset(_FIELDS) | frozenset(_WHOLE)))
+_KEEPING_FIRST = frozenset(("functools.reduce",))
+"""Functions that call their first argument."""
+
+
+def _arguments(name: str) -> slice | None:
+    kinds = known_function(name)
+    if kinds is None or name.startswith("operator.") or name.partition(".")[0] == "itertools":
+        return None
+    changed = CHANGED_ARGUMENT.get(name, 0)
+    return slice(changed, changed + 1) if kinds == REWRITE else slice(1 if name in _KEEPING_FIRST else 0, None)
+
+
+watch_with(Watcher(_touch, FILES, METHODS | frozenset(_FIELDS) | frozenset(_WHOLE), _arguments))

@@ -765,7 +765,9 @@ class Rewriter:
 
     def _handed(self, node: Any) -> Any:
         """What is called by its name, or handed to a function that calls it: it may be a method of a container."""
-        if isinstance(node, ast.Name):
+        if known_function(self._import_of(node)) is not None:
+            is_handed = True
+        elif isinstance(node, ast.Name):
             owner = self._scope.owner(node.id)
             is_known = node.id in owner.defined or node.id in owner.imported
             is_handed = node.id in CALLED_BY_OTHERS if self._is_builtin(node.id) else not is_known
