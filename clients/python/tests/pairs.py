@@ -126,6 +126,10 @@ GROUPS = (
         around != Around(Data([1]))
         space == SimpleNamespace(rows=[1])
         user_dict == UserDict(k=[1])
+        json.dumps([data], default=str)
+        json.dumps(plain, default=vars)
+        json.dumps(plain, default=lambda one: one.__dict__)
+        json.dumps([around], default=dataclasses.asdict)
         any(grouped.values())
         all([inner])
         list(zip(*grouped.values()))
@@ -1555,9 +1559,9 @@ proxy = Proxy(items)
         items.append(5)
     """), is_race=False),
     Group("what is inside is not looked at", """
-import copy, dataclasses, io, typing
+import copy, dataclasses, io, json, typing
 class Plain:
-    def __init__(self): self.rows = inner
+    def __init__(self): self.rows, self.name = inner, "plain"
 class Rows(list):
     def __repr__(self): return "rows"
 class Named(typing.NamedTuple):
@@ -1571,6 +1575,9 @@ inner, buffer = [1, 2], io.StringIO()
 plain, rows, named, data, cells = Plain(), Rows([inner]), Named(inner), Data(1, inner), [[1], [2]]
 """, "inner.append(3)\nbuffer.write('a')\ncells[0][0] = 3", _listed("""
         str([plain])
+        json.dumps([plain], default=str)
+        json.dumps({"k": plain}, default=lambda one: one.name)
+        json.dumps(data, default=lambda one: one.size)
         str([buffer, plain])
         str({"k": buffer})
         f"{rows}"

@@ -21,7 +21,7 @@ from .decisions import (
     COMPOSED, MAPS, REFERRED, ROWS_OF_ITERATORS, STEPPED, VIEWS, WRITER, WRITTEN_TO, class_with, family_of, field_inside, fields_of,
     has_watched_method, ids_of, is_made, is_watched_class, mro_of, name_of, value_of_field, vars_of,
 )
-from .kinds import COMPARED, DECLARED, OF_ELEMENTS, ORDERED, SHOWN, STATE, WRITTEN
+from .kinds import COMPARED, CONTENT, DECLARED, OF_ELEMENTS, ORDERED, SHOWN, STATE, WRITTEN
 
 READING = frozenset(("", "r", "c", "get", "keys", "values", "items", "copy", "__getitem__", "__contains__"))
 """Ways to touch, and methods, that look at each of several containers. Others change the first one."""
@@ -181,9 +181,9 @@ def fields_looked_at(one: Any, depth: str, is_inside: bool) -> list[str]:
     What is inside of a container is compared for being equal first, and its text there is that for a programmer.
     """
     kind = type(one)
-    if kind is SimpleNamespace:
+    if kind is SimpleNamespace and depth != CONTENT:
         return [name for name in list(fields_of(one)) if type(name) is str]
-    if not is_watched_class(kind):
+    if depth == CONTENT or not is_watched_class(kind):
         return []
     fields = _declared_fields(kind)
     if depth == DECLARED:

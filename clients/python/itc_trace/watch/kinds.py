@@ -110,16 +110,17 @@ _KNOWN = {
 }
 
 SHOWN, WRITTEN, COMPARED, ORDERED, DECLARED, STATE, FIELDS = "shown written compared ordered declared state fields".split()
-EACH, TRUTH = "each", "truth"
+EACH, TRUTH, CONTENT = "each", "truth", "content"
 """How deep a function looks at what it is given: at all that its text has, or its text for a programmer, at what is compared for being equal
-or greater, at all fields that its class declares, at all of its state, at its own fields, at each element, or at whether each has elements."""
+or greater, at all fields that its class declares, at all of its state, at its own fields, at each element, at whether each has elements, or at all that containers have inside, and at no
+field of an object."""
 OF_ELEMENTS = frozenset((EACH, TRUTH))
 BY_FIELDS = frozenset((SHOWN, WRITTEN, COMPARED, ORDERED, DECLARED, STATE, FIELDS))
-DEEP = (BY_FIELDS - {FIELDS}) | OF_ELEMENTS
+DEEP = (BY_FIELDS - {FIELDS}) | OF_ELEMENTS | {CONTENT}
 DEPTHS_OF_METHODS = {**dict.fromkeys("format format_map substitute safe_substitute".split(), SHOWN), "writerows": EACH}
 """How deep a method looks at what it is given."""
 _DEPTHS = {
-    **dict.fromkeys("copy.deepcopy json.dumps json.dump pickle.dumps pickle.dump".split(), STATE),
+    **dict.fromkeys("copy.deepcopy pickle.dumps pickle.dump".split(), STATE), **dict.fromkeys(("json.dumps", "json.dump"), CONTENT),
     **dict.fromkeys("dataclasses.asdict dataclasses.astuple".split(), DECLARED),
     **dict.fromkeys(("copy.copy", "dataclasses.replace"), FIELDS), "itertools.chain.from_iterable": EACH,
     **dict.fromkeys("pprint.pprint pprint.pformat".split(), WRITTEN),

@@ -16,8 +16,8 @@ from typing import Any
 from ..conflicts import ADDITION, ITERATION, KEYS, LENGTH, REWRITE
 from . import passed_over
 from .kinds import (
-    CHANGED_ARGUMENT, COMPARED, CONSUMING, DEPTHS_OF_METHODS, EACH, IN_PLACE_FUNCTIONS, IN_PLACE_METHODS, KEYED, LATE_METHODS, METHODS, ORDERED,
-    SHOWN, STEPPING, TRUTH, WRITTEN, depth_of, known_function,
+    CHANGED_ARGUMENT, COMPARED, CONSUMING, CONTENT, DEPTHS_OF_METHODS, EACH, IN_PLACE_FUNCTIONS, IN_PLACE_METHODS, KEYED, LATE_METHODS, METHODS, ORDERED,
+    SHOWN, STATE, STEPPING, TRUTH, WRITTEN, depth_of, known_function,
 )
 from .patterns import Patterns
 from .places import DELETED, MADE_HERE, NAMES_OF_HANDED, OF_BASE, Access, new_site
@@ -35,6 +35,8 @@ READERS = {
 """Functions of the language that look at what they are given."""
 SHOWING = {**dict.fromkeys(("str", "format", "print"), SHOWN), **dict.fromkeys(("repr", "ascii"), WRITTEN)}
 """Those that show what is inside, too, and how."""
+WHOLE_OBJECTS = frozenset(("vars", "__dict__", "asdict"))
+"""What gives all fields of an object."""
 OF_KEYS = ("__iter__", "keys")
 METHODS_OF_READERS = {
     "len": ("__len__",), "bool": ("__bool__", "__len__"), "reversed": ("__reversed__",), "bytes": ("__bytes__", "__iter__"), "dict": OF_KEYS,
@@ -781,6 +783,7 @@ class Rewriter:
         """A function of the library that looks at its arguments, or changes the first one."""
         changed = CHANGED_ARGUMENT.get(name, 0)
         others = ITERATION if name in IN_PLACE_FUNCTIONS or changed else "" if kinds == REWRITE else kinds
+        depth = self._depth_with_default(node, depth) if depth == CONTENT else depth
         is_joined = name == "functools.reduce" and any((self._import_of(one) or "").startswith("operator.") for one in node.args[:1])
         for place, one in enumerate(node.args):
             if place == changed and not isinstance(one, ast.Starred):
@@ -792,6 +795,15 @@ class Rewriter:
         for keyword in node.keywords:
             self._keyword(keyword)
         return node
+
+    def _depth_with_default(self, node: ast.Call, depth: str) -> str:
+        """How deep `json` looks at objects: `default` may be their text, all of their fields, or the program's own code."""
+        for one in [keyword.value for keyword in node.keywords if keyword.arg == "default"]:
+            if isinstance(one, ast.Name) and one.id in SHOWING and self._is_builtin(one.id):
+                return WRITTEN
+            words = {getattr(part, "id", getattr(part, "attr", "")) for part in ast.walk(one)}
+            return STATE if words & WHOLE_OBJECTS else depth
+        return depth
 
     def _call_stepping(self, node: ast.Call) -> ast.expr:
         """A function that goes through what it is given as others go through what it gives. It may call some of it."""
