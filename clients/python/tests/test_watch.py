@@ -695,7 +695,8 @@ class WhatIsTouched(unittest.TestCase):
         made = "import types\nmade = types.ModuleType('made')\nmade.debug = False"
         self.assert_touches("made.debug", ("made.debug", "read"), before=made)
         self.assert_touches("made.debug = True", ("made.debug", "write"), before=made)
-        self.assert_touches("types.debug", before=made + "\ntypes.debug = False")
+        self.assert_touches("types.debug", ("types.debug", "read"), before=made + "\ntypes.debug = False")
+        self.assert_touches("types.FunctionType", before=made)
 
     def test_operators(self) -> None:
         of_field, look = ("Shop.items", "read"), ("Shop.items", "iteration")
