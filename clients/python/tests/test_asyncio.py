@@ -292,6 +292,27 @@ class Runs(Asynchronous):
 
         self.assert_race(scenario)
 
+    def test_a_task_for_the_loop_of_another_thread_is_in_order_with_nobody_where_it_was_made(self) -> None:
+        async def begin() -> None:
+            loop = asyncio.new_event_loop()
+            threads.append(threading.Thread(target=loop.run_until_complete, args=(loop.create_task(last()),)))
+            threads[0].start()
+            while not is_written:
+                await asyncio.sleep(0.001)
+
+        async def last() -> None:
+            write()
+            is_written.append(True)
+
+        def scenario() -> None:
+            asyncio.run(begin())
+            write()
+            threads[0].join()
+
+        threads: list[threading.Thread] = []
+        is_written: list[bool] = []
+        self.assert_race(scenario)
+
     def test_a_task_that_has_ended_is_in_order_with_nobody_before_its_loop_stops(self) -> None:
         async def main() -> None:
             asyncio.create_task(writing())

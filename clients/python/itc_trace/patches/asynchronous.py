@@ -171,7 +171,7 @@ class TracedTask(_PlainTask, metaclass=_LikePlain):  # type: ignore[misc]
     _itc_called: Any = ()
 
     def __init__(self, coro: Any, **named: Any) -> None:
-        self._itc_line = _begin_task(self, coro, named.get("name"))
+        self._itc_line = _begin_task(self, coro, named.get("name"), named.get("loop"))
         self._itc_called = []
         super().__init__(coro, **named)
         leave()  # A task that begins at once has run up to its first wait.
@@ -199,14 +199,14 @@ def _tell_cancelled(line: Line) -> None:
         note((TAKE, line, token, token.code, token.instruction))
 
 
-def _begin_task(task: Any, coro: Any, name: Any) -> Line | None:
+def _begin_task(task: Any, coro: Any, name: Any, loop: Any) -> Line | None:
     note = state.note
     if note is None:
         return None
     _, line = _spawned.pop(id(coro), (None, None))
     name = _named.pop(id(coro), name)
-    if line is None and (line := _spawn(coro, name, 3)) is not None:
-        begun_here(line)
+    if line is None and (line := _spawn(coro, name, 3)) is not None and (loop is None or loop is _running_loop()):
+        begun_here(line)  # A task of another loop does nothing in this run.
     if line is not None:
         line.watch(task)
     return line
