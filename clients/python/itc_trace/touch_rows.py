@@ -140,7 +140,10 @@ class TouchRows:
         """The things that one task alone has touched and that are no more, if it is time to forget some."""
         if len(self._alone) < self._swept + MOST_PRIVATE:
             return []
-        return [number for number, alone in self._alone.items() if alone is not None and alone.thing.is_gone]
+        gone = [number for number, alone in self._alone.items() if alone is not None and alone.thing.is_gone]
+        if not gone:
+            self._swept = len(self._alone)
+        return gone
 
     def forget(self, things: list[int]) -> None:
         """Forgets those that are still touched by one task alone, once no touch of them may still come."""

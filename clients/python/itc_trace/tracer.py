@@ -192,6 +192,11 @@ class Tracer:
         """Those in the middle of which their task had another event."""
         self._writing = _thread.RLock()
         self._is_over = False
+        self._looked_at = 0
+        """How many notes were looked at."""
+        self._things_gone: list[int] = []
+        self._things_gone_before = 0
+        """Things that are no more, and how many notes were taken by then. They are forgotten once these are looked at."""
         self._missed: dict[str, object] = {}
         """What was not seen of the run, while tracing went on, and something of whoever told of it."""
         self._all_sent = False
@@ -414,6 +419,7 @@ class Tracer:
                 if len(self.notes) < NOTES_AT_ONCE:
                     self._hurry.acquire(True, REST)
                     self._write_touches()
+                    self._look_for_gone()
                 if self.notes:
                     self._report_some()
         except Fault as fault:
@@ -423,8 +429,15 @@ class Tracer:
         except BaseException as fault:  # Nothing that happens here may reach the program.
             self._give_up(Cause.TRACER, f"{type(fault).__name__} in the tracer: {fault}")
 
+    def _look_for_gone(self) -> None:
+        if not self._things_gone:
+            with self._writing:
+                self._things_gone = self._touch_rows.gone()
+            self._things_gone_before = self._looked_at + len(self.notes)
+
     def _report_some(self) -> None:
         batch = self._next_notes()
+        size = len(batch)
         handlers, goes_on, parts = self._handlers, self._goes_on, self._parts
         while batch:
             self._time, note = batch.popleft()
@@ -433,6 +446,7 @@ class Tracer:
                 self._touch(goes_on.pop())
             if parts is not None and parts.is_full and not self._all_sent:
                 self._divide(parts)
+        self._looked_at += size
         self._gone_soon.clear()
         self._flush()
         if len(self._touch_events) > MOST_UNWRITTEN:
@@ -778,8 +792,8 @@ class Tracer:
     def _write_touches(self, is_last: bool = False) -> None:
         """Brings the journal up to what was touched by now."""
         with self._writing:
-            gone = self._touch_rows.gone()
-            is_whole = is_last or bool(gone) and not self.notes
+            gone = self._things_gone if self._looked_at >= self._things_gone_before else []
+            is_whole = is_last or bool(gone)
             unwritten, rows = [], []
             for event in self._touch_events:
                 if event.is_open:
@@ -790,8 +804,9 @@ class Tracer:
                 if event.is_waiting:
                     unwritten.append(event)
             self._touch_events = unwritten
-            if is_whole and all(event.event for event in unwritten):
+            if gone and all(event.event for event in unwritten):
                 self._touch_rows.forget(gone)
+                self._things_gone = []
             if self._touch_rows.jobs.has_new_suspicion():
                 rows.append(MANY_JOBS.row())
             if any(rows):

@@ -159,6 +159,33 @@ while not are_served(): time.sleep(0.05)
 gate.release()
 for thread in threads: thread.join()
 """
+ROWS_THAT_GO = """
+import threading, time, _thread
+from itc_trace import lines, touch_rows
+touch_rows.MOST_PRIVATE = 100
+class Row:
+    def __init__(self):
+        self.count = 0
+rows = [Row()]
+lock = threading.Lock()
+done = _thread.allocate_lock()
+done.acquire()
+def busy():
+    while done.locked():
+        with lock:
+            rows[0].count
+        time.sleep(0.0003)
+thread = threading.Thread(target=busy)
+thread.start()
+for _ in range(1500):
+    with lock:
+        rows[:] = [Row()]
+        rows[0].count
+    time.sleep(0.001)
+print(len(lines.state.tracer._touch_rows._alone))
+done.release()
+thread.join()
+"""
 FULL_AT_ITS_END = """
 import itc_trace, threading, time
 from itc_trace import lines, tracer_parts
@@ -225,6 +252,11 @@ class LongRuns(ProgramCase):
         """As on a machine that is loaded: they have ended, and are waited for much later."""
         ran = run_traced("--part-events", "1000", self.program(LINGERING))
         self.assertEqual(ran.returncode, Verdict.NO_RACE, ran.stderr)
+
+    def test_things_that_are_no_more_are_forgotten_while_the_program_is_never_idle(self) -> None:
+        ran = run_traced(self.program(ROWS_THAT_GO))
+        self.assertEqual(ran.returncode, Verdict.NO_RACE, ran.stderr)
+        self.assertLess(int(ran.stdout), 600)
 
     def test_what_lies_in_a_queue_knows_what_its_sender_did_until_then_and_nothing_later(self) -> None:
         with tempfile.TemporaryDirectory() as folder:
