@@ -112,8 +112,8 @@ _KNOWN = {
 SHOWN, WRITTEN, COMPARED, ORDERED, DECLARED, STATE, FIELDS = "shown written compared ordered declared state fields".split()
 EACH, TRUTH, CONTENT = "each", "truth", "content"
 """How deep a function looks at what it is given: at all that its text has, or its text for a programmer, at what is compared for being equal
-or greater, at all fields that its class declares, at all of its state, at its own fields, at each element, at whether each has elements, or at all that containers have inside, and at no
-field of an object."""
+or greater, at all fields that its class declares, at all of its state, at its own fields, at each element, at whether each has elements,
+or at all that containers have inside, and at no field of an object."""
 OF_ELEMENTS = frozenset((EACH, TRUTH))
 BY_FIELDS = frozenset((SHOWN, WRITTEN, COMPARED, ORDERED, DECLARED, STATE, FIELDS))
 DEEP = (BY_FIELDS - {FIELDS}) | OF_ELEMENTS | {CONTENT}
