@@ -457,7 +457,7 @@ def _run_handle(original: Any) -> Any:
 def _line_of_step(callback: Any) -> Line | None:
     """The line of the task that goes on by this callback, if it is one of asyncio itself."""
     kind = type(callback)
-    if kind is types.BuiltinMethodType or kind is types.MethodType or kind.__name__ in _STEPS:
+    if kind is types.BuiltinMethodType or kind is types.MethodType or _name_of(kind) in _STEPS:
         task = callback.__self__
         return getattr(task, "_itc_line", None) if issubclass(type(task), _PlainTask) else None
     return None
@@ -483,6 +483,8 @@ def _run_forever(original: Any) -> Any:
 
 _PLUMBING = frozenset({"asyncio", "_asyncio", "concurrent", "itc_trace"})
 _STEPS = frozenset({"TaskStepMethWrapper", "TaskWakeupMethWrapper"})
+_name_of: Any = vars(type)["__name__"].__get__
+"""The name of a type, whatever its metaclass says."""
 _step_kinds: dict[int, type] = {}
 """The types of these names that were met, by their identities: the hash of a type may be the program's."""
 
@@ -499,7 +501,7 @@ def _is_the_programs(callback: Any) -> bool:
         return _is_outside(function) or not getattr(function, "__name__", "_").startswith("_")
     if kind is types.FunctionType:
         return _is_outside(callback)
-    if kind.__name__ not in _STEPS:
+    if _name_of(kind) not in _STEPS:
         return True
     _step_kinds[id(kind)] = kind
     return False
