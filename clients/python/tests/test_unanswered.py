@@ -12,9 +12,13 @@ from itc_trace import Collector, Verdict
 from .support import WAIT, ProgramCase, run_traced
 
 STOPPED = """
-import http.client, itc_trace, itc_trace.web, os, signal, sys
+import glob, http.client, itc_trace, itc_trace.web, os, signal, sys, time
 itc_trace.web.ANSWER_WAIT = 0.2
 collector, port = map(int, sys.argv[1:])
+
+def is_stopped():
+    states = [open(stat).read().rpartition(")")[2].split()[0] for stat in glob.glob(f"/proc/{collector}/task/*/stat")]
+    return set(states) == {"T"}
 
 def ask():
     connection = http.client.HTTPConnection("127.0.0.1", port)
@@ -29,6 +33,9 @@ def send():
 
 os.killpg(collector, signal.SIGSTOP)
 try:
+    # On a busy machine a thread of it goes on for some time.
+    while not is_stopped():
+        time.sleep(0.01)
     for _ in range(2):
         {call}()
 finally:
@@ -83,17 +90,17 @@ class Unanswered(ProgramCase):
             ran = self.run_beside("ask", server.server_address[1])
             server.shutdown()
         self.assertEqual(got, [None, None])
-        self.assert_told(ran, 8)
+        self.assert_told(ran, 12)
 
     def test_a_response_without_its_message_is_told_of(self) -> None:
         ran = self.run_beside("serve", 0)
         self.assertEqual(ran.stdout, "[]\n[]\n")
-        self.assert_told(ran, 12)
+        self.assert_told(ran, 16)
 
     def test_a_message_by_hand_that_has_no_name_is_told_of(self) -> None:
         ran = self.run_beside("send", 0)
         self.assertEqual(ran.stdout, "None\nNone\n")
-        self.assert_told(ran, 15)
+        self.assert_told(ran, 19)
 
     def test_nobody_waits_for_a_message_behind_the_end_of_tracing(self) -> None:
         ran = run_traced("--watch-nothing", self.program(GONE))
