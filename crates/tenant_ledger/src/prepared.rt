@@ -90,9 +90,7 @@ impl<S: Keep> Prepared<S> {
     pub fn abandon(self) -> Ledger<S>
         ensures { result ≡ self.tenant }
     {
-        let Prepared { mut book, draft } = self;
-        book.abandon(draft);
-        Ledger { book }
+        Ledger { book: self.book }
     }
 }
 

@@ -51,8 +51,8 @@ impl<S: Keep> Records for Book<S> {
     }
 
     fn message(&self, name: &Name) -> Result<Option<(u64, Receipts)>, Memory> {
-        match self.messages.find(name) {
-            Some(entry) => Ok(Some((entry.sent(), entry.receipts().share()?))),
+        match self.messages.get(name) {
+            Some(message) => Ok(Some((message.sent, self.receipts(message.last)?))),
             None => Ok(None),
         }
     }
@@ -62,7 +62,7 @@ impl<S: Keep> Records for Book<S> {
     }
 
     fn message_count(&self) -> u64 {
-        self.messages.message_count()
+        self.messages.len() as u64
     }
 
     ghost legal = { λ book kept. kept.legal };

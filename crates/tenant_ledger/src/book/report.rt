@@ -1,14 +1,12 @@
 //! Reports that are not refused.
 ghost use Rattle.std.specs.Prelude.{◌≡◌, ◌<◌, true, IfOk, OnOk, Some, None, length};
 ghost use Rattle.std.specs.Result.{result_err};
-ghost use Rattle.trace_types.specs.tenant.Rows.{send_event};
 ghost use Rattle.trace_types.specs.tenant.Reachability.{second_event};
 ghost use Rattle.trace_types.specs.tenant.Refusal.{refusal_of};
 ghost use Rattle.trace_types.specs.tenant.Tenant.{is_report, answer_to, accepted};
-ghost use Rattle.message_book.specs.Book.{refusal_of_send, refusal_of_receive};
-ghost use Rattle.tenant_ledger.specs.Ledger.{HasIndex, IsKept, history_in, task_in, Decides, refusals_of_task, refusals_of_child, refusals_of_sent, refusals_of_received, refusals_of_joined, refusals_of_named, refusals_of_room, MayNote, joined_by, IsReport, acting_after, named_after};
+ghost use Rattle.tenant_ledger.specs.Ledger.{HasIndex, IsKept, history_in, task_in, message_in, Decides, refusals_of_task, refusals_of_child, refusals_of_sent, refusals_of_received, refusals_of_joined, refusals_of_named, refusals_of_room, joined_by, received_by, IsReport, acting_after, named_after, noted_after, last_in};
 
-use super::{Book, Task};
+use super::{Book, Message, Task};
 use crate::share::Keep;
 use trace_types::{Code, Kind, Name, Request, TaskState};
 
@@ -25,6 +23,27 @@ pub(super) struct Report {
     pub(super) second: u64,
     /// The task that it joins.
     pub(super) joined: Option<Task>,
+    /// The message that it receives.
+    pub(super) received: Option<Message>,
+}
+
+/// What the book has of the task or the message that a report names.
+struct Named {
+    /// The event that the report follows for it, or 0.
+    second: u64,
+    /// The task that the report joins.
+    joined: Option<Task>,
+    /// The message that it receives.
+    received: Option<Message>,
+}
+
+impl Named {
+    /// What is neither joined nor received.
+    const NEW: Named = Named {
+        second: 0,
+        joined: None,
+        received: None,
+    };
 }
 
 impl Report {
@@ -69,6 +88,35 @@ impl Report {
                 }),
                 None => None,
             },
+        }
+    }
+
+    /// What is to be kept of the message that the report sends or receives.
+    #[inline(always)]
+    pub(super) fn noted_after(&self, event: u64) -> Option<Message>
+        ensures { result ≡ noted_after self.now.kind event self.now.received }
+    {
+        match (self.kind, self.received) {
+            (Kind::Send, _) => Some(Message {
+                sent: event,
+                last: 0,
+            }),
+            (_, None) => None,
+            (_, Some(message)) => Some(Message {
+                last: event,
+                ..message
+            }),
+        }
+    }
+
+    /// The last receipt of the message that the report receives, or 0.
+    #[inline(always)]
+    pub(super) fn earlier(&self) -> u64
+        ensures { result ≡ last_in self.now.received }
+    {
+        match self.received {
+            Some(message) => message.last,
+            None => 0,
         }
     }
 }
@@ -117,20 +165,28 @@ impl<S: Keep> Book<S> {
     /// Refuses a message that was sent, and one message more at the limit.
     fn check_message(&self, name: &Name) -> Result<(), Code>
         requires { IsKept self.now }
-        ensures may { OnOk result (refusal_of_send self.now.messages name.now ≡ None) }
         ensures decides { Decides (refusals_of_sent self.now.limits (history_in self.now) name.now) result }
     {
-        self.messages.check_send(name)
+        if self.messages.get(name).is_some() {
+            Err(Code::MessageExists)
+        } else if self.messages.len() as u64 >= self.limits.messages() {
+            Err(Code::MessagesFull)
+        } else {
+            Ok(())
+        }
     }
 
-    /// The event that sent the message, if the task may receive it, else `NoMessage` or `AlreadyReceived`.
-    fn sent_message(&self, task: &Name, name: &Name) -> Result<u64, Code>
+    /// The message, if the task may receive it, else `NoMessage` or `AlreadyReceived`.
+    fn sent_message(&self, task: &Name, name: &Name) -> Result<Message, Code>
         requires { IsKept self.now }
-        ensures may { OnOk result (refusal_of_receive self.now.messages name.now task.now ≡ None) }
-        ensures sent { IfOk result (λ event. event ≡ send_event (history_in self.now) name.now) }
+        ensures message { IfOk result (λ message. message_in self.now name.now ≡ Some message) }
         ensures decides { Decides (refusals_of_received (history_in self.now) task.now name.now) result }
     {
-        self.messages.check_receive(name, task)
+        match self.messages.get(name) {
+            None => Err(Code::NoMessage),
+            Some(message) if self.is_receiver(task, message.last) => Err(Code::AlreadyReceived),
+            Some(message) => Ok(*message),
+        }
     }
 
     /// Refuses one event more at the limit.
@@ -145,37 +201,48 @@ impl<S: Keep> Book<S> {
         }
     }
 
-    /// What the book has of the task or message that such a report names: its second event, and the task that it joins.
-    /// Else it is why the report is refused for that name.
+    /// What the book has of the task or message that such a report names, or why the report is refused for that name.
     fn named(
         &self,
         task: &Name,
         kind: Kind,
         name: &Option<Name>,
-    ) -> Result<(u64, Option<Task>), Code>
+    ) -> Result<Named, Code>
         requires { IsKept self.now }
-        ensures found { IfOk result (λ found. found ≡ (second_event (history_in self.now) kind name.now, joined_by (task_in self.now) kind name.now)) }
-        ensures may { OnOk result (MayNote self.now.messages task.now kind name.now) }
+        ensures second { IfOk result (λ named. named.second ≡ second_event (history_in self.now) kind name.now) }
+        ensures joined { IfOk result (λ named. named.joined ≡ joined_by (task_in self.now) kind name.now) }
+        ensures received { IfOk result (λ named. named.received ≡ received_by (message_in self.now) kind name.now) }
         ensures decides { Decides (refusals_of_named self.now.limits (history_in self.now) task.now kind name.now) result }
     {
         let Some(name) = *name else {
-            return Ok((0, None));
+            return Ok(Named::NEW);
         };
         match kind {
-            Kind::Local => Ok((0, None)),
+            Kind::Local => Ok(Named::NEW),
             Kind::Spawn => {
                 self.check_child(&name)?;
-                Ok((0, None))
+                Ok(Named::NEW)
             }
             Kind::Send => {
                 self.check_message(&name)?;
-                Ok((0, None))
+                Ok(Named::NEW)
             }
-            Kind::Recv => Ok((self.sent_message(task, &name)?, None)),
-            Kind::End => Ok((0, None)),
+            Kind::Recv => {
+                let message = self.sent_message(task, &name)?;
+                Ok(Named {
+                    second: message.sent,
+                    joined: None,
+                    received: Some(message),
+                })
+            }
+            Kind::End => Ok(Named::NEW),
             Kind::Join => {
                 let task = self.ended_task(&name)?;
-                Ok((task.last, Some(task)))
+                Ok(Named {
+                    second: task.last,
+                    joined: Some(task),
+                    received: None,
+                })
             }
         }
     }
@@ -192,7 +259,7 @@ impl<S: Keep> Book<S> {
             return Err(Code::ViewOnly);
         };
         let (acting, index) = self.live_task(&reported.task)?;
-        let (second, joined) = self.named(&reported.task, reported.kind, &reported.name)?;
+        let named = self.named(&reported.task, reported.kind, &reported.name)?;
         self.check_room()?;
         Ok(Report {
             task: reported.task,
@@ -200,8 +267,9 @@ impl<S: Keep> Book<S> {
             name: reported.name,
             acting: *acting,
             index,
-            second,
-            joined,
+            second: named.second,
+            joined: named.joined,
+            received: named.received,
         })
     }
 }
