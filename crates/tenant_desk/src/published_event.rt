@@ -1,8 +1,19 @@
 //! Published events.
+ghost use Rattle.std.specs.Prelude.{◌≡◌, IfOk};
+
 use event_tree::{EvTree, RaisedPoint};
 use id_tree::IdTree;
-use trace_types::Row;
+use trace_types::{Memory, Row};
 use tree_forest::Tree;
+
+/// Where a tenant's tables of names have the task of a row, and the task or the message that the row names.
+///
+/// They save searches. A place that is wrong costs one, and changes nothing else.
+#[derive(Clone, Copy)]
+pub struct Places {
+    pub task: usize,
+    pub name: usize,
+}
 
 /// What is published of one event.
 #[derive(Drop)]
@@ -17,4 +28,24 @@ pub struct Event {
     pub start: u64,
     /// The id that the event's task has after it.
     pub id: Tree<IdTree>,
+    /// Where the names of the row stand.
+    pub places: Places,
+}
+
+impl Event {
+    /// An equal event. It takes no memory. Returns `Memory` if one of its trees would be shared more often than can be
+    /// counted.
+    #[inline(always)]
+    pub(crate) fn share(&self) -> Result<Event, Memory>
+        ensures { IfOk result (λ event. event ≡ self.now) }
+    {
+        Ok(Event {
+            row: self.row.share(),
+            tree: self.tree.share()?,
+            point: self.point.as_ref().map(|point| point.share()),
+            start: self.start,
+            id: self.id.share()?,
+            places: self.places,
+        })
+    }
 }
