@@ -1,12 +1,11 @@
 -- What is kept of each task and of each message, beside the rows.
-use Rattle.std.specs.Prelude.{◌≡◌, ℕ, suc, ◌+◌, ◌≤◌, [], ◌∷◌, length, Option, Some, None, unwrap_or, if◌then◌else◌}
+use Rattle.std.specs.Prelude.{◌≡◌, ℕ, suc, ◌+◌, ◌≤◌, [], ◌∷◌, length, Option, Some, None, if◌then◌else◌}
 use Rattle.std.specs.Option.{option_map}
-use Rattle.indexmap.specs.IndexMap.{IndexMap, get, index_of, index_map_len, spare}
+use Rattle.indexmap.specs.IndexMap.{IndexMap, get, index_map_len, spare}
 use Rattle.trace_types.specs.text.Name.{Text, is_same, root}
 use Rattle.trace_types.specs.tenant.Limits.{Limits}
 use Rattle.trace_types.specs.tenant.Rows.{History, is_of, starts, joins, sends, receives, ends_task, is_sent, send_event, receipts, task_count, message_count}
 use Rattle.trace_types.specs.declared.row.Kind.{Kind}
-use Rattle.trace_types.specs.declared.row.Kind.TheVariants.{Recv, Join}
 use Rattle.trace_types.specs.declared.row.Row.{Row}
 use Rattle.trace_types.specs.declared.task_state.TaskState.{TaskState}
 use Rattle.trace_types.specs.declared.task_state.TaskState.TheVariants.{Live, Ended, Joined}
@@ -62,16 +61,6 @@ indexed_message (row ∷ earlier) message = message_after row (suc (length earli
 -- how many names fit into a map, those that it has included
 abbrev pub capacity : {V S : Type 0} → IndexMap Text V S → ℕ
 capacity map = index_map_len map + spare map
-
--- where the name stands in a map, or 0
-abbrev pub place_in : {V S : Type 0} → IndexMap Text V S → Text → ℕ
-place_in map name = unwrap_or (index_of is_same map name) 0
-
--- where the task or the message stands that a row of this kind names, of those that it joins or receives
-abbrev pub named_place : Index → Kind → Option Text → ℕ
-named_place index Join (Some child) = place_in index.tasks child
-named_place index Recv (Some message) = place_in index.messages message
-named_place index kind name = 0
 
 -- there is room for the names of as many tasks and messages as the limits allow
 pub record HasRoomForNames (index : Index) : Type 0 where

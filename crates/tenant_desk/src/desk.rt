@@ -6,7 +6,6 @@ ghost use Rattle.trace_types.specs.text.Text.{CanBeWritten};
 ghost use Rattle.tenant_desk.specs.Desks.{IsDone, IsEventOf, AllArePublished};
 
 use crate::Told;
-use crate::index::Index;
 use crate::published_answer::answer_published;
 use crate::published_event::Event;
 use crate::publisher::Publisher;
@@ -21,13 +20,11 @@ use tenant_ledger::{Keep, Ledger, MeantId, Prepared, Shared, SharedIds};
 use trace_query::Meant;
 use trace_types::{Code, Limits, Memory, Name, Reply, Request};
 
-/// What is to be published of a report, whose tree this share keeps. The index says where its names stand. Returns `Memory` if
-/// it runs out of memory.
+/// What is to be published of a report, whose tree this share keeps. Returns `Memory` if it runs out of memory.
 fn event_of<R: Wait>(
     rt: &R,
     shared: &Shared,
     prepared: &mut Prepared<SharedIds>,
-    index: &Index,
 ) -> Result<Event, Memory>
     ensures same { prepared.new ≡ prepared.old }
     ensures event { IfOk result (IsEventOf (⟦<Shared as Keep>⟧.home shared.now) prepared.old) }
@@ -39,7 +36,7 @@ fn event_of<R: Wait>(
         point: prepared.point(),
         start: prepared.start(),
         id: prepared.id().share()?,
-        places: index.places(prepared.row()),
+        places: prepared.places(),
     })
 }
 
@@ -57,7 +54,7 @@ fn accept<R: Wait>(
     ensures shown { AllArePublished (⟦<Shared as Keep>⟧.home shared.now) result publisher.new }
     ensures book { publisher.new.front.book ≡ publisher.old.front.book }
 {
-    let Ok(event) = event_of(rt, shared, &mut prepared, publisher.events().index()) else {
+    let Ok(event) = event_of(rt, shared, &mut prepared) else {
         *reply = Reply::Refused(Code::NoMemory);
         return prepared.abandon();
     };

@@ -2,7 +2,7 @@
 ghost use Rattle.std.specs.Prelude.{◌≡◌, ◌<◌, ◌∷◌, length, IfOk, MatchResult};
 ghost use Rattle.trace_types.specs.tenant.Rows.{history_of};
 ghost use Rattle.tenant_desk.specs.Events.{AreSound, published_tenant, no_events, events_with};
-ghost use Rattle.tenant_desk.specs.Indexes.{AreWithin, IsIndexOf};
+ghost use Rattle.tenant_desk.specs.Indexes.{AreWithin};
 
 use crate::index::Index;
 use crate::published_event::Event;
@@ -117,12 +117,6 @@ impl Events {
         Ok(())
     }
 
-    /// The tasks and the messages by their names.
-    pub(crate) fn index(&self) -> &Index
-        ensures { IsIndexOf self.now.limits (history_of self.now.rows) result.now }
-    {
-        &self.index
-    }
 }
 
 impl Records for Events {

@@ -4,13 +4,13 @@ ghost use Rattle.indexmap.specs.IndexMap.{get, index_map_len, spare};
 ghost use Rattle.trace_types.specs.text.Name.{Text as Characters, is_same};
 ghost use Rattle.trace_types.specs.tenant.Limits.{Limits as Bounds};
 ghost use Rattle.trace_types.specs.tenant.Rows.{History, history_of, starts_task, sends_message};
-ghost use Rattle.tenant_desk.specs.Indexes.{AreWithin, IsIndexOf, acting_after, capacity, message_after, named_place, naming_after, place_in, state_after};
+ghost use Rattle.tenant_desk.specs.Indexes.{AreWithin, IsIndexOf, acting_after, capacity, message_after, naming_after, state_after};
 
-use crate::published_event::Places;
 use crate::span::Span;
 use indexmap::IndexMap;
 use indexmap::map::Entry;
 use std::alloc::Global;
+use tenant_ledger::Places;
 use trace_types::{Kind, Limits, Memory, Name, Row, TaskState};
 
 /// What the rows say of each task and of each message, by its name.
@@ -74,31 +74,15 @@ impl Index {
         }
     }
 
-    /// Where the row's names stand. It is 0 for a name that is not there, or not looked for.
-    pub(crate) fn places(&self, row: &Row) -> Places
-        ensures task { result.task ≡ place_in self.now.tasks row.now.task }
-        ensures name { result.name ≡ named_place self.now row.now.kind row.now.name }
-    {
-        let name = match (row.kind, &row.name) {
-            (Kind::Join, Some(child)) => place_in(&self.tasks, child),
-            (Kind::Recv, Some(message)) => place_in(&self.messages, message),
-            _ => 0,
-        };
-        Places {
-            task: place_in(&self.tasks, &row.task),
-            name,
-        }
-    }
-
     /// Adds the row of this event, whose names are looked for at these places first.
     fn add(&mut self, row: &Row, event: u64, places: Places)
         requires { (limits : Bounds) × (history : History) × IsIndexOf limits history self.old × AreWithin limits (row.now ∷ history) }
         ensures { (limits : Bounds) (history : History) → IsIndexOf limits history self.old → AreWithin limits (row.now ∷ history) → event ≡ suc (length history)
             → IsIndexOf limits (row.now ∷ history) self.new }
     {
-        name_task(&mut self.tasks, row, event, places.name);
+        name_task(&mut self.tasks, row, event, places.named);
         act(&mut self.tasks, row, event, places.task);
-        name_message(&mut self.messages, row, event, places.name);
+        name_message(&mut self.messages, row, event, places.named);
         match row.kind {
             Kind::Spawn => self.task_count += 1,
             Kind::Send => self.message_count += 1,
@@ -191,13 +175,6 @@ fn name_message(
         }
         _ => {}
     }
-}
-
-/// Where the name stands, or 0 if it is not there.
-fn place_in<V>(map: &IndexMap<Name, V>, name: &Name) -> usize
-    ensures { result ≡ place_in map.now name.now }
-{
-    map.get_index_of(name).unwrap_or(0)
 }
 
 /// Where the name stands, and what is kept under it. It is looked for at this place, and then by its hash.

@@ -3,17 +3,9 @@ ghost use Rattle.std.specs.Prelude.{◌≡◌, IfOk};
 
 use event_tree::{EvTree, RaisedPoint};
 use id_tree::IdTree;
+use tenant_ledger::Places;
 use trace_types::{Memory, Row};
 use tree_forest::Tree;
-
-/// Where a tenant's tables of names have the task of a row, and the task or the message that the row names.
-///
-/// They save searches. A place that is wrong costs one, and changes nothing else.
-#[derive(Clone, Copy)]
-pub struct Places {
-    pub task: usize,
-    pub name: usize,
-}
 
 /// What is published of one event.
 #[derive(Drop)]
@@ -28,7 +20,7 @@ pub struct Event {
     pub start: u64,
     /// The id that the event's task has after it.
     pub id: Tree<IdTree>,
-    /// Where the names of the row stand.
+    /// Where its names may stand. They are looked for there first.
     pub places: Places,
 }
 
