@@ -1,66 +1,72 @@
-// Checks the page in headless Chromium against what the program answers: see `browser/test`.
-import assert from "node:assert/strict";
-import { Browser } from "./browser.mjs";
-import { clocks } from "./clocks.mjs";
-import { beside } from "./comparing.mjs";
-import { filters } from "./filtering.mjs";
-import { hostileFiles } from "./hostile.mjs";
-import { looks } from "./looks.mjs";
-import { hostileText, names, opening, policyFits, spoilt, spoiltPictures, versions } from "./opening.mjs";
-import { bigPages, spoiltStamps, stamps, unjoinedTasks, worker } from "./packing.mjs";
-import { cleanUp, exportOf, pictureOf } from "./program.mjs";
-import { ends, hostileRaces, races } from "./racing.mjs";
-import { why } from "./reasons.mjs";
-import { svg } from "./saving.mjs";
-import { screenshots } from "./screenshots.mjs";
-import { broadcasts, busyTrace, lanes, shapes, topic, workedExport } from "./showing.mjs";
-import { size } from "./size.mjs";
-import { BUSY, WORKED } from "./traces.mjs";
-import { address, keyboard, labels, listsAndSearch, moving, tips } from "./using.mjs";
+// Hands the checks of the page out to lanes, and tells what came of each: see `browser/test`.
+import { fork } from "node:child_process";
+import { once } from "node:events";
+import { fileURLToPath } from "node:url";
+import { CHECKS, LONG, TIMED } from "./checks.mjs";
 
-// What has limits of time that other work beside would break.
-const TIMED = ["16384 events"];
-const words = process.argv.slice(2), isUntimed = words[0] === "--untimed", [folder, only = ""] = isUntimed ? words.slice(1) : words;
-const CHECKS = { "worked export": workedExport, shapes, "500 events": busyTrace, topic, broadcasts, lanes, "spoilt exports": spoilt,
-  opening, versions, "spoilt pictures": spoiltPictures, names, "hostile text": hostileText, "lists and search": listsAndSearch, labels, keyboard,
-  address, moving, tips, races, "hostile races": hostileRaces, "hostile files": hostileFiles, ends, why, filters, stamps,
-  "spoilt stamps": spoiltStamps, worker, "big pages": bigPages, svg, beside, clocks, looks,
-  "unjoined tasks": unjoinedTasks, "16384 events": size };
+const LANES = 2;
 
-/** No page asked for anything but files, or complained. */
-function nothingElse(name, pages) {
-  for (const { complaints, requests } of pages) {
-    assert.deepEqual(complaints, [], name);
-    assert.deepEqual(requests.filter((address) => !/^(file:\/\/|blob:null\/|about:blank$)/.test(address)), [], name);
+/** A process that makes checks in a Chromium of its own. */
+class Lane {
+  constructor() {
+    this.process = fork(fileURLToPath(new URL("lane.mjs", import.meta.url)));
+    this.ended = once(this.process, "exit");
+  }
+
+  /** What the lane tells of its work, once that is done. */
+  async make(work) {
+    this.process.send(work);
+    const [{ told, fault }] = await Promise.race([once(this.process, "message"), this.ended.then(() => [{ fault: "a lane has ended" }])]);
+    if (fault) throw new Error(fault);
+    return told;
+  }
+
+  /** Makes one check after another, until none is left. A fault leaves none for the other lanes. */
+  async makeAll(left) {
+    try {
+      while (left.length > 0) {
+        const name = left.shift(), told = await this.make({ name });
+        console.log(`browser/test: ${name}: right${told ? `: ${told}` : ""}`);
+      }
+    } finally {
+      left.length = 0;
+    }
+  }
+
+  async end() {
+    if (this.process.connected) this.process.disconnect();
+    await this.ended;
   }
 }
 
-async function check(browser) {
-  const tab = await browser.page(1280, 800), phone = await browser.page(390, 844, { ratio: 3, mobile: true });
+function chosen(only, isUntimed) {
   const asked = Object.keys(CHECKS).filter((name) => only === "" || only.split(",").includes(name));
   const names = asked.filter((name) => !isUntimed || !TIMED.includes(name));
   if (names.length < asked.length) console.log(`skipped: browser: ${TIMED.join(", ")}: its limits of time want a quiet machine: browser/test`);
   if (names.length === 0) throw new Error(`there is no check ${only}`);
-  for (const name of names) {
-    const told = await CHECKS[name](tab, phone);
-    console.log(`browser/test: ${name}: right${told ? `: ${told}` : ""}`);
-    nothingElse(name, [tab, phone]);
+  return names;
+}
+
+async function check(names, folder) {
+  const timed = TIMED.filter((name) => names.includes(name)), others = names.filter((name) => !TIMED.includes(name));
+  const left = [...LONG.filter((name) => others.includes(name)), ...others.filter((name) => !LONG.includes(name))];
+  const [first, ...further] = Array.from({ length: Math.max(1, Math.min(LANES, left.length)) }, () => new Lane());
+  try {
+    const ended = await Promise.allSettled([first.makeAll(left), ...further.map((lane) => lane.makeAll(left).finally(() => lane.end()))]);
+    const wrong = ended.find(({ status }) => status === "rejected");
+    if (wrong) throw wrong.reason;
+    await first.makeAll(timed);
+    if (folder) console.log(`browser/test: screenshots: ${await first.make({ folder })}`);
+  } finally {
+    await first.end();
   }
-  if (folder) console.log(`browser/test: screenshots: ${await screenshots(browser, folder)}`);
   console.log(`browser: ${names.length} passed`);
 }
 
-let browser;
+const words = process.argv.slice(2), isUntimed = words[0] === "--untimed", [folder, only = ""] = isUntimed ? words.slice(1) : words;
 try {
-  policyFits();
-  pictureOf("worked.html", exportOf(WORKED));
-  pictureOf("busy.html", exportOf(BUSY));
-  browser = new Browser("chromium");
-  await check(browser);
+  await check(chosen(only, isUntimed), folder);
 } catch (fault) {
-  console.error(`browser: wrong: ${fault.stack}`);
+  console.error(`browser: wrong: ${fault.message}`);
   process.exitCode = 1;
-} finally {
-  await browser?.close();
-  cleanUp();
 }

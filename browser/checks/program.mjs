@@ -10,13 +10,16 @@ export const TOP = dirname(dirname(dirname(fileURLToPath(import.meta.url))));
 export const TEMPLATE = join(TOP, "browser/picture.html");
 const PICTURE = join(TOP, "picture"), PROGRAM = process.env.ITC_TRACE;
 const GREATEST = ["--events", "16384", "--tasks", "2048", "--messages", "16384"];
-const work = mkdtempSync(join(tmpdir(), "picture-test-"));
+let work;
 
 export function cleanUp() {
-  rmSync(work, { recursive: true, force: true });
+  if (work) rmSync(work, { recursive: true, force: true });
 }
 
-export const inWork = (name) => join(work, name);
+export function inWork(name) {
+  work ??= mkdtempSync(join(tmpdir(), "picture-test-"));
+  return join(work, name);
+}
 
 export function file(name, bytes) {
   writeFileSync(inWork(name), bytes);
