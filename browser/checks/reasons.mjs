@@ -43,6 +43,14 @@ function freedomOf(events, past, one, other) {
   return [...told, both.length > 0 ? Math.max(...both) : "nothing happened before both"].map(String);
 }
 
+/** What the page says of the edge between these two. */
+function wordsOf(events, pred, event) {
+  const { kind, task, name } = events[event];
+  if (events[pred].task === task) return `later in ${task}`;
+  if (events[pred].kind === "spawn") return `in ${task}, which that started`;
+  return kind === "recv" ? `receives message ${name}` : `takes in ${name}`;
+}
+
 /** Of two events that are concurrent, the synchronizations around each and the latest event before both; of two that are ordered,
  * a shortest chain of edges. Both are drawn. */
 export async function why(tab) {
@@ -69,10 +77,11 @@ async function areTold(tab, reports, pairs) {
     page.choose(other, { asOther: true });
     const words = (part) => part.querySelector("button")?.dataset.event ?? part.textContent;
     const told = (selector) => [...document.querySelectorAll(selector)].map(words);
-    return { freedom: told("#freedom dd"), steps: told("#chain li"), chains: page.view.chains };
+    const said = [...document.querySelectorAll("#chain li span")].map((part) => part.textContent);
+    return { freedom: told("#freedom dd"), steps: told("#chain li"), said, chains: page.view.chains };
   }), pairs);
   pairs.forEach(([one, other], place) => {
-    const { freedom, steps, chains } = shown[place], what = `${one} and ${other}`;
+    const { freedom, steps, said, chains } = shown[place], what = `${one} and ${other}`;
     if (one === other) return;
     const [earlier, later] = [Math.min(one, other), Math.max(one, other)], edges = distance(events, earlier, later);
     if (edges === Infinity) {
@@ -86,6 +95,8 @@ async function areTold(tab, reports, pairs) {
     for (let step = 1; step < chain.length; step++) assert.ok(events[chain[step]].preds.includes(chain[step - 1]), `${what}: ${chain}`);
     assert.deepEqual([steps[0], steps.at(-1)], [String(earlier), String(later)]);
     assert.ok(steps.every((step) => chain.includes(Number(step))), what);
+    const preds = new Map(chain.map((event, at) => [String(event), chain[at - 1]]));
+    assert.deepEqual(said, steps.slice(1).map((step) => wordsOf(events, preds.get(step), Number(step))), what);
     const isLeftOut = (event) => !steps.includes(String(event));
     assert.ok(chain.filter(isLeftOut).every((event) => events[event].task === events[chain[chain.indexOf(event) + 1]].task), what);
     counts.chains++;

@@ -45,10 +45,11 @@ export async function labels(tab) {
   await labelsAreWhole(tab);
 }
 
-/** A label is written whole, also where its event stands near an end of what is in view. */
+/** A label is written whole, also where its event stands near an end of what is in view. One of several lines has each line once. */
 async function labelsAreWhole(tab) {
-  const long = (event) => JSON.stringify({ event, task: "a", thing: null, kind: "read", file: null, line: 0, label: `a label of event ${event}` });
-  await opened(tab, pictureOf("long_labels.html", exportOf(WORKED), ["--labels", file("long.journal", `${[1, 5, 8].map(long).join("\n")}\n`)]));
+  const row = (event, label) => JSON.stringify({ event, task: "a", thing: null, kind: "read", file: null, line: 0, label });
+  const rows = [...[1, 5, 8].map((event) => row(event, `a label of event ${event}`)), row(5, "more"), row(5, "more")];
+  await opened(tab, pictureOf("long_labels.html", exportOf(WORKED), ["--labels", file("long.journal", `${rows.join("\n")}\n`)]));
   await tab.until(() => page.labels.size === 3);
   const written = await tab.run(() => {
     const { view } = page, texts = [];
@@ -59,7 +60,8 @@ async function labelsAreWhole(tab) {
     delete view.context.fillText;
     return { texts: texts.filter(([words]) => words.includes("label")), width: view.width };
   });
-  assert.deepEqual(written.texts.map(([words]) => words).sort(), [1, 5, 8].map((event) => `${event} a label of event ${event}`));
+  const due = [1, 5, 8].map((event) => `${event} a label of event ${event}${event === 5 ? ", more" : ""}`);
+  assert.deepEqual(written.texts.map(([words]) => words).sort(), due);
   for (const [words, from, to] of written.texts) assert.ok(from >= 0 && to <= written.width, `${words}: ${from} to ${to}`);
 }
 
