@@ -1,5 +1,5 @@
 //! The book, with its sends and receipts, and how the last of them are taken back.
-ghost use Rattle.std.specs.Prelude.{◌≡◌, ◌≤◌, [], true, length, None, Some, false, IfOk, IfErr, OnErr, OnOk, IsOkAnd, unwrap_or};
+ghost use Rattle.std.specs.Prelude.{◌≡◌, ◌≤◌, [], true, length, None, Some, false, IfOk, IfErr, IfSome, OnErr, OnOk, IsOkAnd, unwrap_or, slice_get};
 ghost use Rattle.std.specs.Option.{option_copied, option_map};
 ghost use Rattle.std.specs.Result.{result_err};
 ghost use Rattle.message_book.specs.Book.{AreNamedOnce, LastIsUnreceived, entry_of, has_receipt, with_message, with_receipt, without_last, without_last_receipt, refusal_of_send, refusal_of_receive};
@@ -105,10 +105,33 @@ impl MessageBook {
         ensures code { result_err result ≡ refusal_of_receive self.now name.now task.now }
         ensures sent { IfOk result (λ event. option_map (λ entry. entry.sent) (entry_of self.now.messages name.now) ≡ Some event) }
     {
-        match self.find(name) {
+        let (event, _) = self.find_to_receive(name, task)?;
+        Ok(event)
+    }
+
+    /// The event that sent the message of this name, and the message's place, if the task can receive it. It is refused as
+    /// [`MessageBook::check_receive`] says. The first message that was sent has the place 0. It takes no memory.
+    pub fn find_to_receive(&self, name: &Name, task: &Name) -> Result<(u64, usize), Code>
+        ensures code { result_err result ≡ refusal_of_receive self.now name.now task.now }
+        ensures sent { IfOk result (λ found. option_map (λ entry. entry.sent) (entry_of self.now.messages name.now) ≡ Some found.0) }
+        ensures place { IfOk result (λ found. option_map (λ message. message.0) (slice_get self.now.messages found.1) ≡ Some name.now) }
+    {
+        match self.find_at(name) {
             None => Err(Code::NoMessage),
-            Some(entry) if entry.has_receiver(task) => Err(Code::AlreadyReceived),
-            Some(entry) => Ok(entry.sent()),
+            Some((_, entry)) if entry.has_receiver(task) => Err(Code::AlreadyReceived),
+            Some((place, entry)) => Ok((entry.sent(), place)),
+        }
+    }
+
+    /// The place of the message of this name, and what the book has of it.
+    #[inline(always)]
+    fn find_at(&self, name: &Name) -> Option<(usize, &Entry)>
+        ensures entry { option_map (λ found. found.1.now) result ≡ entry_of self.now.messages name.now }
+        ensures place { IfSome result (λ found. option_map (λ message. message.0) (slice_get self.now.messages found.0) ≡ Some name.now) }
+    {
+        match self.messages.get_full(name) {
+            Some((place, _, entry)) => Some((place, entry)),
+            None => None,
         }
     }
 
