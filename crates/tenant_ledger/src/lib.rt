@@ -29,6 +29,7 @@
 mod book;
 pub mod laws;
 mod ledger;
+mod places;
 mod plain_share;
 mod prepared;
 mod query_answers;
@@ -38,6 +39,7 @@ mod shared_ids;
 mod stack;
 
 pub use ledger::Ledger;
+pub use places::Places;
 pub use plain_share::PlainShare;
 pub use prepared::Prepared;
 pub use query_answers::{Records, answer, counts_of, order_of};

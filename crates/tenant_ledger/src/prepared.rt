@@ -11,7 +11,7 @@ ghost use Rattle.tenant_ledger.specs.Ledger.{MayHavePoint, start_of};
 use crate::book::{Book, Draft};
 use crate::query_answers::Records;
 use crate::share::{Keep, MeantId, Share};
-use crate::{Ledger, PlainShare, Shared, SharedIds};
+use crate::{Ledger, Places, PlainShare, Shared, SharedIds};
 use event_tree::{EvTree, RaisedPoint};
 use std::marker::Model;
 use std::sync::Wait;
@@ -66,6 +66,11 @@ impl<S: Keep> Prepared<S> {
         ensures { result ≡ start_of (self.now.row ∷ history_of self.now.tenant.rows) (suc (length self.now.tenant.rows)) }
     {
         self.draft.start()
+    }
+
+    /// Where the ledger's tables of names have those of the report.
+    pub fn places(&self) -> Places {
+        self.draft.places()
     }
 
     /// The id that the report's task has after the event, as it is kept.

@@ -42,6 +42,7 @@ impl<S: Keep> Book<S> {
             acting,
             index,
             named,
+            place: _,
         } = draft;
         add_some(&mut self.ids, first);
         add_some(&mut self.ids, second);

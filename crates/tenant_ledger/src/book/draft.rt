@@ -9,7 +9,7 @@ ghost use Rattle.tenant_ledger.specs.Ledger.{IsKept, HasRoom, history_in, MayNot
 
 use super::{Book, Report, Task};
 use crate::share::{Keep, Share};
-use crate::{MeantId, SharedIds, Stack};
+use crate::{MeantId, Places, SharedIds, Stack};
 use event_tree::{EvTree, RaisedPoint};
 use id_tree::IdTree;
 use std::alloc::Global;
@@ -32,6 +32,8 @@ pub(crate) struct Draft<S: Keep> {
     pub(super) index: usize,
     /// What is to be kept of the task that the event names.
     pub(super) named: Option<Task>,
+    /// Where the table of tasks or of messages has what the event joins or receives, or 0.
+    pub(super) place: usize,
 }
 
 impl<S: Keep> Model for Draft<S> {
@@ -83,6 +85,14 @@ impl<S: Keep> Draft<S> {
         ensures { result ≡ self.now.acting.start }
     {
         self.acting.start
+    }
+
+    /// Where the tables of names have those of the event.
+    pub(crate) fn places(&self) -> Places {
+        Places {
+            task: self.index,
+            named: self.place,
+        }
     }
 
     /// The first of the ids that the event makes, if it makes one.
@@ -153,6 +163,7 @@ impl<S: Keep> Book<S> {
             acting: report.acting_after(event, place),
             index: report.index,
             named: report.named_after(event, place),
+            place: report.place,
         })
     }
 

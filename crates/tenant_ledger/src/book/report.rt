@@ -25,6 +25,28 @@ pub(super) struct Report {
     pub(super) second: u64,
     /// The task that it joins.
     pub(super) joined: Option<Task>,
+    /// Where the table of tasks or of messages has what it joins or receives, or 0.
+    pub(super) place: usize,
+}
+
+/// What the book has of the task or the message that a report names.
+#[derive(Clone, Copy)]
+struct Named {
+    /// The event that the report follows for it, or 0.
+    second: u64,
+    /// The task that the report joins.
+    joined: Option<Task>,
+    /// Where the table of tasks or of messages has what is joined or received, or 0.
+    place: usize,
+}
+
+impl Named {
+    /// What is neither joined nor received.
+    const NEW: Named = Named {
+        second: 0,
+        joined: None,
+        place: 0,
+    };
 }
 
 impl Report {
@@ -88,16 +110,16 @@ impl<S: Keep> Book<S> {
         }
     }
 
-    /// The task, if it may be joined, else `NoTask`, `NotEnded` or `AlreadyJoined`.
-    fn ended_task(&self, name: &Name) -> Result<Task, Code>
+    /// The task, if it may be joined, and its index, else `NoTask`, `NotEnded` or `AlreadyJoined`.
+    fn ended_task(&self, name: &Name) -> Result<(Task, usize), Code>
         requires { IsKept self.now }
-        ensures task { IfOk result (λ task. task_in self.now name.now ≡ Some task) }
+        ensures task { IfOk result (λ found. task_in self.now name.now ≡ Some found.0) }
         ensures decides { Decides (refusals_of_joined (history_in self.now) name.now) result }
     {
-        let (task, _) = self.known_task(name)?;
+        let (task, index) = self.known_task(name)?;
         match task.state {
             TaskState::Live => Err(Code::NotEnded),
-            TaskState::Ended => Ok(*task),
+            TaskState::Ended => Ok((*task, index)),
             TaskState::Joined => Err(Code::AlreadyJoined),
         }
     }
@@ -123,14 +145,14 @@ impl<S: Keep> Book<S> {
         self.messages.check_send(name)
     }
 
-    /// The event that sent the message, if the task may receive it, else `NoMessage` or `AlreadyReceived`.
-    fn sent_message(&self, task: &Name, name: &Name) -> Result<u64, Code>
+    /// The event that sent the message, and its place, if the task may receive it, else `NoMessage` or `AlreadyReceived`.
+    fn sent_message(&self, task: &Name, name: &Name) -> Result<(u64, usize), Code>
         requires { IsKept self.now }
         ensures may { OnOk result (refusal_of_receive self.now.messages name.now task.now ≡ None) }
-        ensures sent { IfOk result (λ event. event ≡ send_event (history_in self.now) name.now) }
+        ensures sent { IfOk result (λ found. found.0 ≡ send_event (history_in self.now) name.now) }
         ensures decides { Decides (refusals_of_received (history_in self.now) task.now name.now) result }
     {
-        self.messages.check_receive(name, task)
+        self.messages.find_to_receive(name, task)
     }
 
     /// Refuses one event more at the limit.
@@ -145,37 +167,43 @@ impl<S: Keep> Book<S> {
         }
     }
 
-    /// What the book has of the task or message that such a report names: its second event, and the task that it joins.
-    /// Else it is why the report is refused for that name.
-    fn named(
-        &self,
-        task: &Name,
-        kind: Kind,
-        name: &Option<Name>,
-    ) -> Result<(u64, Option<Task>), Code>
+    /// What the book has of the task or message that such a report names, or why the report is refused for that name.
+    fn named(&self, task: &Name, kind: Kind, name: &Option<Name>) -> Result<Named, Code>
         requires { IsKept self.now }
-        ensures found { IfOk result (λ found. found ≡ (second_event (history_in self.now) kind name.now, joined_by (task_in self.now) kind name.now)) }
+        ensures second { IfOk result (λ named. named.second ≡ second_event (history_in self.now) kind name.now) }
+        ensures joined { IfOk result (λ named. named.joined ≡ joined_by (task_in self.now) kind name.now) }
         ensures may { OnOk result (MayNote self.now.messages task.now kind name.now) }
         ensures decides { Decides (refusals_of_named self.now.limits (history_in self.now) task.now kind name.now) result }
     {
         let Some(name) = *name else {
-            return Ok((0, None));
+            return Ok(Named::NEW);
         };
         match kind {
-            Kind::Local => Ok((0, None)),
+            Kind::Local => Ok(Named::NEW),
             Kind::Spawn => {
                 self.check_child(&name)?;
-                Ok((0, None))
+                Ok(Named::NEW)
             }
             Kind::Send => {
                 self.check_message(&name)?;
-                Ok((0, None))
+                Ok(Named::NEW)
             }
-            Kind::Recv => Ok((self.sent_message(task, &name)?, None)),
-            Kind::End => Ok((0, None)),
+            Kind::Recv => {
+                let (second, place) = self.sent_message(task, &name)?;
+                Ok(Named {
+                    second,
+                    joined: None,
+                    place,
+                })
+            }
+            Kind::End => Ok(Named::NEW),
             Kind::Join => {
-                let task = self.ended_task(&name)?;
-                Ok((task.last, Some(task)))
+                let (task, place) = self.ended_task(&name)?;
+                Ok(Named {
+                    second: task.last,
+                    joined: Some(task),
+                    place,
+                })
             }
         }
     }
@@ -192,7 +220,7 @@ impl<S: Keep> Book<S> {
             return Err(Code::ViewOnly);
         };
         let (acting, index) = self.live_task(&reported.task)?;
-        let (second, joined) = self.named(&reported.task, reported.kind, &reported.name)?;
+        let named = self.named(&reported.task, reported.kind, &reported.name)?;
         self.check_room()?;
         Ok(Report {
             task: reported.task,
@@ -200,8 +228,9 @@ impl<S: Keep> Book<S> {
             name: reported.name,
             acting: *acting,
             index,
-            second,
-            joined,
+            second: named.second,
+            joined: named.joined,
+            place: named.place,
         })
     }
 }

@@ -12,14 +12,14 @@ not_refused g c =
     let report = c.in-Some.reported in
     ap first_code (refused_for c.args.self.now c.args.request.now (sym c.in-Some.is ∙ c.reported.ensures.reported))
     ∙ c.in_ok-acting.ensures.decides (refusals_of_named limits history report.task report.kind report.name ++ refusals_of_room limits history)
-    ∙ c.in_ok-second.ensures.decides (refusals_of_room limits history) ∙ c.in_ok-check_room.ensures.decides []
+    ∙ c.in_ok-named.ensures.decides (refusals_of_room limits history) ∙ c.in_ok-check_room.ensures.decides []
 
 pub returns-in_err-acting-clause-refused : goal.returns-in_err-acting-clause-refused
 returns-in_err-acting-clause-refused g c =
     rw (refused_for c.args.self.now c.args.request.now (sym c.in-Some.is ∙ c.reported.ensures.reported)) (search rules)
 
-pub returns-in_err-second-clause-refused : goal.returns-in_err-second-clause-refused
-returns-in_err-second-clause-refused g c =
+pub returns-in_err-named-clause-refused : goal.returns-in_err-named-clause-refused
+returns-in_err-named-clause-refused g c =
     rw (refused_for c.args.self.now c.args.request.now (sym c.in-Some.is ∙ c.reported.ensures.reported)) (search rules)
 
 pub returns-in_err-check_room-clause-refused : goal.returns-in_err-check_room-clause-refused
@@ -39,7 +39,7 @@ returns-clause-report g c =
       few = c.in_ok-check_room.ensures.room;
       acting = c.in_ok-acting.ensures.task;
       at = c.in_ok-acting.ensures.index;
-      second = ap (λ found. found.0) c.in_ok-second.ensures.found;
-      joined = ap (λ found. found.1) c.in_ok-second.ensures.found;
-      may = c.in_ok-second.ensures.may;
+      second = c.in_ok-named.ensures.second;
+      joined = c.in_ok-named.ensures.joined;
+      may = c.in_ok-named.ensures.may;
     }

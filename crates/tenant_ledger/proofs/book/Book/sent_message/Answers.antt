@@ -13,4 +13,4 @@ returns-clause-decides g c =
     let has = has_them book.limits (history_in book) book.messages c.requires.messages task name (legal_history book c.requires) in
     let same : refusal_of_receive book.messages name task ≡ first_code (refusals_of_received (history_in book) task name) =
     λ i. first_code ((not (has.0 i), NoMessage) ∷ (has.1 i, AlreadyReceived) ∷ []) in
-    decides_by_first (refusals_of_received (history_in book) task name) c.check_receive.result (c.check_receive.ensures.code ∙ ap (λ (b : Contents). refusal_of_receive b.messages name task) c.self.view_is ∙ same)
+    decides_by_first (refusals_of_received (history_in book) task name) c.find_to_receive.result (c.find_to_receive.ensures.code ∙ ap (λ (b : Contents). refusal_of_receive b.messages name task) c.self.view_is ∙ same)
