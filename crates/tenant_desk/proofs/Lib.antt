@@ -4,6 +4,7 @@ pub mod Cases
 pub mod Crossing
 pub mod Entries
 pub mod Indexing
+pub mod Named
 pub mod PublishedIds
 pub mod PublishedNext
 pub mod Publishing

@@ -36,6 +36,7 @@ fn event_of<R: Wait>(
         point: prepared.point(),
         start: prepared.start(),
         id: prepared.id().share()?,
+        places: prepared.places(),
     })
 }
 

@@ -77,25 +77,43 @@ impl Events {
         })
     }
 
-    /// Adds the event behind the others. It takes no block of memory. Returns `Memory`, and leaves the events as they were, if
-    /// it, its task or its message is above the limits, or if one of its trees would be shared more often than can be counted.
+    /// Adds an event equal to this one behind the others, as [`Events::push`] adds the event. Returns `Memory`, and leaves the
+    /// events as they were, if that cannot be, or if one of its trees would be shared more often than can be counted.
     pub fn put(&mut self, event: &Event) -> Result<(), Memory>
         ensures room { IfOk result (λ _. (length self.old.rows < self.old.limits.events) × AreWithin self.old.limits (event.now.row ∷ history_of self.old.rows)) }
         ensures events { MatchResult result (λ _. self.new ≡ events_with event.now self.old) (λ _. self.new ≡ self.old) }
     {
+        match self.push(event.share()?) {
+            Ok(()) => Ok(()),
+            Err(_) => Err(Memory),
+        }
+    }
+
+    /// Adds the event behind the others. It takes no block of memory. The event comes back, and the events are as they were, if it, its
+    /// task or its message is above the limits, and for no other reason.
+    pub fn push(&mut self, event: Event) -> Result<(), Event>
+        ensures room { MatchResult result (λ _. (length self.old.rows < self.old.limits.events) × AreWithin self.old.limits (event.row ∷ history_of self.old.rows))
+            (λ _. (length self.old.rows < self.old.limits.events) × AreWithin self.old.limits (event.row ∷ history_of self.old.rows) → ⊥) }
+        ensures events { MatchResult result (λ _. self.new ≡ events_with event self.old) (λ back. (back ≡ event) × (self.new ≡ self.old)) }
+    {
         if self.rows.len() as u64 >= self.limits.events() {
-            return Err(Memory);
+            return Err(event);
         }
-        let tree = event.tree.share()?;
-        let id = event.id.share()?;
-        if !self.index.put(&self.rows, &event.row) {
-            return Err(Memory);
+        if !self.index.put(&self.rows, &event.row, event.places) {
+            return Err(event);
         }
-        self.rows.push_reserved(event.row.share());
+        let Event {
+            row,
+            tree,
+            point,
+            start,
+            id,
+            places: _,
+        } = event;
+        self.rows.push_reserved(row);
         self.trees.push_reserved(tree);
-        self.points
-            .push_reserved(event.point.as_ref().map(|point| point.share()));
-        self.starts.push_reserved(event.start);
+        self.points.push_reserved(point);
+        self.starts.push_reserved(start);
         self.ids.push_reserved(id);
         Ok(())
     }

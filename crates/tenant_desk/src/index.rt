@@ -1,5 +1,5 @@
 //! Tasks and messages by their names.
-ghost use Rattle.std.specs.Prelude.{◌≡◌, ◌+◌, ◌≤◌, ◌<◌, ℕ, true, [], ◌∷◌, suc, length, Some, if◌then◌else◌, IfOk, MatchBool};
+ghost use Rattle.std.specs.Prelude.{◌≡◌, ◌+◌, ◌≤◌, ◌<◌, ℕ, true, [], ◌∷◌, suc, length, Some, None, if◌then◌else◌, slice_get, IfOk, IfSome, IfNone, MatchBool};
 ghost use Rattle.indexmap.specs.IndexMap.{get, index_map_len, spare};
 ghost use Rattle.trace_types.specs.text.Name.{Text as Characters, is_same};
 ghost use Rattle.trace_types.specs.tenant.Limits.{Limits as Bounds};
@@ -10,6 +10,7 @@ use crate::span::Span;
 use indexmap::IndexMap;
 use indexmap::map::Entry;
 use std::alloc::Global;
+use tenant_ledger::Places;
 use trace_types::{Kind, Limits, Memory, Name, Row, TaskState};
 
 /// What the rows say of each task and of each message, by its name.
@@ -45,7 +46,9 @@ impl Index {
 
     /// Makes the index of the rows that of these and of this row behind them, and says whether these are within the limits.
     /// If they are not, it stays the index of the rows.
-    pub(crate) fn put(&mut self, rows: &[Row], row: &Row) -> bool
+    ///
+    /// The acting task, and what is joined or received, are looked for at these places first.
+    pub(crate) fn put(&mut self, rows: &[Row], row: &Row, places: Places) -> bool
         requires { IsIndexOf self.old.limits (history_of rows.now) self.old }
         ensures within { MatchBool result (AreWithin self.old.limits (row.now ∷ history_of rows.now))
             (AreWithin self.old.limits (row.now ∷ history_of rows.now) → ⊥) }
@@ -55,7 +58,7 @@ impl Index {
         if !self.has_room(row) {
             return false;
         }
-        self.add(row, rows.len() as u64 + 1);
+        self.add(row, rows.len() as u64 + 1, places);
         true
     }
 
@@ -71,15 +74,15 @@ impl Index {
         }
     }
 
-    /// Adds the row of this event.
-    fn add(&mut self, row: &Row, event: u64)
+    /// Adds the row of this event. The acting task, and what is joined or received, are looked for at these places first.
+    fn add(&mut self, row: &Row, event: u64, places: Places)
         requires { (limits : Bounds) × (history : History) × IsIndexOf limits history self.old × AreWithin limits (row.now ∷ history) }
         ensures { (limits : Bounds) (history : History) → IsIndexOf limits history self.old → AreWithin limits (row.now ∷ history) → event ≡ suc (length history)
             → IsIndexOf limits (row.now ∷ history) self.new }
     {
-        name_task(&mut self.tasks, row, event);
-        act(&mut self.tasks, row, event);
-        name_message(&mut self.messages, row, event);
+        name_task(&mut self.tasks, row, event, places.named);
+        act(&mut self.tasks, row, event, places.task);
+        name_message(&mut self.messages, row, event, places.named);
         match row.kind {
             Kind::Spawn => self.task_count += 1,
             Kind::Send => self.message_count += 1,
@@ -118,8 +121,8 @@ impl Index {
     }
 }
 
-/// Notes what the row of this event says of a task that it names.
-fn name_task(tasks: &mut IndexMap<Name, (TaskState, u64)>, row: &Row, event: u64)
+/// Notes what the row of this event says of a task that it names. If the row joins it, it is looked for at the place first.
+fn name_task(tasks: &mut IndexMap<Name, (TaskState, u64)>, row: &Row, event: u64, place: usize)
     requires { starts_task row.now.kind ≡ true → 0 < spare tasks.old }
     ensures tasks { (task : Characters) → get is_same tasks.new task ≡ naming_after row.now event task (get is_same tasks.old task) }
     ensures count { index_map_len tasks.new ≤ index_map_len tasks.old + (if starts_task row.now.kind then 1 else 0) }
@@ -128,27 +131,32 @@ fn name_task(tasks: &mut IndexMap<Name, (TaskState, u64)>, row: &Row, event: u64
     match (row.kind, row.name) {
         (Kind::Spawn, Some(child)) => put(tasks, child, (TaskState::Live, event)),
         (Kind::Join, Some(child)) => {
-            if let Some(found) = tasks.get_mut(&child) {
-                found.0 = TaskState::Joined;
+            if let Some((place, found)) = find(tasks, &child, place) {
+                set(tasks, place, (TaskState::Joined, found.1));
             }
         }
         _ => {}
     }
 }
 
-/// Notes that the row of this event is the last of its task.
-fn act(tasks: &mut IndexMap<Name, (TaskState, u64)>, row: &Row, event: u64)
+/// Notes that the row of this event is the last of its task, which is looked for at the place first.
+fn act(tasks: &mut IndexMap<Name, (TaskState, u64)>, row: &Row, event: u64, place: usize)
     ensures tasks { (task : Characters) → get is_same tasks.new task ≡ acting_after row.now event task (get is_same tasks.old task) }
     ensures count { index_map_len tasks.new ≡ index_map_len tasks.old }
     ensures room { capacity tasks.old ≤ capacity tasks.new }
 {
-    if let Some(found) = tasks.get_mut(&row.task) {
-        *found = (state_after(row.kind), event);
+    if let Some((place, _)) = find(tasks, &row.task, place) {
+        set(tasks, place, (state_after(row.kind), event));
     }
 }
 
-/// Notes what the row of this event says of a message that it names.
-fn name_message(messages: &mut IndexMap<Name, (u64, Option<Span>)>, row: &Row, event: u64)
+/// Notes what the row of this event says of a message that it names. If the row receives it, it is looked for at the place first.
+fn name_message(
+    messages: &mut IndexMap<Name, (u64, Option<Span>)>,
+    row: &Row,
+    event: u64,
+    place: usize,
+)
     requires { sends_message row.now.kind ≡ true → 0 < spare messages.old }
     ensures messages { (message : Characters) → get is_same messages.new message ≡ message_after row.now event message (get is_same messages.old message) }
     ensures count { index_map_len messages.new ≤ index_map_len messages.old + (if sends_message row.now.kind then 1 else 0) }
@@ -157,11 +165,54 @@ fn name_message(messages: &mut IndexMap<Name, (u64, Option<Span>)>, row: &Row, e
     match (row.kind, row.name) {
         (Kind::Send, Some(message)) => put(messages, message, (event, None)),
         (Kind::Recv, Some(message)) => {
-            if let Some(sent) = messages.get_mut(&message) {
-                sent.1 = Some(Span::with_later(sent.1, event));
+            if let Some((place, sent)) = find(messages, &message, place) {
+                set(
+                    messages,
+                    place,
+                    (sent.0, Some(Span::with_later(sent.1, event))),
+                );
             }
         }
         _ => {}
+    }
+}
+
+/// Where the name stands, and what is kept under it. It is looked for at this place, and by its hash if it is not there.
+#[inline(always)]
+fn find<V: Copy>(map: &IndexMap<Name, V>, name: &Name, place: usize) -> Option<(usize, V)>
+    ensures there { IfSome result (λ found. slice_get map.now.entries found.0 ≡ Some (name.now, found.1)) }
+    ensures value { IfSome result (λ found. get is_same map.now name.now ≡ Some found.1) }
+    ensures none { IfNone result (get is_same map.now name.now ≡ None) }
+{
+    match map.get_index(place) {
+        Some((there, value)) if there == name => Some((place, *value)),
+        _ => find_by_hash(map, name),
+    }
+}
+
+/// Where the name stands, and what is kept under it. It is looked for by its hash.
+fn find_by_hash<V: Copy>(map: &IndexMap<Name, V>, name: &Name) -> Option<(usize, V)>
+    ensures there { IfSome result (λ found. slice_get map.now.entries found.0 ≡ Some (name.now, found.1)) }
+    ensures value { IfSome result (λ found. get is_same map.now name.now ≡ Some found.1) }
+    ensures none { IfNone result (get is_same map.now name.now ≡ None) }
+{
+    match map.get_full(name) {
+        Some((place, _, value)) => Some((place, *value)),
+        None => None,
+    }
+}
+
+/// Keeps the value at the place of its name. If no name stands there, nothing changes.
+#[inline(always)]
+fn set<V: Copy>(map: &mut IndexMap<Name, V>, place: usize, value: V)
+    ensures names { (name : Characters) (before : V) → slice_get map.old.entries place ≡ Some (name, before) → (other : Characters) →
+        get is_same map.new other ≡ (if is_same name other then Some value else get is_same map.old other) }
+    ensures none { slice_get map.old.entries place ≡ None → map.new ≡ map.old }
+    ensures count { index_map_len map.new ≡ index_map_len map.old }
+    ensures room { capacity map.old ≤ capacity map.new }
+{
+    if let Some(kept) = map.get_index_mut(place) {
+        *kept = value;
     }
 }
 

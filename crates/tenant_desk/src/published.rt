@@ -40,4 +40,18 @@ impl Absorb<Operation> for Published {
         self.front = operation.front.again();
         Ok(())
     }
+
+    fn absorb_second(&mut self, operation: Operation, _other: &Published) -> Result<(), Operation> {
+        let Operation { event, front } = operation;
+        if let Some(event) = event {
+            if let Err(event) = self.events.push(event) {
+                return Err(Operation {
+                    event: Some(event),
+                    front,
+                });
+            }
+        }
+        self.front = front;
+        Ok(())
+    }
 }
