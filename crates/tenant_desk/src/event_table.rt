@@ -1,5 +1,5 @@
 //! What is published of a tenant's events.
-ghost use Rattle.std.specs.Prelude.{◌≡◌, ◌<◌, ◌∷◌, length, IfOk, MatchResult};
+ghost use Rattle.std.specs.Prelude.{◌≡◌, ◌<◌, ◌∷◌, length, IfOk, MatchBool, MatchResult};
 ghost use Rattle.trace_types.specs.tenant.Rows.{history_of};
 ghost use Rattle.tenant_desk.specs.Events.{AreSound, published_tenant, no_events, events_with};
 ghost use Rattle.tenant_desk.specs.Indexes.{AreWithin};
@@ -77,45 +77,55 @@ impl Events {
         })
     }
 
-    /// Adds an event equal to this one behind the others, as [`Events::push`] adds the event. Returns `Memory`, and leaves the
-    /// events as they were, if that cannot be, or if one of its trees would be shared more often than can be counted.
+    /// Whether one event more, of this row, its task and its message are within the limits.
+    pub(crate) fn has_room(&self, row: &Row) -> bool
+        ensures { MatchBool result ((length self.now.rows < self.now.limits.events) × AreWithin self.now.limits (row.now ∷ history_of self.now.rows))
+            ((length self.now.rows < self.now.limits.events) × AreWithin self.now.limits (row.now ∷ history_of self.now.rows) → ⊥) }
+    {
+        (self.rows.len() as u64) < self.limits.events() && self.index.fits(&self.rows, row)
+    }
+
+    /// Adds an event equal to this one behind the others. It takes no block of memory. Returns `Memory`, and leaves the events as they
+    /// were, if it, its task or its message is above the limits, or if one of its trees would be shared more often than can be counted.
     pub fn put(&mut self, event: &Event) -> Result<(), Memory>
         ensures room { IfOk result (λ _. (length self.old.rows < self.old.limits.events) × AreWithin self.old.limits (event.now.row ∷ history_of self.old.rows)) }
         ensures events { MatchResult result (λ _. self.new ≡ events_with event.now self.old) (λ _. self.new ≡ self.old) }
     {
-        match self.push(event.share()?) {
-            Ok(()) => Ok(()),
-            Err(_) => Err(Memory),
+        if !self.has_room(&event.row) {
+            return Err(Memory);
         }
+        let tree = event.tree.share()?;
+        let id = event.id.share()?;
+        self.index.put(&self.rows, &event.row, event.places);
+        self.rows.push_reserved(event.row.share());
+        self.trees.push_reserved(tree);
+        self.points
+            .push_reserved(event.point.as_ref().map(|point| point.share()));
+        self.starts.push_reserved(event.start);
+        self.ids.push_reserved(id);
+        Ok(())
     }
 
-    /// Adds the event behind the others. It takes no block of memory. The event comes back, and the events are as they were, if it, its
-    /// task or its message is above the limits, and for no other reason.
-    pub fn push(&mut self, event: Event) -> Result<(), Event>
-        ensures room { MatchResult result (λ _. (length self.old.rows < self.old.limits.events) × AreWithin self.old.limits (event.row ∷ history_of self.old.rows))
-            (λ _. (length self.old.rows < self.old.limits.events) × AreWithin self.old.limits (event.row ∷ history_of self.old.rows) → ⊥) }
-        ensures events { MatchResult result (λ _. self.new ≡ events_with event self.old) (λ back. (back ≡ event) × (self.new ≡ self.old)) }
+    /// Adds the event behind the others, which is within the limits. It takes no block of memory.
+    pub fn push(&mut self, event: Event)
+        requires events { length self.old.rows < self.old.limits.events }
+        requires names { AreWithin self.old.limits (event.row ∷ history_of self.old.rows) }
+        ensures { self.new ≡ events_with event self.old }
     {
-        if self.rows.len() as u64 >= self.limits.events() {
-            return Err(event);
-        }
-        if !self.index.put(&self.rows, &event.row, event.places) {
-            return Err(event);
-        }
         let Event {
             row,
             tree,
             point,
             start,
             id,
-            places: _,
+            places,
         } = event;
+        self.index.put(&self.rows, &row, places);
         self.rows.push_reserved(row);
         self.trees.push_reserved(tree);
         self.points.push_reserved(point);
         self.starts.push_reserved(start);
         self.ids.push_reserved(id);
-        Ok(())
     }
 }
 

@@ -44,22 +44,24 @@ impl Index {
         })
     }
 
-    /// Makes the index of the rows that of these and of this row behind them, and says whether these are within the limits.
-    /// If they are not, it stays the index of the rows.
+    /// Whether these rows are still within the limits with this row behind them.
+    pub(crate) fn fits(&self, rows: &[Row], row: &Row) -> bool
+        requires { IsIndexOf self.now.limits (history_of rows.now) self.now }
+        ensures { MatchBool result (AreWithin self.now.limits (row.now ∷ history_of rows.now))
+            (AreWithin self.now.limits (row.now ∷ history_of rows.now) → ⊥) }
+    {
+        self.has_room(row)
+    }
+
+    /// Makes the index of the rows that of these and of this row behind them, with which they are within the limits.
     ///
     /// The acting task, and what is joined or received, are looked for at these places first.
-    pub(crate) fn put(&mut self, rows: &[Row], row: &Row, places: Places) -> bool
-        requires { IsIndexOf self.old.limits (history_of rows.now) self.old }
-        ensures within { MatchBool result (AreWithin self.old.limits (row.now ∷ history_of rows.now))
-            (AreWithin self.old.limits (row.now ∷ history_of rows.now) → ⊥) }
-        ensures index { MatchBool result (IsIndexOf self.old.limits (row.now ∷ history_of rows.now) self.new)
-            (IsIndexOf self.old.limits (history_of rows.now) self.new) }
+    pub(crate) fn put(&mut self, rows: &[Row], row: &Row, places: Places)
+        requires index { IsIndexOf self.old.limits (history_of rows.now) self.old }
+        requires within { AreWithin self.old.limits (row.now ∷ history_of rows.now) }
+        ensures { IsIndexOf self.old.limits (row.now ∷ history_of rows.now) self.new }
     {
-        if !self.has_room(row) {
-            return false;
-        }
         self.add(row, rows.len() as u64 + 1, places);
-        true
     }
 
     /// Whether the rows are still within the limits with this one.

@@ -42,14 +42,14 @@ impl Absorb<Operation> for Published {
     }
 
     fn absorb_second(&mut self, operation: Operation, _other: &Published) -> Result<(), Operation> {
+        if let Some(event) = &operation.event {
+            if !self.events.has_room(&event.row) {
+                return Err(operation);
+            }
+        }
         let Operation { event, front } = operation;
         if let Some(event) = event {
-            if let Err(event) = self.events.push(event) {
-                return Err(Operation {
-                    event: Some(event),
-                    front,
-                });
-            }
+            self.events.push(event);
         }
         self.front = front;
         Ok(())

@@ -1,10 +1,8 @@
 //! Published events.
-ghost use Rattle.std.specs.Prelude.{◌≡◌, IfOk};
-
 use event_tree::{EvTree, RaisedPoint};
 use id_tree::IdTree;
 use tenant_ledger::Places;
-use trace_types::{Memory, Row};
+use trace_types::Row;
 use tree_forest::Tree;
 
 /// What is published of one event.
@@ -22,22 +20,4 @@ pub struct Event {
     pub id: Tree<IdTree>,
     /// Where its names may stand. They are looked for there first.
     pub places: Places,
-}
-
-impl Event {
-    /// An equal event. It takes no memory. Returns `Memory` if one of its trees would be shared more often than can be
-    /// counted.
-    #[inline(always)]
-    pub(crate) fn share(&self) -> Result<Event, Memory>
-        ensures { IfOk result (λ event. event ≡ self.now) }
-    {
-        Ok(Event {
-            row: self.row.share(),
-            tree: self.tree.share()?,
-            point: self.point.as_ref().map(|point| point.share()),
-            start: self.start,
-            id: self.id.share()?,
-            places: self.places,
-        })
-    }
 }
