@@ -3,11 +3,13 @@ ghost use Rattle.std.specs.Prelude.{◌≡◌, ◌-◌, ◌<◌, ◌≤◌, true
 ghost use Rattle.trace_types.specs.tenant.Limits.{are_limits};
 ghost use Rattle.trace_types.specs.tenant.Rows.{is_event};
 ghost use Rattle.trace_types.specs.tenant.Tenant.{fresh};
-ghost use Rattle.tenant_ledger.specs.Ledger.{HasIndex, IsKept, history_in, id_after, task_in, tenant_of};
+ghost use Rattle.tenant_ledger.specs.Ledger.{HasIndex, IsKept, history_in, id_after, message_in, task_in, tenant_of};
 
 mod commit;
 mod draft;
 mod ids;
+mod message;
+mod receipts;
 mod records;
 mod report;
 mod task;
@@ -19,7 +21,7 @@ use event_tree::RaisedPoint;
 use id_tree::IdTree;
 use ids::Ids;
 use indexmap::IndexMap;
-use message_book::MessageBook;
+pub(crate) use message::Message;
 use report::Report;
 use std::alloc::Global;
 use std::marker::Model;
@@ -44,10 +46,14 @@ pub(crate) struct Book<S: Keep> {
     starts: Vec<u64>,
     /// The place of the id of each event's task after it, in the order of the events.
     places: Vec<usize>,
+    /// The receipt before each event that receives a message, of the same message, or 0, in the order of the events.
+    earlier: Vec<u64>,
+    /// The event before each event, of the same task, or 0, in the order of the events.
+    before: Vec<u64>,
     /// Each id that some task has or had. The id of `root` is kept with the first accepted report.
     ids: Vec<S::Id>,
     tasks: IndexMap<Name, Task>,
-    messages: MessageBook,
+    messages: IndexMap<Name, Message>,
     /// The stack, on which the trees are walked over.
     stack: Stack,
 }
@@ -72,18 +78,23 @@ impl<S: Keep> Model for Book<S> {
       points = b.points.items;
       starts = b.starts.items;
       places = b.places.items;
+      earlier = b.earlier.items;
+      before = b.before.items;
       ids = with_seed (map S.Id.id b.ids.items);
       kept_ids = length b.ids.items;
       tasks = b.tasks.entries;
-      messages = b.messages;
+      messages = b.messages.entries;
       room = record {
         rows = vec_capacity b.rows - vec_len b.rows;
         trees = vec_capacity b.trees - vec_len b.trees;
         points = vec_capacity b.points - vec_len b.points;
         starts = vec_capacity b.starts - vec_len b.starts;
         places = vec_capacity b.places - vec_len b.places;
+        earlier = vec_capacity b.earlier - vec_len b.earlier;
+        before = vec_capacity b.before - vec_len b.before;
         ids = vec_capacity b.ids - vec_len b.ids;
         tasks = spare b.tasks;
+        messages = spare b.messages;
       };
     } };
 
@@ -114,9 +125,11 @@ impl<S: Keep> Book<S> {
             points: Vec::new(alloc),
             starts: Vec::new(alloc),
             places: Vec::new(alloc),
+            earlier: Vec::new(alloc),
+            before: Vec::new(alloc),
             ids: Vec::new(alloc),
             tasks,
-            messages: MessageBook::new(alloc, limits.messages())?,
+            messages: IndexMap::new(alloc),
             stack: Stack::new(),
         })
     }
@@ -205,6 +218,17 @@ impl<S: Keep> Book<S> {
         match self.tasks.get_full(name) {
             Some((index, _, task)) => Ok((task, index)),
             None => Err(Code::NoTask),
+        }
+    }
+
+    /// The message of this name, and its index in the table of messages, or `NoMessage` if there is none.
+    fn known_message(&self, name: &Name) -> Result<(&Message, usize), Code>
+        ensures ok { IfOk result (λ found. message_in self.now name.now ≡ Some found.0.now) }
+        ensures err { IfErr result (λ code. (code ≡ Code.NoMessage) × (message_in self.now name.now ≡ None)) }
+    {
+        match self.messages.get_full(name) {
+            Some((index, _, message)) => Ok((message, index)),
+            None => Err(Code::NoMessage),
         }
     }
 }

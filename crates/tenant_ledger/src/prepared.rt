@@ -95,8 +95,10 @@ impl<S: Keep> Prepared<S> {
     pub fn abandon(self) -> Ledger<S>
         ensures { result ≡ self.tenant }
     {
-        let Prepared { mut book, draft } = self;
-        book.abandon(draft);
+        let Prepared {
+            book,
+            draft: _draft,
+        } = self;
         Ledger { book }
     }
 }

@@ -1,15 +1,13 @@
 -- A book is kept with the event of a report that is not refused.
 use Rattle.std.proofs.Common.{◌≡◌, ℕ, IsTrue, List, suc, ◌-◌, ◌<◌, ◌≤◌, [], ◌∷◌, ◌++◌, length, map, slice_get, option_map, Option, Some, refl, sym, ap, ◌∙◌, subst, arith}
-use Rattle.tenant_ledger.proofs.Words.{nat_tests, length-append, length-map, length-reverse, reverse-append, map-append, same_Some, slice_get-map, transport, Text, History, history_of, is_event, EventTree, task_count, tree_clock, id_of, tree_of, row_after, Row, IsLegal, Contents, Event, IsKept, IsKeptWith, IsTask, IsReport, IsReady, HasRoom, AreMessages, ArePoints, MayRaise, Notes, history_in, task_in, of_each, id_after, start_of, event_of, with_event, tasks_with, task_count_with, Report}
-use Rattle.message_book.specs.Book as message_book
+use Rattle.tenant_ledger.proofs.Words.{nat_tests, length-append, length-map, length-reverse, reverse-append, map-append, same_Some, slice_get-map, transport, Text, History, history_of, is_event, EventTree, task_count, tree_clock, id_of, tree_of, row_after, Row, IsLegal, Contents, Event, IsKept, IsKeptWith, IsTask, IsReport, IsReady, HasRoom, IsMessage, ArePoints, MayRaise, history_in, task_in, message_in, of_each, id_after, start_of, earlier_of, before_of, event_of, with_event, tasks_with, task_count_with, messages_with, message_count_with, last_in, message_count, Report}
 use Rattle.event_tree.specs.declared.point.RaisedPoint.{RaisedPoint}
 use Rattle.tenant_ledger.proofs.clock.Events.{event_bounds, tree_of-older}
 use Rattle.tenant_ledger.proofs.clock.Legality.{IsLegal_from_AreLegal}
-use Rattle.tenant_ledger.proofs.keeping.Known.{legal_history}
 use Rattle.tenant_ledger.proofs.keeping.Lists.{length-of_each, at_event, same_places, slice_get-seam, Stays}
-use Rattle.tenant_ledger.proofs.keeping.Messages.{noted_are_messages}
+use Rattle.tenant_ledger.proofs.keeping.Messages.{messages_are_kept, messages_are_counted, earlier_is_kept}
 use Rattle.tenant_ledger.proofs.keeping.Points.{points_with_one}
-use Rattle.tenant_ledger.proofs.keeping.Tasks.{id_is_kept, id_is_left, start_is_kept, tasks_are_kept, tasks_are_counted}
+use Rattle.tenant_ledger.proofs.keeping.Tasks.{before_is_kept, id_is_kept, id_is_left, start_is_kept, tasks_are_kept, tasks_are_counted}
 
 module _ (rows : List Row) (trees : List EventTree) (are : trees ≡ of_each (tree_of tree_clock) (history_of rows)) where
   -- what is kept of an event: its tree
@@ -66,10 +64,10 @@ module _ (book : Contents) (kept : IsKept book) (report : Report) (is : IsReport
   pub legal_with_row : IsLegal (row ∷ history)
   legal_with_row = subst IsLegal (reverse-append book.rows (row ∷ [])) (IsLegal_from_AreLegal book.limits (book.rows ++ row ∷ []) is.legal)
 
-  pub keeps_report : (after : message_book.Book) → Notes report.task report.kind report.name (suc (length book.rows)) book.messages after → 0 < book.kept_ids
-      → (point : Option RaisedPoint) → MayRaise book report point
-      → IsKeptWith (with_event (event_of book report point) (record book { messages = after })) (tasks_with (event_of book report point) book) (task_count_with (event_of book report point) book)
-  keeps_report after notes seeded point raised =
+  pub keeps_report : 0 < book.kept_ids → (point : Option RaisedPoint) → MayRaise book report point
+      → IsKeptWith (with_event (event_of book report point) book) (tasks_with (event_of book report point) book) (task_count_with (event_of book report point) book)
+      (messages_with (event_of book report point) book) (message_count_with (event_of book report point) book)
+  keeps_report seeded point raised =
       let event = event_of book report point in
       let live = legal_with_row.0.0 in
       let allowed = legal_with_row.0.1 in
@@ -95,23 +93,28 @@ module _ (book : Contents) (kept : IsKept book) (report : Report) (is : IsReport
             (tasks_are_kept book kept report.task report.acting is.acting live report.kind report.name allowed name));
         counted = ap (λ had. task_count_with (event_of book (record report { joined = had }) point) book) is.joined
             ∙ tasks_are_counted book kept report.task report.acting is.acting live report.kind report.name allowed ∙ ap task_count to_longer;
-        messages = subst (λ h. AreMessages book.limits h after) to_longer
-            (noted_are_messages book.limits history report.task report.kind report.name row.preds book.messages after (legal_history book kept) allowed kept.messages
-            (subst (λ n. Notes report.task report.kind report.name (suc n) book.messages after) (sym (length-reverse book.rows)) notes));
+        earlier = ap (λ list. list ++ event.earlier ∷ []) kept.earlier
+            ∙ ap (λ last. of_each earlier_of history ++ last ∷ []) (ap last_in is.received ∙ earlier_is_kept book kept report.task report.kind report.name allowed)
+            ∙ ap (of_each earlier_of) to_longer;
+        before = ap (λ list. list ++ event.before ∷ []) kept.before
+            ∙ ap (λ last. of_each before_of history ++ last ∷ []) (before_is_kept book kept report.task report.acting is.acting report.kind report.name)
+            ∙ ap (of_each before_of) to_longer;
+        messages_are = λ name. subst (λ h. IsMessage h name (messages_with event book name)) to_longer
+            (subst (λ had. IsMessage (row ∷ history) name (messages_with (event_of book (record report { received = had }) point) book name)) (sym is.received)
+            (messages_are_kept book kept report.task report.kind report.name allowed name));
+        messages_counted = ap (λ had. message_count_with (event_of book (record report { received = had }) point) book) is.received
+            ∙ messages_are_counted book kept report.task report.kind report.name allowed ∙ ap message_count to_longer;
         seeded = λ _. seeded;
       }
 
   -- so it is ready to be added
-  pub report_is_ready : (after : message_book.Book) → Notes report.task report.kind report.name (suc (length book.rows)) book.messages after → HasRoom book
-      → (point : Option RaisedPoint) → MayRaise book report point → IsReady (record book { messages = after }) (event_of book report point)
-  report_is_ready after notes room point raised = record {
+  pub report_is_ready : HasRoom book → (point : Option RaisedPoint) → MayRaise book report point → IsReady book (event_of book report point)
+  report_is_ready room point raised = record {
     home = refl;
     at = is.at;
-    before = book.messages;
-    was = kept;
-    notes = notes;
-    next = keeps_report after notes room.seeded point raised;
-    room = search;
+    kept = kept;
+    next = keeps_report room.seeded point raised;
+    room = room;
     id = id_is_left book kept report.task report.acting is.acting legal_with_row.0.0 report.kind report.name;
   }
 
@@ -120,20 +123,23 @@ pub ready_tree : (book : Contents) (event : Event) → IsReady book event → ev
 ready_tree book event ready =
     let rows = book.rows ++ event.row ∷ [] in
     let trees = book.trees ++ event.tree ∷ [] in
-    let as_many = one_tree book.rows book.trees ready.was.trees in
+    let as_many = one_tree book.rows book.trees ready.kept.trees in
     let place : length book.trees ≡ suc (length book.rows) - 1 = omega (arith, as_many) in
     let newest = tree_at_event rows trees ready.next.trees (suc (length book.rows)) (omega arith) (omega (arith, length-append book.rows (event.row ∷ []))) in
     same_Some _ _ (sym (slice_get-seam book.trees event.tree []) ∙ ap (slice_get trees) place ∙ newest)
     ∙ ap (λ h. tree_of tree_clock h (suc (length book.rows))) (reverse-append book.rows (event.row ∷ []))
 
 -- A book to which a ready event was added is kept.
-pub added_is_kept : (book : Contents) (event : Event) → IsReady book event → (new : Contents) → new.limits ≡ book.limits → new.messages ≡ book.messages
-    → new.rows ≡ book.rows ++ event.row ∷ [] → new.trees ≡ book.trees ++ event.tree ∷ [] → new.points ≡ book.points ++ event.point ∷ [] → new.starts ≡ book.starts ++ event.acting.start ∷ [] → new.places ≡ book.places ++ event.acting.id ∷ []
+pub added_is_kept : (book : Contents) (event : Event) → IsReady book event → (new : Contents) → new.limits ≡ book.limits
+    → new.rows ≡ book.rows ++ event.row ∷ [] → new.trees ≡ book.trees ++ event.tree ∷ [] → new.points ≡ book.points ++ event.point ∷ [] → new.starts ≡ book.starts ++ event.acting.start ∷ [] → new.places ≡ book.places ++ event.acting.id ∷ [] → new.earlier ≡ book.earlier ++ event.earlier ∷ [] → new.before ≡ book.before ++ event.before ∷ []
     → new.ids ≡ book.ids ++ event.ids → 0 < new.kept_ids → ((name : Text) → task_in new name ≡ tasks_with event book name) → length new.tasks ≡ task_count_with event book
+    → ((name : Text) → message_in new name ≡ messages_with event book name) → length new.messages ≡ message_count_with event book
     → IsKept new
-added_is_kept book event ready new limits messages rows trees points starts places ids some tasks count =
-    let next = transport (λ i. IsKeptWith (record (with_event event book) { limits = sym limits i; messages = sym messages i; rows = sym rows i; trees = sym trees i; points = sym points i; starts = sym starts i; places = sym places i; ids = sym ids i })
-    (tasks_with event book) (task_count_with event book)) ready.next in
+added_is_kept book event ready new limits rows trees points starts places earlier before ids some tasks count messages message_count-is =
+    let next = transport (λ i. IsKeptWith (record (with_event event book) { limits = sym limits i; rows = sym rows i; trees = sym trees i; points = sym points i; starts = sym starts i; places = sym places i; earlier = sym earlier i; before = sym before i; ids = sym ids i })
+    (tasks_with event book) (task_count_with event book) (messages_with event book) (message_count_with event book)) ready.next in
     let tasks_are : (name : Text) → IsTask new.ids (history_in new) name (task_in new name) = λ name. subst (IsTask new.ids (history_in new) name) (sym (tasks name)) (next.tasks_are name) in
     let counted : length new.tasks ≡ task_count (history_in new) = count ∙ next.counted in
+    let messages_are : (name : Text) → IsMessage (history_in new) name (message_in new name) = λ name. subst (IsMessage (history_in new) name) (sym (messages name)) (next.messages_are name) in
+    let messages_counted : length new.messages ≡ message_count (history_in new) = message_count-is ∙ next.messages_counted in
     let seeded : 0 < length new.rows → 0 < new.kept_ids = λ _. some in search

@@ -1,6 +1,6 @@
 -- What stands at a place of a list that is longer by some items, and what is told of each event.
 use Rattle.std.proofs.Common.{◌≡◌, ◌≢◌, ℕ, zero, suc, ◌-◌, ◌<◌, ◌≤◌, List, [], ◌∷◌, ◌++◌, length, map, slice_get, option_map, Some, refl, sym, ap, ◌∙◌, inl, inr, arith}
-use Rattle.tenant_ledger.proofs.Words.{cases_Bool, cases_eq, length-append, map-append, Id, History, Row, Text, is_same, Task, HasIndex, of_each, with_seed}
+use Rattle.tenant_ledger.proofs.Words.{cases_Bool, cases_eq, length-append, map-append, Id, History, Row, Text, is_same, HasIndex, of_each, with_seed}
 use Rattle.indexmap.specs.IndexMap.{insert_entry}
 
 -- what stands in a list stands there in a longer one
@@ -54,12 +54,12 @@ module _ {A : Type 0} (told : History → ℕ → A) where
             ∙ ap Some (sym (stays row earlier event older))
       ]
 
--- a task keeps its index if some task is kept
-pub keeps_index : (tasks : List (Text × Task)) (name : Text) (task : Task) (other : Text) (index : ℕ) → HasIndex tasks other index
+-- a name keeps its index if some name is kept
+pub keeps_index : {V : Type 0} (tasks : List (Text × V)) (name : Text) (task : V) (other : Text) (index : ℕ) → HasIndex tasks other index
     → HasIndex (insert_entry is_same tasks name task) other index
 keeps_index [] name task other index has = cc
 keeps_index (first ∷ later) name task other zero has = elim (cases_Bool (is_same name first.0)) [
-  | inl same ↦ rw same (task, ap (option_map (λ (found : Text × Task). (found.0, task))) has.1)
+  | inl same ↦ rw same (task, ap (option_map (λ (found : Text × _). (found.0, task))) has.1)
   | inr differ ↦ rw differ has
 ]
 keeps_index (first ∷ later) name task other (suc index) has = elim (cases_Bool (is_same name first.0)) [

@@ -5,8 +5,9 @@ use Rattle.std.proofs.lemmas.Bool.{ne_eqb}
 use Rattle.std.proofs.lemmas.Option.{none-some}
 use Rattle.trace_types.proofs.Cuts.{row_there}
 use Rattle.trace_types.proofs.Reachability.{newest-le}
-use Rattle.tenant_ledger.proofs.Words.{false≢true, cases_Bool, cases_eq, cond-true, cond-false, eq-eqb, is_same_iff, Text, is_same, root, History, start_event, start_of, starts, names, is_known, is_event, row_of, are_of_one_task, Row, Kind, Spawn, AllowsNamed, IsLegal}
+use Rattle.tenant_ledger.proofs.Words.{false≢true, cases_Bool, cases_eq, cond-true, cond-false, eq-eqb, is_same_iff, Text, is_same, root, History, start_event, start_of, newest, is_of, last_event, own_event, Task, starts, names, is_known, is_event, row_of, are_of_one_task, Row, Kind, Spawn, AllowsNamed, IsLegal}
 use Rattle.tenant_ledger.proofs.clock.Events.{event_bounds}
+use Rattle.tenant_ledger.proofs.clock.Tasks.{unknown_has_no_event}
 
 -- a row that does not start the task leaves when it was started
 pub start_event-other : (row : Row) (earlier : History) (task : Text) → starts task row ≡ false → start_event (row ∷ earlier) task ≡ start_event earlier task
@@ -60,6 +61,40 @@ starts_task_of (newest ∷ earlier) legal event row is = at (cases_eq event (suc
           still row.task had.0,
           start_of-older newest earlier event older ∙ had.1 ∙ sym (start_event-other newest earlier row.task (known_is_not_started newest earlier row.task legal had.0)),
         )
+
+-- a task's own events come after the one that started it
+own_after_start : (history : History) (task : Text) → IsLegal history → (newest (is_of task) history ≡ 0) ⊎ (start_event history task < newest (is_of task) history)
+own_after_start [] task legal = inl refl
+own_after_start (row ∷ earlier) task legal = at (cases_Bool (is_same row.task task)) (cases_Bool (starts task row)) (own_after_start earlier task legal.1)
+  where
+    at : (is_same row.task task ≡ true) ⊎ (is_same row.task task ≡ false) → (starts task row ≡ true) ⊎ (starts task row ≡ false)
+        → (newest (is_of task) earlier ≡ 0) ⊎ (start_event earlier task < newest (is_of task) earlier)
+        → (newest (is_of task) (row ∷ earlier) ≡ 0) ⊎ (start_event (row ∷ earlier) task < newest (is_of task) (row ∷ earlier))
+    at (inl own) started before =
+        let known : is_known earlier task ≡ true = subst (λ task. is_known earlier task ≡ true) ((is_same_iff row.task task).0 own) legal.0.0.0 in
+        let last : newest (is_of task) (row ∷ earlier) ≡ suc (length earlier) = cond-true (is_same row.task task) _ _ own in
+        let start = start_event-other row earlier task (known_is_not_started row earlier task legal known) in
+        inr (omega (arith, last, start, newest-le (starts task) earlier))
+    at (inr other) (inl started) before =
+        let unknown = started_was_unknown earlier row task row.kind row.name legal.0.1 started in
+        inl (cond-false (is_same row.task task) _ _ other ∙ unknown_has_no_event earlier task legal.1 unknown)
+    at (inr other) (inr unstarted) (inl none) = inl (cond-false (is_same row.task task) _ _ other ∙ none)
+    at (inr other) (inr unstarted) (inr after) =
+        let last : newest (is_of task) (row ∷ earlier) ≡ newest (is_of task) earlier = cond-false (is_same row.task task) _ _ other in
+        inr (omega (arith, last, start_event-other row earlier task unstarted, after))
+
+-- so what is kept of a task tells its last own event
+pub own_is_newest : (history : History) (task : Text) → IsLegal history → (found : Task) → found.last ≡ last_event history task → found.start ≡ start_event history task
+    → own_event found ≡ newest (is_of task) history
+own_is_newest history task legal found last start = elim (own_after_start history task legal) [
+  | inl none ↦
+      let same : found.last ≡ found.start = last ∙ cond-true (eqb (newest (is_of task) history) 0) _ _ (eq-eqb _ 0 none) ∙ sym start in
+      cond-true (eqb found.last found.start) _ _ (eq-eqb found.last found.start same) ∙ sym none
+  | inr after ↦
+      let own : found.last ≡ newest (is_of task) history =
+      last ∙ cond-false (eqb (newest (is_of task) history) 0) _ _ (ne_eqb (newest (is_of task) history) 0 (λ none. omega (arith, after, none))) in
+      cond-false (eqb found.last found.start) _ _ (ne_eqb found.last found.start (λ same. omega (arith, same, own, start, after))) ∙ own
+]
 
 -- an event comes after the one that started its task
 pub start_of-before : (history : History) → IsLegal history → (event : ℕ) → IsTrue (is_event history event) → start_of history event < event

@@ -1,13 +1,13 @@
 //! Drafts of events.
-ghost use Rattle.std.specs.Prelude.{◌≡◌, suc, ◌<◌, ◌≤◌, [], true, IfOk, IfErr, OnOk, OnErr, IfSome, IfNone, Some, length, slice_get};
+ghost use Rattle.std.specs.Prelude.{◌≡◌, suc, ◌<◌, ◌≤◌, [], true, IfOk, IfErr, OnOk, IfSome, IfNone, Some, length, slice_get};
 ghost use Rattle.trace_types.specs.tenant.Reachability.{increasing};
 ghost use Rattle.trace_types.specs.clock.Clock.{tree_clock};
 ghost use Rattle.trace_types.specs.clock.Stamps.{tree_of, acting_id, takes_in};
 ghost use Rattle.trace_types.specs.tenant.Tenant.{is_report, row_after};
 ghost use Rattle.trace_types.specs.clock.EventTree.{Leaf};
-ghost use Rattle.tenant_ledger.specs.Ledger.{IsKept, HasRoom, history_in, MayNote, IsReport, row_of_report, tree_of_report, MayRaise, event_of, Notes, Prepares};
+ghost use Rattle.tenant_ledger.specs.Ledger.{IsKept, HasRoom, history_in, IsReport, row_of_report, tree_of_report, MayRaise, event_of, Prepares};
 
-use super::{Book, Report, Task};
+use super::{Book, Message, Report, Task};
 use crate::share::{Keep, Share};
 use crate::{MeantId, Places, SharedIds, Stack};
 use event_tree::{EvTree, RaisedPoint};
@@ -15,7 +15,7 @@ use id_tree::IdTree;
 use std::alloc::Global;
 use std::marker::Model;
 use trace_query::Meant;
-use trace_types::{Code, Kind, Memory, Name, Preds, Request, Row};
+use trace_types::{Code, Kind, Memory, Preds, Request, Row};
 
 /// What is to be kept of an event.
 #[derive(Drop)]
@@ -34,6 +34,12 @@ pub(crate) struct Draft<S: Keep> {
     pub(super) named: Option<Task>,
     /// Where the table of tasks or of messages has what the event joins or receives, or 0.
     pub(super) place: usize,
+    /// What is to be kept of the message that the event names.
+    pub(super) noted: Option<Message>,
+    /// The last receipt of the message that the event receives, or 0.
+    pub(super) earlier: u64,
+    /// The event before, of the acting task, or 0.
+    pub(super) before: u64,
 }
 
 impl<S: Keep> Model for Draft<S> {
@@ -56,6 +62,9 @@ impl<S: Keep> Model for Draft<S> {
       acting = d.acting;
       index = d.index;
       named = d.named;
+      noted = d.noted;
+      earlier = d.earlier;
+      before = d.before;
     } };
 }
 
@@ -115,7 +124,7 @@ impl Draft<SharedIds> {
 }
 
 impl<S: Keep> Book<S> {
-    /// Prepares a report. Its draft is to be committed or abandoned.
+    /// Prepares a report, and makes room for it.
     pub(crate) fn prepare<R>(&mut self, rt: &R, request: &Request) -> Result<Draft<S>, Code>
     where
         S: Share<R>,
@@ -129,21 +138,18 @@ impl<S: Keep> Book<S> {
             Err(code) => return Err(code),
         };
         self.make_room(rt, &report)?;
-        self.draft(rt, &report)
+        Ok(self.draft(rt, &report)?)
     }
 
-    /// Notes the report's message, and gives what is to be kept of its event.
-    fn draft<R>(&mut self, rt: &R, report: &Report) -> Result<Draft<S>, Code>
+    /// What is to be kept of the report's event. Returns `Memory` if it runs out of memory.
+    fn draft<R>(&self, rt: &R, report: &Report) -> Result<Draft<S>, Memory>
     where
         S: Share<R>,
-        requires book { IsKept self.old }
-        requires seeded { 0 < self.old.kept_ids }
-        requires report { IsReport self.old report.now }
-        ensures event { IfOk result (λ draft. draft ≡ event_of self.old report.now draft.point) }
-        ensures point { IfOk result (λ draft. MayRaise self.old report.now draft.point) }
-        ensures noted { OnOk result (Notes report.now.task report.now.kind report.now.name (suc (length self.old.rows)) self.old.messages self.new.messages) }
-        ensures err { IfErr result (λ code. (code ≡ Code.NoMemory) × (self.new ≡ self.old)) }
-        ensures others { self.new ≡ record self.old { messages = self.new.messages } }
+        requires book { IsKept self.now }
+        requires seeded { 0 < self.now.kept_ids }
+        requires report { IsReport self.now report.now }
+        ensures event { IfOk result (λ draft. draft ≡ event_of self.now report.now draft.point) }
+        ensures point { IfOk result (λ draft. MayRaise self.now report.now draft.point) }
     {
         let ids = self.ids_made(report)?;
         let id = ids.acting(self.id(report.acting.id));
@@ -153,7 +159,6 @@ impl<S: Keep> Book<S> {
         let row = self.row_after(report);
         let event = self.event_count() + 1;
         let place = self.id_count();
-        self.note(report, event)?;
         Ok(Draft {
             row,
             tree,
@@ -164,6 +169,9 @@ impl<S: Keep> Book<S> {
             index: report.index,
             named: report.named_after(event, place),
             place: report.place,
+            noted: report.noted_after(event),
+            earlier: report.earlier(),
+            before: report.acting.own_event(),
         })
     }
 
@@ -218,26 +226,7 @@ impl<S: Keep> Book<S> {
         }
     }
 
-    /// Notes the message that the report's event sends or receives.
-    #[inline(always)]
-    fn note(&mut self, report: &Report, event: u64) -> Result<(), Memory>
-        requires { MayNote self.old.messages report.now.task report.now.kind report.now.name }
-        ensures noted { OnOk result (Notes report.now.task report.now.kind report.now.name event self.old.messages self.new.messages) }
-        ensures unchanged { OnErr result (self.new ≡ self.old) }
-        ensures others { self.new ≡ record self.old { messages = self.new.messages } }
-    {
-        match (report.kind, report.name) {
-            (Kind::Send, Some(message)) => self.messages.add(message, event),
-            (Kind::Recv, Some(message)) => {
-                self.messages
-                    .receive(&message, report.task, event)
-                    .map_err(|_| Memory)
-            }
-            _ => Ok(()),
-        }
-    }
-
-    /// Keeps the id of `root`, unless that was done. It makes room for one event, its ids and its tasks, and on
+    /// Keeps the id of `root`, unless that was done. It makes room for one event, its ids, its tasks and its message, and on
     /// the stack.
     fn make_room<R>(&mut self, rt: &R, report: &Report) -> Result<(), Memory>
     where
@@ -255,8 +244,11 @@ impl<S: Keep> Book<S> {
         self.points.reserve(1)?;
         self.starts.reserve(1)?;
         self.places.reserve(1)?;
+        self.earlier.reserve(1)?;
+        self.before.reserve(1)?;
         self.ids.reserve(2)?;
         self.tasks.reserve(2)?;
+        self.messages.reserve(1)?;
         self.make_stack_room(report)
     }
 

@@ -1,4 +1,6 @@
 //! Tasks of a book.
+ghost use Rattle.std.specs.Prelude.{◌≡◌};
+ghost use Rattle.tenant_ledger.specs.Ledger.{own_event};
 
 use trace_types::TaskState;
 
@@ -12,4 +14,18 @@ pub(crate) struct Task {
     pub(crate) start: u64,
     /// The place of the task's id. Nothing asks for that of a joined task.
     pub(crate) id: usize,
+}
+
+impl Task {
+    /// The last event of the task itself, or 0. The event that started it is of another task.
+    #[inline(always)]
+    pub(super) fn own_event(&self) -> u64
+        ensures { result ≡ own_event self.now }
+    {
+        if self.last == self.start {
+            0
+        } else {
+            self.last
+        }
+    }
 }

@@ -23,12 +23,16 @@ returns-clause-book g c =
     let made = option_to_list draft.first ++ option_to_list draft.second in
     let ids : c.add_some-2.new.items.items ≡ book.ids.items ++ made =
     c.add_some-2.ensures.items ∙ ap (λ ids. ids ++ option_to_list draft.second) c.add_some.ensures.items ∙ append_assoc book.ids.items _ _ in
-    added_is_kept _ _ ready _ refl refl c.push_reserved.ensures.items
+    added_is_kept _ _ ready _ refl c.push_reserved.ensures.items
     (ap (map tree) c.push_reserved-2.ensures.items ∙ map-append tree book.trees.items (draft.tree ∷ []))
     c.push_reserved-3.ensures.items
     c.push_reserved-4.ensures.items
     c.push_reserved-5.ensures.items
+    c.push_reserved-6.ensures.items
+    c.push_reserved-7.ensures.items
     (ap (λ ids. with_seed (map id ids)) ids ∙ seeded-append id book.ids.items made ready.room.seeded)
     (omega (arith, ready.room.seeded, ap length ids, length-append book.ids.items made))
-    (λ name. c.put_at.ensures.tasks draft.row.task at name ∙ ap (λ had. cond (is_same draft.row.task name) (Some draft.acting) had) (c.put_some.ensures.tasks name))
-    (c.put_at.ensures.count draft.row.task at ∙ (λ i. c.put_some.ensures.count i + cond (is_some (c.put_some.ensures.tasks draft.row.task i)) 0 1))
+    (λ name. c.put_at.ensures.tasks draft.row.task at name ∙ ap (λ had. cond (is_same draft.row.task name) (Some draft.acting) had) (c.put_some.ensures.values name))
+    (c.put_at.ensures.count draft.row.task at ∙ (λ i. c.put_some.ensures.count i + cond (is_some (c.put_some.ensures.values draft.row.task i)) 0 1))
+    c.put_some-2.ensures.values
+    c.put_some-2.ensures.count

@@ -41,5 +41,5 @@ returns-clause-report g c =
       at = c.in_ok-acting.ensures.index;
       second = c.in_ok-named.ensures.second;
       joined = c.in_ok-named.ensures.joined;
-      may = c.in_ok-named.ensures.may;
+      received = c.in_ok-named.ensures.received;
     }

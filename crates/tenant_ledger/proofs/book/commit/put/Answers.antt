@@ -9,6 +9,6 @@ at_ok (Ok value) ok says = says
 at_ok (Err error) ok says = absurd (false≢true ok)
 
 pub returns-clause-places : goal.returns-clause-places
-returns-clause-places c other index has =
-    subst (λ tasks. HasIndex tasks other index) (sym (at_ok c.insert.result (c.insert.ensures.succeeds c.requires) c.insert.ensures.entries))
-    (keeps_index c.args.tasks.now.entries c.args.name c.args.task other index has)
+returns-clause-places g c other index has =
+    subst (λ entries. HasIndex entries other index) (sym (at_ok c.insert.result (c.insert.ensures.succeeds c.requires) c.insert.ensures.entries))
+    (keeps_index c.args.map.now.entries c.args.name c.args.value other index has)
