@@ -1,5 +1,5 @@
 //! Receipts of messages, the first of them stored inline.
-ghost use Rattle.std.specs.Prelude.{◌≡◌, ◌≤◌, ◌<◌, ◌-◌, [], ◌∷◌, ◌++◌, length, take, nat_eq, IsOk, IfOk, OnOk, OnErr};
+ghost use Rattle.std.specs.Prelude.{◌≡◌, ◌≤◌, ◌<◌, ◌-◌, [], ◌∷◌, ◌++◌, length, reverse, take, nat_eq, IsOk, IfOk, OnOk, OnErr};
 ghost use Rattle.std.specs.Cmp.{partial_equiv_from_equiv};
 ghost use Rattle.std.specs.Cmp.Lexicographic.{pointwise, nat_list_eq_equiv};
 
@@ -59,6 +59,13 @@ impl Receipts {
         ensures { self.new ≡ take (length self.old - 1) self.old }
     {
         self.events.pop();
+    }
+
+    /// Puts the receipts in the opposite order. It takes no memory.
+    pub fn reverse(&mut self)
+        ensures { self.new ≡ reverse self.old }
+    {
+        self.events.as_mut_slice().reverse();
     }
 
     /// Equal receipts. Returns `Memory` if it runs out of memory. Up to one receipt takes none.
