@@ -6,20 +6,18 @@ use Rattle.left_right.proofs.reader.Reader.TheSendSync as reader
 use Rattle.left_right.proofs.writer.Writer.TheSendSync as writer
 use Rattle.logbook.proofs.tokens.Seen.TheSendSync as seen
 use Rattle.logbook.proofs.word.Word.TheSendSync as word
-use Rattle.tenant_ledger.proofs.ledger.Ledger.TheSendSync as ledger
+use Rattle.tenant_ledger.proofs.book.Book.TheSendSync as book
+use Rattle.tenant_ledger.proofs.book.draft.Draft.TheSendSync as draft
 use Rattle.trace_types.proofs.limits.Limits.TheSendSync as limits
 use Rattle.trace_types.proofs.row.Row.TheSendSync as row
 use Rattle.tree_forest.proofs.tree.Tree.TheSendSync as kept
 use Rattle.tree_forest.proofs.home.Home.TheSendSync as home
-use Rattle.tenant_ledger.proofs.Crossing.{id_tree_send, id_tree_sync, ev_tree_send, ev_tree_sync, shared_send, shared_sync, shared_ids_send}
+use Rattle.tenant_ledger.proofs.Crossing.{id_tree_send, id_tree_sync, ev_tree_send, ev_tree_sync, shared_send, shared_sync}
 use Rattle.event_tree.specs.contracts.ev_tree.EvTree as EvTree
 use Rattle.id_tree.specs.contracts.IdTree as IdTree
 use Rattle.event_tree.specs.contracts.point.RaisedPoint as RaisedPoint
 use Rattle.tree_forest.specs.contracts.tree.Tree as Tree
-use Rattle.tenant_desk.proofs.index.Index.TheSendSync as index
 use Rattle.tenant_desk.specs.contracts.desk.Desk as Desk
-use Rattle.tenant_desk.specs.contracts.published_event.Event as Event
-use Rattle.tenant_desk.specs.contracts.event_table.Events as Events
 use Rattle.tenant_desk.specs.contracts.row_log.Front as Front
 use Rattle.tenant_desk.specs.contracts.learned_lists.Met as Met
 use Rattle.tenant_desk.specs.contracts.published.Operation as Operation
@@ -42,11 +40,8 @@ front_sync = search (seen.the_sync, sendable, crosses) depth 20
 deciding_sync : IsSync RaisedPoint.the_row
 deciding_sync = search (sendable, crosses) depth 20
 
-events_sync : IsSync Events.the_row
-events_sync = search (sendable, crosses, kept_ev_sync, kept_id_sync, deciding_sync, index.the_field_sync, row.the_sync, home.the_sync, limits.the_sync) depth 20
-
 published_sync : IsSync Published.the_row
-published_sync = search (sendable, crosses, events_sync, front_sync) depth 20
+published_sync = search (sendable, crosses, book.the_sync, kept_ev_sync, kept_id_sync, deciding_sync, shared_send, shared_sync, front_sync) depth 20
 
 met_send : IsSend Met.the_row
 met_send = search (sendable, crosses) depth 20
@@ -70,20 +65,14 @@ kept_ev_send = search (kept.the_send, sendable, ev_tree_send) depth 20
 kept_id_send : IsSend (Tree.the_row IdTree.the_row)
 kept_id_send = search (kept.the_send, sendable, id_tree_send) depth 20
 
-event_send : IsSend Event.the_row
-event_send = search (sendable, kept_ev_send, kept_id_send, row.the_field_send) depth 20
-
 deciding_send : IsSend RaisedPoint.the_row
 deciding_send = search (sendable, crosses) depth 20
 
-events_send : IsSend Events.the_row
-events_send = search (sendable, crosses, kept_ev_send, kept_id_send, deciding_send, index.the_field_send, row.the_send, home.the_send, limits.the_send) depth 20
-
 published_send : IsSend Published.the_row
-published_send = search (sendable, events_send, front_send) depth 20
+published_send = search (sendable, crosses, book.the_send, kept_ev_send, kept_id_send, deciding_send, shared_send, shared_sync, front_send) depth 20
 
 operation_send : IsSend Operation.the_row
-operation_send = search (sendable, event_send, front_send) depth 20
+operation_send = search (sendable, crosses, draft.the_send, kept_ev_send, kept_id_send, deciding_send, front_send) depth 20
 
 publisher_send : IsSend Publisher.the_row
 publisher_send = search (
@@ -101,8 +90,6 @@ pub desk_send : IsSend Desk.the_row
 desk_send = search (
   sendable,
   crosses,
-  ledger.the_send,
-  shared_ids_send,
   shared_send,
   shared_sync,
   publisher_send,

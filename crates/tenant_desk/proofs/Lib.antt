@@ -3,12 +3,7 @@ pub mod Beginnings
 pub mod Cases
 pub mod Crossing
 pub mod Entries
-pub mod Indexing
-pub mod Named
-pub mod PublishedIds
-pub mod PublishedNext
 pub mod Publishing
 pub mod Reporting
-pub mod Spans
 pub mod Steps
 pub mod Viewing

@@ -4,25 +4,25 @@ use Rattle.std.proofs.lemmas.Bool.{false≢true}
 use Rattle.std.specs.Prelude.{Option, Some, None}
 use Rattle.left_right.specs.Register.{TurnsAt}
 use Rattle.trace_types.specs.tenant.Limits.{Limits}
-use Rattle.tenant_desk.specs.Events.{Events, AreSound, no_events}
+use Rattle.tenant_ledger.proofs.keeping.Kept.{new_is_kept}
+use Rattle.tenant_ledger.specs.Ledger.{Contents, Event, IsKept, with_event}
+use Rattle.tenant_desk.specs.Events.{Published, no_events}
 use Rattle.tenant_desk.specs.Histories.{Line, longer_by}
-use Rattle.tenant_desk.specs.Publications.{IsFor, IsNext, IsShown, left_by, with_next, with_some}
+use Rattle.tenant_desk.specs.Publications.{IsFor, IsShown, left_by, with_next, with_some}
 use Rattle.tenant_desk.specs.Rules.{Holds, Sees, IsPublished, sight_of}
-use Rattle.tenant_desk.specs.declared.published_event.Event.{Event}
 use Rattle.tenant_desk.specs.declared.published.Operation.{Operation}
-use Rattle.tenant_desk.specs.declared.published.Published.{Published}
 use Rattle.tenant_desk.specs.declared.publishing_rule.Sight.{Sight}
-use Rattle.tenant_desk.proofs.PublishedNext.{sound_next, sound_none}
 use Rattle.tenant_desk.proofs.Steps.{continues_itself, sees}
 
 -- The operation of the next event may be shown.
-pub is_for_next : (published : Published) (event : Event) (operation : Operation) → IsPublished published → IsNext published.events event
+pub is_for_next : (published : Published) (event : Event) (operation : Operation) → IsPublished published → IsKept (with_event event published.events)
     → operation.event ≡ Some event → operation.front ≡ longer_by event.row published.front → IsFor published operation
 is_for_next published event operation sound next is_event is_front =
     let is : left_by published operation ≡ with_next event published = λ i. record { events = with_some (is_event i) published.events; front = is_front i } in
     record {
       sound = rw is (record {
-        events = sound_next published.events event sound.events next;
+        events = next;
+        seeded = omega (arith, sound.seeded);
         rows = ap (λ rows. rows ++ event.row ∷ []) sound.rows;
       });
       continues = rw is (record { of = (refl, refl, refl); begins = (event.row ∷ [], refl) });
@@ -39,11 +39,12 @@ is_for_none published operation sound is_event is_front =
     }
 
 -- No events are published, and no place knows of them.
-pub none_are_published : (events : Events) (home : List ℕ) (limits : Limits) (front : Line) → events ≡ no_events home limits → front.rows ≡ []
+pub none_are_published : (events : Contents) (home : List ℕ) (limits : Limits) (front : Line) → events ≡ no_events home limits → front.rows ≡ []
     → IsPublished (record { events = events; front = front })
 none_are_published events home limits front none no_rows = record {
-  events = subst AreSound (sym none) (sound_none home limits);
-  rows = no_rows ∙ ap (λ (of : Events). of.rows) (sym none);
+  events = subst IsKept (sym none) (new_is_kept home limits 1 (no_events home limits) refl).0;
+  seeded = omega (arith, ap (λ (of : Contents). of.kept_ids) none);
+  rows = no_rows ∙ ap (λ (of : Contents). of.rows) (sym none);
 }
 
 -- An operation may be shown where nothing else waits.

@@ -6,7 +6,7 @@ use lib.ListN.{get_elem?}
 use Rattle.left_right.specs.Register.{Admits, TurnsAt, Forks, Merges}
 use Rattle.atomic_table.proofs.Lists.{at_set, at_snoc}
 use Rattle.tenant_desk.specs.Rules.{Fits, Continues, IsPublished, Holds, Sees, sight_of}
-use Rattle.tenant_desk.specs.declared.published.Published.{Published}
+use Rattle.tenant_desk.specs.Events.{Published}
 use Rattle.tenant_desk.specs.declared.publishing_rule.Sight.{Sight}
 use Rattle.tenant_desk.proofs.Beginnings.{begins_with_itself, begins_through}
 

@@ -2,7 +2,7 @@
 use Rattle.std.proofs.Common.{◌≡◌, ℕ, Bool, false, MatchBool, IsTrue, List, [], ◌∷◌, ◌+◌, ◌*◌, ◌≤◌, refl, sym, ◌∙◌, subst, inl, inr, arith}
 use Rattle.std.specs.Prelude.{Option, Some, None, Result, Ok, Err, MatchResult}
 use mathlib.Core.List.{IsPrefix}
-use Rattle.tenant_ledger.proofs.Words.{Limits, Row, Tenant, Request, Reply, Refused, Answers, AreLegal, is_report}
+use Rattle.tenant_ledger.proofs.Words.{Limits, Row, Tenant, Request, Reply, Refused, Answers, AreLegal, is_report, tenant_of}
 use Rattle.trace_types.specs.tenant.Limits.{are_limits}
 use Rattle.trace_types.specs.clock.Id.{Id}
 use Rattle.trace_types.specs.clock.EventTree.{EventTree}
@@ -14,11 +14,10 @@ use Rattle.trace_types.specs.declared.request.Request.TheVariants.{Stamp}
 use Rattle.tenant_ledger.specs.Size.{IsShort, spawns_up_to, stamp_bytes}
 use Rattle.tenant_ledger.proofs.size.Replies.{short_answer}
 use Rattle.tenant_ledger.proofs.size.StampTexts.{stamp_text_within_spawns}
-use Rattle.tenant_desk.specs.Events.{published_tenant}
+use Rattle.tenant_desk.specs.Events.{Published}
 use Rattle.tenant_desk.specs.Histories.{Log}
 use Rattle.tenant_desk.specs.Rules.{IsOfDesk, IsOfLog, StaysOf, HasEntered, Sees}
 use Rattle.tenant_desk.specs.Views.{Known, BeginWithEach, LooksUp, Responds}
-use Rattle.tenant_desk.specs.declared.published.Published.{Published}
 use Rattle.tenant_desk.specs.declared.publishing_rule.Sight.{Sight}
 use Rattle.tenant_desk.proofs.Beginnings.{begins_with_itself, begins_through}
 
@@ -64,11 +63,11 @@ known_of_entered book limits home known now published of sees =
 -- the answer at what was entered is one at the rows that are then seen
 pub looks_up : (old : Known) (home : List ℕ) (known now : Option Sight) (published : Published) (request : Request) (reply : Reply)
     → IsOfDesk old.book old.limits home known → BeginWithEach old.seen old.met → HasEntered known old.seen published now
-    → Answers (published_tenant published.events) request reply
+    → Answers (tenant_of published.events) request reply
     → LooksUp old request reply (record { seen = published.front.rows; met = []; limits = old.limits; book = published.front.book })
 looks_up old home known now published request reply of begin entered answered =
     let is = entered_desk old.book old.limits home known now published of entered.sees in
-    let same : published_tenant published.events ≡ record { limits = old.limits; rows = published.front.rows } =
+    let same : tenant_of published.events ≡ record { limits = old.limits; rows = published.front.rows } =
     λ i. record { limits = is.1 i; rows = (sym entered.sees.0.rows) i } in
     inl (
       subst (λ (tenant : Tenant). Answers tenant request reply) same answered,
@@ -85,7 +84,7 @@ looks_up old home known now published request reply of begin entered answered =
 -- so a view that is asked answers as it is due, where that is what it has seen afterwards
 pub responds : (old new : Known) (home : List ℕ) (known now : Option Sight) (published : Published) (request : Request) (reply : Reply)
     → is_report request ≡ false → IsOfDesk old.book old.limits home known → BeginWithEach old.seen old.met → HasEntered known old.seen published now
-    → Answers (published_tenant published.events) request reply
+    → Answers (tenant_of published.events) request reply
     → new ≡ record { seen = published.front.rows; met = []; limits = old.limits; book = published.front.book }
     → Responds old request reply new
 responds old new home known now published request reply query of begin entered answered is =
@@ -95,8 +94,8 @@ responds old new home known now published request reply query of begin entered a
 -- and so does one that gives the parts of a stamp, or says why not
 pub parts_respond : (old new : Known) (home : List ℕ) (known now : Option Sight) (published : Published) (event : ℕ) (found : Result (Id × EventTree) Code)
     → IsOfDesk old.book old.limits home known → BeginWithEach old.seen old.met → HasEntered known old.seen published now
-    → MatchResult found (λ parts. Answers (published_tenant published.events) (Stamp event) (variants.Stamp (stamp_text parts.0 parts.1)))
-    (λ code. Answers (published_tenant published.events) (Stamp event) (Refused code))
+    → MatchResult found (λ parts. Answers (tenant_of published.events) (Stamp event) (variants.Stamp (stamp_text parts.0 parts.1)))
+    (λ code. Answers (tenant_of published.events) (Stamp event) (Refused code))
     → new ≡ record { seen = published.front.rows; met = []; limits = old.limits; book = published.front.book }
     → MatchResult found (λ parts. Responds old (Stamp event) (variants.Stamp (stamp_text parts.0 parts.1)) new) (λ code. Responds old (Stamp event) (Refused code) new)
 parts_respond old new home known now published event (Ok parts) of begin entered answered is =

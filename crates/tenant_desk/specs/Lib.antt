@@ -1,9 +1,6 @@
 pub mod Desks
 pub mod Events
 pub mod Histories
-pub mod Indexes
-pub mod Kept
 pub mod Publications
 pub mod Rules
-pub mod Spans
 pub mod Views

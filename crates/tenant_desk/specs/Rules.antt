@@ -1,13 +1,13 @@
 -- The rule over what a desk publishes, and what each step of the desk and its views tells.
-use Rattle.std.specs.Prelude.{◌≡◌, ℕ, List, Option, Some, None}
+use Rattle.std.specs.Prelude.{◌≡◌, ℕ, ◌<◌, List, Option, Some, None}
 use mathlib.Core.List.{IsPrefix}
 use mathlib.Core.Option.{some}
 use lib.ListN.{get_elem?}
 use Rattle.trace_types.specs.tenant.Limits.{Limits}
 use Rattle.trace_types.specs.declared.row.Row.{Row}
-use Rattle.tenant_desk.specs.Events.{AreSound}
+use Rattle.tenant_ledger.specs.Ledger.{IsKept}
+use Rattle.tenant_desk.specs.Events.{Published}
 use Rattle.tenant_desk.specs.Histories.{Log}
-use Rattle.tenant_desk.specs.declared.published.Published.{Published}
 use Rattle.tenant_desk.specs.declared.publishing_rule.Sight.{Sight}
 
 -- what is known once all that is published is seen
@@ -25,9 +25,10 @@ Fits published None = Unit {0}
 Fits published (Some sight) =
     IsOfDesk published.front.book published.events.limits published.events.home (Some sight) × IsPrefix sight.front.rows published.front.rows
 
--- the events are sound, and their rows are those of the log
+-- what is kept is right, the id of `root` among it, and its rows are those of the log
 pub record IsPublished (published : Published) : Type 0 where
-  pub events : AreSound published.events
+  pub events : IsKept published.events
+  pub seeded : 0 < published.events.kept_ids
   pub rows : published.front.rows ≡ published.events.rows
 
 -- what is published is so, and fits what the desk and each view knows

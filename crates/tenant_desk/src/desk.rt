@@ -1,14 +1,12 @@
 //! Desks, which alone take the reports of their tenants.
-ghost use Rattle.std.specs.Prelude.{◌≡◌, ◌∷◌, ◌++◌, [], true, false, IfOk, MatchOption};
+ghost use Rattle.std.specs.Prelude.{◌≡◌, [], true, false, IfOk, MatchOption};
 ghost use Rattle.trace_types.specs.tenant.Tenant.{AreLegal, Steps, fresh, is_report};
 ghost use Rattle.trace_types.specs.text.StampText.{stamp_text};
-ghost use Rattle.trace_types.specs.text.Text.{CanBeWritten};
-ghost use Rattle.tenant_desk.specs.Desks.{IsDone, IsEventOf, AllArePublished};
 
 use crate::Told;
 use crate::published_answer::answer_published;
-use crate::published_event::Event;
 use crate::publisher::Publisher;
+use crate::stamp_parts::parts_in;
 use crate::views::Views;
 use event_tree::EvTree;
 use id_tree::IdTree;
@@ -16,89 +14,36 @@ use std::alloc::Global;
 use std::marker::Model;
 use std::mem::ManuallyDrop;
 use std::sync::{Arc, Wait};
-use tenant_ledger::{Keep, Ledger, MeantId, Prepared, Shared, SharedIds};
-use trace_query::Meant;
+use tenant_ledger::{Keep, Shared, Stack};
 use trace_types::{Code, Limits, Memory, Name, Reply, Request};
-
-/// What is to be published of a report, whose tree this share keeps. Returns `Memory` if it runs out of memory.
-fn event_of<R: Wait>(
-    rt: &R,
-    shared: &Shared,
-    prepared: &mut Prepared<SharedIds>,
-) -> Result<Event, Memory>
-    ensures same { prepared.new ≡ prepared.old }
-    ensures event { IfOk result (IsEventOf (⟦<Shared as Keep>⟧.home shared.now) prepared.old) }
-{
-    let tree = prepared.intern_tree(rt, shared)?;
-    Ok(Event {
-        row: prepared.row().share(),
-        tree,
-        point: prepared.point(),
-        start: prepared.start(),
-        id: prepared.id().share()?,
-        places: prepared.places(),
-    })
-}
-
-/// Publishes the report, commits it and replies. If it cannot be published, it is abandoned with `NoMemory`.
-fn accept<R: Wait>(
-    rt: &R,
-    shared: &Shared,
-    mut prepared: Prepared<SharedIds>,
-    publisher: &mut Publisher,
-    reply: &mut Reply,
-) -> Ledger<SharedIds>
-    requires legal { AreLegal prepared.tenant.limits (prepared.tenant.rows ++ prepared.row ∷ []) }
-    requires shown { AllArePublished (⟦<Shared as Keep>⟧.home shared.now) prepared.tenant publisher.old }
-    ensures done { IsDone prepared reply.new result }
-    ensures shown { AllArePublished (⟦<Shared as Keep>⟧.home shared.now) result publisher.new }
-    ensures book { publisher.new.front.book ≡ publisher.old.front.book }
-{
-    let Ok(event) = event_of(rt, shared, &mut prepared) else {
-        *reply = Reply::Refused(Code::NoMemory);
-        return prepared.abandon();
-    };
-    if !publisher.publish(rt, event) {
-        *reply = Reply::Refused(Code::NoMemory);
-        return prepared.abandon();
-    }
-    let (ledger, accepted) = prepared.commit();
-    *reply = accepted;
-    ledger
-}
 
 /// The desk of a tenant. It alone takes the tenant's reports, and shows the accepted ones to its [`Views`].
 ///
 /// Contracts see the tenant, the rows that are shown, and the log that has them. A desk cannot be dropped: end it by
 /// [`Desk::close`].
 pub struct Desk {
-    /// It is there except during a report, which moves it.
-    ledger: Option<Ledger<SharedIds>>,
-    /// What keeps the ids and the published trees.
+    /// What keeps the ids and the trees.
     shared: Arc<Shared>,
     publisher: Publisher,
+    /// The stack, on which the trees are walked over.
+    stack: Stack,
 }
 
 impl Model for Desk {
-    ghost use Rattle.std.specs.Prelude.{Some, None};
+    ghost use Rattle.std.specs.Prelude.{◌≡◌};
     ghost use Rattle.std.specs.Arc.{arc_value};
-    ghost use Rattle.tenant_desk.specs.Desks.{Desk as Seen, AllArePublished, no_desk};
+    ghost use Rattle.tenant_ledger.specs.Ledger.{tenant_of};
+    ghost use Rattle.tenant_desk.specs.Desks.{Desk as Seen};
 
     ghost Value = { Seen };
 
-    ghost view = { λ d. elim d.ledger [
-      | None ↦ no_desk
-      | Some ledger ↦ record { tenant = ledger; published = d.publisher.events.rows; book = d.publisher.front.book }
-    ] };
+    ghost view = { λ d. record { tenant = tenant_of d.publisher.events; published = d.publisher.events.rows; book = d.publisher.front.book } };
 
-    ghost invariant = { λ d. elim d.ledger [
-      | None ↦ ⊥
-      | Some ledger ↦ AllArePublished (⟦<Shared as Keep>⟧.home (arc_value d.shared)) ledger d.publisher
-    ] };
+    ghost invariant = { λ d. d.publisher.events.home ≡ ⟦<Shared as Keep>⟧.home (arc_value d.shared) };
 }
 
 impl Desk {
-    /// Takes one request as the tenant's ledger does. An accepted report is published before the call returns. The call
+    /// Takes one request, as a ledger of the tenant would. An accepted report is published before the call returns. The call
     /// waits for views that still read what was published before the last report.
     ///
     /// A request is refused with the first code that applies of those that `refusals` of `trace_types` has for it. Else a
@@ -138,51 +83,30 @@ impl Desk {
         ensures legal { AreLegal self.now.tenant.limits self.now.tenant.rows }
         ensures published { self.now.published ≡ self.now.tenant.rows }
     {
-        let Some(ledger) = &self.ledger else {
-            unreachable!()
-        };
-        let id = ledger.id(event)?;
-        let tree = ledger.tree(event)?;
-        Some((id.id_value(), tree.tree_value()))
+        parts_in(self.publisher.events(), event)
     }
 
-    /// Answers a query by what is published, and looks orders up in the cache. The ledger answers `message`, since it keeps
-    /// the receipts of each message, and the published rows would be searched for them.
+    /// Answers a query by what is published, and looks orders up in the cache.
     fn ask(&self, request: &Request, reply: &mut Reply)
         requires { is_report request.now ≡ false }
         ensures steps { Steps self.now.tenant request.now reply.new self.now.tenant }
         ensures legal { AreLegal self.now.tenant.limits self.now.tenant.rows }
         ensures published { self.now.published ≡ self.now.tenant.rows }
     {
-        let Some(ledger) = &self.ledger else {
-            unreachable!()
-        };
-        match *request {
-            Request::Message(_) => *reply = ledger.answer(request),
-            _ => answer_published(self.publisher.events(), &self.shared, true, request, reply),
-        }
+        answer_published(self.publisher.events(), &self.shared, true, request, reply);
     }
 
-    /// Takes a report. An accepted one is published before it is committed. The report can be written, so its row is legal.
+    /// Takes a report. An accepted one is published.
     fn report<R: Wait>(&mut self, rt: &R, request: &Request, reply: &mut Reply)
-        requires report { is_report request.now ≡ true }
-        requires written { CanBeWritten request.now }
+        requires { is_report request.now ≡ true }
         ensures steps { Steps self.old.tenant request.now reply.new self.new.tenant }
         ensures legal { AreLegal self.new.tenant.limits self.new.tenant.rows }
         ensures published { self.new.published ≡ self.new.tenant.rows }
         ensures book { self.new.book ≡ self.old.book }
     {
-        let Some(ledger) = self.ledger.take() else {
-            unreachable!()
-        };
-        let ledger = match ledger.prepare(rt, request) {
-            Ok(prepared) => accept(rt, &self.shared, prepared, &mut self.publisher, reply),
-            Err((ledger, refused)) => {
-                *reply = refused;
-                ledger
-            }
-        };
-        self.ledger = Some(ledger);
+        self.publisher.report(rt, &mut self.stack, request, reply);
+        // For the proof: it says that the rows are legal.
+        let _ = self.publisher.events();
     }
 
     /// Tells of all accepted rows. It takes constant time and no memory.
@@ -197,9 +121,9 @@ impl Desk {
     /// Ends the desk. It waits for views that still read. From then on its views answer every query with `NoPlace` (422).
     pub fn close<R: Wait>(self, rt: &R) {
         let Desk {
-            ledger: _,
             shared: _,
             publisher,
+            stack: _,
         } = self;
         publisher.close(rt);
     }
@@ -208,12 +132,12 @@ impl Desk {
     /// next: to give the trees back one by one would only take time.
     pub fn close_at_exit<R: Wait>(self, rt: &R) {
         let Desk {
-            ledger,
             shared: _,
             publisher,
+            stack: _,
         } = self;
-        // Neither is dropped.
-        let _ = ManuallyDrop::new((ledger, publisher.close(rt)));
+        // It is not dropped.
+        let _ = ManuallyDrop::new(publisher.close(rt));
     }
 }
 
@@ -248,14 +172,13 @@ pub fn named_desk_and_views<R: Wait>(
     ensures views { IfOk result (λ made. made.1 ≡ record { left = 8; limits = limits; book = made.0.book }) }
     ensures log { IfOk result (λ made. made.0.book.tenant ≡ name.now) }
 {
-    let ledger = Ledger::with_share(alloc, limits, SharedIds(Arc::try_clone(&shared)?))?;
-    let mut publisher = Publisher::new(rt, alloc, name, limits, &shared.home())?;
+    let mut publisher = Publisher::new(rt, alloc, name, limits, &shared)?;
     match Views::new(alloc, limits, &shared, &mut publisher) {
         Ok(views) => {
             let desk = Desk {
-                ledger: Some(ledger),
                 shared,
                 publisher,
+                stack: Stack::new(),
             };
             Ok((desk, views))
         }

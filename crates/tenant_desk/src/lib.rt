@@ -24,16 +24,12 @@
 #![tactic(auto)]
 
 mod desk;
-mod event_table;
-mod index;
 mod learned_lists;
 mod published;
 mod published_answer;
-mod published_event;
 mod publisher;
 mod publishing_rule;
 mod row_log;
-mod span;
 mod stamp_parts;
 mod told_rows;
 mod view;

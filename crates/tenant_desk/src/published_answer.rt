@@ -1,9 +1,9 @@
 //! Answers from what is published, and replies that are put in place of others.
 ghost use Rattle.std.specs.Prelude.{◌≡◌};
 ghost use Rattle.trace_types.specs.tenant.Tenant.{Answers};
-ghost use Rattle.tenant_desk.specs.Events.{AreSound, published_tenant};
+ghost use Rattle.tenant_ledger.specs.Ledger.{IsKept, tenant_of};
 
-use crate::event_table::Events;
+use crate::published::SharedBook;
 use tenant_ledger::{Keep, Own, Shared, answer};
 use trace_query::Plain;
 use trace_types::{Reply, Request};
@@ -11,15 +11,15 @@ use trace_types::{Reply, Request};
 /// Answers from the events, by the cache of what keeps their trees or without it, and puts the reply in place of this one.
 #[inline(always)]
 pub(crate) fn answer_published(
-    events: &Events,
+    events: &SharedBook,
     shared: &Shared,
     by_cache: bool,
     request: &Request,
     reply: &mut Reply,
 )
-    requires sound { AreSound events.now }
+    requires sound { IsKept events.now }
     requires home { ⟦<Shared as Keep>⟧.home shared.now ≡ events.now.home }
-    ensures { Answers (published_tenant events.now) request.now reply.new }
+    ensures { Answers (tenant_of events.now) request.now reply.new }
 {
     if by_cache {
         *reply = answer(events, &Own(shared), request);

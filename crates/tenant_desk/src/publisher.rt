@@ -1,13 +1,15 @@
 //! What a desk shows to its views.
-ghost use Rattle.std.specs.Prelude.{◌≡◌, [], Some, IfOk, IsTrue, MatchBool, drop};
+ghost use Rattle.std.specs.Prelude.{◌≡◌, ◌<◌, [], true, Some, IfOk, IsTrue, MatchBool, drop};
+ghost use Rattle.std.specs.Arc.{arc_value};
 ghost use Rattle.left_right.specs.Sides.{view as known_at};
-ghost use Rattle.tenant_desk.specs.Events.{AreSound, no_events};
-ghost use Rattle.tenant_desk.specs.Publications.{IsFor, IsNext, IsShown, left_by, with_next};
+ghost use Rattle.tenant_ledger.specs.Ledger.{IsKept, roomless, tenant_of, with_event};
+ghost use Rattle.trace_types.specs.tenant.Tenant.{Steps, is_report};
+ghost use Rattle.tenant_desk.specs.Events.{no_events};
+ghost use Rattle.tenant_desk.specs.Publications.{IsFor, IsShown, left_by, with_next};
 ghost use Rattle.tenant_desk.specs.Rules.{IsPublished, sight_of};
 
-use crate::event_table::Events;
-use crate::published::{Operation, Published};
-use crate::published_event::Event;
+use crate::published::{Operation, Published, SharedBook, SharedDraft};
+use crate::published_answer::put_reply;
 use crate::publishing_rule::{Knows, Learning, Noting, Publishing, Seeing};
 use crate::row_log::{Front, Head, new_log};
 use core::mem::replace_with;
@@ -15,9 +17,9 @@ use left_right::reader::{Reader, Reading};
 use left_right::writer::Writer;
 use std::alloc::Global;
 use std::marker::Model;
-use std::sync::Wait;
-use trace_types::{Limits, Memory, Name};
-use tree_forest::Home;
+use std::sync::{Arc, Wait};
+use tenant_ledger::{Book, Keep, Records, Shared, Stack};
+use trace_types::{Code, Limits, Memory, Name, Reply, Request};
 
 type DeskWriter = Writer<Published, Operation, Knows, Publishing>;
 
@@ -43,7 +45,7 @@ impl Model for Publisher {
     ghost use Rattle.left_right.specs.Sides.{view as known_at};
     ghost use Rattle.tenant_desk.specs.Histories.{head_of};
     ghost use Rattle.tenant_desk.specs.Publications.{IsShown};
-    ghost use Rattle.tenant_desk.specs.declared.published.Published.{Published};
+    ghost use Rattle.tenant_desk.specs.Events.{Published};
 
     ghost Value = { Published };
 
@@ -82,31 +84,40 @@ fn show_again<R: Wait>(rt: &R, writer: &mut DeskWriter) -> bool
 {
     let operation = Operation {
         event: None,
-        front: writer.published().front.again(),
+        front: writer.published().front().again(),
     };
     show(rt, writer, operation)
 }
 
-/// A writer that shows no events, in a log without rows.
-fn new_writer(
+/// No events, with room for as many as the limits allow.
+fn no_events<R: Wait>(
+    rt: &R,
     alloc: Global,
     limits: Limits,
-    home: &Home,
+    shared: &Arc<Shared>,
+    front: &Front,
+) -> Result<Published, Memory>
+    ensures { IfOk result (λ published. published ≡ record { events = no_events (⟦<Shared as Keep>⟧.home (arc_value shared.now)) limits; front = front.now }) }
+{
+    let events = Book::with_room(rt, alloc, limits, Arc::try_clone(shared)?)?;
+    Ok(Published::new(events, front.again()))
+}
+
+/// A writer that shows no events, in a log without rows.
+fn new_writer<R: Wait>(
+    rt: &R,
+    alloc: Global,
+    limits: Limits,
+    shared: &Arc<Shared>,
     front: &Front,
 ) -> Result<DeskWriter, Memory>
     requires { front.now.rows ≡ [] }
-    ensures shown { IfOk result (λ writer. writer.desk.shown.value ≡ record { events = no_events home.now limits; front = front.now }) }
+    ensures shown { IfOk result (λ writer. writer.desk.shown.value ≡ record { events = no_events (⟦<Shared as Keep>⟧.home (arc_value shared.now)) limits; front = front.now }) }
     ensures sound { IfOk result (λ writer. IsPublished writer.desk.shown.value) }
     ensures waiting { IfOk result (λ writer. drop writer.behind writer.log.items ≡ []) }
 {
-    let first = Published {
-        events: Events::new(alloc, limits, home.again())?,
-        front: front.again(),
-    };
-    let second = Published {
-        events: Events::new(alloc, limits, home.again())?,
-        front: front.again(),
-    };
+    let first = no_events(rt, alloc, limits, shared, front)?;
+    let second = no_events(rt, alloc, limits, shared, front)?;
     Ok(Writer::new(alloc, first, second, VIEWS)?)
 }
 
@@ -118,14 +129,14 @@ impl Publisher {
         alloc: Global,
         tenant: &Name,
         limits: Limits,
-        home: &Home,
+        shared: &Arc<Shared>,
     ) -> Result<Publisher, Memory>
-        ensures events { IfOk result (λ publisher. publisher.events ≡ no_events home.now limits) }
+        ensures events { IfOk result (λ publisher. publisher.events ≡ no_events (⟦<Shared as Keep>⟧.home (arc_value shared.now)) limits) }
         ensures rows { IfOk result (λ publisher. publisher.front.rows ≡ []) }
         ensures tenant { IfOk result (λ publisher. publisher.front.book.tenant ≡ tenant.now) }
     {
         let (head, front) = new_log(tenant);
-        let mut writer = new_writer(alloc, limits, home, &front)?;
+        let mut writer = new_writer(rt, alloc, limits, shared, &front)?;
         // The second operation stands in the log behind the first one, as that of a report behind the last report's.
         if !show_again(rt, &mut writer) || !show_again(rt, &mut writer) {
             writer.take(rt);
@@ -136,17 +147,19 @@ impl Publisher {
 
     /// How far the log is shown.
     pub(crate) fn front(&self) -> &Front
-        ensures { result.now ≡ self.now.front }
+        ensures front { result.now ≡ self.now.front }
+        ensures rows { result.now.rows ≡ self.now.events.rows }
     {
-        &self.writer.published().front
+        self.writer.published().front()
     }
 
     /// The events that are shown.
-    pub(crate) fn events(&self) -> &Events
-        ensures events { result.now ≡ self.now.events }
-        ensures sound { AreSound result.now }
+    pub(crate) fn events(&self) -> &SharedBook
+        ensures events { roomless result.now ≡ self.now.events }
+        ensures kept { IsKept result.now }
+        ensures seeded { 0 < result.now.kept_ids }
     {
-        &self.writer.published().events
+        self.writer.published().events()
     }
 
     /// A reader of what is shown, which knows it. Returns `Memory` if none is left, or no memory for it.
@@ -160,16 +173,43 @@ impl Publisher {
         Ok(reader)
     }
 
+    /// Takes a report, and shows its event too if it is accepted. It puts the reply in place of this one. If the event cannot
+    /// be shown, or if memory runs out, it is refused with `NoMemory`.
+    pub(crate) fn report<R: Wait>(
+        &mut self,
+        rt: &R,
+        stack: &mut Stack,
+        request: &Request,
+        reply: &mut Reply,
+    )
+        requires { is_report request.now ≡ true }
+        ensures steps { Steps (tenant_of self.old.events) request.now reply.new (tenant_of self.new.events) }
+        ensures home { self.new.events.home ≡ self.old.events.home }
+        ensures book { self.new.front.book ≡ self.old.front.book }
+    {
+        match self.events().draft(rt, stack, request) {
+            Ok(draft) => {
+                if self.publish(rt, draft) {
+                    let count = self.events().rows().len() as u64;
+                    put_reply(reply, Reply::Accepted(count));
+                } else {
+                    put_reply(reply, Reply::Refused(Code::NoMemory));
+                }
+            }
+            Err(code) => put_reply(reply, Reply::Refused(code)),
+        }
+    }
+
     /// Shows the next event too, and says whether it did. It takes no memory beyond what was taken when this was made.
     /// Nothing is shown any more behind an event that could not be.
-    pub(crate) fn publish<R: Wait>(&mut self, rt: &R, event: Event) -> bool
-        requires { IsNext self.old.events event }
+    fn publish<R: Wait>(&mut self, rt: &R, event: SharedDraft) -> bool
+        requires { IsKept (with_event event self.old.events) }
         ensures { MatchBool result (self.new ≡ with_next event self.old) (self.new ≡ self.old) }
     {
         if self.writer.has_pending_operations() {
             return false;
         }
-        let Some(front) = self.front().grown(&self.head, &event.row) else {
+        let Some(front) = self.front().grown(&self.head, event.row()) else {
             return false;
         };
         let operation = Operation {

@@ -60,7 +60,7 @@ fn enter(reader: DeskReader, seen: &Front) -> Result<DeskReading, DeskReader>
         (λ left. StaysOf (known_at reader.place) (known_at left.place)) }
 {
     let reading = reader.enter_as::<Seeing>()?;
-    if reading.get().front.covers(seen) {
+    if reading.get().front().covers(seen) {
         Ok(reading)
     } else {
         Err(reading.leave())
@@ -72,7 +72,7 @@ fn give_back(reading: DeskReading) -> (DeskReader, Front)
     ensures known { known_at result.0.place ≡ known_at reading.place }
     ensures front { result.1 ≡ reading.part.value.front }
 {
-    let front = reading.get().front.again();
+    let front = reading.get().front().again();
     (reading.leave(), front)
 }
 
@@ -180,7 +180,7 @@ impl View {
         };
         match enter(reader, &self.seen) {
             Ok(reading) => {
-                let parts = shared_parts(&reading.get().events, event);
+                let parts = shared_parts(reading.get().events(), event);
                 let (reader, seen) = give_back(reading);
                 self.reader = Some(reader);
                 self.seen = seen;
@@ -210,7 +210,7 @@ impl View {
         };
         match enter(reader, &self.seen) {
             Ok(reading) => {
-                let events = &reading.get().events;
+                let events = reading.get().events();
                 answer_published(events, &*self.shared, by_cache, request, reply);
                 let (reader, seen) = give_back(reading);
                 self.reader = Some(reader);

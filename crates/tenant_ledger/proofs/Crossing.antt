@@ -9,7 +9,6 @@ use Rattle.order_cache.proofs.cache.OrderCache.TheSendSync as cache
 use Rattle.id_tree.specs.contracts.IdTree as IdTree
 use Rattle.event_tree.specs.contracts.ev_tree.EvTree as EvTree
 use Rattle.tenant_ledger.specs.contracts.shared.Shared as Shared
-use Rattle.tenant_ledger.specs.contracts.shared_ids.SharedIds as SharedIds
 
 pub id_tree_send : IsSend IdTree.the_row
 id_tree_send = search (ids.crosses, sendable, crosses) depth 20
@@ -28,6 +27,3 @@ shared_send = search (sendable, forest.the_send, cache.the_send, id_tree_send, i
 
 pub shared_sync : IsSync Shared.the_row
 shared_sync = search (sendable, forest.the_sync, cache.the_sync, id_tree_send, id_tree_sync, ev_tree_send, ev_tree_sync) depth 20
-
-pub shared_ids_send : IsSend SharedIds.the_row
-shared_ids_send = search (sendable, crosses, shared_send, shared_sync) depth 20

@@ -7,12 +7,12 @@ pub use Rattle.std.proofs.lemmas.Option.{get_or_from_slice_get, same_Some, slice
 pub use Rattle.std.proofs.Math.Path.{transport}
 pub use Rattle.trace_types.proofs.Names.{differ_by_test, is_same-itself, is_same_iff}
 pub use Rattle.event_tree.specs.Comparison.{IsBelow, StandsAs}
-pub use Rattle.message_book.specs.Book.{entry_of, entry_with_receipt, has_receipt_by, Messages, Receipt, refusal_of_receive, Sent, with_changed, with_message, with_receipt, without_last_receipt}
 pub use Rattle.tenant_ledger.specs.Answers.{code_of}
 pub use Rattle.tenant_ledger.specs.ClockLaws.{ClockLaws, OwnsSome, Raises}
 pub use Rattle.tenant_ledger.specs.Invariant.{EventsHavePrivatePoints, HasPrivatePoint, HolderIsAhead, holds, Invariant, IsPrivate, OneHolder, TreesRise, value_of}
-pub use Rattle.tenant_ledger.specs.Ledger.{acting_after, AreMessages, ArePoints, Contents, count_with, count_with_some, Decides, Event, event_of, HasIndex, HasRoom, history_in, id_after, id_for, id_left, ids_made, IsKept, IsKeptWith, IsMessage, IsReady, IsReport, IsTask, joined_by, made_ids, MayHavePoint, MayRaise, named_after, Notes, of_each, Prepares, receipts_by_task, refusals_of_named, refusals_of_received, refusals_of_report, refusals_of_room, row_of_report, start_of, task_count_with, task_in, task_with, task_with_some, tasks_with, tenant_of, with_event, with_seed}
+pub use Rattle.tenant_ledger.specs.Ledger.{acting_after, ArePoints, Contents, count_with, count_with_some, Decides, earlier_of, Event, event_of, HasRoom, history_in, id_after, id_for, id_left, ids_made, IsKept, IsKeptWith, IsMessage, IsReady, IsReport, IsTask, joined_by, last_in, last_receipt, made_ids, MayHavePoint, MayRaise, message_count_with, message_in, messages_with, named_after, noted_after, of_each, Prepares, receipt_before, received_by, refusals_of_named, refusals_of_received, refusals_of_report, refusals_of_room, row_of_report, start_of, task_count_with, task_in, tasks_with, tenant_of, value_with, value_with_some, with_event, with_seed}
 pub use Rattle.tenant_ledger.specs.Legal.{Allows, AllowsNamed, IsLegal, IsLive}
+pub use Rattle.tenant_ledger.specs.declared.book.message.Message.{Message}
 pub use Rattle.tenant_ledger.specs.declared.book.report.Report.{Report}
 pub use Rattle.tenant_ledger.specs.declared.book.task.Task.{Task}
 pub use Rattle.trace_query.specs.Queries.{concurrent_of, cut_by_trees, fault_due, has_tree, order_between, order_due, others_standing, StandInOrder, tree_at, trees_before}

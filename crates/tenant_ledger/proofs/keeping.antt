@@ -3,6 +3,11 @@ pub mod Known
 pub mod Points
 pub mod Tasks
 pub mod Messages
+pub mod Receipts
+pub mod Drafted
+pub mod Received
+pub mod Tables
+pub mod Walks
 pub mod Kept
 pub mod Report
 pub mod Starts

@@ -1,9 +1,12 @@
 -- What a ledger keeps beside the rows.
-use Rattle.std.specs.Prelude.{◌≡◌, ℕ, not, suc, ◌+◌, ◌≤◌, ◌<◌, ◌==◌, false, true, Bool, if◌then◌else◌, List, [], ◌∷◌, ◌++◌, length, map, Option, Some, None, is_some, Result, Ok, Err, slice_get}
+use Rattle.std.specs.Prelude.{◌≡◌, ℕ, not, suc, ◌+◌, ◌*◌, ◌≤◌, ◌<◌, ◌==◌, ◌&&◌, All, false, true, Bool, if◌then◌else◌, List, [], ◌∷◌, ◌++◌, length, map, Option, Some, None, is_some, Result, Ok, Err, slice_get}
+use Rattle.std.specs.List.{list_any}
 use Rattle.std.specs.Map.{lookup}
-use Rattle.trace_types.specs.text.Name.{Text, is_same}
+use Rattle.indexmap.specs.IndexMap.{insert_entry}
+use Rattle.indexmap.specs.IndexSet.{insert_key}
+use Rattle.trace_types.specs.text.Name.{Text, is_same, root}
 use Rattle.trace_types.specs.tenant.Limits.{Limits}
-use Rattle.trace_types.specs.tenant.Rows.{History, history_of, is_known, is_ended, is_joined, state_of, last_event, start_event, is_sent, has_received, receives, send_event, task_count, message_count}
+use Rattle.trace_types.specs.tenant.Rows.{History, history_of, is_known, is_ended, is_joined, state_of, last_event, start_event, is_sent, has_received, newest, receives, send_event, task_count, message_count}
 use Rattle.trace_types.specs.tenant.Reachability.{second_event}
 use Rattle.trace_types.specs.tenant.Refusal.{first_code, refusals, has_all_events, has_all_tasks, has_all_messages}
 use Rattle.trace_types.specs.clock.Clock.{tree_clock}
@@ -24,12 +27,11 @@ use Rattle.trace_types.specs.declared.code.Code.TheVariants.{NoTask, TaskExists,
 use Rattle.trace_query.specs.Deciding.{point_in}
 use Rattle.event_tree.specs.declared.point.RaisedPoint.{RaisedPoint}
 use Rattle.tenant_ledger.specs.Laws.{IsRaisedBy}
+use Rattle.tenant_ledger.specs.declared.book.message.Message.{Message}
 use Rattle.tenant_ledger.specs.declared.book.task.Task.{Task}
 use Rattle.tenant_ledger.specs.declared.book.report.Report.{Report}
 use Rattle.tenant_ledger.specs.declared.book.ids.Ids.{Ids}
 use Rattle.tenant_ledger.specs.declared.book.ids.Ids.TheVariants as ids
-use Rattle.message_book.specs.Book.{Sent, Receipt, entry_of, with_message, with_receipt, refusal_of_send, refusal_of_receive}
-use Rattle.message_book.specs.Book as message_book
 
 -- for how many more of each there is room
 pub record Room : Type 0 where
@@ -38,8 +40,15 @@ pub record Room : Type 0 where
   pub points : ℕ
   pub starts : ℕ
   pub places : ℕ
+  pub earlier : ℕ
+  pub received : ℕ
   pub ids : ℕ
   pub tasks : ℕ
+  pub messages : ℕ
+
+-- A receipt, by the event that started the task, or 0, and the event that sent the message.
+abbrev pub ReceiptKey : Type 0
+ReceiptKey = ℕ × ℕ
 
 -- What a book has: the trees and the ids as what they mean. Until the first id is kept, that of `root` stands for it.
 pub record Contents : Type 0 where
@@ -48,14 +57,20 @@ pub record Contents : Type 0 where
   pub limits : Limits
   pub rows : List Row
   pub trees : List EventTree
+  -- where each tree is kept
+  pub homes : List (List ℕ)
   pub points : List (Option RaisedPoint)
   -- the event that started each event's task, or 0
   pub starts : List ℕ
   pub places : List ℕ
+  -- the receipt before each event that receives a message, of the same message, or 0, as for any other event
+  pub earlier : List ℕ
+  -- which tasks received which messages
+  pub received : List ReceiptKey
   pub ids : List Id
   pub kept_ids : ℕ
   pub tasks : List (Text × Task)
-  pub messages : message_book.Book
+  pub messages : List (Text × Message)
   pub room : Room
 
 -- the ids that are kept: until the first is, that of `root`, which has every point
@@ -75,9 +90,9 @@ tenant_of book = record { limits = book.limits; rows = book.rows }
 abbrev pub task_in : Contents → Text → Option Task
 task_in book name = lookup (is_same name) book.tasks
 
--- the task of this name has this index in the table of tasks
-abbrev pub HasIndex : List (Text × Task) → Text → ℕ → Type 0
-HasIndex tasks name index = (task : Task) × (slice_get tasks index ≡ Some (name, task))
+-- and the message
+abbrev pub message_in : Contents → Text → Option Message
+message_in book name = lookup (is_same name) book.messages
 
 -- what is kept of a name: nothing where there is no such task; of a joined task the id is not told
 abbrev pub IsTask : List Id → History → Text → Option Task → Type 0
@@ -87,25 +102,20 @@ IsTask ids history name (Some task) =
     × ((task.state ≡ state.Joined → ⊥) → slice_get ids task.id ≡ Some (id_of tree_clock history name))
     × (task.start ≡ start_event history name)
 
--- the receipts of a message with their tasks, in their order
-abbrev pub receipts_by_task : History → Text → List Receipt
-receipts_by_task [] message = []
-receipts_by_task (row ∷ earlier) message =
-    if receives message row
-    then receipts_by_task earlier message ++ record { task = row.task; event = suc (length earlier) } ∷ []
-    else receipts_by_task earlier message
+-- the last event that received the message, or 0
+abbrev pub last_receipt : History → Text → ℕ
+last_receipt history message = newest (receives message) history
 
 -- what is kept of a message: nothing where none of this name was sent
-abbrev pub IsMessage : History → Text → Option Sent → Type 0
+abbrev pub IsMessage : History → Text → Option Message → Type 0
 IsMessage history name None = is_sent history name ≡ false
-IsMessage history name (Some entry) =
-    (is_sent history name ≡ true) × (entry.sent ≡ send_event history name) × (entry.receipts ≡ receipts_by_task history name)
+IsMessage history name (Some message) =
+    (is_sent history name ≡ true) × (message.sent ≡ send_event history name) × (message.last ≡ last_receipt history name)
 
--- what is kept of the messages
-pub record AreMessages (limits : Limits) (history : History) (messages : message_book.Book) : Type 0 where
-  pub limit : messages.limit ≡ limits.messages
-  pub entries : (name : Text) → IsMessage history name (entry_of messages.messages name)
-  pub counted : length messages.messages ≡ message_count history
+-- the last receipt of the message that such a report receives, or 0
+abbrev pub receipt_before : History → Kind → Option Text → ℕ
+receipt_before history Recv (Some message) = last_receipt history message
+receipt_before history kind name = 0
 
 -- what is told of each event, in the order of the events
 abbrev pub of_each : {A : Type 0} → (History → ℕ → A) → History → List A
@@ -120,6 +130,34 @@ id_after history event = (stamp_of tree_clock history event).0
 abbrev pub start_of : History → ℕ → ℕ
 start_of [] event = 0
 start_of (row ∷ earlier) event = if event == suc (length earlier) then start_event (row ∷ earlier) row.task else start_of earlier event
+
+-- the receipt before the event, of the message that it receives, or 0
+abbrev pub earlier_of : History → ℕ → ℕ
+earlier_of [] event = 0
+earlier_of (row ∷ earlier) event = if event == suc (length earlier) then receipt_before earlier row.kind row.name else earlier_of earlier event
+
+-- whether two receipts are of the same task and the same message
+abbrev pub is_same_receipt : ReceiptKey → ReceiptKey → Bool
+is_same_receipt one other = one.0 == other.0 && one.1 == other.1
+
+-- the receipt is among these
+abbrev pub has_key : List ReceiptKey → ReceiptKey → Bool
+has_key keys key = list_any (is_same_receipt key) keys
+
+-- these with this receipt, where there is one
+abbrev pub with_key : Option ReceiptKey → List ReceiptKey → List ReceiptKey
+with_key None keys = keys
+with_key (Some key) keys = insert_key is_same_receipt keys key
+
+-- the receipt that a row of the task and of this kind is
+abbrev pub key_of : History → Text → Kind → Option Text → Option ReceiptKey
+key_of history task Recv (Some message) = Some (start_event history task, send_event history message)
+key_of history task kind name = None
+
+-- the receipts by these rows
+abbrev pub keys_in : History → List ReceiptKey
+keys_in [] = []
+keys_in (row ∷ earlier) = with_key (key_of earlier row.task row.kind row.name) (keys_in earlier)
 
 -- a point that the event raised, with the value there of what it knows
 pub record IsPointOf (history : History) (event : ℕ) (deciding : RaisedPoint) : Type 0 where
@@ -136,33 +174,67 @@ pub record ArePoints (history : History) (points : List (Option RaisedPoint)) : 
   pub counted : length points ≡ length history
   pub each : (place : ℕ) → MayHavePoint history (suc place) (point_in points place)
 
--- The book is kept for its rows, with these tasks.
-pub record IsKeptWith (book : Contents) (tasks : Text → Option Task) (count : ℕ) : Type 0 where
+-- The book is kept for its rows, with these tasks and these messages.
+pub record IsKeptWith (book : Contents) (tasks : Text → Option Task) (tasks_ever : ℕ) (messages : Text → Option Message) (messages_ever : ℕ) : Type 0 where
   pub legal : AreLegal book.limits book.rows
   pub small : length book.rows ≤ 16384
   pub trees : book.trees ≡ of_each (tree_of tree_clock) (history_in book)
+  pub homes : All (λ home. home ≡ book.home) book.homes
   pub points : ArePoints (history_in book) book.points
   pub starts : book.starts ≡ of_each start_of (history_in book)
   pub places : map (slice_get book.ids) book.places ≡ map Some (of_each id_after (history_in book))
   pub tasks_are : (name : Text) → IsTask book.ids (history_in book) name (tasks name)
-  pub counted : count ≡ task_count (history_in book)
-  pub messages : AreMessages book.limits (history_in book) book.messages
+  pub counted : tasks_ever ≡ task_count (history_in book)
+  pub earlier : book.earlier ≡ of_each earlier_of (history_in book)
+  pub received : book.received ≡ keys_in (history_in book)
+  pub messages_are : (name : Text) → IsMessage (history_in book) name (messages name)
+  pub messages_counted : messages_ever ≡ message_count (history_in book)
   pub seeded : 0 < length book.rows → 0 < book.kept_ids
 
 -- and with those that it has
 abbrev pub IsKept : Contents → Type 0
-IsKept book = IsKeptWith book (task_in book) (length book.tasks)
+IsKept book = IsKeptWith book (task_in book) (length book.tasks) (message_in book) (length book.messages)
 
--- there is an id, and room for an event, for two ids and for two tasks
+-- there is an id, and room for an event, for two ids, for two tasks, for a message and for a receipt
 pub record HasRoom (book : Contents) : Type 0 where
   pub rows : 0 < book.room.rows
   pub trees : 0 < book.room.trees
   pub points : 0 < book.room.points
   pub starts : 0 < book.room.starts
   pub places : 0 < book.room.places
+  pub earlier : 0 < book.room.earlier
+  pub received : 0 < book.room.received
   pub ids : 2 ≤ book.room.ids
   pub tasks : 2 ≤ book.room.tasks
+  pub messages : 0 < book.room.messages
   pub seeded : 0 < book.kept_ids
+
+-- There is room for as many events, ids, tasks, messages and receipts as a tenant with these limits makes, and for what is
+-- asked before the last of its events.
+pub record HasAllRoom (limits : Limits) (room : Room) : Type 0 where
+  pub rows : limits.events ≤ room.rows
+  pub trees : limits.events ≤ room.trees
+  pub points : limits.events ≤ room.points
+  pub starts : limits.events ≤ room.starts
+  pub places : limits.events ≤ room.places
+  pub earlier : limits.events ≤ room.earlier
+  pub received : limits.events ≤ room.received
+  pub ids : 3 * limits.tasks ≤ room.ids
+  pub tasks : limits.tasks + 1 ≤ room.tasks
+  pub messages : limits.messages + 1 ≤ room.messages
+
+-- no more room is used than one event needs
+pub record UsesRoomOfOne (before after : Room) : Type 0 where
+  pub rows : before.rows ≤ after.rows + 1
+  pub trees : before.trees ≤ after.trees + 1
+  pub points : before.points ≤ after.points + 1
+  pub starts : before.starts ≤ after.starts + 1
+  pub places : before.places ≤ after.places + 1
+  pub earlier : before.earlier ≤ after.earlier + 1
+  pub received : before.received ≤ after.received + 1
+  pub ids : before.ids ≤ after.ids + 2
+  pub tasks : before.tasks ≤ after.tasks + 2
+  pub messages : before.messages ≤ after.messages + 1
 
 -- A refusal is the first of these; where there is none, none of these applies.
 abbrev pub Decides : {A : Type 0} → List (Bool × Code) → Result A Code → Type 0
@@ -209,11 +281,10 @@ abbrev pub joined_by : (Text → Option Task) → Kind → Option Text → Optio
 joined_by tasks Join name = of_named None tasks name
 joined_by tasks kind name = None
 
--- the message that such a report of the task sends or receives is not refused
-abbrev pub MayNote : message_book.Book → Text → Kind → Option Text → Type 0
-MayNote messages task Send (Some name) = refusal_of_send messages name ≡ None
-MayNote messages task Recv (Some name) = refusal_of_receive messages name task ≡ None
-MayNote messages task kind name = Unit {0}
+-- and of the message that it receives
+abbrev pub received_by : (Text → Option Message) → Kind → Option Text → Option Message
+received_by messages Recv name = of_named None messages name
+received_by messages kind name = None
 
 -- the row of a report
 abbrev pub row_of_report : Contents → Report → Row
@@ -224,10 +295,9 @@ pub record IsReport (book : Contents) (report : Report) : Type 0 where
   pub legal : AreLegal book.limits (book.rows ++ row_of_report book report ∷ [])
   pub few : length book.rows < 16384
   pub acting : task_in book report.task ≡ Some report.acting
-  pub at : HasIndex book.tasks report.task report.index
   pub second : report.second ≡ second_event (history_in book) report.kind report.name
   pub joined : report.joined ≡ joined_by (task_in book) report.kind report.name
-  pub may : MayNote book.messages report.task report.kind report.name
+  pub received : report.received ≡ received_by (message_in book) report.kind report.name
 
 -- the ids that a report of this kind makes, of its task's id and of that of the task that it names
 abbrev pub ids_made : Kind → Id → Id → Ids
@@ -259,6 +329,22 @@ named_after Spawn event place joined = Some (record { state = state.Live; last =
 named_after Join event place (Some task) = Some (record task { state = state.Joined })
 named_after kind event place joined = None
 
+-- what is to be kept of the message that it sends, or that it receives
+abbrev pub noted_after : Kind → ℕ → Option Message → Option Message
+noted_after Send event received = Some (record { sent = event; last = 0 })
+noted_after kind event None = None
+noted_after kind event (Some message) = Some (record message { last = event })
+
+-- the last receipt of a message that is received, or 0
+abbrev pub last_in : Option Message → ℕ
+last_in None = 0
+last_in (Some message) = message.last
+
+-- the receipt by this task of a message that is received
+abbrev pub key_by : Task → Option Message → Option ReceiptKey
+key_by task None = None
+key_by task (Some message) = Some (task.start, message.sent)
+
 -- what is known after the event of a report
 abbrev pub tree_of_report : Contents → Report → EventTree
 tree_of_report book report = tree_of tree_clock (row_of_report book report ∷ history_in book) (suc (length (history_in book)))
@@ -267,7 +353,7 @@ tree_of_report book report = tree_of tree_clock (row_of_report book report ∷ h
 abbrev pub MayRaise : Contents → Report → Option RaisedPoint → Type 0
 MayRaise book report point = MayHavePoint (row_of_report book report ∷ history_in book) (suc (length (history_in book))) point
 
--- What is to be kept of an event: its row, what it knows, a point that it raised, the ids that it makes, and its tasks.
+-- What is to be kept of an event: its row, what it knows, a point that it raised, the ids that it makes, its tasks and its message.
 pub record Event : Type 0 where
   -- where its tree is kept
   pub home : List ℕ
@@ -276,9 +362,12 @@ pub record Event : Type 0 where
   pub point : Option RaisedPoint
   pub ids : List Id
   pub acting : Task
-  -- the index of its task
-  pub index : ℕ
   pub named : Option Task
+  pub noted : Option Message
+  -- the receipt before, of the message that it receives, or 0
+  pub earlier : ℕ
+  -- the receipt that it is, where it is one
+  pub receipt : Option ReceiptKey
 
 -- what is to be kept of a report, with this point
 abbrev pub event_of : Contents → Report → Option RaisedPoint → Event
@@ -289,70 +378,85 @@ event_of book report point = record {
   point = point;
   ids = made_ids (ids_made report.kind (id_of tree_clock (history_in book) report.task) (of_named Zero (id_of tree_clock (history_in book)) report.name));
   acting = acting_after report.kind (suc (length (history_in book))) (length book.ids) report.acting;
-  index = report.index;
   named = named_after report.kind (suc (length (history_in book))) (length book.ids) report.joined;
+  noted = noted_after report.kind (suc (length (history_in book))) report.received;
+  earlier = last_in report.received;
+  receipt = key_by report.acting report.received;
 }
 
--- what is kept under each name, and how many tasks there are, once a task is kept under this one
-abbrev pub task_with : Text → Task → (Text → Option Task) → Text → Option Task
-task_with name task task_of other = if is_same name other then Some task else task_of other
+-- what is kept under each name, and how many names there are, once a value is kept under this one
+abbrev pub value_with : {V : Type 0} → Text → V → (Text → Option V) → Text → Option V
+value_with name value kept other = if is_same name other then Some value else kept other
 
-abbrev pub count_with : Text → (Text → Option Task) → ℕ → ℕ
-count_with name task_of count = count + (if is_some (task_of name) then 0 else 1)
+abbrev pub count_with : {V : Type 0} → Text → (Text → Option V) → ℕ → ℕ
+count_with name kept count = count + (if is_some (kept name) then 0 else 1)
 
--- so it is where a task may be kept
-abbrev pub task_with_some : Option Task → Option Text → (Text → Option Task) → Text → Option Task
-task_with_some None name task_of = task_of
-task_with_some (Some task) None task_of = task_of
-task_with_some (Some task) (Some name) task_of = task_with name task task_of
+-- so it is where a value may be kept
+abbrev pub value_with_some : {V : Type 0} → Option V → Option Text → (Text → Option V) → Text → Option V
+value_with_some None name kept = kept
+value_with_some (Some value) None kept = kept
+value_with_some (Some value) (Some name) kept = value_with name value kept
 
-abbrev pub count_with_some : Option Task → Option Text → (Text → Option Task) → ℕ → ℕ
-count_with_some None name task_of count = count
-count_with_some (Some task) None task_of count = count
-count_with_some (Some task) (Some name) task_of count = count_with name task_of count
+abbrev pub count_with_some : {V : Type 0} → Option V → Option Text → (Text → Option V) → ℕ → ℕ
+count_with_some None name kept count = count
+count_with_some (Some value) None kept count = count
+count_with_some (Some value) (Some name) kept count = count_with name kept count
 
--- the book with the event, but for its message and its tasks
+-- the table with a value under this name, where there is one
+abbrev pub entries_with : {V : Type 0} → Option V → Option Text → List (Text × V) → List (Text × V)
+entries_with None name entries = entries
+entries_with (Some value) None entries = entries
+entries_with (Some value) (Some name) entries = insert_entry is_same entries name value
+
+-- the book with the event
 abbrev pub with_event : Event → Contents → Contents
 with_event event book = record book {
   rows = book.rows ++ event.row ∷ [];
   trees = book.trees ++ event.tree ∷ [];
+  homes = book.homes ++ event.home ∷ [];
   points = book.points ++ event.point ∷ [];
   starts = book.starts ++ event.acting.start ∷ [];
   places = book.places ++ event.acting.id ∷ [];
+  earlier = book.earlier ++ event.earlier ∷ [];
+  received = with_key event.receipt book.received;
   ids = book.ids ++ event.ids;
+  kept_ids = book.kept_ids + length event.ids;
+  tasks = insert_entry is_same (entries_with event.named event.row.name book.tasks) event.row.task event.acting;
+  messages = entries_with event.noted event.row.name book.messages;
 }
 
 -- its tasks, and how many they are
 abbrev pub tasks_with : Event → Contents → Text → Option Task
-tasks_with event book = task_with event.row.task event.acting (task_with_some event.named event.row.name (task_in book))
+tasks_with event book = value_with event.row.task event.acting (value_with_some event.named event.row.name (task_in book))
 
 abbrev pub task_count_with : Event → Contents → ℕ
 task_count_with event book =
-    count_with event.row.task (task_with_some event.named event.row.name (task_in book)) (count_with_some event.named event.row.name (task_in book) (length book.tasks))
+    count_with event.row.task (value_with_some event.named event.row.name (task_in book)) (count_with_some event.named event.row.name (task_in book) (length book.tasks))
 
--- what a report of the task and of this kind, with this name and as this event, makes of the messages
-abbrev pub Notes : Text → Kind → Option Text → ℕ → message_book.Book → message_book.Book → Type 0
-Notes task Send (Some name) event before after = after ≡ record before { messages = with_message name event before.messages }
-Notes task Recv (Some name) event before after =
-    (refusal_of_receive before name task ≡ None) × (after ≡ record before { messages = with_receipt name task event before.messages })
-Notes task kind name event before after = after ≡ before
+-- its messages, and how many they are
+abbrev pub messages_with : Event → Contents → Text → Option Message
+messages_with event book = value_with_some event.noted event.row.name (message_in book)
+
+abbrev pub message_count_with : Event → Contents → ℕ
+message_count_with event book = count_with_some event.noted event.row.name (message_in book) (length book.messages)
 
 -- the id of its task after an event: the first that the event makes, else the one that is kept at this place
 abbrev pub id_left : List Id → List Id → ℕ → Option Id
 id_left kept [] place = slice_get kept place
 id_left kept (id ∷ made) place = Some id
 
--- The event can be added to the book, which has its message and room for all else, and whose share keeps its tree; and it
--- can be dropped.
+-- The event can be added to the book, which has room for it; and it can be dropped.
 pub record IsReady (book : Contents) (event : Event) : Type 0 where
-  pub home : event.home ≡ book.home
-  pub at : HasIndex book.tasks event.row.task event.index
-  pub before : message_book.Book
-  pub was : IsKept (record book { messages = before })
-  pub notes : Notes event.row.task event.row.kind event.row.name (suc (length book.rows)) before book.messages
-  pub next : IsKeptWith (with_event event book) (tasks_with event book) (task_count_with event book)
+  pub kept : IsKept book
+  pub next : IsKept (with_event event book)
   pub room : HasRoom book
   pub id : id_left book.ids event.ids event.acting.id ≡ Some (id_of tree_clock (event.row ∷ history_in book) event.row.task)
+
+-- The event is the next one, with which the request is accepted; or the request is refused.
+abbrev pub Drafts : Result Event Code → Contents → Request → Type 0
+Drafts (Ok event) book request =
+    IsKept (with_event event book) × (step (tenant_of book) request ≡ (reply.Accepted (suc (length book.rows)), with_row (tenant_of book) (Some event.row)))
+Drafts (Err code) book request = Steps (tenant_of book) request (reply.Refused code) (tenant_of book)
 
 -- The event of the request is ready, and with its row the tenant's step is done; or the request was refused, or there
 -- was no memory where that may be.
@@ -362,3 +466,35 @@ Prepares (Ok event) old request new =
     × (step (tenant_of old) request ≡ (reply.Accepted (suc (length old.rows)), with_row (tenant_of old) (Some event.row)))
 Prepares (Err code) old request new =
     IsKept new × (tenant_of new ≡ tenant_of old) × Steps (tenant_of old) request (reply.Refused code) (tenant_of old)
+
+-- no room for more
+abbrev pub no_room : Room
+no_room = record { rows = 0; trees = 0; points = 0; starts = 0; places = 0; earlier = 0; received = 0; ids = 0; tasks = 0; messages = 0 }
+
+-- the book, for however many more it has room
+abbrev pub roomless : Contents → Contents
+roomless book = record book { room = no_room }
+
+-- the task with which each tenant starts
+abbrev pub root_task : Task
+root_task = record { state = state.Live; last = 0; start = 0; id = 0 }
+
+-- the book of a tenant that has reported nothing, with so many ids kept
+abbrev pub new_book : List ℕ → Limits → ℕ → Contents
+new_book home limits kept_ids = record {
+  home = home;
+  limits = limits;
+  rows = [];
+  trees = [];
+  homes = [];
+  points = [];
+  starts = [];
+  places = [];
+  earlier = [];
+  received = [];
+  ids = One ∷ [];
+  kept_ids = kept_ids;
+  tasks = (root, root_task) ∷ [];
+  messages = [];
+  room = no_room;
+}

@@ -1,36 +1,39 @@
-//! What a ledger keeps.
-ghost use Rattle.std.specs.Prelude.{◌≡◌, ◌-◌, ◌<◌, ◌≤◌, true, IsTrue, IfOk, IfErr, Some, None, length, slice_get};
+//! All that is kept of one tenant.
+ghost use Rattle.std.specs.Prelude.{◌≡◌, ◌-◌, ◌<◌, ◌≤◌, ◌==◌, if◌then◌else◌, true, IsTrue, IfOk, IfErr, OnOk, MatchBool, Some, None, length, slice_get};
 ghost use Rattle.trace_types.specs.tenant.Limits.{are_limits};
 ghost use Rattle.trace_types.specs.tenant.Rows.{is_event};
-ghost use Rattle.trace_types.specs.tenant.Tenant.{fresh};
-ghost use Rattle.tenant_ledger.specs.Ledger.{HasIndex, IsKept, history_in, id_after, task_in, tenant_of};
+ghost use Rattle.tenant_ledger.specs.Ledger.{HasAllRoom, HasRoom, IsKept, history_in, id_after, message_in, new_book, roomless, task_in};
 
 mod commit;
 mod draft;
 mod ids;
+mod message;
+mod receipts;
 mod records;
 mod report;
 mod task;
 
-use crate::Stack;
-use crate::share::{Keep, MeantId};
-pub(crate) use draft::Draft;
+use crate::share::{Keep, MeantId, Share};
+pub use draft::Draft;
 use event_tree::RaisedPoint;
 use id_tree::IdTree;
 use ids::Ids;
-use indexmap::IndexMap;
-use message_book::MessageBook;
+use indexmap::{IndexMap, IndexSet};
+pub(crate) use message::Message;
 use report::Report;
 use std::alloc::Global;
 use std::marker::Model;
 pub(crate) use task::Task;
 use trace_types::{Code, Limits, Memory, Name, Row, TaskState};
 
-/// The rows, and what is kept beside them.
+/// All that is kept of one tenant: its rows, what is kept of each event, and its tasks and messages by their names.
+///
+/// An event is added in two steps. A draft reads the book, and may run out of memory. Adding the draft takes none, if the book has
+/// room ([`Book::has_room`]).
 ///
 /// Contracts see the trees and the ids as what they mean.
 #[derive(Drop)]
-pub(crate) struct Book<S: Keep> {
+pub struct Book<S: Keep> {
     /// What keeps the trees and the ids.
     share: S,
     limits: Limits,
@@ -44,18 +47,22 @@ pub(crate) struct Book<S: Keep> {
     starts: Vec<u64>,
     /// The place of the id of each event's task after it, in the order of the events.
     places: Vec<usize>,
-    /// Each id that some task has or had. The id of `root` is kept with the first accepted report.
+    /// The receipt before each event that receives a message, of the same message, or 0, as for any other event. They are in the
+    /// order of the events.
+    earlier: Vec<u64>,
+    /// Each receipt, by the event that started its task, or 0, and the event that sent its message.
+    received: IndexSet<(u64, u64)>,
+    /// Each id that some task has or had, that of `root` first.
     ids: Vec<S::Id>,
     tasks: IndexMap<Name, Task>,
-    messages: MessageBook,
-    /// The stack, on which the trees are walked over.
-    stack: Stack,
+    messages: IndexMap<Name, Message>,
 }
 
 impl<S: Keep> Model for Book<S> {
-    ghost use Rattle.std.specs.Prelude.{◌≡◌, ◌-◌, All, length, map, vec_len, vec_capacity};
+    ghost use Rattle.std.specs.Prelude.{◌≡◌, ◌-◌, length, map, vec_len, vec_capacity};
     ghost use Rattle.std.specs.Coded.{codes};
     ghost use Rattle.indexmap.specs.IndexMap.{spare};
+    ghost use Rattle.indexmap.specs.IndexSet.{spare as set_spare};
     ghost use Rattle.event_tree.specs.EventTreeCode.{event_tree_code};
     ghost use Rattle.id_tree.specs.IdCode.{id_code};
     ghost use Rattle.tenant_ledger.specs.Ledger.{Contents, with_seed};
@@ -69,33 +76,36 @@ impl<S: Keep> Model for Book<S> {
       limits = b.limits;
       rows = b.rows.items;
       trees = map S.Kept.tree b.trees.items;
+      homes = map S.home_of b.trees.items;
       points = b.points.items;
       starts = b.starts.items;
       places = b.places.items;
+      earlier = b.earlier.items;
+      received = b.received.keys;
       ids = with_seed (map S.Id.id b.ids.items);
       kept_ids = length b.ids.items;
       tasks = b.tasks.entries;
-      messages = b.messages;
+      messages = b.messages.entries;
       room = record {
         rows = vec_capacity b.rows - vec_len b.rows;
         trees = vec_capacity b.trees - vec_len b.trees;
         points = vec_capacity b.points - vec_len b.points;
         starts = vec_capacity b.starts - vec_len b.starts;
         places = vec_capacity b.places - vec_len b.places;
+        earlier = vec_capacity b.earlier - vec_len b.earlier;
+        received = set_spare b.received;
         ids = vec_capacity b.ids - vec_len b.ids;
         tasks = spare b.tasks;
+        messages = spare b.messages;
       };
     } };
-
-    ghost invariant = { λ b. All (λ kept. S.home_of kept ≡ S.home b.share) b.trees.items };
 }
 
 impl<S: Keep> Book<S> {
     /// The book of a tenant that has reported nothing: it has the task `root`. Returns `Memory`, and drops the share, if
     /// it runs out of memory.
     pub(crate) fn new(alloc: Global, limits: Limits, share: S) -> Result<Book<S>, Memory>
-        ensures book { IfOk result IsKept }
-        ensures fresh { IfOk result (λ book. tenant_of book ≡ fresh limits) }
+        ensures { IfOk result (λ book. roomless book ≡ new_book (S.home share) limits 0) }
     {
         let mut tasks = IndexMap::new(alloc);
         let root = Task {
@@ -114,15 +124,86 @@ impl<S: Keep> Book<S> {
             points: Vec::new(alloc),
             starts: Vec::new(alloc),
             places: Vec::new(alloc),
+            earlier: Vec::new(alloc),
+            received: IndexSet::new(alloc),
             ids: Vec::new(alloc),
             tasks,
-            messages: MessageBook::new(alloc, limits.messages())?,
-            stack: Stack::new(),
+            messages: IndexMap::new(alloc),
         })
     }
 
+    /// The book of a tenant that has reported nothing, with the id of `root`, and with room for all that the limits allow.
+    /// Returns `Memory`, and drops the share, if it runs out of memory.
+    pub fn with_room<R>(rt: &R, alloc: Global, limits: Limits, share: S) -> Result<Book<S>, Memory>
+    where
+        S: Share<R>,
+        ensures book { IfOk result (λ book. roomless book ≡ new_book (S.home share) limits 1) }
+        ensures room { IfOk result (λ book. HasAllRoom limits book.room) }
+    {
+        let mut book = Book::new(alloc, limits, share)?;
+        book.seed(rt)?;
+        book.make_all_room()?;
+        Ok(book)
+    }
+
+    /// Makes room for all that the limits allow.
+    fn make_all_room(&mut self) -> Result<(), Memory>
+        ensures same { self.new ≡ record self.old { room = self.new.room } }
+        ensures room { OnOk result (HasAllRoom self.new.limits self.new.room) }
+    {
+        let events = self.limits.events() as usize;
+        let tasks = self.limits.tasks() as usize;
+        self.rows.reserve_exact(events)?;
+        self.trees.reserve_exact(events)?;
+        self.points.reserve_exact(events)?;
+        self.starts.reserve_exact(events)?;
+        self.places.reserve_exact(events)?;
+        self.earlier.reserve_exact(events)?;
+        self.received.reserve_exact(events)?;
+        // Each task is split from another and joined at most once.
+        self.ids.reserve_exact(3 * tasks)?;
+        // Room for two tasks and for a message is asked for before each event, also where all are there.
+        self.tasks.reserve_exact(tasks + 1)?;
+        self.messages
+            .reserve_exact(self.limits.messages() as usize + 1)?;
+        Ok(())
+    }
+
+    /// Keeps the id of `root`, unless that was done.
+    fn seed<R>(&mut self, rt: &R) -> Result<(), Memory>
+    where
+        S: Share<R>,
+        ensures same { self.new ≡ record self.old { kept_ids = self.new.kept_ids; room = self.new.room } }
+        ensures kept { OnOk result (self.new.kept_ids ≡ (if self.old.kept_ids == 0 then 1 else self.old.kept_ids)) }
+        ensures more { self.old.kept_ids ≤ self.new.kept_ids }
+    {
+        if self.ids.is_empty() {
+            let id = self.share.keep_id(rt, IdTree::one())?;
+            self.ids.push(id)?;
+        }
+        Ok(())
+    }
+
+    /// Whether there is an id, and room for an event, for two ids and two tasks, for a message and for a receipt.
+    #[inline(always)]
+    pub fn has_room(&self) -> bool
+        ensures { MatchBool result (HasRoom self.now) (HasRoom self.now → ⊥) }
+    {
+        self.rows.len() < self.rows.capacity()
+            && self.trees.len() < self.trees.capacity()
+            && self.points.len() < self.points.capacity()
+            && self.starts.len() < self.starts.capacity()
+            && self.places.len() < self.places.capacity()
+            && self.earlier.len() < self.earlier.capacity()
+            && self.received.len() < self.received.capacity()
+            && !self.ids.is_empty()
+            && self.ids.capacity() - self.ids.len() >= 2
+            && self.tasks.capacity() - self.tasks.len() >= 2
+            && self.messages.len() < self.messages.capacity()
+    }
+
     /// The limits of the tenant.
-    pub(crate) fn limits(&self) -> Limits
+    pub fn limits(&self) -> Limits
         ensures limits { result ≡ self.now.limits }
         ensures ranges { IsTrue (are_limits self.now.limits.events self.now.limits.tasks self.now.limits.messages) }
     {
@@ -138,14 +219,14 @@ impl<S: Keep> Book<S> {
     }
 
     /// What keeps the trees and the ids.
-    pub(crate) fn share(&self) -> &S
+    pub fn share(&self) -> &S
         ensures { S.home result.now ≡ self.now.home }
     {
         &self.share
     }
 
     /// The id that the event's task has after it, as it is kept.
-    pub(crate) fn event_id(&self, event: u64) -> &S::Id
+    pub fn event_id(&self, event: u64) -> &S::Id
         requires kept { IsKept self.now }
         requires event { is_event (history_in self.now) event ≡ true }
         ensures { S.Id.id result.now ≡ id_after (history_in self.now) event }
@@ -196,15 +277,25 @@ impl<S: Keep> Book<S> {
         self.ids.len()
     }
 
-    /// The task of this name, and its index in the table of tasks, or `NoTask` if there is none.
+    /// The task of this name, and its place in the table of tasks, or `NoTask` if there is none.
     fn known_task(&self, name: &Name) -> Result<(&Task, usize), Code>
         ensures ok { IfOk result (λ found. task_in self.now name.now ≡ Some found.0.now) }
-        ensures index { IfOk result (λ found. HasIndex self.now.tasks name.now found.1) }
         ensures err { IfErr result (λ code. (code ≡ Code.NoTask) × (task_in self.now name.now ≡ None)) }
     {
         match self.tasks.get_full(name) {
-            Some((index, _, task)) => Ok((task, index)),
+            Some((place, _, task)) => Ok((task, place)),
             None => Err(Code::NoTask),
+        }
+    }
+
+    /// The message of this name, and its place in the table of messages, or `NoMessage` if there is none.
+    fn known_message(&self, name: &Name) -> Result<(&Message, usize), Code>
+        ensures ok { IfOk result (λ found. message_in self.now name.now ≡ Some found.0.now) }
+        ensures err { IfErr result (λ code. (code ≡ Code.NoMessage) × (message_in self.now name.now ≡ None)) }
+    {
+        match self.messages.get_full(name) {
+            Some((place, _, message)) => Ok((message, place)),
+            None => Err(Code::NoMessage),
         }
     }
 }

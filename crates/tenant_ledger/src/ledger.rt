@@ -13,7 +13,7 @@ ghost use Rattle.tenant_ledger.specs.Size.{AreShort, AreSized, HaveShortParts, I
 use crate::book::Book;
 use crate::query_answers::{Records, answer, counts_of, order_of, place_of};
 use crate::share::{Keep, MeantId, Own, Share};
-use crate::{PlainShare, Prepared, laws};
+use crate::{PlainShare, Prepared, Stack, laws};
 use std::alloc::Global;
 use std::marker::Model;
 use trace_query::{Compare, Meant};
@@ -23,6 +23,8 @@ use trace_types::{Code, Limits, Memory, Order, Reply, Request, Row};
 #[derive(Drop)]
 pub struct Ledger<S: Keep = PlainShare> {
     pub(crate) book: Box<Book<S>>,
+    /// The stack, on which the trees are walked over.
+    pub(crate) stack: Stack,
 }
 
 impl<S: Keep> Model for Ledger<S> {
@@ -54,6 +56,7 @@ impl<S: Keep> Ledger<S> {
     {
         Ok(Ledger {
             book: Box::new(alloc, Book::new(alloc, limits, share)?)?,
+            stack: Stack::new(),
         })
     }
 
@@ -140,7 +143,7 @@ impl<S: Keep> Ledger<S> {
             return self.answer(request);
         }
         let book = &mut self.book;
-        match book.prepare(rt, request) {
+        match book.prepare(rt, &mut self.stack, request) {
             Ok(draft) => Reply::Accepted(book.commit(draft)),
             Err(code) => Reply::Refused(code),
         }
@@ -178,10 +181,13 @@ impl<S: Keep> Ledger<S> {
         ensures unchanged { IfErr result (λ refused. refused.0 ≡ self) }
         ensures refused { IfErr result (λ refused. Steps self request.now refused.1 self) }
     {
-        let mut book = self.book;
-        match book.prepare(rt, request) {
-            Ok(draft) => Ok(Prepared { book, draft }),
-            Err(code) => Err((Ledger { book }, Reply::Refused(code))),
+        let Ledger {
+            mut book,
+            mut stack,
+        } = self;
+        match book.prepare(rt, &mut stack, request) {
+            Ok(draft) => Ok(Prepared { book, stack, draft }),
+            Err(code) => Err((Ledger { book, stack }, Reply::Refused(code))),
         }
     }
 

@@ -29,21 +29,18 @@
 mod book;
 pub mod laws;
 mod ledger;
-mod places;
 mod plain_share;
 mod prepared;
 mod query_answers;
 mod share;
 mod shared;
-mod shared_ids;
 mod stack;
 
+pub use book::{Book, Draft};
 pub use ledger::Ledger;
-pub use places::Places;
 pub use plain_share::PlainShare;
 pub use prepared::Prepared;
 pub use query_answers::{Records, answer, counts_of, order_of};
 pub use share::{Keep, MeantId, Own, Share};
 pub use shared::Shared;
-pub use shared_ids::SharedIds;
 pub use stack::Stack;

@@ -1,5 +1,5 @@
 //! Prepared reports.
-ghost use Rattle.std.specs.Prelude.{◌≡◌, ◌≤◌, suc, ◌∷◌, Some, IfOk, length};
+ghost use Rattle.std.specs.Prelude.{◌≡◌, ◌≤◌, suc, ◌∷◌, Some, length};
 ghost use Rattle.trace_types.specs.clock.Clock.{tree_clock};
 ghost use Rattle.trace_types.specs.tenant.Rows.{history_of, spawn_count};
 ghost use Rattle.trace_types.specs.clock.Size.{inner_of_id, inner_of_tree};
@@ -11,19 +11,17 @@ ghost use Rattle.tenant_ledger.specs.Ledger.{MayHavePoint, start_of};
 use crate::book::{Book, Draft};
 use crate::query_answers::Records;
 use crate::share::{Keep, MeantId, Share};
-use crate::{Ledger, Places, PlainShare, Shared, SharedIds};
-use event_tree::{EvTree, RaisedPoint};
+use crate::{Ledger, PlainShare, Stack};
+use event_tree::RaisedPoint;
 use std::marker::Model;
-use std::sync::Wait;
-use trace_query::Meant;
-use trace_types::{Memory, Reply, Row};
-use tree_forest::Tree;
+use trace_types::{Reply, Row};
 
 /// A ledger with a report that will be accepted. It has to be committed or abandoned, and neither takes memory.
 ///
 /// Contracts see the tenant as it is before the report, and the row of the report.
 pub struct Prepared<S: Keep = PlainShare> {
     pub(crate) book: Box<Book<S>>,
+    pub(crate) stack: Stack,
     pub(crate) draft: Draft<S>,
 }
 
@@ -68,11 +66,6 @@ impl<S: Keep> Prepared<S> {
         self.draft.start()
     }
 
-    /// Where the ledger's tables of names have those of the report.
-    pub fn places(&self) -> Places {
-        self.draft.places()
-    }
-
     /// The id that the report's task has after the event, as it is kept.
     pub fn id(&self) -> &S::Id
         ensures id { S.Id.id result.now ≡ id_of tree_clock (self.now.row ∷ history_of self.now.tenant.rows) self.now.row.task }
@@ -86,32 +79,24 @@ impl<S: Keep> Prepared<S> {
         ensures ledger { result.0 ≡ with_row self.tenant (Some self.row) }
         ensures reply { result.1 ≡ reply.Accepted (suc (length self.tenant.rows)) }
     {
-        let Prepared { mut book, draft } = self;
+        let Prepared {
+            mut book,
+            stack,
+            draft,
+        } = self;
         let event = book.commit(draft);
-        (Ledger { book }, Reply::Accepted(event))
+        (Ledger { book, stack }, Reply::Accepted(event))
     }
 
     /// Drops the report. The ledger is as it was before.
     pub fn abandon(self) -> Ledger<S>
         ensures { result ≡ self.tenant }
     {
-        let Prepared { mut book, draft } = self;
-        book.abandon(draft);
-        Ledger { book }
-    }
-}
-
-impl Prepared<SharedIds> {
-    /// Keeps what the report's event knows in the forest of this share, and has the ledger share the blocks that the forest
-    /// has. Returns `Memory` if it runs out of memory.
-    pub fn intern_tree<R: Wait>(&mut self, rt: &R, shared: &Shared) -> Result<Tree<EvTree>, Memory>
-        ensures same { self.new ≡ self.old }
-        ensures tree { IfOk result (λ tree. tree.value ≡ tree_of tree_clock (self.old.row ∷ history_of self.old.tenant.rows) (suc (length self.old.tenant.rows))) }
-        ensures home { IfOk result (λ tree. tree.home ≡ ⟦<Shared as Keep>⟧.home shared.now) }
-    {
-        let alloc = self.book.alloc();
-        let tree = shared.keep_tree(rt, self.draft.tree().share(alloc)?)?;
-        self.draft.replace_tree(tree.value().share(alloc)?);
-        Ok(tree)
+        let Prepared {
+            book,
+            stack,
+            draft: _,
+        } = self;
+        Ledger { book, stack }
     }
 }

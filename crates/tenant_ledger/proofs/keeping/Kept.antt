@@ -1,14 +1,17 @@
 -- A book is kept with the event of a report that is not refused.
-use Rattle.std.proofs.Common.{◌≡◌, ℕ, IsTrue, List, suc, ◌-◌, ◌<◌, ◌≤◌, [], ◌∷◌, ◌++◌, length, map, slice_get, option_map, Option, Some, refl, sym, ap, ◌∙◌, subst, arith}
-use Rattle.tenant_ledger.proofs.Words.{nat_tests, length-append, length-map, length-reverse, reverse-append, map-append, same_Some, slice_get-map, transport, Text, History, history_of, is_event, EventTree, task_count, tree_clock, id_of, tree_of, row_after, Row, IsLegal, Contents, Event, IsKept, IsKeptWith, IsTask, IsReport, IsReady, HasRoom, AreMessages, ArePoints, MayRaise, Notes, history_in, task_in, of_each, id_after, start_of, event_of, with_event, tasks_with, task_count_with, Report}
-use Rattle.message_book.specs.Book as message_book
+use Rattle.std.proofs.Common.{◌≡◌, ℕ, false, ◌||◌, IsTrue, List, suc, ◌-◌, ◌<◌, ◌≤◌, [], ◌∷◌, ◌++◌, length, map, slice_get, option_map, Option, Some, refl, sym, ap, ◌∙◌, subst, inl, inr, arith}
+use Rattle.std.proofs.lemmas.List.Elements.{All-nil, All-push}
+use Rattle.trace_types.specs.clock.Id.{One}
+use Rattle.tenant_ledger.specs.Ledger.{key_by, key_of, keys_in, new_book, roomless, with_key}
+use Rattle.tenant_ledger.proofs.Words.{nat_tests, cases_Bool, cond-true, or_left, length-append, length-map, length-reverse, reverse-append, map-append, same_Some, slice_get-map, is_same, root, Text, History, history_of, is_event, EventTree, task_count, tree_clock, id_of, tree_of, row_after, with_row, fresh, Limits, Row, IsLegal, Contents, Event, IsKept, IsTask, IsReport, IsReady, HasRoom, IsMessage, ArePoints, MayRaise, history_in, tenant_of, task_in, of_each, id_after, start_of, earlier_of, event_of, with_event, tasks_with, task_count_with, messages_with, message_count_with, last_in, message_count, Report}
 use Rattle.event_tree.specs.declared.point.RaisedPoint.{RaisedPoint}
 use Rattle.tenant_ledger.proofs.clock.Events.{event_bounds, tree_of-older}
 use Rattle.tenant_ledger.proofs.clock.Legality.{IsLegal_from_AreLegal}
-use Rattle.tenant_ledger.proofs.keeping.Known.{legal_history}
 use Rattle.tenant_ledger.proofs.keeping.Lists.{length-of_each, at_event, same_places, slice_get-seam, Stays}
-use Rattle.tenant_ledger.proofs.keeping.Messages.{noted_are_messages}
-use Rattle.tenant_ledger.proofs.keeping.Points.{points_with_one}
+use Rattle.tenant_ledger.proofs.keeping.Messages.{messages_are_kept, messages_are_counted, earlier_is_kept}
+use Rattle.tenant_ledger.proofs.keeping.Points.{no_points, points_with_one}
+use Rattle.tenant_ledger.proofs.keeping.Received.{receipt_is_kept}
+use Rattle.tenant_ledger.proofs.keeping.Tables.{messages_counted, messages_found, tasks_counted, tasks_found}
 use Rattle.tenant_ledger.proofs.keeping.Tasks.{id_is_kept, id_is_left, start_is_kept, tasks_are_kept, tasks_are_counted}
 
 module _ (rows : List Row) (trees : List EventTree) (are : trees ≡ of_each (tree_of tree_clock) (history_of rows)) where
@@ -66,19 +69,20 @@ module _ (book : Contents) (kept : IsKept book) (report : Report) (is : IsReport
   pub legal_with_row : IsLegal (row ∷ history)
   legal_with_row = subst IsLegal (reverse-append book.rows (row ∷ [])) (IsLegal_from_AreLegal book.limits (book.rows ++ row ∷ []) is.legal)
 
-  pub keeps_report : (after : message_book.Book) → Notes report.task report.kind report.name (suc (length book.rows)) book.messages after → 0 < book.kept_ids
-      → (point : Option RaisedPoint) → MayRaise book report point
-      → IsKeptWith (with_event (event_of book report point) (record book { messages = after })) (tasks_with (event_of book report point) book) (task_count_with (event_of book report point) book)
-  keeps_report after notes seeded point raised =
+  pub keeps_report : 0 < book.kept_ids → (point : Option RaisedPoint) → MayRaise book report point → IsKept (with_event (event_of book report point) book)
+  keeps_report seeded point raised =
       let event = event_of book report point in
       let live = legal_with_row.0.0 in
       let allowed = legal_with_row.0.1 in
       let to_longer = sym (reverse-append book.rows (row ∷ [])) in
+      let receipt_is : event.receipt ≡ key_of history report.task report.kind report.name =
+      ap (key_by report.acting) is.received ∙ receipt_is_kept book kept report.task report.acting is.acting report.kind report.name allowed in
       let newest : id_after (row ∷ history) (suc (length history)) ≡ id_of tree_clock (row ∷ history) row.task = grind (arith, nat_tests) in
       record {
         legal = is.legal;
         small = omega (arith, is.few, length-append book.rows (row ∷ []));
         trees = ap (λ trees. trees ++ event.tree ∷ []) kept.trees ∙ ap (of_each (tree_of tree_clock)) to_longer;
+        homes = All-push (λ home. home ≡ book.home) book.homes book.home kept.homes refl;
         starts = ap (λ starts. starts ++ event.acting.start ∷ []) kept.starts
             ∙ ap (λ start. of_each start_of history ++ start ∷ []) (start_is_kept book kept report.task report.acting is.acting live report.kind report.name allowed)
             ∙ ap (of_each start_of) to_longer;
@@ -90,28 +94,31 @@ module _ (book : Contents) (kept : IsKept book) (report : Report) (is : IsReport
             ++ (place ∙ ap Some (sym newest)) i ∷ [])
             ∙ sym (map-append Some (of_each id_after history) (id_after (row ∷ history) (suc (length history)) ∷ []))
             ∙ ap (λ h. map Some (of_each id_after h)) to_longer;
-        tasks_are = λ name. subst (λ h. IsTask (book.ids ++ event.ids) h name (tasks_with event book name)) to_longer
+        tasks_are = λ name. subst (IsTask (book.ids ++ event.ids) (history_of (book.rows ++ row ∷ [])) name) (sym (tasks_found event book name))
+            (subst (λ h. IsTask (book.ids ++ event.ids) h name (tasks_with event book name)) to_longer
             (subst (λ had. IsTask (book.ids ++ event.ids) (row ∷ history) name (tasks_with (event_of book (record report { joined = had }) point) book name)) (sym is.joined)
-            (tasks_are_kept book kept report.task report.acting is.acting live report.kind report.name allowed name));
-        counted = ap (λ had. task_count_with (event_of book (record report { joined = had }) point) book) is.joined
+            (tasks_are_kept book kept report.task report.acting is.acting live report.kind report.name allowed name)));
+        counted = tasks_counted event book ∙ ap (λ had. task_count_with (event_of book (record report { joined = had }) point) book) is.joined
             ∙ tasks_are_counted book kept report.task report.acting is.acting live report.kind report.name allowed ∙ ap task_count to_longer;
-        messages = subst (λ h. AreMessages book.limits h after) to_longer
-            (noted_are_messages book.limits history report.task report.kind report.name row.preds book.messages after (legal_history book kept) allowed kept.messages
-            (subst (λ n. Notes report.task report.kind report.name (suc n) book.messages after) (sym (length-reverse book.rows)) notes));
-        seeded = λ _. seeded;
+        earlier = ap (λ list. list ++ event.earlier ∷ []) kept.earlier
+            ∙ ap (λ last. of_each earlier_of history ++ last ∷ []) (ap last_in is.received ∙ earlier_is_kept book kept report.task report.kind report.name allowed)
+            ∙ ap (of_each earlier_of) to_longer;
+        received = (λ i. with_key (receipt_is i) (kept.received i)) ∙ ap keys_in to_longer;
+        messages_are = λ name. subst (IsMessage (history_of (book.rows ++ row ∷ [])) name) (sym (messages_found event book name))
+            (subst (λ h. IsMessage h name (messages_with event book name)) to_longer
+            (subst (λ had. IsMessage (row ∷ history) name (messages_with (event_of book (record report { received = had }) point) book name)) (sym is.received)
+            (messages_are_kept book kept report.task report.kind report.name allowed name)));
+        messages_counted = messages_counted event book ∙ ap (λ had. message_count_with (event_of book (record report { received = had }) point) book) is.received
+            ∙ messages_are_counted book kept report.task report.kind report.name allowed ∙ ap message_count to_longer;
+        seeded = λ _. omega (arith, seeded);
       }
 
   -- so it is ready to be added
-  pub report_is_ready : (after : message_book.Book) → Notes report.task report.kind report.name (suc (length book.rows)) book.messages after → HasRoom book
-      → (point : Option RaisedPoint) → MayRaise book report point → IsReady (record book { messages = after }) (event_of book report point)
-  report_is_ready after notes room point raised = record {
-    home = refl;
-    at = is.at;
-    before = book.messages;
-    was = kept;
-    notes = notes;
-    next = keeps_report after notes room.seeded point raised;
-    room = search;
+  pub report_is_ready : HasRoom book → (point : Option RaisedPoint) → MayRaise book report point → IsReady book (event_of book report point)
+  report_is_ready room point raised = record {
+    kept = kept;
+    next = keeps_report room.seeded point raised;
+    room = room;
     id = id_is_left book kept report.task report.acting is.acting legal_with_row.0.0 report.kind report.name;
   }
 
@@ -120,20 +127,55 @@ pub ready_tree : (book : Contents) (event : Event) → IsReady book event → ev
 ready_tree book event ready =
     let rows = book.rows ++ event.row ∷ [] in
     let trees = book.trees ++ event.tree ∷ [] in
-    let as_many = one_tree book.rows book.trees ready.was.trees in
+    let as_many = one_tree book.rows book.trees ready.kept.trees in
     let place : length book.trees ≡ suc (length book.rows) - 1 = omega (arith, as_many) in
     let newest = tree_at_event rows trees ready.next.trees (suc (length book.rows)) (omega arith) (omega (arith, length-append book.rows (event.row ∷ []))) in
     same_Some _ _ (sym (slice_get-seam book.trees event.tree []) ∙ ap (slice_get trees) place ∙ newest)
     ∙ ap (λ h. tree_of tree_clock h (suc (length book.rows))) (reverse-append book.rows (event.row ∷ []))
 
--- A book to which a ready event was added is kept.
-pub added_is_kept : (book : Contents) (event : Event) → IsReady book event → (new : Contents) → new.limits ≡ book.limits → new.messages ≡ book.messages
-    → new.rows ≡ book.rows ++ event.row ∷ [] → new.trees ≡ book.trees ++ event.tree ∷ [] → new.points ≡ book.points ++ event.point ∷ [] → new.starts ≡ book.starts ++ event.acting.start ∷ [] → new.places ≡ book.places ++ event.acting.id ∷ []
-    → new.ids ≡ book.ids ++ event.ids → 0 < new.kept_ids → ((name : Text) → task_in new name ≡ tasks_with event book name) → length new.tasks ≡ task_count_with event book
-    → IsKept new
-added_is_kept book event ready new limits messages rows trees points starts places ids some tasks count =
-    let next = transport (λ i. IsKeptWith (record (with_event event book) { limits = sym limits i; messages = sym messages i; rows = sym rows i; trees = sym trees i; points = sym points i; starts = sym starts i; places = sym places i; ids = sym ids i })
-    (tasks_with event book) (task_count_with event book)) ready.next in
-    let tasks_are : (name : Text) → IsTask new.ids (history_in new) name (task_in new name) = λ name. subst (IsTask new.ids (history_in new) name) (sym (tasks name)) (next.tasks_are name) in
-    let counted : length new.tasks ≡ task_count (history_in new) = count ∙ next.counted in
-    let seeded : 0 < length new.rows → 0 < new.kept_ids = λ _. some in search
+-- A book is kept with a ready event, for however many more it has room.
+pub added : (book : Contents) (event : Event) → IsReady book event → (new : Contents) → new ≡ record (with_event event book) { room = new.room }
+    → IsKept new × (tenant_of new ≡ with_row (tenant_of book) (Some event.row))
+added book event ready new same = (
+  kept_with_room (with_event event book) ready.next new
+      (same ∙ (λ i. record (with_event event book) { kept_ids = (ap (λ (b : Contents). b.kept_ids) (sym same)) i; room = new.room }))
+      (omega (arith, ap (λ (b : Contents). b.kept_ids) same)),
+  ap tenant_of same,
+)
+
+-- Of a tenant that has reported nothing, a book is kept with no ids, or with that of `root`.
+pub new_is_kept : (home : List ℕ) (limits : Limits) (kept_ids : ℕ) (new : Contents) → roomless new ≡ new_book home limits kept_ids
+    → IsKept new × (tenant_of new ≡ fresh limits)
+new_is_kept home limits kept_ids new is = (
+  kept_with_room (new_book home limits kept_ids) first new (λ i. record (is i) { kept_ids = new.kept_ids; room = new.room }) (omega (arith, ap (λ (b : Contents). b.kept_ids) is)),
+  ap tenant_of is,
+)
+  where
+    no_task : (name : Text) → IsTask (One ∷ []) [] name (task_in (new_book home limits kept_ids) name)
+    no_task name = elim (cases_Bool (is_same name root)) [
+      | inl same ↦ rw same (or_left (is_same name root) _ same, refl, refl, λ _. ap Some (sym (cond-true (is_same name root) _ _ same)), refl)
+      | inr differ ↦ rw differ (ap (λ is. is || false) differ)
+    ]
+
+    first : IsKept (new_book home limits kept_ids)
+    first = record {
+      legal = ([], tt, refl);
+      small = omega arith;
+      trees = refl;
+      homes = All-nil (λ one. one ≡ home);
+      points = no_points;
+      starts = refl;
+      places = refl;
+      tasks_are = no_task;
+      counted = refl;
+      earlier = refl;
+      received = refl;
+      messages_are = λ name. refl;
+      messages_counted = refl;
+      seeded = λ some. absurd (omega (arith, some));
+    }
+
+-- So is the book that is seen without its room.
+pub kept_roomless : (book seen : Contents) → roomless book ≡ seen → IsKept seen → IsKept book
+kept_roomless book seen same kept =
+    kept_with_room seen kept book (λ i. record (same i) { kept_ids = book.kept_ids; room = book.room }) (omega (arith, ap (λ (b : Contents). b.kept_ids) same))

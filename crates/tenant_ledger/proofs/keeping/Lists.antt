@@ -1,7 +1,7 @@
 -- What stands at a place of a list that is longer by some items, and what is told of each event.
-use Rattle.std.proofs.Common.{◌≡◌, ◌≢◌, ℕ, zero, suc, ◌-◌, ◌<◌, ◌≤◌, List, [], ◌∷◌, ◌++◌, length, map, slice_get, option_map, Some, refl, sym, ap, ◌∙◌, inl, inr, arith}
-use Rattle.tenant_ledger.proofs.Words.{cases_Bool, cases_eq, length-append, map-append, Id, History, Row, Text, is_same, Task, HasIndex, of_each, with_seed}
-use Rattle.indexmap.specs.IndexMap.{insert_entry}
+use Rattle.std.proofs.Common.{All, ◌≡◌, ◌≢◌, ℕ, zero, suc, ◌-◌, ◌<◌, ◌≤◌, List, [], ◌∷◌, ◌++◌, length, map, slice_get, Some, refl, sym, ap, ◌∙◌, inl, inr, arith}
+use Rattle.std.proofs.lemmas.List.Elements.{All-nil, All-cons, All-head, All-tail}
+use Rattle.tenant_ledger.proofs.Words.{cases_eq, length-append, map-append, Id, History, Row, of_each, with_seed}
 
 -- what stands in a list stands there in a longer one
 pub slice_get-longer : {X : Type 0} (xs ys : List X) (place : ℕ) (x : X) → slice_get xs place ≡ Some x → slice_get (xs ++ ys) place ≡ Some x
@@ -54,20 +54,12 @@ module _ {A : Type 0} (told : History → ℕ → A) where
             ∙ ap Some (sym (stays row earlier event older))
       ]
 
--- a task keeps its index if some task is kept
-pub keeps_index : (tasks : List (Text × Task)) (name : Text) (task : Task) (other : Text) (index : ℕ) → HasIndex tasks other index
-    → HasIndex (insert_entry is_same tasks name task) other index
-keeps_index [] name task other index has = cc
-keeps_index (first ∷ later) name task other zero has = elim (cases_Bool (is_same name first.0)) [
-  | inl same ↦ rw same (task, ap (option_map (λ (found : Text × Task). (found.0, task))) has.1)
-  | inr differ ↦ rw differ has
-]
-keeps_index (first ∷ later) name task other (suc index) has = elim (cases_Bool (is_same name first.0)) [
-  | inl same ↦ rw same has
-  | inr differ ↦ rw differ (keeps_index later name task other index has)
-]
-
 -- the seed stands for the first id until one is kept
 pub seeded-append : {I : Type 0} (meant : I → Id) (ids more : List I) → 0 < length ids → with_seed (map meant (ids ++ more)) ≡ with_seed (map meant ids) ++ map meant more
 seeded-append meant [] more some = absurd (omega (arith, some))
 seeded-append meant (first ∷ ids) more some = map-append meant (first ∷ ids) more
+
+-- what holds of all that a list is mapped to holds of each that it has
+pub unmapped : {X Y : Type 0} (f : Y → X) (P : X → Type 0) (ys : List Y) → All P (map f ys) → All (λ y. P (f y)) ys
+unmapped f P [] all = All-nil (λ y. P (f y))
+unmapped f P (y ∷ ys) all = All-cons (λ y. P (f y)) y ys (All-head P (f y) (map f ys) all) (unmapped f P ys (All-tail P (f y) (map f ys) all))

@@ -1,54 +1,17 @@
--- What is kept of the messages is right after one more row.
-use Rattle.std.proofs.Common.{◌≡◌, ℕ, suc, ◌+◌, true, false, cond, List, [], ◌∷◌, ◌++◌, length, Option, Some, None, option_map, map, is_some, refl, sym, ap, ◌∙◌, subst, inl, inr, arith}
-use Rattle.tenant_ledger.proofs.Words.{false≢true, cases_Bool, cond-true, cond-false, and_left, and_right, or_left, nat_tests, length-append, map-append, sum_by-append, is_same_iff, is_same-itself, Messages, entry_of, has_receipt_by, Receipt, Sent, with_message, with_changed, with_receipt, without_last_receipt, entry_with_receipt, Limits, Text, is_same, History, names, sends, sends_message, receives, receives_message, is_sent, has_received, send_event, receipts, receipts_by_task, message_count, Row, Kind, Send, Recv, IsMessage, AreMessages, Notes, AllowsNamed, IsLegal}
-use Rattle.std.specs.List.{list_any}
-use Rattle.std.proofs.lemmas.List.Folds.{list_any-append}
-use Rattle.message_book.specs.Book as message_book
-use Rattle.message_book.proofs.Messages.{entry_of-changed, without_last_receipt-received}
-use Rattle.tenant_ledger.proofs.keeping.Known.{differ_back}
+-- What is to be kept of each message after a report is right.
+use Rattle.std.proofs.Common.{◌≡◌, ◌≢◌, ℕ, suc, ◌+◌, true, false, cond, eqb, [], ◌∷◌, length, Option, Some, None, is_some, refl, sym, ap, ◌∙◌, subst, inl, inr, arith}
+use Rattle.tenant_ledger.proofs.Words.{false≢true, cases_Bool, cond_both, cond-true, cond-false, and_right, or_left, eq-eqb, nat_tests, sum_by-append, is_same-itself, is_same_iff, Text, is_same, History, sends, sends_message, receives, receives_message, is_sent, receipts, message_count, row_after, Row, Kind, Send, Recv, AllowsNamed, IsLegal, Contents, IsKept, IsMessage, Message, history_in, message_in, received_by, noted_after, last_in, last_receipt, receipt_before, earlier_of, value_with, value_with_some, count_with_some}
+use Rattle.tenant_ledger.proofs.keeping.Known.{legal_history}
 
--- ---- the messages with one more, or with one changed
-
-entry_of-new : (messages : Messages) (message : Text) (entry : Sent) → entry_of messages message ≡ None → entry_of (messages ++ (message, entry) ∷ []) message ≡ Some entry
-entry_of-new [] message entry none = cond-true (is_same message message) _ _ (is_same-itself message)
-entry_of-new (first ∷ later) message entry none = grind (arith, nat_tests, entry_of-new later message entry)
-
--- any other message is as it was
-other_than-new : (messages : Messages) (message name : Text) (entry : Sent) → is_same name message ≡ false
-    → entry_of (messages ++ (message, entry) ∷ []) name ≡ entry_of messages name
-other_than-new [] message name entry differ = cond-false (is_same name message) _ _ differ
-other_than-new (first ∷ later) message name entry differ = ap (cond (is_same name first.0) (Some first.1)) (other_than-new later message name entry differ)
-
-other_than-changed : (change : Sent → Sent) (messages : Messages) (message name : Text) → is_same name message ≡ false
-    → entry_of (with_changed change message messages) name ≡ entry_of messages name
-other_than-changed change [] message name differ = refl
-other_than-changed change (first ∷ later) message name differ =
-    let other : is_same message first.0 ≡ true → is_same name first.0 ≡ false = λ is. subst (λ m. is_same name m ≡ false) ((is_same_iff message first.0).0 is) differ in
-    grind (arith, nat_tests, other_than-changed change later message name differ)
-
-length-changed : (change : Sent → Sent) (messages : Messages) (message : Text) → length (with_changed change message messages) ≡ length messages
-length-changed change [] message = refl
-length-changed change (first ∷ later) message = grind (arith, nat_tests, length-changed change later message)
-
--- ---- what the rows say of a message after one more row
-
-module _ (row : Row) (earlier : History) (name : Text) where
-  is_message_stays : sends name row ≡ false → receives name row ≡ false → (found : Option Sent) → IsMessage earlier name found → IsMessage (row ∷ earlier) name found
-  is_message_stays not_sent not_received None unsent = rw not_sent unsent
-  is_message_stays not_sent not_received (Some entry) right = rw (not_sent, not_received) right
-
+-- one message more, if the row sends one
 message_count-more : (row : Row) (earlier : History) → message_count (row ∷ earlier) ≡ message_count earlier + cond (sends_message row.kind) 1 0
 message_count-more row earlier = let sums = sum_by-append (λ (r : Row). cond (sends_message r.kind) 1 0) (row ∷ []) earlier in omega (arith, sums)
 
--- a row that neither sends nor receives leaves the messages as they were
-pub messages_stay : (limits : Limits) (row : Row) (earlier : History) (messages : message_book.Book) → sends_message row.kind ≡ false
-    → receives_message row.kind ≡ false → AreMessages limits earlier messages → AreMessages limits (row ∷ earlier) messages
-messages_stay limits row earlier messages sends_none receives_none before = record {
-  limit = before.limit;
-  entries = λ name. is_message_stays row earlier name (and_left (sends_message row.kind) (names row name) sends_none)
-      (and_left (receives_message row.kind) (names row name) receives_none) (entry_of messages.messages name) (before.entries name);
-  counted = before.counted ∙ sym (message_count-more row earlier ∙ (ap (λ b. message_count earlier + cond b 1 0) sends_none ∙ omega arith));
-}
+-- a row that neither sends nor receives a message leaves what is kept of it right
+stands_by : (row : Row) (earlier : History) (name : Text) → sends name row ≡ false → receives name row ≡ false → (found : Option Message) → IsMessage earlier name found
+    → IsMessage (row ∷ earlier) name found
+stands_by row earlier name not_sent not_received None unsent = rw not_sent unsent
+stands_by row earlier name not_sent not_received (Some message) right = rw (not_sent, not_received) right
 
 -- a message that a row may receive was sent
 received_was_sent : (earlier : History) (row : Row) (name : Text) (kind : Kind) (named : Option Text) → AllowsNamed earlier kind named
@@ -57,131 +20,118 @@ received_was_sent earlier row name Recv (Some message) allowed received = subst 
 received_was_sent earlier row name Recv None allowed received = absurd allowed
 received_was_sent earlier row name kind named allowed received = absurd (false≢true received)
 
--- so one that was not sent has no receipts
-unsent_has_no_receipts : (history : History) (name : Text) → IsLegal history → is_sent history name ≡ false → receipts_by_task history name ≡ []
-unsent_has_no_receipts [] name legal unsent = refl
-unsent_has_no_receipts (row ∷ earlier) name legal unsent =
-    grind (arith, nat_tests, received_was_sent earlier row name row.kind row.name legal.0.1, unsent_has_no_receipts earlier name legal.1)
+-- so one that was not sent has no receipt
+pub unsent_has_no_receipt : (history : History) (name : Text) → IsLegal history → is_sent history name ≡ false → last_receipt history name ≡ 0
+unsent_has_no_receipt [] name legal unsent = refl
+unsent_has_no_receipt (row ∷ earlier) name legal unsent =
+    grind (arith, nat_tests, received_was_sent earlier row name row.kind row.name legal.0.1, unsent_has_no_receipt earlier name legal.1)
 
--- what was not sent is not kept
-unsent_is_absent : (history : History) (name : Text) (found : Option Sent) → IsMessage history name found → is_sent history name ≡ false → found ≡ None
-unsent_is_absent history name None right unsent = refl
-unsent_is_absent history name (Some entry) right unsent = absurd (false≢true (sym unsent ∙ right.0))
-
-module _ (limits : Limits) (task message : Text) (preds : List ℕ) (earlier : History) (messages : message_book.Book) (before : AreMessages limits earlier messages) where
-  abbrev naming : Kind → Row
-  naming kind = record { task = task; kind = kind; name = Some message; preds = preds }
-
-  -- where the message that a row names is right, and the others are as they were, all are
-  one_changes : (kind : Kind) (after : Messages) → IsMessage (naming kind ∷ earlier) message (entry_of after message)
-      → ((name : Text) → is_same name message ≡ false → entry_of after name ≡ entry_of messages.messages name)
-      → length after ≡ message_count (naming kind ∷ earlier) → AreMessages limits (naming kind ∷ earlier) (record messages { messages = after })
-  one_changes kind after right others count = record {
-    limit = before.limit;
-    entries = λ name. elim (cases_Bool (is_same message name)) [
-      | inl same ↦ subst (λ n. IsMessage (naming kind ∷ earlier) n (entry_of after n)) ((is_same_iff message name).0 same) right
-      | inr other ↦ subst (IsMessage (naming kind ∷ earlier) name) (sym (others name (differ_back message name other)))
-          (is_message_stays (naming kind) earlier name (and_right (sends_message kind) _ other) (and_right (receives_message kind) _ other)
-          (entry_of messages.messages name) (before.entries name))
-    ];
-    counted = count;
-  }
-
-  -- the message that a row sends
-  messages_sent : IsLegal earlier → is_sent earlier message ≡ false
-      → AreMessages limits (naming Send ∷ earlier) (record messages { messages = with_message message (suc (length earlier)) messages.messages })
-  messages_sent legal new =
-      let itself = is_same-itself message in
-      let entry : Sent = record { sent = suc (length earlier); receipts = [] } in
-      let absent = unsent_is_absent earlier message (entry_of messages.messages message) (before.entries message) new in
-      one_changes Send (messages.messages ++ (message, entry) ∷ [])
-      (subst (IsMessage (naming Send ∷ earlier) message) (sym (entry_of-new messages.messages message entry absent))
-      (or_left _ _ itself, sym (cond-true (is_same message message) _ _ itself), sym (unsent_has_no_receipts earlier message legal new)))
-      (λ name differ. other_than-new messages.messages message name entry differ)
-      (length-append messages.messages ((message, entry) ∷ []) ∙ omega (arith, before.counted, message_count-more (naming Send) earlier))
-
-  -- the message that a row receives
-  received : is_sent earlier message ≡ true → (found : Option Sent) → IsMessage earlier message found
-      → IsMessage (naming Recv ∷ earlier) message (option_map (entry_with_receipt task (suc (length earlier))) found)
-  received sent None unsent = absurd (false≢true (sym unsent ∙ sent))
-  received sent (Some entry) right =
-      (right.0, right.1, rw (is_same-itself message) (ap (λ (receipts : List Receipt). receipts ++ record { task = task; event = suc (length earlier) } ∷ []) right.2))
-
-  messages_received : is_sent earlier message ≡ true
-      → AreMessages limits (naming Recv ∷ earlier) (record messages { messages = with_receipt message task (suc (length earlier)) messages.messages })
-  messages_received sent =
-      let change = entry_with_receipt task (suc (length earlier)) in
-      one_changes Recv (with_changed change message messages.messages)
-      (subst (IsMessage (naming Recv ∷ earlier) message) (sym (entry_of-changed change messages.messages message))
-      (received sent (entry_of messages.messages message) (before.entries message)))
-      (λ name differ. other_than-changed change messages.messages message name differ)
-      (length-changed change messages.messages message ∙ omega (arith, before.counted, message_count-more (naming Recv) earlier))
-
--- ---- what is kept says of the rows
-
--- a task has received a message where the message has a receipt of it
-has_received_by_receipts : (history : History) (task name : Text)
-    → list_any (λ (receipt : Receipt). is_same receipt.task task) (receipts_by_task history name) ≡ has_received history task name
-has_received_by_receipts [] task name = refl
-has_received_by_receipts (row ∷ earlier) task name =
-    let one : Receipt = record { task = row.task; event = suc (length earlier) } in
-    grind (
-      arith,
-      nat_tests,
-      list_any-append (λ (receipt : Receipt). is_same receipt.task task) (receipts_by_task earlier name) (one ∷ []),
-      has_received_by_receipts earlier task name,
-    )
-
--- the events of the receipts are those that received the message
-pub events_of_receipts : (history : History) (name : Text) → map (λ (receipt : Receipt). receipt.event) (receipts_by_task history name) ≡ receipts history name
-events_of_receipts [] name = refl
-events_of_receipts (row ∷ earlier) name = elim (cases_Bool (receives name row)) [
-  | inl is ↦
-      rw is
-      (map-append (λ (receipt : Receipt). receipt.event) (receipts_by_task earlier name) (record { task = row.task; event = suc (length earlier) } ∷ [])
-      ∙ ap (λ events. events ++ suc (length earlier) ∷ []) (events_of_receipts earlier name))
-  | inr other ↦ rw other (events_of_receipts earlier name)
+-- a message without a last receipt has none
+pub no_receipts : (history : History) (message : Text) → last_receipt history message ≡ 0 → receipts history message ≡ []
+no_receipts [] message none = refl
+no_receipts (row ∷ earlier) message none = elim (cases_Bool (receives message row)) [
+  | inl is ↦ absurd (cc (sym (cond-true (receives message row) (suc (length earlier)) _ is) ∙ none))
+  | inr not ↦ rw not (no_receipts earlier message (sym (cond-false (receives message row) _ _ not) ∙ none))
 ]
 
-module _ (limits : Limits) (history : History) (messages : message_book.Book) (are : AreMessages limits history messages) (task name : Text) where
-  -- the book has the messages that were sent, and knows which tasks received them
-  pub has_them : IsLegal history
-      → (is_some (entry_of messages.messages name) ≡ is_sent history name) × (has_receipt_by task (entry_of messages.messages name) ≡ has_received history task name)
-  has_them legal = by (entry_of messages.messages name) (are.entries name)
-    where
-      by : (found : Option Sent) → IsMessage history name found → (is_some found ≡ is_sent history name) × (has_receipt_by task found ≡ has_received history task name)
-      by None unsent =
-          let none = ap (list_any (λ (receipt : Receipt). is_same receipt.task task)) (unsent_has_no_receipts history name legal unsent) in
-          (sym unsent, sym none ∙ has_received_by_receipts history task name)
-      by (Some entry) right =
-          (sym right.0, ap (list_any (λ (receipt : Receipt). is_same receipt.task task)) right.2 ∙ has_received_by_receipts history task name)
-
--- What a report that is allowed makes of the messages is right.
-pub noted_are_messages : (limits : Limits) (history : History) (task : Text) (kind : Kind) (name : Option Text) (preds : List ℕ) (before after : message_book.Book)
-    → IsLegal history → AllowsNamed history kind name → AreMessages limits history before → Notes task kind name (suc (length history)) before after
-    → AreMessages limits (record { task = task; kind = kind; name = name; preds = preds } ∷ history) after
-noted_are_messages limits history task Send None preds before after legal allowed are notes = absurd allowed
-noted_are_messages limits history task Recv None preds before after legal allowed are notes = absurd allowed
-noted_are_messages limits history task Send (Some name) preds before after legal allowed are notes =
-    rw notes (messages_sent limits task name preds history before are legal allowed)
-noted_are_messages limits history task Recv (Some name) preds before after legal allowed are notes =
-    rw notes.1 (messages_received limits task name preds history before are allowed)
-noted_are_messages limits history task kind name preds before after legal allowed are notes = rw notes (messages_stay limits _ history before refl refl are)
-
--- the send and the receipts that the book has of a message are those of the rows
-pub message_told : (history : History) (name : Text) (entry : Sent) → IsMessage history name (Some entry)
-    → (is_sent history name ≡ true) × (entry.sent ≡ send_event history name) × (map (λ (receipt : Receipt). receipt.event) entry.receipts ≡ receipts history name)
-message_told history name entry right =
-    (right.0, right.1, ap (map (λ (receipt : Receipt). receipt.event)) right.2 ∙ events_of_receipts history name)
-
--- and one that was not sent was received by no event
+-- so one that was not sent was received by no event
 pub unsent_has_no_events : (history : History) (name : Text) → IsLegal history → is_sent history name ≡ false → receipts history name ≡ []
-unsent_has_no_events history name legal unsent =
-    sym (events_of_receipts history name) ∙ ap (map (λ (receipt : Receipt). receipt.event)) (unsent_has_no_receipts history name legal unsent)
+unsent_has_no_events history name legal unsent = no_receipts history name (unsent_has_no_receipt history name legal unsent)
 
--- what was received can be taken back
-pub receive_taken_back : (task name : Text) (event : ℕ) (before after : message_book.Book) → Notes task Recv (Some name) event before after
-    → record after { messages = without_last_receipt name after.messages } ≡ before
-receive_taken_back task name event before after notes =
-    (λ i. record (notes.1 i) { messages = without_last_receipt name (notes.1 i).messages })
-    ∙ ap (λ messages. record before { messages = messages }) (without_last_receipt-received name task event before.messages)
+module _ (book : Contents) (kept : IsKept book) where
+  -- the book has the messages that were sent
+  pub has_message : (name : Text) → is_some (message_in book name) ≡ is_sent (history_in book) name
+  has_message name = by (message_in book name) (kept.messages_are name)
+    where
+      by : (found : Option Message) → IsMessage (history_in book) name found → is_some found ≡ is_sent (history_in book) name
+      by None unsent = sym unsent
+      by (Some message) right = sym right.0
+
+  -- what is kept of a message that the book has
+  pub message_kept : (name : Text) {message : Message} → message_in book name ≡ Some message → IsMessage (history_in book) name (Some message)
+  message_kept name found = subst (IsMessage (history_in book) name) found (kept.messages_are name)
+
+  module _ (task : Text) where
+    abbrev history : History
+    history = history_in book
+
+    abbrev event : ℕ
+    event = suc (length history)
+
+    abbrev row : Kind → Option Text → Row
+    row kind name = row_after history task kind name
+
+    -- what is kept of a message is right after the report
+    abbrev IsRight : Kind → Option Text → Text → Option Message → Type 0
+    IsRight kind name other found = IsMessage (row kind name ∷ history) other found
+
+    -- of a message that the report sends
+    sent_is_message : (name : Text) → is_sent history name ≡ false → IsRight Send (Some name) name (Some (record { sent = event; last = 0 }))
+    sent_is_message name new =
+        let itself = is_same-itself name in
+        (or_left (is_same name name) _ itself, sym (cond-true (is_same name name) _ _ itself), sym (unsent_has_no_receipt history name (legal_history book kept) new))
+
+    -- of a message that it receives
+    received_is_message : (name : Text) (message : Message) → message_in book name ≡ Some message → IsRight Recv (Some name) name (Some (record message { last = event }))
+    received_is_message name message found =
+        let right = message_kept name found in
+        (right.0, right.1, sym (cond-true (is_same name name) _ _ (is_same-itself name)))
+
+    -- the message that is named, once it is kept, and every other one
+    named_or_not : (kind : Kind) (name : Text) (kept_of : Message) → IsRight kind (Some name) name (Some kept_of)
+        → (other : Text) → IsRight kind (Some name) other (value_with name kept_of (message_in book) other)
+    named_or_not kind name kept_of right other =
+        cond_both (is_same name other) _ _ (IsRight kind (Some name) other)
+        (λ same. subst (λ n. IsRight kind (Some name) n (Some kept_of)) ((is_same_iff name other).0 same) right)
+        (λ not. stands_by (row kind (Some name)) history other (and_right (sends_message kind) _ not) (and_right (receives_message kind) _ not)
+        (message_in book other) (kept.messages_are other))
+
+    abbrev messages_after : Kind → Option Text → Text → Option Message
+    messages_after kind name = value_with_some (noted_after kind event (received_by (message_in book) kind name)) name (message_in book)
+
+    -- so it is of each message
+    pub messages_are_kept : (kind : Kind) (name : Option Text) → AllowsNamed history kind name → (other : Text) → IsRight kind name other (messages_after kind name other)
+    messages_are_kept Send None allowed other = absurd allowed
+    messages_are_kept Recv None allowed other = absurd allowed
+    messages_are_kept Send (Some name) allowed other = named_or_not Send name _ (sent_is_message name allowed) other
+    messages_are_kept Recv (Some name) allowed other = by (message_in book name) refl
+      where
+        by : (had : Option Message) → message_in book name ≡ had → IsRight Recv (Some name) other (value_with_some (noted_after Recv event had) (Some name) (message_in book) other)
+        by None none = absurd (false≢true (ap is_some (sym none) ∙ has_message name ∙ allowed))
+        by (Some message) had = named_or_not Recv name _ (received_is_message name message had) other
+    messages_are_kept kind name allowed other = stands_by (row kind name) history other refl refl (message_in book other) (kept.messages_are other)
+
+    -- and the messages are counted
+    pub messages_are_counted : (kind : Kind) (name : Option Text) → AllowsNamed history kind name
+        → count_with_some (noted_after kind event (received_by (message_in book) kind name)) name (message_in book) (length book.messages) ≡ message_count (row kind name ∷ history)
+    messages_are_counted kind name allowed = omega (arith, by kind name allowed, message_count-more (row kind name) history)
+      where
+        by : (kind : Kind) (name : Option Text) → AllowsNamed history kind name
+            → count_with_some (noted_after kind event (received_by (message_in book) kind name)) name (message_in book) (length book.messages) ≡ message_count history + cond (sends_message kind) 1 0
+        by Send None allowed = absurd allowed
+        by Send (Some name) allowed = rw (has_message name ∙ allowed) (omega (arith, kept.messages_counted))
+        by Recv None allowed = absurd allowed
+        by Recv (Some name) allowed = of_named (message_in book name) (has_message name ∙ allowed)
+          where
+            of_named : (had : Option Message) → is_some had ≡ true → count_with_some (noted_after Recv event had) (Some name) (message_in book) (length book.messages) ≡ message_count history + 0
+            of_named None none = absurd (false≢true none)
+            of_named (Some message) had = rw (has_message name ∙ allowed) (omega (arith, kept.messages_counted))
+        by kind name allowed = kept.messages_counted ∙ omega arith
+
+    -- the receipt before is told of the event
+    pub earlier_is_kept : (kind : Kind) (name : Option Text) → AllowsNamed history kind name
+        → last_in (received_by (message_in book) kind name) ≡ earlier_of (row kind name ∷ history) event
+    earlier_is_kept kind name allowed = by kind name allowed ∙ sym (cond-true (eqb event event) _ _ (eq-eqb event event refl))
+      where
+        by : (kind : Kind) (name : Option Text) → AllowsNamed history kind name → last_in (received_by (message_in book) kind name) ≡ receipt_before history kind name
+        by Recv None allowed = absurd allowed
+        by Recv (Some name) allowed = of_named (message_in book name) refl
+          where
+            of_named : (had : Option Message) → message_in book name ≡ had → last_in had ≡ last_receipt history name
+            of_named None none = absurd (false≢true (ap is_some (sym none) ∙ has_message name ∙ allowed))
+            of_named (Some message) had = (message_kept name had).2
+        by kind name allowed = refl
+
+-- a later row leaves what is told of the receipt before an event
+pub earlier_of-older : (row : Row) (earlier : History) (event : ℕ) → event ≢ suc (length earlier) → earlier_of (row ∷ earlier) event ≡ earlier_of earlier event
+earlier_of-older row earlier event older = grind (arith, nat_tests)

@@ -5,14 +5,14 @@ use Rattle.std.proofs.lemmas.Bool.{ne_eqb}
 use Rattle.std.proofs.lemmas.Option.{none-some}
 use Rattle.trace_types.proofs.Cuts.{row_there}
 use Rattle.trace_types.proofs.Reachability.{newest-le}
-use Rattle.tenant_ledger.proofs.Words.{false≢true, cases_Bool, cases_eq, cond-true, cond-false, eq-eqb, is_same_iff, Text, is_same, root, History, start_event, start_of, starts, names, is_known, is_event, row_of, are_of_one_task, Row, Kind, Spawn, AllowsNamed, IsLegal}
+use Rattle.tenant_ledger.proofs.Words.{false≢true, cases_Bool, cases_eq, cond-true, cond-false, eq-eqb, is_same_iff, Text, is_same, root, History, start_event, start_of, newest, starts, names, is_known, is_event, row_of, are_of_one_task, Row, Kind, Spawn, AllowsNamed, IsLegal}
 use Rattle.tenant_ledger.proofs.clock.Events.{event_bounds}
 
 -- a row that does not start the task leaves when it was started
 pub start_event-other : (row : Row) (earlier : History) (task : Text) → starts task row ≡ false → start_event (row ∷ earlier) task ≡ start_event earlier task
 start_event-other row earlier task not_started = cond-false (starts task row) _ _ not_started
 
-start_event-started : (row : Row) (earlier : History) (task : Text) → starts task row ≡ true → start_event (row ∷ earlier) task ≡ suc (length earlier)
+pub start_event-started : (row : Row) (earlier : History) (task : Text) → starts task row ≡ true → start_event (row ∷ earlier) task ≡ suc (length earlier)
 start_event-started row earlier task started = cond-true (starts task row) _ _ started
 
 -- what is told of the newest event, and of any other
@@ -78,7 +78,7 @@ start_of-before (row ∷ earlier) legal event is = at (cases_eq event (suc (leng
         subst (λ start. start < event) (sym (start_of-older row earlier event older)) (before there)
 
 -- tasks that are known and were started by one event are one task
-one_start : (history : History) → IsLegal history → (task other : Text) → is_known history task ≡ true → is_known history other ≡ true
+pub one_start : (history : History) → IsLegal history → (task other : Text) → is_known history task ≡ true → is_known history other ≡ true
     → start_event history task ≡ start_event history other → task ≡ other
 one_start [] legal task other known other_known same =
     (is_same_iff task root).0 (grind (arith, nat_tests, known)) ∙ sym ((is_same_iff other root).0 (grind (arith, nat_tests, other_known)))

@@ -1,6 +1,6 @@
 -- What is to be kept of each task after a report is right.
 use Rattle.std.proofs.Common.{◌≡◌, ℕ, suc, ◌+◌, true, false, cond, List, [], ◌∷◌, ◌++◌, length, slice_get, Option, Some, None, is_some, refl, sym, ap, ◌∙◌, subst, arith}
-use Rattle.tenant_ledger.proofs.Words.{false≢true, cond-true, cond-false, cond_both, or_left, or_right, and_right, nat_tests, sum_by-append, is_same-itself, is_same_iff, Text, is_same, root, History, start_event, starts, starts_task, ends, ends_task, joins, joins_task, names, is_known, is_ended, is_joined, state_of, task_count, tree_clock, id_of, id_kept, of_named, row_after, Id, Zero, Row, Kind, Local, Spawn, End, Join, IsLive, AllowsNamed, Contents, IsKept, IsTask, history_in, task_in, ids_made, made_ids, acting_after, id_left, named_after, joined_by, task_with, count_with, task_with_some, count_with_some, start_of, Task}
+use Rattle.tenant_ledger.proofs.Words.{false≢true, cond-true, cond-false, cond_both, or_left, or_right, and_right, nat_tests, sum_by-append, is_same-itself, is_same_iff, Text, is_same, root, History, start_event, starts, starts_task, ends, ends_task, joins, joins_task, names, is_known, is_ended, is_joined, state_of, task_count, tree_clock, id_of, id_kept, of_named, row_after, Id, Zero, Row, Kind, Local, Spawn, End, Join, IsLive, AllowsNamed, Contents, IsKept, IsTask, history_in, task_in, ids_made, made_ids, acting_after, id_left, named_after, joined_by, value_with, count_with, value_with_some, count_with_some, start_of, Task}
 use Rattle.trace_types.specs.declared.task_state.TaskState.TheVariants.{Live, Joined}
 use Rattle.tenant_ledger.proofs.clock.Tasks.{last_event-acting, last_event-bystander, last_event-started, live_is_not_unknown, live_is_not_ended, unknown_has_no_event}
 use Rattle.tenant_ledger.proofs.keeping.Known.{differ_back, legal_history, task_kept, has_known, unknown_has_not_ended, unended_is_not_joined}
@@ -149,7 +149,7 @@ module _ (book : Contents) (kept : IsKept book) (task : Text) (acting : Task) (f
 
     -- the task that is named, once it is kept, and every other one
     named_or_not : (kind : Kind) (child : Text) (kept_of : Task) → IsRight kind (Some child) child (Some kept_of)
-        → (other : Text) → is_same task other ≡ false → IsRight kind (Some child) other (task_with child kept_of (task_in book) other)
+        → (other : Text) → is_same task other ≡ false → IsRight kind (Some child) other (value_with child kept_of (task_in book) other)
     named_or_not kind child kept_of right other differ =
         cond_both (is_same child other) _ _ (IsRight kind (Some child) other)
         (λ same. subst (λ name. IsRight kind (Some child) name (Some kept_of)) ((is_same_iff child other).0 same) right)
@@ -157,14 +157,14 @@ module _ (book : Contents) (kept : IsKept book) (task : Text) (acting : Task) (f
         (cond-false (is_same task other) _ _ differ ∙ cond-false (is_same child other) _ _ not) (task_in book other) (kept.tasks_are other))
 
     others_are_tasks : (kind : Kind) (name : Option Text) → AllowsNamed history kind name → (other : Text) → is_same task other ≡ false
-        → IsRight kind name other (task_with_some (named_after kind event place (joined_by (task_in book) kind name)) name (task_in book) other)
+        → IsRight kind name other (value_with_some (named_after kind event place (joined_by (task_in book) kind name)) name (task_in book) other)
     others_are_tasks Spawn None allowed other differ = absurd allowed
     others_are_tasks Join None allowed other differ = absurd allowed
     others_are_tasks Spawn (Some child) allowed other differ = named_or_not Spawn child _ (started_is_task child allowed) other differ
     others_are_tasks Join (Some child) allowed other differ = by (task_in book child) refl
       where
         by : (had : Option Task) → task_in book child ≡ had
-            → IsRight Join (Some child) other (task_with_some (named_after Join event place had) (Some child) (task_in book) other)
+            → IsRight Join (Some child) other (value_with_some (named_after Join event place had) (Some child) (task_in book) other)
         by None none = absurd (false≢true (ap is_some (sym none) ∙ has_known book kept child ∙ allowed.0))
         by (Some joined) had = named_or_not Join child _ (joined_is_task child joined had allowed.1) other differ
     others_are_tasks kind name allowed other differ =
@@ -172,18 +172,18 @@ module _ (book : Contents) (kept : IsKept book) (task : Text) (acting : Task) (f
         stands_by (row kind name) history book.ids _ other differ refl refl (cond-false (is_same task other) _ _ differ ∙ same) (task_in book other) (kept.tasks_are other)
 
     abbrev tasks_after : Kind → Option Text → Text → Option Task
-    tasks_after kind name = task_with_some (named_after kind event place (joined_by (task_in book) kind name)) name (task_in book)
+    tasks_after kind name = value_with_some (named_after kind event place (joined_by (task_in book) kind name)) name (task_in book)
 
     -- so it is of each task
     pub tasks_are_kept : (kind : Kind) (name : Option Text) → AllowsNamed history kind name → (other : Text)
-        → IsRight kind name other (task_with task (acting_after kind event place acting) (tasks_after kind name) other)
+        → IsRight kind name other (value_with task (acting_after kind event place acting) (tasks_after kind name) other)
     tasks_are_kept kind name allowed other =
         cond_both (is_same task other) _ _ (IsRight kind name other)
         (λ same. subst (λ t. IsRight kind name t (Some (acting_after kind event place acting))) ((is_same_iff task other).0 same) (acting_is_task kind name allowed))
         (others_are_tasks kind name allowed other)
 
     -- the acting task is among those that the book has, whatever is kept of the one that is named
-    acting_is_there : (name : Option Text) (put : Option Task) → is_some (task_with_some put name (task_in book) task) ≡ true
+    acting_is_there : (name : Option Text) (put : Option Task) → is_some (value_with_some put name (task_in book) task) ≡ true
     acting_is_there name None = ap is_some found
     acting_is_there None (Some put) = ap is_some found
     acting_is_there (Some child) (Some put) = cond_both (is_same child task) _ _ (λ had. is_some had ≡ true) (λ _. refl) (λ _. ap is_some found)

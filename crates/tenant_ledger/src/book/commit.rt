@@ -1,18 +1,16 @@
-//! Drafts are committed, or taken back.
-ghost use Rattle.std.specs.Prelude.{◌≡◌, ℕ, suc, ◌+◌, ◌<◌, ◌≤◌, ◌∷◌, Some, length, option_to_list, vec_len, vec_capacity, ◌++◌};
-ghost use Rattle.indexmap.specs.IndexMap.{get, index_map_len, spare};
+//! Drafts are committed.
+ghost use Rattle.std.specs.Prelude.{◌≡◌, suc, ◌+◌, ◌<◌, ◌≤◌, ◌∷◌, IsTrue, Some, length, option_to_list, slice_get, vec_len, vec_capacity, ◌++◌};
+ghost use Rattle.indexmap.specs.IndexMap.{insert_entry, spare};
+ghost use Rattle.indexmap.specs.IndexSet.{spare as set_spare};
 ghost use Rattle.trace_types.specs.text.Name.{Text as Characters, is_same};
 ghost use Rattle.trace_types.specs.clock.Clock.{tree_clock};
 ghost use Rattle.trace_types.specs.clock.Stamps.{id_of};
-ghost use Rattle.trace_types.specs.tenant.Tenant.{with_row};
-ghost use Rattle.message_book.specs.Book.{Book as Messages};
-ghost use Rattle.tenant_ledger.specs.Ledger.{HasIndex, IsKept, history_in, tenant_of, task_with, count_with, task_with_some, count_with_some, Notes, IsReady};
+ghost use Rattle.tenant_ledger.specs.Ledger.{HasRoom, IsReady, UsesRoomOfOne, entries_with, history_in, with_event, with_key};
 
-use super::{Book, Draft, Task};
+use super::{Book, Draft};
 use crate::share::Keep;
-use indexmap::IndexMap;
-use message_book::MessageBook;
-use trace_types::{Kind, Name, Row};
+use indexmap::{IndexMap, IndexSet};
+use trace_types::Name;
 
 impl<S: Keep> Book<S> {
     /// The id that the draft's task has after its event: the first that the event makes, else the one from before.
@@ -27,10 +25,12 @@ impl<S: Keep> Book<S> {
     }
 
     /// Adds the event of the draft, and gives its number. It takes no memory.
-    pub(crate) fn commit(&mut self, draft: Draft<S>) -> u64
-        requires { IsReady self.old draft }
-        ensures book { IsKept self.new }
-        ensures tenant { tenant_of self.new ≡ with_row (tenant_of self.old) (Some draft.row) }
+    ///
+    /// The tables of names are looked at where the draft found its names, and searched where these do not stand there.
+    pub fn commit(&mut self, draft: Draft<S>) -> u64
+        requires { HasRoom self.old }
+        ensures book { self.new ≡ record (with_event draft self.old) { room = self.new.room } }
+        ensures room { UsesRoomOfOne self.old.room self.new.room }
         ensures event { result ≡ suc (length self.old.rows) }
     {
         let Draft {
@@ -42,27 +42,24 @@ impl<S: Keep> Book<S> {
             acting,
             index,
             named,
-            place: _,
+            place,
+            noted,
+            earlier,
+            receipt,
         } = draft;
         add_some(&mut self.ids, first);
         add_some(&mut self.ids, second);
-        put_some(&mut self.tasks, &row.name, named);
-        put_at(&mut self.tasks, index, acting);
+        put_some(&mut self.tasks, place, &row.name, named);
+        put(&mut self.tasks, index, row.task, acting);
+        put_some(&mut self.messages, place, &row.name, noted);
+        add_receipt(&mut self.received, receipt);
         self.rows.push_reserved(row);
         self.trees.push_reserved(tree);
         self.points.push_reserved(point);
         self.starts.push_reserved(acting.start);
         self.places.push_reserved(acting.id);
+        self.earlier.push_reserved(earlier);
         self.rows.len() as u64
-    }
-
-    /// Drops the draft: the book is as before it. It takes no memory.
-    pub(crate) fn abandon(&mut self, draft: Draft<S>)
-        requires { IsReady self.old draft }
-        ensures book { IsKept self.new }
-        ensures tenant { tenant_of self.new ≡ tenant_of self.old }
-    {
-        take_back(&mut self.messages, draft.row());
     }
 }
 
@@ -77,48 +74,65 @@ fn add_some<T>(items: &mut Vec<T>, item: Option<T>)
     }
 }
 
-/// Keeps the task that a report names, if it names one. There is room for it.
-fn put_some(tasks: &mut IndexMap<Name, Task>, name: &Option<Name>, task: Option<Task>)
-    requires { 0 < spare tasks.old }
-    ensures tasks { (other : Characters) → get is_same tasks.new other ≡ task_with_some task name.now (get is_same tasks.old) other }
-    ensures count { index_map_len tasks.new ≡ count_with_some task name.now (get is_same tasks.old) (index_map_len tasks.old) }
-    ensures places { (other : Characters) (index : ℕ) → HasIndex tasks.old.entries other index → HasIndex tasks.new.entries other index }
+/// Adds a receipt, if one is given. There is room for it.
+fn add_receipt(received: &mut IndexSet<(u64, u64)>, receipt: Option<(u64, u64)>)
+    requires { 0 < set_spare received.old }
+    ensures keys { received.new.keys ≡ with_key receipt received.old.keys }
+    ensures room { set_spare received.old ≤ set_spare received.new + 1 }
 {
-    if let (Some(task), Some(name)) = (task, *name) {
-        put(tasks, name, task);
+    if let Some(receipt) = receipt {
+        received.insert(receipt).unwrap();
     }
 }
 
-/// Keeps the task under its name. There is room for it.
-fn put(tasks: &mut IndexMap<Name, Task>, name: Name, task: Task)
-    requires { 0 < spare tasks.old }
-    ensures tasks { (other : Characters) → get is_same tasks.new other ≡ task_with name task (get is_same tasks.old) other }
-    ensures count { index_map_len tasks.new ≡ count_with name (get is_same tasks.old) (index_map_len tasks.old) }
-    ensures places { (other : Characters) (index : ℕ) → HasIndex tasks.old.entries other index → HasIndex tasks.new.entries other index }
+/// Keeps a value under the name that a report has, if there is one. There is room for it.
+fn put_some<V: Copy>(
+    map: &mut IndexMap<Name, V>,
+    place: usize,
+    name: &Option<Name>,
+    value: Option<V>,
+)
+    requires { 0 < spare map.old }
+    ensures entries { map.new.entries ≡ entries_with value name.now map.old.entries }
+    ensures room { spare map.old ≤ spare map.new + 1 }
 {
-    tasks.insert(name, task).unwrap();
-}
-
-/// Keeps the task at the index of its name.
-fn put_at(tasks: &mut IndexMap<Name, Task>, index: usize, task: Task)
-    ensures tasks { (name : Characters) → HasIndex tasks.old.entries name index → (other : Characters) →
-        get is_same tasks.new other ≡ task_with name task (get is_same tasks.old) other }
-    ensures count { (name : Characters) → HasIndex tasks.old.entries name index →
-        index_map_len tasks.new ≡ count_with name (get is_same tasks.old) (index_map_len tasks.old) }
-{
-    if let Some(kept) = tasks.get_index_mut(index) {
-        *kept = task;
+    if let (Some(value), Some(name)) = (value, *name) {
+        put(map, place, name, value);
     }
 }
 
-/// Takes back what the report of this row made of the messages.
-fn take_back(messages: &mut MessageBook, row: &Row)
-    requires { (event : ℕ) × (before : Messages) × Notes row.now.task row.now.kind row.now.name event before messages.old }
-    ensures { (event : ℕ) (before : Messages) → Notes row.now.task row.now.kind row.now.name event before messages.old → messages.new ≡ before }
+/// Keeps the value under the name, which is looked for at this place first. There is room for it.
+fn put<V: Copy>(map: &mut IndexMap<Name, V>, place: usize, name: Name, value: V)
+    requires { 0 < spare map.old }
+    ensures entries { map.new.entries ≡ insert_entry is_same map.old.entries name value }
+    ensures room { spare map.old ≤ spare map.new + 1 }
 {
-    match (row.kind, row.name) {
-        (Kind::Send, Some(_)) => messages.undo_send(),
-        (Kind::Recv, Some(name)) => messages.undo_receive(&name),
-        _ => {}
+    if stands_at(map, place, &name) {
+        set(map, place, value);
+    } else {
+        map.insert(name, value).unwrap();
+    }
+}
+
+/// Whether the name stands at the place.
+#[inline(always)]
+fn stands_at<V: Copy>(map: &IndexMap<Name, V>, place: usize, name: &Name) -> bool
+    ensures { IsTrue result → (before : V) × (slice_get map.now.entries place ≡ Some (name.now, before)) }
+{
+    match map.get_index(place) {
+        Some((there, _)) => there == name,
+        None => false,
+    }
+}
+
+/// Keeps the value at the place where its name stands.
+#[inline(always)]
+fn set<V: Copy>(map: &mut IndexMap<Name, V>, place: usize, value: V)
+    ensures entries { (name : Characters) (before : V) → slice_get map.old.entries place ≡ Some (name, before)
+        → map.new.entries ≡ insert_entry is_same map.old.entries name value }
+    ensures room { spare map.old ≤ spare map.new }
+{
+    if let Some(kept) = map.get_index_mut(place) {
+        *kept = value;
     }
 }

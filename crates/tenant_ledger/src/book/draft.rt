@@ -1,25 +1,27 @@
 //! Drafts of events.
-ghost use Rattle.std.specs.Prelude.{◌≡◌, suc, ◌<◌, ◌≤◌, [], true, IfOk, IfErr, OnOk, OnErr, IfSome, IfNone, Some, length, slice_get};
+ghost use Rattle.std.specs.Prelude.{◌≡◌, ◌<◌, ◌≤◌, [], true, IfOk, OnOk, IfSome, IfNone, Some, length, slice_get};
 ghost use Rattle.trace_types.specs.tenant.Reachability.{increasing};
 ghost use Rattle.trace_types.specs.clock.Clock.{tree_clock};
 ghost use Rattle.trace_types.specs.clock.Stamps.{tree_of, acting_id, takes_in};
 ghost use Rattle.trace_types.specs.tenant.Tenant.{is_report, row_after};
 ghost use Rattle.trace_types.specs.clock.EventTree.{Leaf};
-ghost use Rattle.tenant_ledger.specs.Ledger.{IsKept, HasRoom, history_in, MayNote, IsReport, row_of_report, tree_of_report, MayRaise, event_of, Notes, Prepares};
+ghost use Rattle.tenant_ledger.specs.Ledger.{IsKept, HasRoom, history_in, IsReport, row_of_report, tree_of_report, MayRaise, event_of, Drafts, Prepares};
 
-use super::{Book, Report, Task};
+use super::{Book, Message, Report, Task};
 use crate::share::{Keep, Share};
-use crate::{MeantId, Places, SharedIds, Stack};
+use crate::{MeantId, Shared, Stack};
 use event_tree::{EvTree, RaisedPoint};
 use id_tree::IdTree;
 use std::alloc::Global;
 use std::marker::Model;
+use std::sync::Arc;
 use trace_query::Meant;
-use trace_types::{Code, Kind, Memory, Name, Preds, Request, Row};
+use trace_types::{Code, Kind, Memory, Preds, Request, Row};
+use tree_forest::Tree;
 
-/// What is to be kept of an event.
+/// What is to be kept of an event that may be added to a book. Dropping it leaves the book as it is.
 #[derive(Drop)]
-pub(crate) struct Draft<S: Keep> {
+pub struct Draft<S: Keep> {
     pub(super) row: Row,
     pub(super) tree: S::Kept,
     /// A point that the event raised, if one was found.
@@ -27,13 +29,19 @@ pub(crate) struct Draft<S: Keep> {
     /// The ids that the event makes, which come behind those that the book has.
     pub(super) first: Option<S::Id>,
     pub(super) second: Option<S::Id>,
-    /// What is to be kept of the acting task, and its index in the table of tasks.
+    /// What is to be kept of the acting task, and where the table of tasks has it.
     pub(super) acting: Task,
     pub(super) index: usize,
     /// What is to be kept of the task that the event names.
     pub(super) named: Option<Task>,
     /// Where the table of tasks or of messages has what the event joins or receives, or 0.
     pub(super) place: usize,
+    /// What is to be kept of the message that the event names.
+    pub(super) noted: Option<Message>,
+    /// The last receipt of the message that the event receives, or 0.
+    pub(super) earlier: u64,
+    /// The receipt that the event is, by the event that started its task, or 0, and the event that sent its message.
+    pub(super) receipt: Option<(u64, u64)>,
 }
 
 impl<S: Keep> Model for Draft<S> {
@@ -54,13 +62,15 @@ impl<S: Keep> Model for Draft<S> {
       point = d.point;
       ids = map S.Id.id (option_to_list d.first ++ option_to_list d.second);
       acting = d.acting;
-      index = d.index;
       named = d.named;
+      noted = d.noted;
+      earlier = d.earlier;
+      receipt = d.receipt;
     } };
 }
 
 impl<S: Keep> Draft<S> {
-    pub(crate) fn row(&self) -> &Row
+    pub fn row(&self) -> &Row
         ensures { result.now ≡ self.now.row }
     {
         &self.row
@@ -87,14 +97,6 @@ impl<S: Keep> Draft<S> {
         self.acting.start
     }
 
-    /// Where the tables of names have those of the event.
-    pub(crate) fn places(&self) -> Places {
-        Places {
-            task: self.index,
-            named: self.place,
-        }
-    }
-
     /// The first of the ids that the event makes, if it makes one.
     pub(super) fn first_id(&self) -> Option<&S::Id>
         ensures some { IfSome result (λ id. slice_get self.now.ids 0 ≡ Some (S.Id.id id.now)) }
@@ -104,19 +106,69 @@ impl<S: Keep> Draft<S> {
     }
 }
 
-impl Draft<SharedIds> {
-    /// Puts an equal tree in place of what the event knows.
-    pub(crate) fn replace_tree(&mut self, tree: EvTree)
-        requires { tree ≡ self.old.tree }
-        ensures { self.new ≡ self.old }
+impl Draft<Arc<Shared>> {
+    /// An equal draft. It takes no memory. Returns `Memory` if one of its trees would be shared more often than can be
+    /// counted.
+    pub fn share(&self) -> Result<Draft<Arc<Shared>>, Memory>
+        ensures { IfOk result (λ draft. draft ≡ self.now) }
     {
-        self.tree = tree;
+        Ok(Draft {
+            row: self.row.share(),
+            tree: self.tree.share()?,
+            point: self.point(),
+            first: shared_id(&self.first)?,
+            second: shared_id(&self.second)?,
+            acting: self.acting,
+            index: self.index,
+            named: self.named,
+            place: self.place,
+            noted: self.noted,
+            earlier: self.earlier,
+            receipt: self.receipt,
+        })
+    }
+}
+
+/// An equal id, if there is one.
+#[inline(always)]
+fn shared_id(id: &Option<Tree<IdTree>>) -> Result<Option<Tree<IdTree>>, Memory>
+    ensures { IfOk result (λ shared. shared ≡ id.now) }
+{
+    match id {
+        Some(id) => Ok(Some(id.share()?)),
+        None => Ok(None),
     }
 }
 
 impl<S: Keep> Book<S> {
-    /// Prepares a report. Its draft is to be committed or abandoned.
-    pub(crate) fn prepare<R>(&mut self, rt: &R, request: &Request) -> Result<Draft<S>, Code>
+    /// What is to be kept of the event of a report, if that is accepted. It is to be added before any other.
+    ///
+    /// The report is refused with the first code that applies of those that `refusals` of `trace_types` has for it. Else it
+    /// is refused with `NoMemory` (507) if it runs out of memory.
+    pub fn draft<R>(&self, rt: &R, stack: &mut Stack, request: &Request) -> Result<Draft<S>, Code>
+    where
+        S: Share<R>,
+        requires book { IsKept self.now }
+        requires seeded { 0 < self.now.kept_ids }
+        requires report { is_report request.now ≡ true }
+        ensures { Drafts result self.now request.now }
+    {
+        // A `?` would move the report once more.
+        let report = match self.report(request) {
+            Ok(report) => report,
+            Err(code) => return Err(code),
+        };
+        self.make_stack_room(stack, &report)?;
+        Ok(self.event(rt, &report)?)
+    }
+
+    /// Drafts a report, and makes room for its event.
+    pub(crate) fn prepare<R>(
+        &mut self,
+        rt: &R,
+        stack: &mut Stack,
+        request: &Request,
+    ) -> Result<Draft<S>, Code>
     where
         S: Share<R>,
         requires book { IsKept self.old }
@@ -128,22 +180,20 @@ impl<S: Keep> Book<S> {
             Ok(report) => report,
             Err(code) => return Err(code),
         };
-        self.make_room(rt, &report)?;
-        self.draft(rt, &report)
+        self.make_room(rt)?;
+        self.make_stack_room(stack, &report)?;
+        Ok(self.event(rt, &report)?)
     }
 
-    /// Notes the report's message, and gives what is to be kept of its event.
-    fn draft<R>(&mut self, rt: &R, report: &Report) -> Result<Draft<S>, Code>
+    /// What is to be kept of the report's event. Returns `Memory` if it runs out of memory.
+    fn event<R>(&self, rt: &R, report: &Report) -> Result<Draft<S>, Memory>
     where
         S: Share<R>,
-        requires book { IsKept self.old }
-        requires seeded { 0 < self.old.kept_ids }
-        requires report { IsReport self.old report.now }
-        ensures event { IfOk result (λ draft. draft ≡ event_of self.old report.now draft.point) }
-        ensures point { IfOk result (λ draft. MayRaise self.old report.now draft.point) }
-        ensures noted { OnOk result (Notes report.now.task report.now.kind report.now.name (suc (length self.old.rows)) self.old.messages self.new.messages) }
-        ensures err { IfErr result (λ code. (code ≡ Code.NoMemory) × (self.new ≡ self.old)) }
-        ensures others { self.new ≡ record self.old { messages = self.new.messages } }
+        requires book { IsKept self.now }
+        requires seeded { 0 < self.now.kept_ids }
+        requires report { IsReport self.now report.now }
+        ensures event { IfOk result (λ draft. draft ≡ event_of self.now report.now draft.point) }
+        ensures point { IfOk result (λ draft. MayRaise self.now report.now draft.point) }
     {
         let ids = self.ids_made(report)?;
         let id = ids.acting(self.id(report.acting.id));
@@ -153,7 +203,6 @@ impl<S: Keep> Book<S> {
         let row = self.row_after(report);
         let event = self.event_count() + 1;
         let place = self.id_count();
-        self.note(report, event)?;
         Ok(Draft {
             row,
             tree,
@@ -164,6 +213,9 @@ impl<S: Keep> Book<S> {
             index: report.index,
             named: report.named_after(event, place),
             place: report.place,
+            noted: report.noted_after(event),
+            earlier: report.earlier(),
+            receipt: report.receipt(),
         })
     }
 
@@ -218,69 +270,62 @@ impl<S: Keep> Book<S> {
         }
     }
 
-    /// Notes the message that the report's event sends or receives.
+    /// Keeps the id of `root`, unless that was done. It makes room for one event, its ids, its tasks, its message and its
+    /// receipt.
     #[inline(always)]
-    fn note(&mut self, report: &Report, event: u64) -> Result<(), Memory>
-        requires { MayNote self.old.messages report.now.task report.now.kind report.now.name }
-        ensures noted { OnOk result (Notes report.now.task report.now.kind report.now.name event self.old.messages self.new.messages) }
-        ensures unchanged { OnErr result (self.new ≡ self.old) }
-        ensures others { self.new ≡ record self.old { messages = self.new.messages } }
-    {
-        match (report.kind, report.name) {
-            (Kind::Send, Some(message)) => self.messages.add(message, event),
-            (Kind::Recv, Some(message)) => {
-                self.messages
-                    .receive(&message, report.task, event)
-                    .map_err(|_| Memory)
-            }
-            _ => Ok(()),
-        }
-    }
-
-    /// Keeps the id of `root`, unless that was done. It makes room for one event, its ids and its tasks, and on
-    /// the stack.
-    fn make_room<R>(&mut self, rt: &R, report: &Report) -> Result<(), Memory>
+    fn make_room<R>(&mut self, rt: &R) -> Result<(), Memory>
     where
         S: Share<R>,
         ensures same { self.new ≡ record self.old { kept_ids = self.new.kept_ids; room = self.new.room } }
         ensures seeded { self.old.kept_ids ≤ self.new.kept_ids }
         ensures room { OnOk result (HasRoom self.new) }
     {
-        if self.ids.is_empty() {
-            let id = self.share.keep_id(rt, IdTree::one())?;
-            self.ids.push(id)?;
+        if self.has_room() {
+            return Ok(());
         }
+        self.make_more_room(rt)
+    }
+
+    /// Makes room as [`Book::make_room`] does, where there may be none.
+    #[inline(never)]
+    fn make_more_room<R>(&mut self, rt: &R) -> Result<(), Memory>
+    where
+        S: Share<R>,
+        ensures same { self.new ≡ record self.old { kept_ids = self.new.kept_ids; room = self.new.room } }
+        ensures seeded { self.old.kept_ids ≤ self.new.kept_ids }
+        ensures room { OnOk result (HasRoom self.new) }
+    {
+        self.seed(rt)?;
         self.rows.reserve(1)?;
         self.trees.reserve(1)?;
         self.points.reserve(1)?;
         self.starts.reserve(1)?;
         self.places.reserve(1)?;
+        self.earlier.reserve(1)?;
+        self.received.reserve(1)?;
         self.ids.reserve(2)?;
         self.tasks.reserve(2)?;
-        self.make_stack_room(report)
+        self.messages.reserve(1)?;
+        Ok(())
     }
 
     /// Makes room on the stack for walks over the trees, if the report divides a deep id. No tree has more levels than some
     /// id.
     #[inline(always)]
-    fn make_stack_room(&mut self, report: &Report) -> Result<(), Memory>
-        ensures { self.new ≡ self.old }
-    {
+    fn make_stack_room(&self, stack: &mut Stack, report: &Report) -> Result<(), Memory> {
         if matches!(report.kind, Kind::Spawn) && self.tasks.len() >= Stack::LEVELS {
-            return self.make_room_below(report.acting.id);
+            return self.make_room_below(stack, report.acting.id);
         }
         Ok(())
     }
 
     /// Makes room on the stack for walks over trees as deep as the id at this place.
     #[inline(never)]
-    fn make_room_below(&mut self, place: usize) -> Result<(), Memory>
-        ensures { self.new ≡ self.old }
-    {
+    fn make_room_below(&self, stack: &mut Stack, place: usize) -> Result<(), Memory> {
         if let Some(id) = self.ids.get(place) {
             // There are as many inner nodes as levels at least.
             let levels = id.id_value().inner();
-            self.stack.make_room(self.alloc, levels as usize)?;
+            stack.make_room(self.alloc, levels as usize)?;
         }
         Ok(())
     }

@@ -51,9 +51,9 @@ impl<S: Keep> Records for Book<S> {
     }
 
     fn message(&self, name: &Name) -> Result<Option<(u64, Receipts)>, Memory> {
-        match self.messages.find(name) {
-            Some(entry) => Ok(Some((entry.sent(), entry.receipts().share()?))),
-            None => Ok(None),
+        match self.known_message(name) {
+            Ok((message, _)) => Ok(Some((message.sent, self.receipts(message.last)?))),
+            Err(_) => Ok(None),
         }
     }
 
@@ -62,7 +62,7 @@ impl<S: Keep> Records for Book<S> {
     }
 
     fn message_count(&self) -> u64 {
-        self.messages.message_count()
+        self.messages.len() as u64
     }
 
     ghost legal = { λ book kept. kept.legal };

@@ -1,14 +1,12 @@
 //! Reports that are not refused.
 ghost use Rattle.std.specs.Prelude.{◌≡◌, ◌<◌, true, IfOk, OnOk, Some, None, length};
 ghost use Rattle.std.specs.Result.{result_err};
-ghost use Rattle.trace_types.specs.tenant.Rows.{send_event};
 ghost use Rattle.trace_types.specs.tenant.Reachability.{second_event};
 ghost use Rattle.trace_types.specs.tenant.Refusal.{refusal_of};
 ghost use Rattle.trace_types.specs.tenant.Tenant.{is_report, answer_to, accepted};
-ghost use Rattle.message_book.specs.Book.{refusal_of_send, refusal_of_receive};
-ghost use Rattle.tenant_ledger.specs.Ledger.{HasIndex, IsKept, history_in, task_in, Decides, refusals_of_task, refusals_of_child, refusals_of_sent, refusals_of_received, refusals_of_joined, refusals_of_named, refusals_of_room, MayNote, joined_by, IsReport, acting_after, named_after};
+ghost use Rattle.tenant_ledger.specs.Ledger.{IsKept, history_in, task_in, message_in, Decides, refusals_of_task, refusals_of_child, refusals_of_sent, refusals_of_received, refusals_of_joined, refusals_of_named, refusals_of_room, joined_by, received_by, IsReport, acting_after, named_after, noted_after, key_by, last_in};
 
-use super::{Book, Task};
+use super::{Book, Message, Task};
 use crate::share::Keep;
 use trace_types::{Code, Kind, Name, Request, TaskState};
 
@@ -18,13 +16,15 @@ pub(super) struct Report {
     pub(super) task: Name,
     pub(super) kind: Kind,
     pub(super) name: Option<Name>,
-    /// The acting task, and its index in the table of tasks.
+    /// The acting task, and its place in the table of tasks.
     pub(super) acting: Task,
     pub(super) index: usize,
     /// The event that it follows beside the acting task's last one, or 0.
     pub(super) second: u64,
     /// The task that it joins.
     pub(super) joined: Option<Task>,
+    /// The message that it receives.
+    pub(super) received: Option<Message>,
     /// Where the table of tasks or of messages has what it joins or receives, or 0.
     pub(super) place: usize,
 }
@@ -36,6 +36,8 @@ struct Named {
     second: u64,
     /// The task that the report joins.
     joined: Option<Task>,
+    /// The message that it receives.
+    received: Option<Message>,
     /// Where the table of tasks or of messages has what is joined or received, or 0.
     place: usize,
 }
@@ -45,6 +47,7 @@ impl Named {
     const NEW: Named = Named {
         second: 0,
         joined: None,
+        received: None,
         place: 0,
     };
 }
@@ -93,33 +96,72 @@ impl Report {
             },
         }
     }
+
+    /// What is to be kept of the message that the report sends or receives.
+    #[inline(always)]
+    pub(super) fn noted_after(&self, event: u64) -> Option<Message>
+        ensures { result ≡ noted_after self.now.kind event self.now.received }
+    {
+        match (self.kind, self.received) {
+            (Kind::Send, _) => Some(Message {
+                sent: event,
+                last: 0,
+            }),
+            (_, None) => None,
+            (_, Some(message)) => Some(Message {
+                last: event,
+                ..message
+            }),
+        }
+    }
+
+    /// The receipt that the report is, if it is one: the event that started its task, and that which sent its message.
+    #[inline(always)]
+    pub(super) fn receipt(&self) -> Option<(u64, u64)>
+        ensures { result ≡ key_by self.now.acting self.now.received }
+    {
+        match self.received {
+            Some(message) => Some((self.acting.start, message.sent)),
+            None => None,
+        }
+    }
+
+    /// The last receipt of the message that the report receives, or 0.
+    #[inline(always)]
+    pub(super) fn earlier(&self) -> u64
+        ensures { result ≡ last_in self.now.received }
+    {
+        match self.received {
+            Some(message) => message.last,
+            None => 0,
+        }
+    }
 }
 
 impl<S: Keep> Book<S> {
-    /// The task, if it may report, and its index, else `NoTask` or `TaskEnded`.
+    /// The task, if it may report, and its place, else `NoTask` or `TaskEnded`.
     fn live_task(&self, name: &Name) -> Result<(&Task, usize), Code>
         requires { IsKept self.now }
         ensures task { IfOk result (λ found. task_in self.now name.now ≡ Some found.0.now) }
-        ensures index { IfOk result (λ found. HasIndex self.now.tasks name.now found.1) }
         ensures decides { Decides (refusals_of_task (history_in self.now) name.now) result }
     {
-        let (task, index) = self.known_task(name)?;
+        let (task, place) = self.known_task(name)?;
         match task.state {
-            TaskState::Live => Ok((task, index)),
+            TaskState::Live => Ok((task, place)),
             TaskState::Ended | TaskState::Joined => Err(Code::TaskEnded),
         }
     }
 
-    /// The task, if it may be joined, and its index, else `NoTask`, `NotEnded` or `AlreadyJoined`.
+    /// The task, if it may be joined, and its place, else `NoTask`, `NotEnded` or `AlreadyJoined`.
     fn ended_task(&self, name: &Name) -> Result<(Task, usize), Code>
         requires { IsKept self.now }
         ensures task { IfOk result (λ found. task_in self.now name.now ≡ Some found.0) }
         ensures decides { Decides (refusals_of_joined (history_in self.now) name.now) result }
     {
-        let (task, index) = self.known_task(name)?;
+        let (task, place) = self.known_task(name)?;
         match task.state {
             TaskState::Live => Err(Code::NotEnded),
-            TaskState::Ended => Ok((*task, index)),
+            TaskState::Ended => Ok((*task, place)),
             TaskState::Joined => Err(Code::AlreadyJoined),
         }
     }
@@ -139,20 +181,34 @@ impl<S: Keep> Book<S> {
     /// Refuses a message that was sent, and one message more at the limit.
     fn check_message(&self, name: &Name) -> Result<(), Code>
         requires { IsKept self.now }
-        ensures may { OnOk result (refusal_of_send self.now.messages name.now ≡ None) }
         ensures decides { Decides (refusals_of_sent self.now.limits (history_in self.now) name.now) result }
     {
-        self.messages.check_send(name)
+        match self.known_message(name) {
+            Ok(_) => Err(Code::MessageExists),
+            Err(_) if self.messages.len() as u64 >= self.limits.messages() => {
+                Err(Code::MessagesFull)
+            }
+            Err(_) => Ok(()),
+        }
     }
 
-    /// The event that sent the message, and its place, if the task may receive it, else `NoMessage` or `AlreadyReceived`.
-    fn sent_message(&self, task: &Name, name: &Name) -> Result<(u64, usize), Code>
-        requires { IsKept self.now }
-        ensures may { OnOk result (refusal_of_receive self.now.messages name.now task.now ≡ None) }
-        ensures sent { IfOk result (λ found. found.0 ≡ send_event (history_in self.now) name.now) }
+    /// The message and its place, if the task may receive it, else `NoMessage` or `AlreadyReceived`.
+    fn sent_message(
+        &self,
+        task: &Name,
+        acting: &Task,
+        name: &Name,
+    ) -> Result<(Message, usize), Code>
+        requires book { IsKept self.now }
+        requires acting { task_in self.now task.now ≡ Some acting.now }
+        ensures message { IfOk result (λ found. message_in self.now name.now ≡ Some found.0) }
         ensures decides { Decides (refusals_of_received (history_in self.now) task.now name.now) result }
     {
-        self.messages.find_to_receive(name, task)
+        let (message, place) = self.known_message(name)?;
+        if self.is_receiver(acting, message) {
+            return Err(Code::AlreadyReceived);
+        }
+        Ok((*message, place))
     }
 
     /// Refuses one event more at the limit.
@@ -168,11 +224,18 @@ impl<S: Keep> Book<S> {
     }
 
     /// What the book has of the task or message that such a report names, or why the report is refused for that name.
-    fn named(&self, task: &Name, kind: Kind, name: &Option<Name>) -> Result<Named, Code>
-        requires { IsKept self.now }
+    fn named(
+        &self,
+        task: &Name,
+        acting: &Task,
+        kind: Kind,
+        name: &Option<Name>,
+    ) -> Result<Named, Code>
+        requires book { IsKept self.now }
+        requires acting { task_in self.now task.now ≡ Some acting.now }
         ensures second { IfOk result (λ named. named.second ≡ second_event (history_in self.now) kind name.now) }
         ensures joined { IfOk result (λ named. named.joined ≡ joined_by (task_in self.now) kind name.now) }
-        ensures may { OnOk result (MayNote self.now.messages task.now kind name.now) }
+        ensures received { IfOk result (λ named. named.received ≡ received_by (message_in self.now) kind name.now) }
         ensures decides { Decides (refusals_of_named self.now.limits (history_in self.now) task.now kind name.now) result }
     {
         let Some(name) = *name else {
@@ -189,10 +252,11 @@ impl<S: Keep> Book<S> {
                 Ok(Named::NEW)
             }
             Kind::Recv => {
-                let (second, place) = self.sent_message(task, &name)?;
+                let (message, place) = self.sent_message(task, acting, &name)?;
                 Ok(Named {
-                    second,
+                    second: message.sent,
                     joined: None,
+                    received: Some(message),
                     place,
                 })
             }
@@ -202,6 +266,7 @@ impl<S: Keep> Book<S> {
                 Ok(Named {
                     second: task.last,
                     joined: Some(task),
+                    received: None,
                     place,
                 })
             }
@@ -220,7 +285,7 @@ impl<S: Keep> Book<S> {
             return Err(Code::ViewOnly);
         };
         let (acting, index) = self.live_task(&reported.task)?;
-        let named = self.named(&reported.task, reported.kind, &reported.name)?;
+        let named = self.named(&reported.task, acting, reported.kind, &reported.name)?;
         self.check_room()?;
         Ok(Report {
             task: reported.task,
@@ -230,6 +295,7 @@ impl<S: Keep> Book<S> {
             index,
             second: named.second,
             joined: named.joined,
+            received: named.received,
             place: named.place,
         })
     }

@@ -3,16 +3,16 @@ use Rattle.std.proofs.lemmas.List.{length-reverse}
 use Rattle.std.proofs.lemmas.Bool.Decides.{nat_tests}
 use Rattle.trace_types.specs.tenant.Rows.{history_of, is_event}
 use Rattle.tenant_ledger.proofs.keeping.Answered.{as_many_kept, kept_in_place, stamp_answered}
-use Rattle.tenant_desk.specs.Events.{published_tenant}
+use Rattle.tenant_ledger.specs.Ledger.{tenant_of}
 use Rattle.tenant_desk.proofs.stamp_parts.parts_in.Goals as goal
 
 pub bounds-trees-place : goal.bounds-trees-place
 bounds-trees-place c =
-    omega (arith, c.if-place-rows.false, ap length c.rows.ensures, as_many_kept (λ tree. tree.value) (published_tenant c.args.events.now) c.trees.result.now c.trees.ensures.trees)
+    omega (arith, c.if-place-rows.false, ap length c.rows.ensures, as_many_kept (λ tree. tree.value) (tenant_of c.args.events.now) c.trees.result.now c.trees.ensures.trees)
 
 pub returns-clause-answer : goal.returns-clause-answer
 returns-clause-answer c =
-    let tenant = published_tenant c.args.events.now in
+    let tenant = tenant_of c.args.events.now in
     let place = c.in_ok-place.place in
     let within : place < length c.args.events.now.rows = omega (arith, c.if-place-rows.false, ap length c.rows.ensures) in
     let is : c.args.event ≡ suc place = omega (arith, c.in_ok-place.ensures) in

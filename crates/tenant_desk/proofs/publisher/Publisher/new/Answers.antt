@@ -1,6 +1,6 @@
 use Rattle.std.proofs.Common.{refl, sym, ap, ◌∙◌}
 use Rattle.tenant_desk.specs.Histories.{head_of}
-use Rattle.tenant_desk.specs.declared.published.Published.{Published}
+use Rattle.tenant_desk.specs.Events.{Published}
 use Rattle.tenant_desk.proofs.publisher.Publisher.new.Goals as goal
 
 pub invariant_of-result : goal.invariant_of-result

@@ -2,17 +2,19 @@ use Rattle.std.proofs.Common.{◌≡◌, [], sym, ap, ◌∙◌, subst}
 use Rattle.std.specs.Arc.{arc_value}
 use Rattle.std.specs.Prelude.{Some, MatchResult}
 use Rattle.left_right.specs.Sides.{view as known_at}
-use Rattle.trace_types.specs.tenant.Tenant.{Answers}
+use Rattle.trace_types.specs.tenant.Tenant.{Answers, Tenant}
+use Rattle.tenant_ledger.proofs.Words.{transport}
+use Rattle.tenant_ledger.proofs.keeping.Kept.{kept_roomless}
+use Rattle.tenant_ledger.specs.Ledger.{roomless, tenant_of}
 use Rattle.trace_types.specs.text.StampText.{stamp_text}
 use Rattle.trace_types.specs.declared.request.Request.TheVariants.{Stamp}
 use Rattle.trace_types.specs.declared.reply.Reply.TheVariants as reply
-use Rattle.tenant_desk.specs.Events.{published_tenant}
 use Rattle.tenant_desk.specs.Histories.{Line}
 use Rattle.tenant_desk.specs.Rules.{IsOfDesk}
-use Rattle.tenant_desk.specs.Views.{Known, Responds}
-use Rattle.tenant_desk.specs.declared.published.Published.{Published}
+use Rattle.tenant_desk.specs.Views.{BeginWithEach, Known, Responds}
+use Rattle.tenant_desk.specs.Events.{Published}
 use Rattle.tenant_desk.proofs.Cases.{value_there}
-use Rattle.tenant_desk.proofs.Viewing.{entered_desk, parts_respond}
+use Rattle.tenant_desk.proofs.Viewing.{entered_desk, known_of_entered, parts_respond}
 use Rattle.tenant_desk.proofs.view.View.stamp_parts.Goals as goal
 
 pub invariant_of-self-in-Err : goal.invariant_of-self-in-Err
@@ -22,6 +24,11 @@ invariant_of-self-in-Err c =
     let of = value_there inside.reader c.in-Some.reader is
     (λ reader. IsOfDesk inside.seen.book inside.limits (arc_value inside.shared).trees (known_at reader.place)) c.self.invariant.1 in
     (c.self.invariant.0, c.in-Err.ensures _ _ _ of)
+
+pub shared_parts-parts-requires : goal.shared_parts-parts-requires
+shared_parts-parts-requires c =
+    let seen = c.events.ensures ∙ ap (λ (one : Published). one.events) c.get.ensures in
+    kept_roomless c.events.result.now c.in-Ok.reading.part.value.events seen c.in-Ok.ensures.sees.0.events
 
 pub returns-in-Ok-clause-answer : goal.returns-in-Ok-clause-answer
 returns-in-Ok-clause-answer c =
@@ -34,8 +41,9 @@ returns-in-Ok-clause-answer c =
     let is : inside.reader ≡ Some c.in-Some.reader = sym c.take.ensures.value ∙ c.in-Some.is in
     let of = value_there inside.reader c.in-Some.reader is
     (λ reader. IsOfDesk inside.seen.book inside.limits (arc_value inside.shared).trees (known_at reader.place)) c.self.invariant.1 in
-    let answered = subst (λ (entered : Published). MatchResult found (λ parts. Answers (published_tenant entered.events) (Stamp event) (reply.Stamp (stamp_text parts.0 parts.1)))
-    (λ code. Answers (published_tenant entered.events) (Stamp event) (reply.Refused code))) c.get.ensures c.shared_parts-parts.ensures in
+    let seen : roomless c.events.result.now ≡ published.events = c.events.ensures ∙ ap (λ (one : Published). one.events) c.get.ensures in
+    let answered = subst (λ (tenant : Tenant). MatchResult found (λ parts. Answers tenant (Stamp event) (reply.Stamp (stamp_text parts.0 parts.1)))
+    (λ code. Answers tenant (Stamp event) (reply.Refused code))) (ap tenant_of seen) c.shared_parts-parts.ensures in
     let front = c.give_back-reader.ensures.front in
     let met = c.clear.ensures in
     let is_new : new ≡ record { seen = published.front.rows; met = []; limits = inside.limits; book = published.front.book } =
@@ -43,6 +51,17 @@ returns-in-Ok-clause-answer c =
     subst (λ (before : Known). MatchResult found (λ parts. Responds before (Stamp event) (reply.Stamp (stamp_text parts.0 parts.1)) new)
     (λ code. Responds before (Stamp event) (reply.Refused code) new)) c.self.view_is
     (parts_respond old new (arc_value inside.shared).trees _ _ published event found of c.self.invariant.0 c.in-Ok.ensures answered is_new)
+
+pub invariant_of-self : goal.invariant_of-self
+invariant_of-self c =
+    let inside = c.self.inside in
+    let home = (arc_value inside.shared).trees in
+    let is : inside.reader ≡ Some c.in-Some.reader = sym c.take.ensures.value ∙ c.in-Some.is in
+    let of = value_there inside.reader c.in-Some.reader is (λ reader. IsOfDesk inside.seen.book inside.limits home (known_at reader.place)) c.self.invariant.1 in
+    let known = known_of_entered inside.seen.book inside.limits home _ _ c.in-Ok.reading.part.value of c.in-Ok.ensures.sees in (
+      subst (BeginWithEach c.give_back-reader.result.1.rows) (sym c.clear.ensures) tt,
+      transport (λ i. IsOfDesk ((sym c.give_back-reader.ensures.front) i).book inside.limits home ((sym c.give_back-reader.ensures.known) i)) known,
+    )
 
 pub returns-in-Ok-clause-book : goal.returns-in-Ok-clause-book
 returns-in-Ok-clause-book c =

@@ -11,4 +11,4 @@ returns-in-Ended g c =
       | inl is ↦ (subst at is (is_at c.args.self.now c.requires c.args.name.now found)).0
       | inr is ↦ (subst at is (is_at c.args.self.now c.requires c.args.name.now found)).0
     ] in
-    record { task = tt; index = tt; decides = λ others. rw ((task_kept c.args.self.now c.requires c.args.name.now found).0, ended) refl }
+    record { task = tt; decides = λ others. rw ((task_kept c.args.self.now c.requires c.args.name.now found).0, ended) refl }

@@ -38,8 +38,7 @@ returns-clause-report g c =
           (not_refused g (goal.at.returns-clause-report g c).In_ok-check_room) (ap (λ answer. answer.1) of_report.0) c.requires.book.legal;
       few = c.in_ok-check_room.ensures.room;
       acting = c.in_ok-acting.ensures.task;
-      at = c.in_ok-acting.ensures.index;
       second = c.in_ok-named.ensures.second;
       joined = c.in_ok-named.ensures.joined;
-      may = c.in_ok-named.ensures.may;
+      received = c.in_ok-named.ensures.received;
     }

@@ -1,0 +1,12 @@
+use Rattle.std.proofs.Common.{◌∙◌}
+use Rattle.tenant_ledger.proofs.Words.{id_for}
+use Rattle.tenant_ledger.proofs.keeping.Report.{acting_of_made, own_place, own_is}
+use Rattle.tenant_ledger.proofs.book.Book.event.Goals as goal
+
+pub id-requires-clause-place : goal.id-requires-clause-place
+id-requires-clause-place g c = own_place c.requires.book c.requires.report
+
+pub tree_after-requires-clause-id : goal.tree_after-requires-clause-id
+tree_after-requires-clause-id g c =
+    let own = own_is c.requires.book c.requires.report c.id.ensures in
+    c.acting-id.ensures ∙ (λ i. id_for (c.in_ok-ids.ensures i) (own i)) ∙ acting_of_made c.args.report.now.kind _ _

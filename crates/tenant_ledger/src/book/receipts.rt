@@ -1,0 +1,45 @@
+//! Which tasks received a message, and by which events.
+ghost use Rattle.std.specs.Prelude.{◌≡◌, ◌-◌, ◌<◌, ◌≤◌, IfOk, Some, length, slice_get};
+ghost use Rattle.trace_types.specs.text.Name.{Text as Characters};
+ghost use Rattle.trace_types.specs.tenant.Rows.{has_received, receipts};
+ghost use Rattle.tenant_ledger.specs.Ledger.{IsKept, history_in, last_receipt, message_in, task_in};
+
+use super::{Book, Message, Task};
+use crate::share::Keep;
+use trace_types::{Memory, Receipts};
+
+impl<S: Keep> Book<S> {
+    /// Whether this task received this message. It takes no memory, and at most one look-up by hash.
+    pub(super) fn is_receiver(&self, acting: &Task, sent: &Message) -> bool
+        requires { IsKept self.now }
+        ensures { (task message : Characters) → task_in self.now task ≡ Some acting.now → message_in self.now message ≡ Some sent.now
+            → result ≡ has_received (history_in self.now) task message }
+    {
+        sent.last != 0 && self.received.contains(&(acting.start, sent.sent))
+    }
+
+    /// The events that received the message whose last receipt is this event, or 0. Returns `Memory` if it runs out of memory.
+    /// One receipt takes none.
+    pub(super) fn receipts(&self, last: u64) -> Result<Receipts, Memory>
+        requires book { IsKept self.now }
+        requires last { (message : Characters) × (last ≡ last_receipt (history_in self.now) message) }
+        ensures { IfOk result (λ found. (message : Characters) → last ≡ last_receipt (history_in self.now) message → found ≡ receipts (history_in self.now) message) }
+    {
+        let mut found = Receipts::none(self.alloc);
+        let mut event = last;
+        while event != 0 {
+            found.add(event)?;
+            event = self.receipt_before(event);
+        }
+        found.reverse();
+        Ok(found)
+    }
+
+    /// The receipt before the event, of the message that it receives, or 0.
+    fn receipt_before(&self, event: u64) -> u64
+        requires { (0 < event) × (event ≤ length self.now.earlier) }
+        ensures { slice_get self.now.earlier (event - 1) ≡ Some result }
+    {
+        self.earlier[event as usize - 1]
+    }
+}
