@@ -35,13 +35,9 @@ use Rattle.tenant_ledger.specs.declared.book.ids.Ids.TheVariants as ids
 
 -- for how many more of each there is room
 pub record Room : Type 0 where
-  pub rows : ℕ
-  pub trees : ℕ
-  pub points : ℕ
-  pub starts : ℕ
-  pub places : ℕ
-  pub earlier : ℕ
-  pub received : ℕ
+  -- at least so many rows, and all else that is kept of each event
+  pub events : ℕ
+  pub receipts : ℕ
   pub ids : ℕ
   pub tasks : ℕ
   pub messages : ℕ
@@ -191,47 +187,32 @@ pub record IsKeptWith (book : Contents) (tasks : Text → Option Task) (tasks_ev
   pub messages_counted : messages_ever ≡ message_count (history_in book)
   pub seeded : 0 < length book.rows → 0 < book.kept_ids
 
--- and with those that it has
+-- The book is kept for its rows, with the tasks and the messages that it has.
 abbrev pub IsKept : Contents → Type 0
 IsKept book = IsKeptWith book (task_in book) (length book.tasks) (message_in book) (length book.messages)
 
--- there is an id, and room for an event, for two ids, for two tasks, for a message and for a receipt
+-- there is an id, and room for an event, for a receipt, for two ids, for two tasks and for a message
 pub record HasRoom (book : Contents) : Type 0 where
-  pub rows : 0 < book.room.rows
-  pub trees : 0 < book.room.trees
-  pub points : 0 < book.room.points
-  pub starts : 0 < book.room.starts
-  pub places : 0 < book.room.places
-  pub earlier : 0 < book.room.earlier
-  pub received : 0 < book.room.received
+  pub events : 0 < book.room.events
+  pub receipts : 0 < book.room.receipts
   pub ids : 2 ≤ book.room.ids
   pub tasks : 2 ≤ book.room.tasks
   pub messages : 0 < book.room.messages
   pub seeded : 0 < book.kept_ids
 
--- There is room for as many events, ids, tasks, messages and receipts as a tenant with these limits makes, and for what is
--- asked before the last of its events.
+-- There is room for as many events, receipts, ids, tasks and messages as a tenant with these limits makes. There is also room for
+-- what is asked before its last event.
 pub record HasAllRoom (limits : Limits) (room : Room) : Type 0 where
-  pub rows : limits.events ≤ room.rows
-  pub trees : limits.events ≤ room.trees
-  pub points : limits.events ≤ room.points
-  pub starts : limits.events ≤ room.starts
-  pub places : limits.events ≤ room.places
-  pub earlier : limits.events ≤ room.earlier
-  pub received : limits.events ≤ room.received
+  pub events : limits.events ≤ room.events
+  pub receipts : limits.events ≤ room.receipts
   pub ids : 3 * limits.tasks ≤ room.ids
   pub tasks : limits.tasks + 1 ≤ room.tasks
   pub messages : limits.messages + 1 ≤ room.messages
 
 -- no more room is used than one event needs
 pub record UsesRoomOfOne (before after : Room) : Type 0 where
-  pub rows : before.rows ≤ after.rows + 1
-  pub trees : before.trees ≤ after.trees + 1
-  pub points : before.points ≤ after.points + 1
-  pub starts : before.starts ≤ after.starts + 1
-  pub places : before.places ≤ after.places + 1
-  pub earlier : before.earlier ≤ after.earlier + 1
-  pub received : before.received ≤ after.received + 1
+  pub events : before.events ≤ after.events + 1
+  pub receipts : before.receipts ≤ after.receipts + 1
   pub ids : before.ids ≤ after.ids + 2
   pub tasks : before.tasks ≤ after.tasks + 2
   pub messages : before.messages ≤ after.messages + 1
@@ -340,10 +321,15 @@ abbrev pub last_in : Option Message → ℕ
 last_in None = 0
 last_in (Some message) = message.last
 
--- the receipt by this task of a message that is received
-abbrev pub key_by : Task → Option Message → Option ReceiptKey
-key_by task None = None
-key_by task (Some message) = Some (task.start, message.sent)
+-- the receipt of a message that is received, by the task that this event started, or by root if it is 0
+abbrev pub key_by : ℕ → Option Message → Option ReceiptKey
+key_by start None = None
+key_by start (Some message) = Some (start, message.sent)
+
+-- the ids that the event of a report makes
+abbrev pub ids_of_report : Contents → Report → List Id
+ids_of_report book report =
+    made_ids (ids_made report.kind (id_of tree_clock (history_in book) report.task) (of_named Zero (id_of tree_clock (history_in book)) report.name))
 
 -- what is known after the event of a report
 abbrev pub tree_of_report : Contents → Report → EventTree
@@ -353,7 +339,23 @@ tree_of_report book report = tree_of tree_clock (row_of_report book report ∷ h
 abbrev pub MayRaise : Contents → Report → Option RaisedPoint → Type 0
 MayRaise book report point = MayHavePoint (row_of_report book report ∷ history_in book) (suc (length (history_in book))) point
 
--- What is to be kept of an event: its row, what it knows, a point that it raised, the ids that it makes, its tasks and its message.
+-- What is made of an event: what it knows, a point that it raised, and its ids.
+pub record Made : Type 0 where
+  -- where its tree is kept
+  pub home : List ℕ
+  pub tree : EventTree
+  pub point : Option RaisedPoint
+  pub ids : List Id
+
+-- it is made of the event of a report
+pub record IsMadeOf (book : Contents) (report : Report) (made : Made) : Type 0 where
+  pub home : made.home ≡ book.home
+  pub tree : made.tree ≡ tree_of_report book report
+  pub point : MayRaise book report made.point
+  pub ids : made.ids ≡ ids_of_report book report
+
+-- What is to be kept of an event: its row, what it knows, a point that it raised, and its ids. So are its tasks, and the message
+-- that it receives.
 pub record Event : Type 0 where
   -- where its tree is kept
   pub home : List ℕ
@@ -363,11 +365,8 @@ pub record Event : Type 0 where
   pub ids : List Id
   pub acting : Task
   pub named : Option Task
-  pub noted : Option Message
-  -- the receipt before, of the message that it receives, or 0
-  pub earlier : ℕ
-  -- the receipt that it is, where it is one
-  pub receipt : Option ReceiptKey
+  -- the message that it receives, as it was before
+  pub received : Option Message
 
 -- what is to be kept of a report, with this point
 abbrev pub event_of : Contents → Report → Option RaisedPoint → Event
@@ -376,13 +375,15 @@ event_of book report point = record {
   row = row_of_report book report;
   tree = tree_of_report book report;
   point = point;
-  ids = made_ids (ids_made report.kind (id_of tree_clock (history_in book) report.task) (of_named Zero (id_of tree_clock (history_in book)) report.name));
+  ids = ids_of_report book report;
   acting = acting_after report.kind (suc (length (history_in book))) (length book.ids) report.acting;
   named = named_after report.kind (suc (length (history_in book))) (length book.ids) report.joined;
-  noted = noted_after report.kind (suc (length (history_in book))) report.received;
-  earlier = last_in report.received;
-  receipt = key_by report.acting report.received;
+  received = report.received;
 }
+
+-- what is to be kept of the event's message, if the event is the next one
+abbrev pub noted_with : Event → Contents → Option Message
+noted_with event book = noted_after event.row.kind (suc (length (history_in book))) event.received
 
 -- what is kept under each name, and how many names there are, once a value is kept under this one
 abbrev pub value_with : {V : Type 0} → Text → V → (Text → Option V) → Text → Option V
@@ -417,12 +418,12 @@ with_event event book = record book {
   points = book.points ++ event.point ∷ [];
   starts = book.starts ++ event.acting.start ∷ [];
   places = book.places ++ event.acting.id ∷ [];
-  earlier = book.earlier ++ event.earlier ∷ [];
-  received = with_key event.receipt book.received;
+  earlier = book.earlier ++ last_in event.received ∷ [];
+  received = with_key (key_by event.acting.start event.received) book.received;
   ids = book.ids ++ event.ids;
   kept_ids = book.kept_ids + length event.ids;
   tasks = insert_entry is_same (entries_with event.named event.row.name book.tasks) event.row.task event.acting;
-  messages = entries_with event.noted event.row.name book.messages;
+  messages = entries_with (noted_with event book) event.row.name book.messages;
 }
 
 -- its tasks, and how many they are
@@ -435,10 +436,10 @@ task_count_with event book =
 
 -- its messages, and how many they are
 abbrev pub messages_with : Event → Contents → Text → Option Message
-messages_with event book = value_with_some event.noted event.row.name (message_in book)
+messages_with event book = value_with_some (noted_with event book) event.row.name (message_in book)
 
 abbrev pub message_count_with : Event → Contents → ℕ
-message_count_with event book = count_with_some event.noted event.row.name (message_in book) (length book.messages)
+message_count_with event book = count_with_some (noted_with event book) event.row.name (message_in book) (length book.messages)
 
 -- the id of its task after an event: the first that the event makes, else the one that is kept at this place
 abbrev pub id_left : List Id → List Id → ℕ → Option Id
@@ -458,8 +459,8 @@ Drafts (Ok event) book request =
     IsKept (with_event event book) × (step (tenant_of book) request ≡ (reply.Accepted (suc (length book.rows)), with_row (tenant_of book) (Some event.row)))
 Drafts (Err code) book request = Steps (tenant_of book) request (reply.Refused code) (tenant_of book)
 
--- The event of the request is ready, and with its row the tenant's step is done; or the request was refused, or there
--- was no memory where that may be.
+-- The event of the request is ready, and with its row the tenant's step is done. Else the request was refused, or there was no
+-- memory where that may be.
 abbrev pub Prepares : Result Event Code → Contents → Request → Contents → Type 0
 Prepares (Ok event) old request new =
     IsReady new event × (tenant_of new ≡ tenant_of old)
@@ -467,9 +468,15 @@ Prepares (Ok event) old request new =
 Prepares (Err code) old request new =
     IsKept new × (tenant_of new ≡ tenant_of old) × Steps (tenant_of old) request (reply.Refused code) (tenant_of old)
 
+-- The report is taken as the tenant's next event, of this number. Else it was refused, or there was no memory where that may be.
+abbrev pub Takes : Result ℕ Code → Contents → Request → Contents → Type 0
+Takes (Ok event) old request new = IsKept new × (step (tenant_of old) request ≡ (reply.Accepted event, tenant_of new))
+Takes (Err code) old request new =
+    IsKept new × (tenant_of new ≡ tenant_of old) × Steps (tenant_of old) request (reply.Refused code) (tenant_of old)
+
 -- no room for more
 abbrev pub no_room : Room
-no_room = record { rows = 0; trees = 0; points = 0; starts = 0; places = 0; earlier = 0; received = 0; ids = 0; tasks = 0; messages = 0 }
+no_room = record { events = 0; receipts = 0; ids = 0; tasks = 0; messages = 0 }
 
 -- the book, for however many more it has room
 abbrev pub roomless : Contents → Contents

@@ -7,9 +7,9 @@ ghost use Rattle.tenant_ledger.specs.Ledger.{HasAllRoom, HasRoom, IsKept, histor
 mod commit;
 mod draft;
 mod ids;
+mod kept;
 mod message;
 mod receipts;
-mod records;
 mod report;
 mod task;
 
@@ -52,6 +52,8 @@ pub struct Book<S: Keep> {
     earlier: Vec<u64>,
     /// Each receipt, by the event that started its task, or 0, and the event that sent its message.
     received: IndexSet<(u64, u64)>,
+    /// All lists of events have room for at least so many more events.
+    free: usize,
     /// Each id that some task has or had, that of `root` first.
     ids: Vec<S::Id>,
     tasks: IndexMap<Name, Task>,
@@ -59,7 +61,7 @@ pub struct Book<S: Keep> {
 }
 
 impl<S: Keep> Model for Book<S> {
-    ghost use Rattle.std.specs.Prelude.{◌≡◌, ◌-◌, length, map, vec_len, vec_capacity};
+    ghost use Rattle.std.specs.Prelude.{◌≡◌, ◌+◌, ◌-◌, ◌≤◌, length, map, vec_len, vec_capacity};
     ghost use Rattle.std.specs.Coded.{codes};
     ghost use Rattle.indexmap.specs.IndexMap.{spare};
     ghost use Rattle.indexmap.specs.IndexSet.{spare as set_spare};
@@ -87,18 +89,17 @@ impl<S: Keep> Model for Book<S> {
       tasks = b.tasks.entries;
       messages = b.messages.entries;
       room = record {
-        rows = vec_capacity b.rows - vec_len b.rows;
-        trees = vec_capacity b.trees - vec_len b.trees;
-        points = vec_capacity b.points - vec_len b.points;
-        starts = vec_capacity b.starts - vec_len b.starts;
-        places = vec_capacity b.places - vec_len b.places;
-        earlier = vec_capacity b.earlier - vec_len b.earlier;
-        received = set_spare b.received;
+        events = b.free;
+        receipts = set_spare b.received;
         ids = vec_capacity b.ids - vec_len b.ids;
         tasks = spare b.tasks;
         messages = spare b.messages;
       };
     } };
+
+    ghost invariant = { λ b. (vec_len b.rows + b.free ≤ vec_capacity b.rows) × (vec_len b.trees + b.free ≤ vec_capacity b.trees)
+        × (vec_len b.points + b.free ≤ vec_capacity b.points) × (vec_len b.starts + b.free ≤ vec_capacity b.starts)
+        × (vec_len b.places + b.free ≤ vec_capacity b.places) × (vec_len b.earlier + b.free ≤ vec_capacity b.earlier) };
 }
 
 impl<S: Keep> Book<S> {
@@ -126,6 +127,7 @@ impl<S: Keep> Book<S> {
             places: Vec::new(alloc),
             earlier: Vec::new(alloc),
             received: IndexSet::new(alloc),
+            free: 0,
             ids: Vec::new(alloc),
             tasks,
             messages: IndexMap::new(alloc),
@@ -153,19 +155,35 @@ impl<S: Keep> Book<S> {
     {
         let events = self.limits.events() as usize;
         let tasks = self.limits.tasks() as usize;
-        self.rows.reserve_exact(events)?;
-        self.trees.reserve_exact(events)?;
-        self.points.reserve_exact(events)?;
-        self.starts.reserve_exact(events)?;
-        self.places.reserve_exact(events)?;
-        self.earlier.reserve_exact(events)?;
-        self.received.reserve_exact(events)?;
+        self.make_room_for_events(events)?;
         // Each task is split from another and joined at most once.
         self.ids.reserve_exact(3 * tasks)?;
         // Room for two tasks and for a message is asked for before each event, also where all are there.
         self.tasks.reserve_exact(tasks + 1)?;
         self.messages
             .reserve_exact(self.limits.messages() as usize + 1)?;
+        Ok(())
+    }
+
+    /// Makes room for so many more events, each of which may be a receipt.
+    fn make_room_for_events(&mut self, events: usize) -> Result<(), Memory>
+        ensures same { self.new ≡ record self.old { room = self.new.room } }
+        ensures room { OnOk result ((events ≤ self.new.room.events) × (events ≤ self.new.room.receipts)) }
+        ensures more { self.old.room.events ≤ self.new.room.events }
+    {
+        self.rows.reserve(events)?;
+        self.trees.reserve(events)?;
+        self.points.reserve(events)?;
+        self.starts.reserve(events)?;
+        self.places.reserve(events)?;
+        self.earlier.reserve(events)?;
+        self.received.reserve(events)?;
+        self.free = (self.rows.capacity() - self.rows.len())
+            .min(self.trees.capacity() - self.trees.len())
+            .min(self.points.capacity() - self.points.len())
+            .min(self.starts.capacity() - self.starts.len())
+            .min(self.places.capacity() - self.places.len())
+            .min(self.earlier.capacity() - self.earlier.len());
         Ok(())
     }
 
@@ -184,22 +202,18 @@ impl<S: Keep> Book<S> {
         Ok(())
     }
 
-    /// Whether there is an id, and room for an event, for two ids and two tasks, for a message and for a receipt.
+    /// Whether there is an id, and the room that the book counts is enough for an event. This is room for its row, for a receipt,
+    /// for two ids, for two tasks and for a message.
     #[inline(always)]
     pub fn has_room(&self) -> bool
         ensures { MatchBool result (HasRoom self.now) (HasRoom self.now → ⊥) }
     {
-        self.rows.len() < self.rows.capacity()
-            && self.trees.len() < self.trees.capacity()
-            && self.points.len() < self.points.capacity()
-            && self.starts.len() < self.starts.capacity()
-            && self.places.len() < self.places.capacity()
-            && self.earlier.len() < self.earlier.capacity()
-            && self.received.len() < self.received.capacity()
+        self.free > 0
             && !self.ids.is_empty()
             && self.ids.capacity() - self.ids.len() >= 2
             && self.tasks.capacity() - self.tasks.len() >= 2
             && self.messages.len() < self.messages.capacity()
+            && self.received.len() < self.received.capacity()
     }
 
     /// The limits of the tenant.

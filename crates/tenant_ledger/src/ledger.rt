@@ -11,8 +11,8 @@ ghost use Rattle.tenant_ledger.specs.Answers.{order_answer};
 ghost use Rattle.tenant_ledger.specs.Size.{AreShort, AreSized, HaveShortParts, IsShort, NestBySpawns, spawns_up_to};
 
 use crate::book::Book;
-use crate::query_answers::{Records, answer, counts_of, order_of, place_of};
-use crate::share::{Keep, MeantId, Own, Share};
+use crate::query_answers::{answer, counts_of, order_of, place_of};
+use crate::share::{Keep, MeantId, Share};
 use crate::{PlainShare, Prepared, Stack, laws};
 use std::alloc::Global;
 use std::marker::Model;
@@ -142,9 +142,8 @@ impl<S: Keep> Ledger<S> {
         if !request.is_report() {
             return self.answer(request);
         }
-        let book = &mut self.book;
-        match book.prepare(rt, &mut self.stack, request) {
-            Ok(draft) => Reply::Accepted(book.commit(draft)),
+        match self.book.take(rt, &mut self.stack, request) {
+            Ok(event) => Reply::Accepted(event),
             Err(code) => Reply::Refused(code),
         }
     }
@@ -156,7 +155,7 @@ impl<S: Keep> Ledger<S> {
         ensures { Steps self.now (Request.Order first second) (order_answer result) self.now }
     {
         let book = &*self.book;
-        order_of(book, &Own(book.share()), first, second)
+        order_of(book, book.share(), first, second)
     }
 
     /// How many events, tasks ever and messages there are, as [`Ledger::report`] answers.
@@ -202,7 +201,7 @@ impl<S: Keep> Ledger<S> {
     {
         self.size();
         let book = &*self.book;
-        answer(book, &Own(book.share()), request)
+        answer(book, book.share(), request)
     }
 
     /// Answers as [`Ledger::answer`] does, and compares kept trees by this comparer.

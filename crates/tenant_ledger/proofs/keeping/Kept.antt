@@ -2,7 +2,7 @@
 use Rattle.std.proofs.Common.{◌≡◌, ℕ, false, ◌||◌, IsTrue, List, suc, ◌-◌, ◌<◌, ◌≤◌, [], ◌∷◌, ◌++◌, length, map, slice_get, option_map, Option, Some, refl, sym, ap, ◌∙◌, subst, inl, inr, arith}
 use Rattle.std.proofs.lemmas.List.Elements.{All-nil, All-push}
 use Rattle.trace_types.specs.clock.Id.{One}
-use Rattle.tenant_ledger.specs.Ledger.{key_by, key_of, keys_in, new_book, roomless, with_key}
+use Rattle.tenant_ledger.specs.Ledger.{IsMadeOf, Made, key_by, key_of, keys_in, new_book, roomless, with_key}
 use Rattle.tenant_ledger.proofs.Words.{nat_tests, cases_Bool, cond-true, or_left, length-append, length-map, length-reverse, reverse-append, map-append, same_Some, slice_get-map, is_same, root, Text, History, history_of, is_event, EventTree, task_count, tree_clock, id_of, tree_of, row_after, with_row, fresh, Limits, Row, IsLegal, Contents, Event, IsKept, IsTask, IsReport, IsReady, HasRoom, IsMessage, ArePoints, MayRaise, history_in, tenant_of, task_in, of_each, id_after, start_of, earlier_of, event_of, with_event, tasks_with, task_count_with, messages_with, message_count_with, last_in, message_count, Report}
 use Rattle.event_tree.specs.declared.point.RaisedPoint.{RaisedPoint}
 use Rattle.tenant_ledger.proofs.clock.Events.{event_bounds, tree_of-older}
@@ -12,7 +12,7 @@ use Rattle.tenant_ledger.proofs.keeping.Messages.{messages_are_kept, messages_ar
 use Rattle.tenant_ledger.proofs.keeping.Points.{no_points, points_with_one}
 use Rattle.tenant_ledger.proofs.keeping.Received.{receipt_is_kept}
 use Rattle.tenant_ledger.proofs.keeping.Tables.{messages_counted, messages_found, tasks_counted, tasks_found}
-use Rattle.tenant_ledger.proofs.keeping.Tasks.{id_is_kept, id_is_left, start_is_kept, tasks_are_kept, tasks_are_counted}
+use Rattle.tenant_ledger.proofs.keeping.Tasks.{id_is_kept, id_is_left, start_is_kept, started_as, tasks_are_kept, tasks_are_counted}
 
 module _ (rows : List Row) (trees : List EventTree) (are : trees ≡ of_each (tree_of tree_clock) (history_of rows)) where
   -- what is kept of an event: its tree
@@ -58,6 +58,9 @@ module _ (book : Contents) (kept : IsKept book) where
   pub report_with_room : (new : Contents) → new ≡ record book { kept_ids = new.kept_ids; room = new.room } → (report : Report) → IsReport book report → IsReport new report
   report_with_room new same report is = subst (λ b. IsReport b report) (sym same) search
 
+  pub made_with_room : (new : Contents) → new ≡ record book { kept_ids = new.kept_ids; room = new.room } → (report : Report) (made : Made) → IsMadeOf book report made → IsMadeOf new report made
+  made_with_room new same report made is = subst (λ b. IsMadeOf b report made) (sym same) search
+
 module _ (book : Contents) (kept : IsKept book) (report : Report) (is : IsReport book report) where
   abbrev history : History
   history = history_in book
@@ -75,8 +78,9 @@ module _ (book : Contents) (kept : IsKept book) (report : Report) (is : IsReport
       let live = legal_with_row.0.0 in
       let allowed = legal_with_row.0.1 in
       let to_longer = sym (reverse-append book.rows (row ∷ [])) in
-      let receipt_is : event.receipt ≡ key_of history report.task report.kind report.name =
-      ap (key_by report.acting) is.received ∙ receipt_is_kept book kept report.task report.acting is.acting report.kind report.name allowed in
+      let receipt_is : key_by event.acting.start event.received ≡ key_of history report.task report.kind report.name =
+      (λ i. key_by (started_as report.kind (suc (length history)) (length book.ids) report.acting i) (is.received i))
+      ∙ receipt_is_kept book kept report.task report.acting is.acting report.kind report.name allowed in
       let newest : id_after (row ∷ history) (suc (length history)) ≡ id_of tree_clock (row ∷ history) row.task = grind (arith, nat_tests) in
       record {
         legal = is.legal;
@@ -100,7 +104,7 @@ module _ (book : Contents) (kept : IsKept book) (report : Report) (is : IsReport
             (tasks_are_kept book kept report.task report.acting is.acting live report.kind report.name allowed name)));
         counted = tasks_counted event book ∙ ap (λ had. task_count_with (event_of book (record report { joined = had }) point) book) is.joined
             ∙ tasks_are_counted book kept report.task report.acting is.acting live report.kind report.name allowed ∙ ap task_count to_longer;
-        earlier = ap (λ list. list ++ event.earlier ∷ []) kept.earlier
+        earlier = ap (λ list. list ++ last_in event.received ∷ []) kept.earlier
             ∙ ap (λ last. of_each earlier_of history ++ last ∷ []) (ap last_in is.received ∙ earlier_is_kept book kept report.task report.kind report.name allowed)
             ∙ ap (of_each earlier_of) to_longer;
         received = (λ i. with_key (receipt_is i) (kept.received i)) ∙ ap keys_in to_longer;

@@ -259,11 +259,11 @@ module _ (book : Contents) (kept : IsKept book) (task : Text) (acting : Task) (f
 
   -- the receipt that a report is
   pub receipt_is_kept : (kind : Kind) (named : Option Text) → AllowsNamed (history_in book) kind named
-      → key_by acting (received_by (message_in book) kind named) ≡ key_of (history_in book) task kind named
+      → key_by acting.start (received_by (message_in book) kind named) ≡ key_of (history_in book) task kind named
   receipt_is_kept Recv None allowed = absurd allowed
   receipt_is_kept Recv (Some name) allowed = by (message_in book name) refl
     where
-      by : (had : Option Message) → message_in book name ≡ had → key_by acting had ≡ Some (start_event (history_in book) task, send_event (history_in book) name)
+      by : (had : Option Message) → message_in book name ≡ had → key_by acting.start had ≡ Some (start_event (history_in book) task, send_event (history_in book) name)
       by None none = absurd (false≢true (ap is_some (sym none) ∙ has_message book kept name ∙ allowed))
       by (Some message) had = λ i. Some ((task_kept book kept task found).4 i, (message_kept book kept name had).1 i)
   receipt_is_kept kind named allowed = refl

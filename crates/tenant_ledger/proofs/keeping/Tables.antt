@@ -2,7 +2,7 @@
 use Rattle.std.proofs.Common.{◌≡◌, ◌+◌, true, false, cond, List, [], ◌∷◌, length, Option, Some, None, is_some, refl, sym, ap, ◌∙◌, subst, inl, inr, arith}
 use Rattle.std.specs.Map.{lookup}
 use Rattle.indexmap.specs.IndexMap.{insert_entry}
-use Rattle.tenant_ledger.specs.Ledger.{entries_with}
+use Rattle.tenant_ledger.specs.Ledger.{entries_with, noted_with}
 use Rattle.tenant_ledger.proofs.Words.{cases_Bool, cond-false, is_same_iff, Text, is_same, Event, Contents, value_with, value_with_some, count_with, count_with_some, with_event, tasks_with, task_count_with, messages_with, message_count_with, task_in, message_in}
 use Rattle.tenant_ledger.proofs.keeping.Known.{differ_back}
 
@@ -78,10 +78,10 @@ module _ (event : Event) (book : Contents) where
       ∙ (λ i. length-with event.named event.row.name book.tasks i + cond (is_some (found_with event.named event.row.name book.tasks event.row.task i)) 0 1)
 
   pub messages_found : (name : Text) → message_in (with_event event book) name ≡ messages_with event book name
-  messages_found name = found_with event.noted event.row.name book.messages name
+  messages_found name = found_with (noted_with event book) event.row.name book.messages name
 
   pub messages_counted : length (with_event event book).messages ≡ message_count_with event book
-  messages_counted = length-with event.noted event.row.name book.messages
+  messages_counted = length-with (noted_with event book) event.row.name book.messages
 
 -- A book to which this event was added has it, however much room there is then. The event and the book before are told by equal ones.
 pub committed : (new : Contents) {event event_now : Event} {book book_now : Contents} → event ≡ event_now → book ≡ book_now

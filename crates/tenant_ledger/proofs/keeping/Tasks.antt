@@ -30,6 +30,13 @@ module _ (row : Row) (earlier : History) where
         right.4 ∙ sym (start_event-other row earlier task not_started),
       )
 
+-- a task was started when it was, whatever its event is
+pub started_as : (kind : Kind) (event place : ℕ) (task : Task) → (acting_after kind event place task).start ≡ task.start
+started_as Spawn event place task = refl
+started_as End event place task = refl
+started_as Join event place task = refl
+started_as kind event place task = refl
+
 module _ (book : Contents) (kept : IsKept book) (task : Text) (acting : Task) (found : task_in book task ≡ Some acting) where
   abbrev history : History
   history = history_in book

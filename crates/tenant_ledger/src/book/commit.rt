@@ -7,6 +7,7 @@ ghost use Rattle.trace_types.specs.clock.Clock.{tree_clock};
 ghost use Rattle.trace_types.specs.clock.Stamps.{id_of};
 ghost use Rattle.tenant_ledger.specs.Ledger.{HasRoom, IsReady, UsesRoomOfOne, entries_with, history_in, with_event, with_key};
 
+use super::message::{key_by, last_in, noted_after};
 use super::{Book, Draft};
 use crate::share::Keep;
 use indexmap::{IndexMap, IndexSet};
@@ -43,27 +44,29 @@ impl<S: Keep> Book<S> {
             index,
             named,
             place,
-            noted,
-            earlier,
-            receipt,
+            received,
         } = draft;
+        let event = self.rows.len() as u64 + 1;
         add_some(&mut self.ids, first);
         add_some(&mut self.ids, second);
         put_some(&mut self.tasks, place, &row.name, named);
         put(&mut self.tasks, index, row.task, acting);
+        let noted = noted_after(row.kind, event, received);
         put_some(&mut self.messages, place, &row.name, noted);
-        add_receipt(&mut self.received, receipt);
+        add_receipt(&mut self.received, key_by(acting.start, received));
         self.rows.push_reserved(row);
         self.trees.push_reserved(tree);
         self.points.push_reserved(point);
         self.starts.push_reserved(acting.start);
         self.places.push_reserved(acting.id);
-        self.earlier.push_reserved(earlier);
-        self.rows.len() as u64
+        self.earlier.push_reserved(last_in(received));
+        self.free -= 1;
+        event
     }
 }
 
 /// Adds an item for which there is room, if one is given.
+#[inline(always)]
 fn add_some<T>(items: &mut Vec<T>, item: Option<T>)
     requires { vec_len items.old < vec_capacity items.old }
     ensures items { items.new.items ≡ items.old.items ++ option_to_list item }
@@ -74,7 +77,8 @@ fn add_some<T>(items: &mut Vec<T>, item: Option<T>)
     }
 }
 
-/// Adds a receipt, if one is given. There is room for it.
+/// Adds a receipt for which there is room, if one is given.
+#[inline(always)]
 fn add_receipt(received: &mut IndexSet<(u64, u64)>, receipt: Option<(u64, u64)>)
     requires { 0 < set_spare received.old }
     ensures keys { received.new.keys ≡ with_key receipt received.old.keys }
@@ -86,6 +90,7 @@ fn add_receipt(received: &mut IndexSet<(u64, u64)>, receipt: Option<(u64, u64)>)
 }
 
 /// Keeps a value under the name that a report has, if there is one. There is room for it.
+#[inline(always)]
 fn put_some<V: Copy>(
     map: &mut IndexMap<Name, V>,
     place: usize,

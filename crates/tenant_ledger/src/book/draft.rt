@@ -5,7 +5,7 @@ ghost use Rattle.trace_types.specs.clock.Clock.{tree_clock};
 ghost use Rattle.trace_types.specs.clock.Stamps.{tree_of, acting_id, takes_in};
 ghost use Rattle.trace_types.specs.tenant.Tenant.{is_report, row_after};
 ghost use Rattle.trace_types.specs.clock.EventTree.{Leaf};
-ghost use Rattle.tenant_ledger.specs.Ledger.{IsKept, HasRoom, history_in, IsReport, row_of_report, tree_of_report, MayRaise, event_of, Drafts, Prepares};
+ghost use Rattle.tenant_ledger.specs.Ledger.{IsKept, HasRoom, history_in, IsReport, row_of_report, tree_of_report, MayRaise, event_of, Drafts, IsMadeOf, Prepares, Takes};
 
 use super::{Book, Message, Report, Task};
 use crate::share::{Keep, Share};
@@ -34,14 +34,10 @@ pub struct Draft<S: Keep> {
     pub(super) index: usize,
     /// What is to be kept of the task that the event names.
     pub(super) named: Option<Task>,
-    /// Where the table of tasks or of messages has what the event joins or receives, or 0.
+    /// The place of what the event joins or receives in the table of tasks or of messages, or 0.
     pub(super) place: usize,
-    /// What is to be kept of the message that the event names.
-    pub(super) noted: Option<Message>,
-    /// The last receipt of the message that the event receives, or 0.
-    pub(super) earlier: u64,
-    /// The receipt that the event is, by the event that started its task, or 0, and the event that sent its message.
-    pub(super) receipt: Option<(u64, u64)>,
+    /// The message that the event receives, as it was before.
+    pub(super) received: Option<Message>,
 }
 
 impl<S: Keep> Model for Draft<S> {
@@ -63,9 +59,35 @@ impl<S: Keep> Model for Draft<S> {
       ids = map S.Id.id (option_to_list d.first ++ option_to_list d.second);
       acting = d.acting;
       named = d.named;
-      noted = d.noted;
-      earlier = d.earlier;
-      receipt = d.receipt;
+      received = d.received;
+    } };
+}
+
+/// What is made of an event. The share keeps its tree and its ids.
+#[derive(Drop)]
+struct Made<S: Keep> {
+    tree: S::Kept,
+    point: Option<RaisedPoint>,
+    first: Option<S::Id>,
+    second: Option<S::Id>,
+}
+
+impl<S: Keep> Model for Made<S> {
+    ghost use Rattle.std.specs.Prelude.{◌++◌, map, option_to_list};
+    ghost use Rattle.std.specs.Coded.{codes};
+    ghost use Rattle.event_tree.specs.EventTreeCode.{event_tree_code};
+    ghost use Rattle.id_tree.specs.IdCode.{id_code};
+    ghost use Rattle.tenant_ledger.specs.Ledger.{Made as Seen};
+
+    ghost Value = { Seen };
+
+    ghost coded = { Prim.hlevel (codes, event_tree_code, id_code) };
+
+    ghost view = { λ m. record {
+      home = S.home_of m.tree;
+      tree = S.Kept.tree m.tree;
+      point = m.point;
+      ids = map S.Id.id (option_to_list m.first ++ option_to_list m.second);
     } };
 }
 
@@ -122,9 +144,7 @@ impl Draft<Arc<Shared>> {
             index: self.index,
             named: self.named,
             place: self.place,
-            noted: self.noted,
-            earlier: self.earlier,
-            receipt: self.receipt,
+            received: self.received,
         })
     }
 }
@@ -159,7 +179,8 @@ impl<S: Keep> Book<S> {
             Err(code) => return Err(code),
         };
         self.make_stack_room(stack, &report)?;
-        Ok(self.event(rt, &report)?)
+        let made = self.made(rt, &report)?;
+        Ok(self.event(&report, made))
     }
 
     /// Drafts a report, and makes room for its event.
@@ -180,43 +201,98 @@ impl<S: Keep> Book<S> {
             Ok(report) => report,
             Err(code) => return Err(code),
         };
-        self.make_room(rt)?;
-        self.make_stack_room(stack, &report)?;
-        Ok(self.event(rt, &report)?)
+        let made = self.ready(rt, stack, &report)?;
+        Ok(self.event(&report, made))
     }
 
-    /// What is to be kept of the report's event. Returns `Memory` if it runs out of memory.
-    fn event<R>(&self, rt: &R, report: &Report) -> Result<Draft<S>, Memory>
+    /// Takes a report: adds its event and gives its number, or refuses it.
+    pub(crate) fn take<R>(
+        &mut self,
+        rt: &R,
+        stack: &mut Stack,
+        request: &Request,
+    ) -> Result<u64, Code>
+    where
+        S: Share<R>,
+        requires book { IsKept self.old }
+        requires report { is_report request.now ≡ true }
+        ensures { Takes result self.old request.now self.new }
+    {
+        // A `?` would move the report once more.
+        let report = match self.report(request) {
+            Ok(report) => report,
+            Err(code) => return Err(code),
+        };
+        // This does not call `prepare`, whose draft would be moved once more.
+        let made = self.ready(rt, stack, &report)?;
+        Ok(self.commit(self.event(&report, made)))
+    }
+
+    /// Makes room for the report's event, and gives what is made of it. Returns `Memory` if it runs out of memory.
+    #[inline(always)]
+    fn ready<R>(&mut self, rt: &R, stack: &mut Stack, report: &Report) -> Result<Made<S>, Memory>
+    where
+        S: Share<R>,
+        requires book { IsKept self.old }
+        requires report { IsReport self.old report.now }
+        ensures same { self.new ≡ record self.old { kept_ids = self.new.kept_ids; room = self.new.room } }
+        ensures seeded { self.old.kept_ids ≤ self.new.kept_ids }
+        ensures room { OnOk result (HasRoom self.new) }
+        ensures made { IfOk result (IsMadeOf self.old report.now) }
+    {
+        self.make_room(rt)?;
+        self.make_stack_room(stack, report)?;
+        self.made(rt, report)
+    }
+
+    /// What is made of the report's event. Returns `Memory` if it runs out of memory.
+    #[inline(always)]
+    fn made<R>(&self, rt: &R, report: &Report) -> Result<Made<S>, Memory>
     where
         S: Share<R>,
         requires book { IsKept self.now }
         requires seeded { 0 < self.now.kept_ids }
         requires report { IsReport self.now report.now }
-        ensures event { IfOk result (λ draft. draft ≡ event_of self.now report.now draft.point) }
-        ensures point { IfOk result (λ draft. MayRaise self.now report.now draft.point) }
+        ensures { IfOk result (IsMadeOf self.now report.now) }
     {
         let ids = self.ids_made(report)?;
         let id = ids.acting(self.id(report.acting.id));
         let (tree, point) = self.tree_after(report, id)?;
         let tree = self.share.keep_tree(rt, tree)?;
         let (first, second) = ids.keep(rt, &self.share)?;
-        let row = self.row_after(report);
-        let event = self.event_count() + 1;
-        let place = self.id_count();
-        Ok(Draft {
-            row,
+        Ok(Made {
             tree,
             point,
             first,
             second,
+        })
+    }
+
+    /// What is to be kept of the report's event, of which this was made.
+    #[inline(always)]
+    fn event(&self, report: &Report, made: Made<S>) -> Draft<S>
+        requires book { IsKept self.now }
+        requires seeded { 0 < self.now.kept_ids }
+        requires report { IsReport self.now report.now }
+        requires made { IsMadeOf self.now report.now made }
+        ensures event { result ≡ event_of self.now report.now result.point }
+        ensures point { MayRaise self.now report.now result.point }
+    {
+        let row = self.row_after(report);
+        let event = self.event_count() + 1;
+        let place = self.id_count();
+        Draft {
+            row,
+            tree: made.tree,
+            point: made.point,
+            first: made.first,
+            second: made.second,
             acting: report.acting_after(event, place),
             index: report.index,
             named: report.named_after(event, place),
             place: report.place,
-            noted: report.noted_after(event),
-            earlier: report.earlier(),
-            receipt: report.receipt(),
-        })
+            received: report.received,
+        }
     }
 
     /// The row of the report, which follows the last event of its task and the second event.
@@ -296,13 +372,7 @@ impl<S: Keep> Book<S> {
         ensures room { OnOk result (HasRoom self.new) }
     {
         self.seed(rt)?;
-        self.rows.reserve(1)?;
-        self.trees.reserve(1)?;
-        self.points.reserve(1)?;
-        self.starts.reserve(1)?;
-        self.places.reserve(1)?;
-        self.earlier.reserve(1)?;
-        self.received.reserve(1)?;
+        self.make_room_for_events(1)?;
         self.ids.reserve(2)?;
         self.tasks.reserve(2)?;
         self.messages.reserve(1)?;

@@ -4,7 +4,7 @@ ghost use Rattle.std.specs.Result.{result_err};
 ghost use Rattle.trace_types.specs.tenant.Reachability.{second_event};
 ghost use Rattle.trace_types.specs.tenant.Refusal.{refusal_of};
 ghost use Rattle.trace_types.specs.tenant.Tenant.{is_report, answer_to, accepted};
-ghost use Rattle.tenant_ledger.specs.Ledger.{IsKept, history_in, task_in, message_in, Decides, refusals_of_task, refusals_of_child, refusals_of_sent, refusals_of_received, refusals_of_joined, refusals_of_named, refusals_of_room, joined_by, received_by, IsReport, acting_after, named_after, noted_after, key_by, last_in};
+ghost use Rattle.tenant_ledger.specs.Ledger.{IsKept, history_in, task_in, message_in, Decides, refusals_of_task, refusals_of_child, refusals_of_sent, refusals_of_received, refusals_of_joined, refusals_of_named, refusals_of_room, joined_by, received_by, IsReport, acting_after, named_after};
 
 use super::{Book, Message, Task};
 use crate::share::Keep;
@@ -25,7 +25,7 @@ pub(super) struct Report {
     pub(super) joined: Option<Task>,
     /// The message that it receives.
     pub(super) received: Option<Message>,
-    /// Where the table of tasks or of messages has what it joins or receives, or 0.
+    /// The place of what it joins or receives in the table of tasks or of messages, or 0.
     pub(super) place: usize,
 }
 
@@ -38,7 +38,7 @@ struct Named {
     joined: Option<Task>,
     /// The message that it receives.
     received: Option<Message>,
-    /// Where the table of tasks or of messages has what is joined or received, or 0.
+    /// The place of what is joined or received in the table of tasks or of messages, or 0.
     place: usize,
 }
 
@@ -94,46 +94,6 @@ impl Report {
                 }),
                 None => None,
             },
-        }
-    }
-
-    /// What is to be kept of the message that the report sends or receives.
-    #[inline(always)]
-    pub(super) fn noted_after(&self, event: u64) -> Option<Message>
-        ensures { result ≡ noted_after self.now.kind event self.now.received }
-    {
-        match (self.kind, self.received) {
-            (Kind::Send, _) => Some(Message {
-                sent: event,
-                last: 0,
-            }),
-            (_, None) => None,
-            (_, Some(message)) => Some(Message {
-                last: event,
-                ..message
-            }),
-        }
-    }
-
-    /// The receipt that the report is, if it is one: the event that started its task, and that which sent its message.
-    #[inline(always)]
-    pub(super) fn receipt(&self) -> Option<(u64, u64)>
-        ensures { result ≡ key_by self.now.acting self.now.received }
-    {
-        match self.received {
-            Some(message) => Some((self.acting.start, message.sent)),
-            None => None,
-        }
-    }
-
-    /// The last receipt of the message that the report receives, or 0.
-    #[inline(always)]
-    pub(super) fn earlier(&self) -> u64
-        ensures { result ≡ last_in self.now.received }
-    {
-        match self.received {
-            Some(message) => message.last,
-            None => 0,
         }
     }
 }

@@ -1,6 +1,7 @@
-use Rattle.std.proofs.Common.{◌≡◌, ◌+◌, ◌<◌, ◌∷◌, [], ◌++◌, length, map, option_to_list, refl, ap, ◌∙◌, arith}
+use Rattle.std.proofs.Common.{◌≡◌, suc, ◌+◌, ◌<◌, ◌∷◌, [], ◌++◌, length, map, option_to_list, refl, ap, ◌∙◌, arith}
 use Rattle.indexmap.specs.IndexMap.{insert_entry}
-use Rattle.tenant_ledger.proofs.Words.{map-append, append_assoc, length-append, length-map, is_same, Contents, with_seed}
+use Rattle.tenant_ledger.specs.Ledger.{entries_with, noted_after, with_key}
+use Rattle.tenant_ledger.proofs.Words.{map-append, append_assoc, length-append, length-map, length-reverse, history_of, is_same, Contents, with_seed}
 use Rattle.tenant_ledger.proofs.keeping.Lists.{seeded-append}
 use Rattle.tenant_ledger.proofs.keeping.Tables.{committed}
 use Rattle.tenant_ledger.proofs.book.Book.commit.Goals as goal
@@ -19,15 +20,17 @@ returns-clause-book g c =
     let count : length c.add_some-2.new.items.items ≡ length book.ids.items + length (map id made) =
     omega (arith, ap length ids, length-append book.ids.items made, length-map made id) in
     let some : 0 < length book.ids.items = omega (arith, c.requires.seeded, seeded) in
+    let noted : c.noted_after-noted.result ≡ noted_after draft.row.kind (suc (length (history_of book.rows.items))) draft.received =
+    c.noted_after-noted.ensures ∙ ap (λ event. noted_after draft.row.kind event draft.received) (omega (arith, length-reverse book.rows.items)) in
     committed _ c.draft.view_is c.self.view_is refl refl c.push_reserved.ensures.items
     (ap (map tree) c.push_reserved-2.ensures.items ∙ map-append tree book.trees.items (draft.tree ∷ []))
     (ap (map home) c.push_reserved-2.ensures.items ∙ map-append home book.trees.items (draft.tree ∷ []))
     c.push_reserved-3.ensures.items
     c.push_reserved-4.ensures.items
     c.push_reserved-5.ensures.items
-    c.push_reserved-6.ensures.items
-    c.add_receipt.ensures.keys
+    (c.push_reserved-6.ensures.items ∙ ap (λ last. book.earlier.items ++ last ∷ []) c.last_in.ensures)
+    (c.add_receipt.ensures.keys ∙ ap (λ key. with_key key book.received.keys) c.key_by.ensures)
     (ap (λ ids. with_seed (map id ids)) ids ∙ seeded-append id book.ids.items made some)
     count
     (c.put.ensures.entries ∙ ap (λ entries. insert_entry is_same entries draft.row.task draft.acting) c.put_some.ensures.entries)
-    c.put_some-2.ensures.entries
+    (c.put_some-2.ensures.entries ∙ ap (λ noted. entries_with noted draft.row.name book.messages.entries) noted)

@@ -4,4 +4,4 @@ use Rattle.tenant_ledger.proofs.book.Book.draft.Goals as goal
 pub returns : goal.returns
 returns g c =
     drafted c.args.self.now c.args.request.now c.in-Ok.report c.in-Ok.ensures.answer c.in-Ok.ensures.refused c.requires.book c.requires.seeded c.in-Ok.ensures.report
-    c.in_ok-event.field-0 c.in_ok-event.ensures.event c.in_ok-event.ensures.point
+    c.event.result c.event.ensures.event c.event.ensures.point

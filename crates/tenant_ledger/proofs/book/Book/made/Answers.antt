@@ -1,7 +1,7 @@
 use Rattle.std.proofs.Common.{◌∙◌}
 use Rattle.tenant_ledger.proofs.Words.{id_for}
 use Rattle.tenant_ledger.proofs.keeping.Report.{acting_of_made, own_place, own_is}
-use Rattle.tenant_ledger.proofs.book.Book.event.Goals as goal
+use Rattle.tenant_ledger.proofs.book.Book.made.Goals as goal
 
 pub id-requires-clause-place : goal.id-requires-clause-place
 id-requires-clause-place g c = own_place c.requires.book c.requires.report
