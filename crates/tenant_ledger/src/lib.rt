@@ -6,8 +6,8 @@
 //! The law that carries it is the clock theorem ([`laws::clock`]): comparing what two events know gives exactly their
 //! order in the graph of events. The contract of [`Ledger::report`] speaks of the reply and of the rows afterwards. They
 //! are one step of the tenant alone (`Steps` of `trace_types`), or the request ran out of memory and changed nothing.
-//! Contracts see a [`Ledger`] as the tenant's limits and accepted rows. Every query is answered by [`answer`], from any
-//! [`Records`] of a tenant.
+//! Contracts see a [`Ledger`] as the tenant's limits and accepted rows. Every query is answered by [`answer`], from
+//! the [`Book`] of a tenant.
 //!
 //! ```
 //! use tenant_ledger::Ledger;
@@ -40,7 +40,7 @@ pub use book::{Book, Draft};
 pub use ledger::Ledger;
 pub use plain_share::PlainShare;
 pub use prepared::Prepared;
-pub use query_answers::{Records, answer, counts_of, order_of};
-pub use share::{Keep, MeantId, Own, Share};
+pub use query_answers::{answer, counts_of, order_of};
+pub use share::{Keep, MeantId, Share};
 pub use shared::Shared;
 pub use stack::Stack;

@@ -4,6 +4,7 @@ ghost use Rattle.std.specs.Prelude.{[]};
 use crate::{Keep, Share};
 use event_tree::EvTree;
 use id_tree::IdTree;
+use trace_query::Compare;
 use trace_types::{Memory, Order};
 
 /// Keeps the ids and trees themselves. It takes no lock, and waits for nobody.
@@ -19,7 +20,13 @@ impl Keep for PlainShare {
 
     ghost home_of = { λ _. [] };
 
-    fn order_kept(&self, first: &EvTree, second: &EvTree) -> Order {
+    ghost compares = { λ _ _ _. tt };
+}
+
+impl Compare<EvTree> for PlainShare {
+    ghost admits = { λ _ _. Unit {0} };
+
+    fn order(&self, first: &EvTree, second: &EvTree) -> Order {
         first.order(second)
     }
 }

@@ -1,13 +1,12 @@
 //! What ledgers keep their ids and trees by.
 ghost use Rattle.std.specs.Prelude.{◌≡◌, ℕ, List, IfOk};
-ghost use Rattle.event_tree.specs.Comparison.{StandsAs};
 ghost use Rattle.trace_types.specs.clock.Id.{Id};
 
 use event_tree::EvTree;
 use id_tree::IdTree;
 use std::sync::Arc;
 use trace_query::{Compare, Meant};
-use trace_types::{Memory, Order};
+use trace_types::Memory;
 use tree_forest::Tree;
 
 /// A value that stands for an id, in whatever form it is kept.
@@ -36,11 +35,12 @@ impl MeantId for Tree<IdTree> {
     }
 }
 
-/// What a ledger keeps of ids and event trees, and how kept trees are compared.
+/// What a share keeps of ids and event trees. It compares the trees that it keeps. For that it takes no memory, and waits for
+/// nobody.
 ///
 /// A share may know more of its trees than what they mean, such as where it holds them. This is their home, which only
 /// contracts see. A share without such knowledge gives every tree the empty home.
-pub trait Keep: Drop {
+pub trait Keep: Drop + Compare<<Self as Keep>::Kept> {
     /// What is kept of an event tree.
     type Kept: Meant + Drop;
 
@@ -53,11 +53,8 @@ pub trait Keep: Drop {
     // where the kept tree is
     ghost home_of: { Self.Kept → List ℕ };
 
-    /// How the tree of `first` stands to that of `second`. The share keeps both. It takes no memory, and waits for nobody.
-    fn order_kept(&self, first: &Self::Kept, second: &Self::Kept) -> Order
-        requires first { Self.home_of first.now ≡ Self.home self.now }
-        requires second { Self.home_of second.now ≡ Self.home self.now }
-        ensures { StandsAs result (Self.Kept.tree first.now) (Self.Kept.tree second.now) };
+    // it may be asked about each tree that it keeps
+    ghost compares: { (share : Self) (kept : Self.Kept) → home_of kept ≡ home share → Self.Compare.admits share kept };
 }
 
 /// Keeps the ids and event trees of ledgers.
@@ -75,18 +72,6 @@ pub trait Share<R>: Keep {
         ensures home { IfOk result (λ kept. Self.home_of kept ≡ Self.home self.now) };
 }
 
-/// Compares the trees that a share keeps, by that share.
-#[derive(Drop)]
-pub struct Own<'a, S>(pub &'a S);
-
-impl<S: Keep> Compare<S::Kept> for Own<'_, S> {
-    ghost admits = { λ own kept. S.home_of kept ≡ S.home own.0.now };
-
-    fn order(&self, first: &S::Kept, second: &S::Kept) -> Order {
-        self.0.order_kept(first, second)
-    }
-}
-
 /// Keeps as what is behind it does.
 impl<S: Keep> Keep for Arc<S> {
     ghost use Rattle.std.specs.Arc.{arc_value};
@@ -99,9 +84,7 @@ impl<S: Keep> Keep for Arc<S> {
 
     ghost home_of = { λ kept. S.home_of kept };
 
-    fn order_kept(&self, first: &S::Kept, second: &S::Kept) -> Order {
-        S::order_kept(self, first, second)
-    }
+    ghost compares = { λ share kept is. S.compares (arc_value share) kept is };
 }
 
 impl<R, S: Share<R>> Share<R> for Arc<S> {

@@ -8,7 +8,7 @@ use id_tree::IdTree;
 use order_cache::{CacheFault, OrderCache};
 use std::alloc::Global;
 use std::sync::{Arc, Wait};
-use trace_query::{Cached, Compare};
+use trace_query::Compare;
 use trace_types::{Memory, Order, WorldFault};
 use tree_forest::{Forest, Home, Tree};
 
@@ -81,8 +81,17 @@ impl Keep for Shared {
 
     ghost home_of = { λ tree. tree.home };
 
-    fn order_kept(&self, first: &Tree<EvTree>, second: &Tree<EvTree>) -> Order {
-        Cached::new(&self.trees, &self.orders).order(first, second)
+    ghost compares = { λ _ _ is. is };
+}
+
+/// Compares the trees that it keeps, by the cache. It waits for nobody.
+impl Compare<Tree<EvTree>> for Shared {
+    ghost use Rattle.tree_forest.specs.Kept.{IsOf};
+
+    ghost admits = { λ shared tree. IsOf shared.trees tree };
+
+    fn order(&self, first: &Tree<EvTree>, second: &Tree<EvTree>) -> Order {
+        self.orders.order(&self.trees, first, second)
     }
 }
 

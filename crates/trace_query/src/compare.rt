@@ -2,6 +2,7 @@
 ghost use Rattle.event_tree.specs.Comparison.{StandsAs};
 
 use crate::Meant;
+use std::sync::Arc;
 use trace_types::Order;
 
 /// A way to order kept trees. It may hold what it needs for that, as a cache.
@@ -14,4 +15,15 @@ pub trait Compare<K: Meant> {
         requires first { admits self.now first.now }
         requires second { admits self.now second.now }
         ensures { StandsAs result (K.tree first.now) (K.tree second.now) };
+}
+
+/// Compares as what is behind it does.
+impl<K: Meant, C: Compare<K>> Compare<K> for Arc<C> {
+    ghost use Rattle.std.specs.Arc.{arc_value};
+
+    ghost admits = { λ compare kept. C.admits (arc_value compare) kept };
+
+    fn order(&self, first: &K, second: &K) -> Order {
+        C::order(self, first, second)
+    }
 }

@@ -5,7 +5,7 @@
 //!
 //! The contract that carries it: [`order`], [`past`], [`concurrent_with`] and [`cut`] give exactly what
 //! `specs/Queries.antt` defines over the list of trees, whatever trees they are. A [`Compare`] orders kept trees for
-//! them: [`Plain`] by their values, and [`Cached`] by what a cache remembers.
+//! them: [`Plain`] does so by their values.
 //!
 //! [`past_by_points`], [`concurrent_by_points`] and [`cut_by_points`] give the same, if no later event's tree is below an
 //! earlier one's. They look at one value for each pair, if events have points that decide (`specs/Deciding.antt`).
@@ -27,7 +27,6 @@
 //! ```
 #![tactic(auto)]
 
-mod cached;
 mod compare;
 mod kept_tree;
 pub mod laws;
@@ -35,7 +34,6 @@ mod plain;
 mod queries;
 mod queries_by_points;
 
-pub use cached::Cached;
 pub use compare::Compare;
 pub use kept_tree::Meant;
 pub use plain::Plain;

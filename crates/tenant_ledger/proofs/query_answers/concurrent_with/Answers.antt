@@ -1,10 +1,11 @@
 use Rattle.std.proofs.Common.{map}
 use Rattle.tenant_ledger.proofs.keeping.Told.{concurrent_answered}
+use Rattle.tenant_ledger.proofs.Words.{tenant_of}
 use Rattle.tenant_ledger.proofs.query_answers.concurrent_with.Goals as goal
 
 pub returns : goal.returns
 returns g c =
-    let records = c.args.records.now in
+    let book = c.args.book.now in
     let listed = c.listed.ensures in
-    concurrent_answered (g.R.Records.tenant records) (map g.R.Kept.Meant.tree c.trees_and_points.result.0.now) (g.met.R.Records.legal records c.requires) c.trees_and_points.ensures.trees
+    concurrent_answered (tenant_of book) (map g.S.Kept.Meant.tree c.trees_and_points.result.0.now) c.requires.legal c.trees_and_points.ensures.trees
     c.args.event c.listed.result c.concurrent_by_points.result c.concurrent_by_points.ensures listed.events listed.fault
